@@ -1,0 +1,14 @@
+use Rattle.std.proofs.Common.{ap, ◌∙◌}
+use Rattle.duk_des.specs.Bits.{bits_of_bytes, bytes_of_bits}
+use Rattle.duk_des.specs.Des.{crypted, round_keys, encipher, encrypted}
+use Rattle.duk_des.proofs.BitNumbers.{bits_of_bytes-bytes_of_bits}
+use Rattle.duk_des.proofs.Joined.{both}
+use Rattle.duk_des.proofs.Undone.{length-crypted}
+use Rattle.duk_des.proofs.plain.encrypt_block.Goals as goal
+
+pub returns : goal.returns
+unfolding encipher encrypted
+returns c =
+    let bits = c.crypted.ensures ∙ both crypted (c.round_keys-keys.ensures ∙ ap round_keys c.bits_of_bytes.ensures) c.bits_of_bytes-2.ensures in
+    let bytes = c.bytes_of_bits.ensures ∙ ap (bytes_of_bits 8) bits in
+    record { bytes = bytes; bits = ap bits_of_bytes bytes ∙ bits_of_bytes-bytes_of_bits 8 _ (length-crypted _ _) }
