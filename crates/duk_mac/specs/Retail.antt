@@ -1,0 +1,17 @@
+-- The retail MAC (ANSI X9.19; ISO/IEC 9797-1, MAC algorithm 3 with padding method 1).
+use Rattle.std.specs.Prelude.{ℕ, ◌-◌, ◌%◌, List, ◌++◌, length, replicate}
+use Rattle.duk_des.specs.Des.{encrypted, decrypted}
+use Rattle.duk_tdes.specs.Blocks.{blocks_of}
+use Rattle.duk_tdes.specs.Key.{left_half, right_half}
+use Rattle.duk_mac.specs.Chain.{zero_block, chained}
+
+-- a message filled with zero bytes to whole blocks (padding method 1)
+abbrev pub zero_filled : List ℕ → List ℕ
+zero_filled message = message ++ replicate ((8 - length message % 8) % 8) 0
+
+-- single DES under the left half of the key along the blocks, and the last block deciphered under the right half
+-- and enciphered under the left one again
+unfoldable pub retail_of : List ℕ → List ℕ → List ℕ
+retail_of key message =
+    let last = chained (encrypted (left_half key)) zero_block (blocks_of (zero_filled message)) in
+    encrypted (left_half key) (decrypted (right_half key) last)

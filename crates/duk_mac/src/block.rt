@@ -1,0 +1,24 @@
+//! The last block of a message, which may be a part of one.
+
+ghost use Rattle.std.specs.Prelude.{◌≡◌, ◌<◌, ◌≤◌, ◌-◌, ◌++◌, length, replicate};
+ghost use Rattle.duk_mac.specs.Cmac.{padded};
+
+/// The block with zero bytes behind what is there.
+pub fn filled(part: &[u8]) -> [u8; 8]
+    requires { length part.now ≤ 8 }
+    ensures { result ≡ part.now ++ replicate (8 - length part.now) 0 }
+{
+    let mut block = [0; 8];
+    block[..part.len()].copy_from_slice(part);
+    block
+}
+
+/// The block with a one bit and zero bits behind what is there, which is less than a block.
+pub fn padded(part: &[u8]) -> [u8; 8]
+    requires { length part.now < 8 }
+    ensures { result ≡ padded part.now }
+{
+    let mut block = filled(part);
+    block[part.len()] = 0x80;
+    block
+}

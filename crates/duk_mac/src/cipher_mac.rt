@@ -1,0 +1,54 @@
+//! CMAC (NIST SP 800-38B).
+
+ghost use Rattle.std.specs.Prelude.{◌≡◌, ◌≤◌, length};
+ghost use Rattle.duk_tdes.specs.Tdes.{IsTdesLength};
+ghost use Rattle.duk_mac.specs.Cmac.{doubled, last_block, cmac_of};
+
+use crate::block::padded;
+use duk_tdes::{Key, array_of, tdes_encrypt, xor_bytes};
+
+/// Added where doubling drops a one bit: the constant R64 of NIST SP 800-38B section 5.3.
+const CARRY: u64 = 0x1B;
+
+/// The CMAC of a message of any length under a TDES key: `N` is 16 or 24.
+pub fn cmac<const N: usize>(key: &Key<N>, message: &[u8]) -> [u8; 8]
+    requires { IsTdesLength N }
+    ensures { result ≡ cmac_of key.now message.now }
+{
+    let mut chain = [0; 8];
+    let mut rest = message;
+    while rest.len() > 8 {
+        let (block, after) = rest.split_at(8);
+        chain = tdes_encrypt(key, xor_bytes(&chain, &array_of(block)));
+        rest = after;
+    }
+    tdes_encrypt(key, xor_bytes(&chain, &last(key, rest)))
+}
+
+/// The last block of a message, masked: `rest` is what the blocks before it leave, 0 to 8 bytes.
+fn last<const N: usize>(key: &Key<N>, rest: &[u8]) -> [u8; 8]
+    requires length { IsTdesLength N }
+    requires at_most_a_block { length rest.now ≤ 8 }
+    ensures { result ≡ last_block key.now rest.now }
+{
+    let first_subkey = double(tdes_encrypt(key, [0; 8]));
+    if rest.len() == 8 {
+        xor_bytes(&array_of(rest), &first_subkey)
+    } else {
+        xor_bytes(&padded(rest), &double(first_subkey))
+    }
+}
+
+#[tactic(auto, unfolding(crate::specs::Cmac::doubled))]
+/// The block shifted left by one bit; `CARRY` is added where the bit that falls out is a one.
+fn double(block: [u8; 8]) -> [u8; 8]
+    ensures { result ≡ doubled block }
+{
+    let number = u64::from_be_bytes(block);
+    let shifted = number << 1;
+    if number >> 63 == 1 {
+        (shifted ^ CARRY).to_be_bytes()
+    } else {
+        shifted.to_be_bytes()
+    }
+}

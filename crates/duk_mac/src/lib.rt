@@ -1,0 +1,14 @@
+//! Message authentication codes over TDES keys, with blocks and MACs of 8 bytes: CMAC and the retail MAC.
+//!
+//! The functions make MACs. To verify one, make it again and compare all 8 bytes.
+#![tactic(auto)]
+
+mod block;
+mod cipher_mac;
+mod retail_mac;
+
+pub use cipher_mac::cmac;
+pub use retail_mac::retail;
+
+#[cfg(test)]
+mod tests;

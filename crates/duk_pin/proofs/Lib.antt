@@ -1,0 +1,5 @@
+pub mod ListLemmas
+pub mod DigitLemmas
+pub mod NibbleLemmas
+pub mod FieldLemmas
+pub mod BlockLemmas

@@ -1,0 +1,12 @@
+use Rattle.std.proofs.Common.{◌≡◌, Some, rules, sym, ap, ◌∙◌}
+use Rattle.duk_pin.specs.Reading.{ReadsAsPin}
+use Rattle.duk_pin.specs.PinBlock.{pin_field}
+use Rattle.duk_pin.proofs.FieldLemmas.{field_of_digits_read, one_pin_of_field}
+use Rattle.duk_pin.proofs.field.Field.to_pin.Goals as goal
+
+pub returns-then-reads_as_pin-clause-every : goal.returns-then-reads_as_pin-clause-every
+returns-then-reads_as_pin-clause-every c =
+    λ pin is_pin same.
+    let reads : ReadsAsPin c.args.self = search rules in
+    let field : pin_field c.from_values.result ≡ c.args.self = field_of_digits_read _ _ reads c.digits.ensures.field (c.from_values.ensures.values ∙ c.digits.ensures.values) in
+    ap Some (one_pin_of_field _ pin c.from_values.ensures.pin is_pin (field ∙ sym same))

@@ -1,0 +1,24 @@
+-- Lists of nibbles, the halves of bytes, the left half of each byte first (this project's own).
+use Rattle.std.specs.Prelude.{◌≡◌, ℕ, ◌+◌, ◌*◌, ◌/◌, ◌%◌, ◌<◌, List, [], ◌∷◌, length, All, bit_xor}
+
+-- the two nibbles of each byte
+abbrev pub nibbles : List ℕ → List ℕ
+nibbles [] = []
+nibbles (byte ∷ bytes) = byte / 16 ∷ byte % 16 ∷ nibbles bytes
+
+-- the bytes with these nibbles, of which there are two for each
+abbrev pub bytes_of : List ℕ → List ℕ
+bytes_of [] = []
+bytes_of (left ∷ []) = []
+bytes_of (left ∷ right ∷ rest) = (16 * left + right) ∷ bytes_of rest
+
+-- two lists of nibbles of one length, added modulo 2
+abbrev pub xor_nibbles : List ℕ → List ℕ → List ℕ
+xor_nibbles [] right = []
+xor_nibbles (a ∷ left) [] = []
+xor_nibbles (a ∷ left) (b ∷ right) = bit_xor a b ∷ xor_nibbles left right
+
+-- sixteen nibbles, as the fields of a PIN block have
+pub record IsField (field : List ℕ) : Type 0 where
+  pub sixteen : length field ≡ 16
+  pub nibbles_fit : All (λ nibble. nibble < 16) field

@@ -1,0 +1,16 @@
+//! Triple DES of NIST SP 800-67 and its keys.
+//!
+//! A TDES key has 16 bytes (two single keys, the third being the first again) or 24 bytes (three
+//! single keys). Parity bits are neither checked nor adjusted.
+#![tactic(auto)]
+
+mod bytes;
+mod cipher;
+mod key;
+pub mod laws;
+#[cfg(test)]
+mod tests;
+
+pub use bytes::{array_of, xor_bytes};
+pub use cipher::{tdes_decrypt, tdes_encrypt};
+pub use key::{Key, KeyBytes};

@@ -1,0 +1,4 @@
+pub mod SerialLemmas
+pub mod PathLemmas
+pub mod DerivationLemmas
+pub mod KeyLemmas

@@ -1,0 +1,3 @@
+pub mod Serial
+pub mod Path
+pub mod Derivation

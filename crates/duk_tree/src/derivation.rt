@@ -1,0 +1,90 @@
+//! Derivation of keys: from base derivation key to initial key, and down the key tree.
+
+ghost use Rattle.std.specs.Prelude.{◌≡◌, ◌++◌};
+ghost use Rattle.duk_tdes.specs.Key.{xor_bytes};
+ghost use Rattle.duk_tree.specs.Derivation.{derivation_mask, initial_key_of, half_step_of, step_of, low_bytes, transaction_key_of, derived_key_of};
+
+use crate::serial::{COUNTER_BITS, Iksn, Ksn};
+use duk_des::encrypt_block;
+use duk_tdes::{Key, array_of, tdes_encrypt};
+
+/// Masks the base derivation key for the right half of an initial key, and a key of the tree for
+/// the left half of a derived key.
+const DERIVATION_MASK: u128 = 0xC0C0_C0C0_0000_0000_C0C0_C0C0_0000_0000;
+
+/// The initial key of a terminal, under the base derivation key.
+#[tactic(auto, unfolding(crate::specs::Derivation::initial_key_of))]
+pub fn initial_key(bdk: &Key<16>, iksn: Iksn) -> Key<16>
+    ensures { result ≡ initial_key_of bdk.now iksn }
+{
+    let first_eight = array_of(&iksn.bytes()[..8]);
+    let left = tdes_encrypt(bdk, first_eight);
+    let right = tdes_encrypt(&masked(bdk), first_eight);
+    joined(left, right)
+}
+
+/// The key of a child in the key tree; `crypto_register` is the low 64 bits of the child's key serial
+/// number.
+#[tactic(auto, unfolding(crate::specs::Derivation::step_of))]
+pub fn step(key: &Key<16>, crypto_register: [u8; 8]) -> Key<16>
+    ensures { result ≡ step_of key.now crypto_register }
+{
+    let left = half_step(&masked(key), crypto_register);
+    let right = half_step(key, crypto_register);
+    joined(left, right)
+}
+
+/// The transaction key of a key serial number, under the base derivation key; counter zero gives the
+/// initial key. Which counters number a transaction is `usable`'s to say.
+pub fn derive(bdk: &Key<16>, ksn: Ksn) -> Key<16>
+    ensures { result ≡ derived_key_of bdk.now ksn }
+{
+    transaction_key(&initial_key(bdk, ksn.iksn()), ksn)
+}
+
+/// The key of the counter's node in the key tree below an initial key.
+fn transaction_key(initial: &Key<16>, ksn: Ksn) -> Key<16>
+    ensures { result ≡ transaction_key_of initial.now ksn.iksn ksn.counter }
+{
+    let mut key = *initial;
+    for place in (0..COUNTER_BITS).rev() {
+        let reached = ksn.counter() >> place;
+        if reached % 2 == 1 {
+            key = step(&key, low_bytes_of(ksn.with_counter(reached << place)));
+        }
+    }
+    key
+}
+
+/// One half of a step.
+#[tactic(auto, unfolding(crate::specs::Derivation::half_step_of))]
+fn half_step(key: &Key<16>, crypto_register: [u8; 8]) -> [u8; 8]
+    ensures { result ≡ half_step_of key.now crypto_register }
+{
+    let (left, right) = key.halves();
+    let input = right.xor(&crypto_register).bytes();
+    let output = encrypt_block(&left.bytes(), input);
+    right.xor(&output).bytes()
+}
+
+fn masked(key: &Key<16>) -> Key<16>
+    ensures { result ≡ xor_bytes key.now derivation_mask }
+{
+    key.xor(&DERIVATION_MASK.to_be_bytes())
+}
+
+fn joined(left: [u8; 8], right: [u8; 8]) -> Key<16>
+    ensures { result ≡ left ++ right }
+{
+    let mut bytes = [0; 16];
+    bytes[..8].copy_from_slice(&left);
+    bytes[8..].copy_from_slice(&right);
+    Key::new(bytes)
+}
+
+/// The low 64 bits of a key serial number.
+fn low_bytes_of(ksn: Ksn) -> [u8; 8]
+    ensures { result ≡ low_bytes ksn }
+{
+    array_of(&ksn.bytes()[2..10])
+}

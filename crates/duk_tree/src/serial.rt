@@ -1,0 +1,160 @@
+//! Key serial numbers: 80 bits, written as ten bytes or twenty hexadecimal digits.
+
+ghost use Rattle.std.specs.Prelude.{◌≡◌, ◌*◌, ◌^◌, ◌<◌, ◌≤◌, ◌↔◌, length, IsSome, IfSome};
+ghost use Rattle.std.specs.List.{AllPass};
+ghost use Rattle.byteorder.specs.Endian.{big_bytes};
+ghost use Rattle.hex.specs.Hex.{is_hex_digit};
+ghost use Rattle.duk_tree.specs.Serial.{IsIksn, IsSerial, serial_bytes, serial_of_bytes, iksn_bytes, ksn_of_text, iksn_of_text};
+
+use byteorder::{BigEndian, ByteOrder};
+use hex::FromHex;
+use std::marker::Model;
+
+/// The bits of a counter.
+pub(crate) const COUNTER_BITS: u32 = 21;
+
+/// An initial key serial number: the 59 bits above the counter.
+#[derive(Clone, Copy, Debug, PartialEq, Eq)]
+pub struct Iksn {
+    number: u64,
+}
+
+impl Model for Iksn {
+    ghost use Rattle.std.specs.Prelude.{ℕ, ◌*◌, ◌/◌, ◌^◌, ◌<◌};
+
+    ghost Value = { ℕ };
+
+    ghost view = { λ iksn. iksn.number * 2 ^ 21 };
+
+    ghost invariant = { λ iksn. iksn.number < 2 ^ 59 };
+
+    ghost inverse = { λ iksn. record { number = iksn / 2 ^ 21 } };
+}
+
+impl Iksn {
+    /// Reads the key serial number with counter zero: twenty hexadecimal digits of either case.
+    pub fn parse(text: &str) -> Option<Iksn>
+        ensures value { result ≡ iksn_of_text text.now }
+        ensures iksn { IfSome result IsIksn }
+    {
+        let ksn = Ksn::parse(text)?;
+        if ksn.counter == 0 {
+            Some(ksn.iksn)
+        } else {
+            None
+        }
+    }
+
+    /// The ten bytes of the key serial number with counter zero.
+    #[tactic(auto, unfolding(crate::specs::Serial::serial_bytes))]
+    pub fn bytes(self) -> [u8; 10]
+        ensures bytes { result ≡ iksn_bytes self }
+        ensures iksn { IsIksn self }
+    {
+        number_bytes((self.number as u128) << COUNTER_BITS)
+    }
+}
+
+/// A key serial number: an initial key serial number and a counter of 21 bits.
+#[derive(Clone, Copy, Debug, PartialEq, Eq)]
+pub struct Ksn {
+    iksn: Iksn,
+    counter: u32,
+}
+
+impl Model for Ksn {
+    ghost use Rattle.duk_tree.specs.Serial.{Serial, IsSerial};
+
+    ghost Value = { Serial };
+
+    ghost view = { λ ksn. record { iksn = ksn.iksn; counter = ksn.counter } };
+
+    ghost invariant = { λ ksn. IsSerial (record { iksn = ksn.iksn; counter = ksn.counter }) };
+
+    ghost inverse = { λ serial. record { iksn = serial.iksn; counter = serial.counter } };
+}
+
+impl Ksn {
+    /// Reads twenty hexadecimal digits of either case.
+    pub fn parse(text: &str) -> Option<Ksn>
+        ensures value { result ≡ ksn_of_text text.now }
+        ensures found { IsSome result ↔ ((length text.now ≡ 20) × AllPass is_hex_digit text.now) }
+        ensures serial { IfSome result IsSerial }
+    {
+        <[u8; 10] as FromHex>::from_hex(text)
+            .ok()
+            .map(Ksn::from_bytes)
+    }
+
+    /// The key serial number of ten bytes, the highest first.
+    pub fn from_bytes(bytes: [u8; 10]) -> Ksn
+        ensures value { result ≡ serial_of_bytes bytes }
+        ensures bytes { serial_bytes result ≡ bytes }
+        ensures serial { IsSerial result }
+    {
+        ksn_at(&bytes)
+    }
+
+    /// The ten bytes, the highest first.
+    #[tactic(auto, unfolding(crate::specs::Serial::serial_bytes))]
+    pub fn bytes(self) -> [u8; 10]
+        ensures bytes { result ≡ serial_bytes self }
+        ensures serial { IsSerial self }
+    {
+        let Ksn { iksn, counter } = self;
+        number_bytes(((iksn.number as u128) << COUNTER_BITS) + counter as u128)
+    }
+
+    /// The initial key serial number.
+    pub fn iksn(self) -> Iksn
+        ensures value { result ≡ self.iksn }
+        ensures serial { IsSerial self }
+    {
+        self.iksn
+    }
+
+    /// The counter, at most 1FFFFF.
+    pub fn counter(self) -> u32
+        ensures value { result ≡ self.counter }
+        ensures serial { IsSerial self }
+    {
+        self.counter
+    }
+
+    /// The key serial number of the same terminal with this counter.
+    pub fn with_counter(self, counter: u32) -> Ksn
+        requires { counter < 2 ^ 21 }
+        ensures value { result ≡ record self { counter = counter } }
+        ensures serial { IsSerial result }
+    {
+        Ksn { counter, ..self }
+    }
+}
+
+/// The ten bytes of a number, the highest first.
+fn number_bytes(number: u128) -> [u8; 10]
+    requires { number < 2 ^ 80 }
+    ensures { result ≡ big_bytes 10 number }
+{
+    let mut bytes = [0; 10];
+    BigEndian::write_uint128(&mut bytes, number, 10);
+    bytes
+}
+
+/// The key serial number in ten bytes.
+#[tactic(auto, unfolding(crate::specs::Serial::serial_of_bytes))]
+fn ksn_at(bytes: &[u8]) -> Ksn
+    requires { length bytes.now ≡ 10 }
+    ensures value { result ≡ serial_of_bytes bytes.now }
+    ensures bytes { serial_bytes result ≡ bytes.now }
+    ensures serial { IsSerial result }
+{
+    let number = BigEndian::read_uint128(bytes, 10);
+    let iksn = Iksn {
+        number: (number >> COUNTER_BITS) as u64,
+    };
+    Ksn {
+        iksn,
+        counter: (number % (1 << COUNTER_BITS)) as u32,
+    }
+}

@@ -1,0 +1,3 @@
+pub mod DeriveLemmas
+pub mod SinkLemmas
+pub mod UpperHex

@@ -1,0 +1,46 @@
+-- What several writes leave, from what each of them leaves.
+use Rattle.std.proofs.Common.{ℕ, ◌+◌, List, ◌++◌, take, drop, Option, Some, None, sym, ap, ◌∙◌, inl, inr}
+use Rattle.std.proofs.Math.Seq.{take-add}
+use Rattle.std.proofs.KnownBytes.{Appends-trans}
+use Rattle.std.specs.Io.KnownBytes.{Appends, Keeps}
+use Rattle.dukpt.specs.Sink.{Told, Stayed, Rose, IsUntouched, IsWritten, IsTried}
+
+-- a count that stayed twice stayed
+pub stayed_twice : (a b c : Option ℕ) → Stayed a b → Stayed b c → Stayed a c
+stayed_twice None b c first second = tt
+stayed_twice (Some n) None c first second = cc first
+stayed_twice (Some n) (Some m) c first second = second ∙ first
+
+-- one more write after the first n bytes of the text
+pub written_more : (a b c : Told) (text : List ℕ) (n m : ℕ) → IsWritten a b (take n text)
+    → Appends b.contents c.contents (take m (drop n text)) → Stayed b.failures c.failures → IsWritten a c (take (n + m) text)
+written_more a b c text n m first bytes stayed = record {
+  bytes = rw (take-add n m text) (Appends-trans a.contents b.contents c.contents _ _ first.bytes bytes);
+  unfailed = stayed_twice a.failures b.failures c.failures first.unfailed stayed;
+}
+
+appended_later : (a b c : Option (List ℕ)) (text : List ℕ) → Keeps a b → Appends b c text → Appends a c text
+appended_later None b c text kept bytes = tt
+appended_later (Some x) None c text kept bytes = absurd kept
+appended_later (Some x) (Some y) None text kept bytes = absurd bytes
+appended_later (Some x) (Some y) (Some z) text kept bytes = bytes ∙ ap (λ l. l ++ text) kept
+
+rose_later : (a b c : Option ℕ) → Stayed a b → Rose b c → Rose a c
+rose_later None b c stayed rose = tt
+rose_later (Some n) None c stayed rose = cc stayed
+rose_later (Some n) (Some m) c stayed rose = λ same. rose (same ∙ sym stayed)
+
+-- a text that was tried after nothing had been written was tried
+pub tried_later : (a b c : Told) (text : List ℕ) → IsUntouched a b → IsTried b c text → IsTried a c text
+tried_later a b c text quiet (inl whole) = inl (record {
+  bytes = appended_later a.contents b.contents c.contents text quiet.bytes whole.bytes;
+  unfailed = stayed_twice a.failures b.failures c.failures quiet.unfailed whole.unfailed;
+})
+tried_later a b c text quiet (inr (count, cut)) = inr (
+  count,
+  record {
+    short = cut.short;
+    bytes = appended_later a.contents b.contents c.contents (take count text) quiet.bytes cut.bytes;
+    failed = rose_later a.failures b.failures c.failures quiet.unfailed cut.failed;
+  },
+)

@@ -1,0 +1,4 @@
+pub mod Derive
+pub mod Fault
+pub mod Sink
+pub mod Status

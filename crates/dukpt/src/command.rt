@@ -1,0 +1,117 @@
+//! One run of the program over its words.
+
+ghost use Rattle.std.specs.Prelude.{◌≡◌, ◌⊎◌};
+ghost use Rattle.std.specs.Io.KnownBytes.{Keeps};
+ghost use Rattle.dukpt.specs.Fault.{line_of, IsFaultTold};
+ghost use Rattle.dukpt.specs.declared.fault.Fault.{Fault};
+ghost use Rattle.dukpt.specs.Sink.{IsUntouched, IsTried};
+ghost use Rattle.dukpt.specs.Status.{status_of, IsStatus};
+
+use crate::derive::derive_command;
+use crate::fault::{Fault, tell};
+use crate::sink::{Sink, write_text};
+use crate::words::{Request, read_request};
+use clap::Error;
+use clap::error::ErrorKind;
+use std::alloc::{AllocError, Global};
+
+/// What is left to do when the words are dealt with.
+#[derive(Clone, Copy, Debug, PartialEq, Eq)]
+pub enum Todo {
+    /// To end with this status: 0 where all is done, 1 behind a line that tells the fault, 2 where
+    /// the words were refused.
+    Exit(u8),
+}
+
+/// Does what the words ask, the first of which is the program's name.
+///
+/// What a command prints goes to `output`, and so does help that was asked for; the line of a fault
+/// and the text that refuses the words go to `fault`. What is printed is flushed.
+pub fn command<W: Sink, F: Sink>(
+    alloc: Global,
+    words: &[String],
+    output: &mut W,
+    fault: &mut F,
+) -> Todo
+    ensures status { IsStatus (status_of result) }
+    ensures no_fault { status_of result ≡ 0 → IsUntouched (F.told fault.old) (F.told fault.new) }
+    ensures fault { status_of result ≡ 1 → IsFaultTold (F.told fault.old) (F.told fault.new) }
+    ensures refused { status_of result ≡ 2
+        → Keeps (W.told output.old).contents (W.told output.new).contents }
+{
+    match answer(alloc, words, output, fault) {
+        0 => Todo::Exit(flush(output, fault)),
+        status => Todo::Exit(status),
+    }
+}
+
+/// Does what the words ask and gives the status; what is printed may still be held back.
+fn answer<W: Sink, F: Sink>(alloc: Global, words: &[String], output: &mut W, fault: &mut F) -> u8
+    ensures status { IsStatus result }
+    ensures no_fault { result ≡ 0 → IsUntouched (F.told fault.old) (F.told fault.new) }
+    ensures fault { result ≡ 1 → IsFaultTold (F.told fault.old) (F.told fault.new) }
+    ensures refused { result ≡ 2 → Keeps (W.told output.old).contents (W.told output.new).contents }
+{
+    match read_request(alloc, words) {
+        Ok(request) => run(request, output, fault),
+        Err(error) => show(alloc, error, output, fault),
+    }
+}
+
+/// Does the command of a request and gives the status.
+fn run<W: Sink, F: Sink>(request: Request, output: &mut W, fault: &mut F) -> u8
+    ensures status { (result ≡ 0) ⊎ (result ≡ 1) }
+    ensures no_fault { result ≡ 0 → IsUntouched (F.told fault.old) (F.told fault.new) }
+    ensures fault { result ≡ 1 → IsFaultTold (F.told fault.old) (F.told fault.new) }
+{
+    match request {
+        Request::Derive { bdk, ksn } => derive_command(bdk, ksn, output, fault),
+    }
+}
+
+/// Writes the text of what `clap` answered in place of a request, and gives the status.
+fn show<W: Sink, F: Sink>(alloc: Global, error: Error, output: &mut W, fault: &mut F) -> u8
+    ensures status { IsStatus result }
+    ensures no_fault { result ≡ 0 → IsUntouched (F.told fault.old) (F.told fault.new) }
+    ensures fault { result ≡ 1 → IsFaultTold (F.told fault.old) (F.told fault.new) }
+    ensures refused { result ≡ 2 → Keeps (W.told output.old).contents (W.told output.new).contents }
+{
+    if error.kind() == ErrorKind::OutOfMemory {
+        return tell(fault, Fault::OutOfMemory);
+    }
+    let Ok(text) = text_of(alloc, &error) else {
+        return tell(fault, Fault::OutOfMemory);
+    };
+    if error.use_stderr() {
+        let _ = write_text(fault, text.as_bytes());
+        return 2;
+    }
+    match write_text(output, text.as_bytes()) {
+        Ok(()) => 0,
+        Err(_) => tell(fault, Fault::WriteFailed),
+    }
+}
+
+/// The text that `clap` has for the user, its last line ended.
+fn text_of(alloc: Global, error: &Error) -> Result<String, AllocError> {
+    let mut text = format!(in alloc; "{error}")?;
+    if !text.ends_with('\n') {
+        text.push('\n')?;
+    }
+    Ok(text)
+}
+
+/// Hands on what `output` still holds back, and gives the status: 0, or 1 where that fails, since
+/// something of what was printed is missing then.
+fn flush<W: Sink, F: Sink>(output: &mut W, fault: &mut F) -> u8
+    ensures status { (result ≡ 0) ⊎ (result ≡ 1) }
+    ensures no_fault { result ≡ 0 → IsUntouched (F.told fault.old) (F.told fault.new) }
+    ensures fault { result ≡ 1
+        → IsTried (F.told fault.old) (F.told fault.new) (line_of Fault.WriteFailed) }
+    ensures output { Keeps (W.told output.old).contents (W.told output.new).contents }
+{
+    match output.flush() {
+        Ok(()) => 0,
+        Err(_) => tell(fault, Fault::WriteFailed),
+    }
+}

@@ -1,0 +1,46 @@
+//! Why a command ends with status 1, and the line that tells it.
+
+ghost use Rattle.std.specs.Prelude.{◌≡◌};
+ghost use Rattle.dukpt.specs.Sink.{IsTried};
+ghost use Rattle.dukpt.specs.Fault.{line_of};
+
+use crate::sink::{Sink, write_text};
+
+/// Why a command ends with status 1.
+#[derive(Clone, Copy, Debug, PartialEq, Eq)]
+pub enum Fault {
+    /// The base derivation key is not 32 hexadecimal digits.
+    BdkRefused,
+    /// The key serial number is not 20 hexadecimal digits.
+    KsnRefused,
+    /// The counter is zero or has more than ten one bits.
+    CounterRefused,
+    /// Memory was refused.
+    OutOfMemory,
+    /// What had to be written could not be.
+    WriteFailed,
+}
+
+impl Fault {
+    /// The line on standard error.
+    pub fn line(self) -> &'static [u8]
+        ensures { result.now ≡ line_of self }
+    {
+        match self {
+            Fault::BdkRefused => b"BDK refused\n",
+            Fault::KsnRefused => b"KSN refused\n",
+            Fault::CounterRefused => b"counter refused\n",
+            Fault::OutOfMemory => b"out of memory\n",
+            Fault::WriteFailed => b"write failed\n",
+        }
+    }
+}
+
+/// Writes the line of the fault and gives the status 1. What the line cannot be written of is lost.
+pub fn tell<F: Sink>(fault: &mut F, why: Fault) -> u8
+    ensures status { result ≡ 1 }
+    ensures line { IsTried (F.told fault.old) (F.told fault.new) (line_of why) }
+{
+    let _ = write_text(fault, why.line());
+    1
+}

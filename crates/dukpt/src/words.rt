@@ -1,0 +1,59 @@
+//! The words of the command line, read with `clap`.
+
+use clap::error::ErrorKind;
+use clap::{Arg, ArgMatches, Command, Error};
+use std::alloc::{AllocError, Global};
+
+/// What the words ask for.
+#[derive(Clone, Copy, Debug, PartialEq, Eq)]
+pub enum Request<'a> {
+    /// The keys of one key serial number.
+    Derive {
+        /// The base derivation key, as written.
+        bdk: &'a str,
+        /// The key serial number, as written.
+        ksn: &'a str,
+    },
+}
+
+/// The request that the words make; the first word is the program's name. The error is `clap`'s:
+/// words that are refused, help that was asked for, or want of memory.
+pub fn read_request<'a>(alloc: Global, words: &'a [String]) -> Result<Request<'a>, Error> {
+    let mut program = program(alloc)?;
+    let matches = program.try_get_matches_from_mut(words)?;
+    match request_of(&matches) {
+        Some(request) => Ok(request),
+        None => Err(program.error(ErrorKind::MissingSubcommand, "a command is required")?),
+    }
+}
+
+fn request_of<'a>(matches: &ArgMatches<'a>) -> Option<Request<'a>> {
+    match matches.subcommand()? {
+        ("derive", found) => Some(Request::Derive {
+            bdk: found.get_str("BDK")?,
+            ksn: found.get_str("KSN")?,
+        }),
+        _ => None,
+    }
+}
+
+/// The program's commands.
+fn program<'a>(alloc: Global) -> Result<Command<'a>, AllocError> {
+    Command::new(alloc, "dukpt")
+        .about("A payment host, its HSM and its PIN terminals, keyed by TDES DUKPT")
+        .subcommand_required(true)
+        .subcommand(derive_words(alloc)?)
+}
+
+fn derive_words<'a>(alloc: Global) -> Result<Command<'a>, AllocError> {
+    let bdk = Arg::new(alloc, "BDK")
+        .required(true)
+        .help("The base derivation key, 32 hexadecimal digits");
+    let ksn = Arg::new(alloc, "KSN")
+        .required(true)
+        .help("The key serial number, 20 hexadecimal digits");
+    Command::new(alloc, "derive")
+        .about("Prints the initial key, the transaction key and the PIN key of a key serial number")
+        .arg(bdk)?
+        .arg(ksn)
+}
