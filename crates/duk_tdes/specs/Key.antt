@@ -1,4 +1,4 @@
--- Keys as lists of bytes.
+-- Keys as lists of bytes. The words are this project's own.
 use Rattle.std.specs.Prelude.{◌≡◌, ◌<◌, ◌^◌, ℕ, List, [], ◌∷◌, length, take, drop, bit_xor}
 use Rattle.std.specs.List.{All}
 
@@ -7,7 +7,7 @@ pub record IsKey (size : ℕ) (key : List ℕ) : Type 0 where
   pub size_is : length key ≡ size
   pub bytes_fit : All (λ byte. byte < 2 ^ 8) key
 
--- the first eight of sixteen bytes
+-- the first eight of the sixteen bytes of a double-length key
 abbrev pub left_half : List ℕ → List ℕ
 left_half key = take 8 key
 

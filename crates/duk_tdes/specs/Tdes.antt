@@ -2,26 +2,26 @@
 use Rattle.std.specs.Prelude.{◌≡◌, ◌⊎◌, ℕ, List, length, take, drop, ◌==◌, if◌then◌else◌}
 use Rattle.duk_des.specs.Des.{encrypted, decrypted}
 
--- a TDES key has 16 bytes, with two single keys, or 24, with three (NIST SP 800-67 section 3)
+-- a TDES key has 16 bytes, where K3 is K1, or 24, where each of the three single keys has its own (section 3, keying options)
 abbrev pub IsTdesLength : ℕ → Type 0
 IsTdesLength size = (size ≡ 16) ⊎ (size ≡ 24)
 
--- K1
+-- K1 (section 3)
 abbrev pub first_key : List ℕ → List ℕ
 first_key key = take 8 key
 
--- K2
+-- K2 (section 3)
 abbrev pub second_key : List ℕ → List ℕ
 second_key key = take 8 (drop 8 key)
 
--- K3, which is K1 again in a key of 16 bytes
+-- K3, which is K1 again in a key of 16 bytes (section 3, keying options)
 abbrev pub third_key : List ℕ → List ℕ
 third_key key = if length key == 16 then first_key key else take 8 (drop 16 key)
 
--- the TDES forward cipher operation: K3's encryption of K2's decryption of K1's encryption
+-- the forward cipher operation (section 3): encryption under K1, decryption under K2, encryption under K3
 unfoldable pub tdes_encrypted : List ℕ → List ℕ → List ℕ
 tdes_encrypted key block = encrypted (third_key key) (decrypted (second_key key) (encrypted (first_key key) block))
 
--- the TDES inverse cipher operation: the reverse, in the reverse order
+-- the inverse cipher operation (section 3): decryption under K3, encryption under K2, decryption under K1
 unfoldable pub tdes_decrypted : List ℕ → List ℕ → List ℕ
 tdes_decrypted key block = decrypted (first_key key) (encrypted (second_key key) (decrypted (third_key key) block))

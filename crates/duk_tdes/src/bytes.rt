@@ -7,7 +7,7 @@ ghost use Rattle.duk_tdes.specs.Key.{IsKey, xor_bytes};
 pub fn array_of<const N: usize>(bytes: &[u8]) -> [u8; N]
     requires { length bytes.now ≡ N }
     ensures bytes { result ≡ bytes.now }
-    ensures length { IsKey N result }
+    ensures key { IsKey N result }
 {
     let mut array = [0; N];
     array.copy_from_slice(bytes);

@@ -32,7 +32,7 @@ impl<const N: usize> Key<N> {
     /// The bytes of the key.
     pub fn bytes(&self) -> [u8; N]
         ensures bytes { result ≡ self.now }
-        ensures length { IsKey N self.now }
+        ensures key { IsKey N self.now }
     {
         array_of(&self.bytes)
     }

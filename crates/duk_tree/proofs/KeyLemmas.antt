@@ -1,5 +1,5 @@
 -- The keys of the tree are keys of sixteen bytes, as far as the ciphers below make blocks of blocks.
-use Rattle.std.proofs.Common.{◌≡◌, ℕ, ◌<◌, ◌≤◌, ◌+◌, ◌^◌, Bool, true, List, [], ◌∷◌, ◌++◌, length, take, drop, refl, arith, ltb, inl}
+use Rattle.std.proofs.Common.{◌≡◌, ℕ, ◌<◌, ◌≤◌, ◌^◌, true, List, [], ◌∷◌, ◌++◌, length, take, drop, refl, arith, ltb, inl}
 use Rattle.std.specs.List.{All, list_all}
 use Rattle.std.proofs.lemmas.Bool.Decides.{nat_tests}
 use Rattle.std.proofs.lemmas.List.{length-take-le, length-drop}
@@ -11,7 +11,7 @@ use Rattle.duk_tdes.specs.Key.{IsKey, left_half, right_half, xor_bytes}
 use Rattle.duk_tdes.specs.Tdes.{IsTdesLength, tdes_encrypted}
 use Rattle.duk_tree.specs.Serial.{Serial, serial_bytes, iksn_bytes}
 use Rattle.duk_tree.specs.Path.{value_of}
-use Rattle.duk_tree.specs.Derivation.{both_halves, derivation_mask, initial_key_of, half_step_of, step_of, low_bytes, node_key}
+use Rattle.duk_tree.specs.Derivation.{derivation_mask, initial_key_of, half_step_of, step_of, low_bytes, node_key}
 use Rattle.duk_tree.proofs.SerialLemmas.{length-serial_bytes, serial_bytes_fit}
 
 -- what the crates below say of keys and blocks

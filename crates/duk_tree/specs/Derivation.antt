@@ -6,7 +6,7 @@ use Rattle.duk_tdes.specs.Tdes.{tdes_encrypted}
 use Rattle.duk_tree.specs.Serial.{Serial, serial_bytes, iksn_bytes}
 use Rattle.duk_tree.specs.Path.{value_of, path_of}
 
--- a mask of eight bytes over both halves of a key
+-- a mask of eight bytes over both halves of a key (this project's own word)
 abbrev pub both_halves : List ℕ → List ℕ
 both_halves mask = mask ++ mask
 
@@ -25,7 +25,7 @@ initial_key_of bdk iksn =
 unfoldable pub half_step_of : List ℕ → List ℕ → List ℕ
 half_step_of key crypto_register = xor_bytes (right_half key) (encrypted (left_half key) (xor_bytes (right_half key) crypto_register))
 
--- the non-reversible key generation: the right half under the key itself, the left half under the key with the mask
+-- the non-reversible key generation process: the right half under the key itself, the left half under the key with the mask
 unfoldable pub step_of : List ℕ → List ℕ → List ℕ
 step_of key crypto_register = half_step_of (xor_bytes key derivation_mask) crypto_register ++ half_step_of key crypto_register
 
@@ -47,14 +47,14 @@ transaction_key_of initial iksn counter = node_key initial iksn (path_of counter
 abbrev pub derived_key_of : List ℕ → Serial → List ℕ
 derived_key_of bdk serial = transaction_key_of (initial_key_of bdk serial.iksn) serial.iksn serial.counter
 
--- the variant of a transaction key that enciphers PINs
+-- the variant of a transaction key that enciphers PINs: 00000000000000FF in both halves
 abbrev pub pin_key_of : List ℕ → List ℕ
 pin_key_of key = xor_bytes key (both_halves (0 ∷ 0 ∷ 0 ∷ 0 ∷ 0 ∷ 0 ∷ 0 ∷ 0xFF ∷ []))
 
--- the variant that authenticates requests
+-- the variant that authenticates requests: 000000000000FF00
 abbrev pub request_key_of : List ℕ → List ℕ
 request_key_of key = xor_bytes key (both_halves (0 ∷ 0 ∷ 0 ∷ 0 ∷ 0 ∷ 0 ∷ 0xFF ∷ 0 ∷ []))
 
--- the variant that authenticates responses
+-- the variant that authenticates responses: 00000000FF000000
 abbrev pub response_key_of : List ℕ → List ℕ
 response_key_of key = xor_bytes key (both_halves (0 ∷ 0 ∷ 0 ∷ 0 ∷ 0xFF ∷ 0 ∷ 0 ∷ 0 ∷ []))

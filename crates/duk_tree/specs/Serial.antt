@@ -1,4 +1,5 @@
--- Key serial numbers (ANSI X9.24-1:2009 annex A): 59 bits of initial key serial number, and a counter in the low 21 bits.
+-- Key serial numbers (ANSI X9.24-1:2009 annex A): 80 bits, 59 of them the initial key serial number, and the low 21 a counter.
+-- Their texts are this project's own.
 use Rattle.std.specs.Prelude.{◌≡◌, ◌<◌, ◌+◌, ◌*◌, ◌/◌, ◌%◌, ◌^◌, ◌==◌, ℕ, List, Option, Some, None, if◌then◌else◌}
 use Rattle.std.specs.Option.{option_map, option_and_then}
 use Rattle.std.specs.Result.{result_ok}
@@ -34,10 +35,10 @@ serial_of_bytes bytes =
 abbrev pub iksn_bytes : ℕ → List ℕ
 iksn_bytes iksn = serial_bytes (record { iksn = iksn; counter = 0 })
 
--- the key serial number that a text of twenty hexadecimal digits spells
+-- the key serial number that a text of twenty hexadecimal digits, of either case, spells
 abbrev pub ksn_of_text : List ℕ → Option Serial
 ksn_of_text text = option_map serial_of_bytes (result_ok (decode_sized text 10))
 
--- the initial key serial number that such a text spells, with a counter of zero
+-- the initial key serial number that such a text spells, where the counter in it is zero
 abbrev pub iksn_of_text : List ℕ → Option ℕ
 iksn_of_text text = option_and_then (λ serial. if serial.counter == 0 then Some serial.iksn else None) (ksn_of_text text)

@@ -1,4 +1,5 @@
-//! Derivation of keys: from base derivation key to initial key, and down the key tree.
+//! Derivation of keys (ANSI X9.24-1:2009 annex A): from base derivation key to initial key, and
+//! down the key tree.
 
 ghost use Rattle.std.specs.Prelude.{◌≡◌, ◌++◌};
 ghost use Rattle.duk_tdes.specs.Key.{xor_bytes};
@@ -12,7 +13,8 @@ use duk_tdes::{Key, array_of, tdes_encrypt};
 /// the left half of a derived key.
 const DERIVATION_MASK: u128 = 0xC0C0_C0C0_0000_0000_C0C0_C0C0_0000_0000;
 
-/// The initial key of a terminal, under the base derivation key.
+/// The initial key of a terminal, under the base derivation key: each half is TDES of the first eight
+/// bytes of the initial key serial number, the right one under the masked key.
 #[tactic(auto, unfolding(crate::specs::Derivation::initial_key_of))]
 pub fn initial_key(bdk: &Key<16>, iksn: Iksn) -> Key<16>
     ensures { result ≡ initial_key_of bdk.now iksn }
@@ -23,8 +25,8 @@ pub fn initial_key(bdk: &Key<16>, iksn: Iksn) -> Key<16>
     joined(left, right)
 }
 
-/// The key of a child in the key tree; `crypto_register` is the low 64 bits of the child's key serial
-/// number.
+/// The key of a child in the key tree, from its parent's key and the low 64 bits of the child's key
+/// serial number: the non-reversible key generation process.
 #[tactic(auto, unfolding(crate::specs::Derivation::step_of))]
 pub fn step(key: &Key<16>, crypto_register: [u8; 8]) -> Key<16>
     ensures { result ≡ step_of key.now crypto_register }

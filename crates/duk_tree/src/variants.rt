@@ -6,10 +6,13 @@ ghost use Rattle.duk_tree.specs.Derivation.{pin_key_of, request_key_of, response
 
 use duk_tdes::Key;
 
+/// 00000000000000FF in both halves.
 const PIN_MASK: u128 = 0x0000_0000_0000_00FF_0000_0000_0000_00FF;
 
+/// 000000000000FF00 in both halves.
 const REQUEST_MASK: u128 = 0x0000_0000_0000_FF00_0000_0000_0000_FF00;
 
+/// 00000000FF000000 in both halves.
 const RESPONSE_MASK: u128 = 0x0000_0000_FF00_0000_0000_0000_FF00_0000;
 
 /// The key that enciphers the PIN block of a transaction.

@@ -1,3 +1,4 @@
 pub mod DeriveLemmas
+pub mod PinLemmas
 pub mod SinkLemmas
 pub mod UpperHex

@@ -2,17 +2,28 @@
 use Rattle.std.specs.Prelude.{ℕ, List, [], ◌∷◌, ◌++◌, codes}
 use Rattle.dukpt.specs.declared.fault.Fault.{Fault}
 use Rattle.dukpt.specs.Sink.{Told, IsTried}
-use Rattle.dukpt.specs.declared.fault.Fault.TheVariants.{BdkRefused, KsnRefused, CounterRefused, OutOfMemory, WriteFailed}
+use Rattle.dukpt.specs.declared.fault.Fault.TheVariants.{BdkRefused, KsnRefused, CounterRefused, KeyRefused, PinRefused, OutOfMemory, WriteFailed}
+use Rattle.duk_pin.specs.declared.fault.PinFault.{PinFault}
+use Rattle.duk_pin.specs.declared.fault.PinFault.TheVariants.{PinLength, PinDigit, PanLength, PanDigit}
 
 -- the end of a line, LF
 abbrev pub line_end : List ℕ
 line_end = 10 ∷ []
+
+-- the name of a fault of a PIN or a PAN
+abbrev pub name_of : PinFault → List ℕ
+name_of PinLength = codes "PinLength"
+name_of PinDigit = codes "PinDigit"
+name_of PanLength = codes "PanLength"
+name_of PanDigit = codes "PanDigit"
 
 -- the line of each fault
 abbrev pub line_of : Fault → List ℕ
 line_of BdkRefused = codes "BDK refused" ++ line_end
 line_of KsnRefused = codes "KSN refused" ++ line_end
 line_of CounterRefused = codes "counter refused" ++ line_end
+line_of KeyRefused = codes "key refused" ++ line_end
+line_of (PinRefused fault) = name_of fault ++ line_end
 line_of OutOfMemory = codes "out of memory" ++ line_end
 line_of WriteFailed = codes "write failed" ++ line_end
 

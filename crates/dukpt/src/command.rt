@@ -9,6 +9,7 @@ ghost use Rattle.dukpt.specs.Status.{status_of, IsStatus};
 
 use crate::derive::derive_command;
 use crate::fault::{Fault, tell};
+use crate::pin::pin_command;
 use crate::sink::{Sink, write_text};
 use crate::words::{Request, read_request};
 use clap::Error;
@@ -66,6 +67,7 @@ fn run<W: Sink, F: Sink>(request: Request, output: &mut W, fault: &mut F) -> u8
 {
     match request {
         Request::Derive { bdk, ksn } => derive_command(bdk, ksn, output, fault),
+        Request::Pin { pin, pan, key } => pin_command(pin, pan, key, output, fault),
     }
 }
 

@@ -1,17 +1,16 @@
 //! The command `derive`: the keys of one key serial number.
 
-ghost use Rattle.std.specs.Prelude.{◌≡◌, ◌⊎◌, ◌↔◌, ℕ, List, length, IsSome, IfOk, IfErr};
-ghost use Rattle.std.specs.List.{AllPass};
-ghost use Rattle.hex.specs.Hex.{is_hex_digit};
+ghost use Rattle.std.specs.Prelude.{◌≡◌, ◌⊎◌, ℕ, List, IfOk, IfErr};
 ghost use Rattle.duk_tree.specs.Serial.{Serial};
-ghost use Rattle.dukpt.specs.Derive.{key_of_text, derived_lines, IsDerivable, IsRefused, IsDerived, IsRefusal, IsCutShort};
+ghost use Rattle.dukpt.specs.Derive.{derived_lines, IsDerivable, IsRefused, IsDerived, IsNotDerived, IsDerivedInPart};
 
-use crate::fault::{Fault, tell};
+use crate::answer::finish;
+use crate::fault::Fault;
+use crate::key_text::read_key;
 use crate::lines::{Lines, push_line};
-use crate::sink::{Sink, write_text};
+use crate::sink::Sink;
 use duk_tdes::Key;
 use duk_tree::{Ksn, derive, initial_key, pin_key, usable};
-use hex::FromHex;
 
 /// Writes the initial key, the transaction key and the PIN key of a key serial number, a line each
 /// (ANSI X9.24-1:2009 annex A), and gives the status: 0, or 1 with a line on `fault`.
@@ -24,19 +23,12 @@ pub fn derive_command<W: Sink, F: Sink>(bdk: &str, ksn: &str, output: &mut W, fa
     ensures done { result ≡ 0 → IsDerived bdk.now ksn.now
         (W.told output.old) (W.told output.new) (F.told fault.old) (F.told fault.new) }
     ensures told { result ≡ 1
-        → IsRefusal bdk.now ksn.now
+        → IsNotDerived bdk.now ksn.now
         (W.told output.old) (W.told output.new) (F.told fault.old) (F.told fault.new)
-        ⊎ IsCutShort bdk.now ksn.now
+        ⊎ IsDerivedInPart bdk.now ksn.now
         (W.told output.old) (W.told output.new) (F.told fault.old) (F.told fault.new) }
 {
-    let lines = match derived(bdk, ksn) {
-        Ok(lines) => lines,
-        Err(why) => return tell(fault, why),
-    };
-    match write_text(output, lines.as_slice()) {
-        Ok(()) => 0,
-        Err(_) => tell(fault, Fault::WriteFailed),
-    }
+    finish(derived(bdk, ksn), output, fault)
 }
 
 /// The three lines of the two words, or their first fault.
@@ -53,22 +45,14 @@ fn derived(bdk: &str, ksn: &str) -> Result<Lines, Fault>
     Ok(lines_of(&bdk, ksn))
 }
 
-/// The key that 32 hexadecimal digits of either case write.
-fn read_key(text: &str) -> Option<Key<16>>
-    ensures key { result ≡ key_of_text text.now }
-    ensures digits { IsSome result ↔ ((length text.now ≡ 32) × AllPass is_hex_digit text.now) }
-{
-    <[u8; 16] as FromHex>::from_hex(text).ok().map(Key::new)
-}
-
 fn lines_of(bdk: &Key<16>, ksn: Ksn) -> Lines
     ensures { result.items ≡ derived_lines bdk.now ksn }
 {
     let initial = initial_key(bdk, ksn.iksn());
     let key = derive(bdk, ksn);
     let mut lines = Lines::new();
-    push_line(&mut lines, b"initial", &initial);
-    push_line(&mut lines, b"key", &key);
-    push_line(&mut lines, b"pin", &pin_key(&key));
+    push_line(&mut lines, b"initial", &initial.bytes());
+    push_line(&mut lines, b"key", &key.bytes());
+    push_line(&mut lines, b"pin", &pin_key(&key).bytes());
     lines
 }

@@ -5,6 +5,7 @@ ghost use Rattle.dukpt.specs.Sink.{IsTried};
 ghost use Rattle.dukpt.specs.Fault.{line_of};
 
 use crate::sink::{Sink, write_text};
+use duk_pin::PinFault;
 
 /// Why a command ends with status 1.
 #[derive(Clone, Copy, Debug, PartialEq, Eq)]
@@ -15,6 +16,10 @@ pub enum Fault {
     KsnRefused,
     /// The counter is zero or has more than ten one bits.
     CounterRefused,
+    /// The key of `--key` is not 32 hexadecimal digits.
+    KeyRefused,
+    /// The PIN or the PAN is refused.
+    PinRefused(PinFault),
     /// Memory was refused.
     OutOfMemory,
     /// What had to be written could not be.
@@ -30,6 +35,11 @@ impl Fault {
             Fault::BdkRefused => b"BDK refused\n",
             Fault::KsnRefused => b"KSN refused\n",
             Fault::CounterRefused => b"counter refused\n",
+            Fault::KeyRefused => b"key refused\n",
+            Fault::PinRefused(PinFault::PinLength) => b"PinLength\n",
+            Fault::PinRefused(PinFault::PinDigit) => b"PinDigit\n",
+            Fault::PinRefused(PinFault::PanLength) => b"PanLength\n",
+            Fault::PinRefused(PinFault::PanDigit) => b"PanDigit\n",
             Fault::OutOfMemory => b"out of memory\n",
             Fault::WriteFailed => b"write failed\n",
         }

@@ -1,46 +1,46 @@
-//! Lines that name a key, in upper-case hexadecimal.
+//! Lines that name some bytes, in upper-case hexadecimal.
 
-ghost use Rattle.std.specs.Prelude.{◌≡◌, ◌+◌, ◌++◌, ◌≤◌, length, map};
+ghost use Rattle.std.specs.Prelude.{◌≡◌, ◌+◌, ◌*◌, ◌++◌, ◌≤◌, length, map};
 ghost use Rattle.std.specs.Char.{to_ascii_uppercase};
 ghost use Rattle.arrayvec.specs.ArrayVec.{array_vec_len};
 ghost use Rattle.hex.specs.Hex.{encode_upper};
-ghost use Rattle.dukpt.specs.Derive.{key_line};
+ghost use Rattle.dukpt.specs.Answer.{named_line};
 
 use arrayvec::ArrayVec;
-use duk_tdes::Key;
 
-/// Room for the lines of a derivation, which have 115 bytes.
+/// How many bytes the lines of a command may have; those of `derive` have 115.
 pub const LINES_ROOM: usize = 128;
 
-/// Lines that are to be written at once.
+/// The lines of a command.
 pub type Lines = ArrayVec<u8, LINES_ROOM>;
 
-/// What a line has beside its name: a space, 32 digits and the end of the line.
-pub const BESIDE_NAME: usize = 34;
+/// The longest bytes that a line names: a key's.
+const MOST_BYTES: usize = 16;
 
-/// Appends the line of a key: its name, a space, its 32 digits and LF.
-pub fn push_line(lines: &mut Lines, name: &[u8], key: &Key<16>)
-    requires { array_vec_len lines.old + length name.now + BESIDE_NAME ≤ LINES_ROOM }
-    ensures line { lines.new.items ≡ lines.old.items ++ key_line name.now key.now }
+/// Appends the line that names some bytes: the name, a space, two digits for each byte and LF.
+pub fn push_line(lines: &mut Lines, name: &[u8], bytes: &[u8])
+    requires bytes { length bytes.now ≤ MOST_BYTES }
+    requires room { array_vec_len lines.old + length name.now + 2 * length bytes.now + 2 ≤ LINES_ROOM }
+    ensures line { lines.new.items ≡ lines.old.items ++ named_line name.now bytes.now }
     ensures len { array_vec_len lines.new
-        ≡ array_vec_len lines.old + length name.now + BESIDE_NAME }
+        ≡ array_vec_len lines.old + length name.now + 2 * length bytes.now + 2 }
 {
+    let mut digits = [0; 2 * MOST_BYTES];
+    let digits = &mut digits[..2 * bytes.len()];
+    write_upper_hex(bytes, digits);
     lines.try_extend_from_slice(name).unwrap();
     lines.push(b' ');
-    lines
-        .try_extend_from_slice(&upper_hex(key.bytes()))
-        .unwrap();
+    lines.try_extend_from_slice(digits).unwrap();
     lines.push(b'\n');
 }
 
-/// The text of a key, two upper-case digits for each byte.
-fn upper_hex(bytes: [u8; 16]) -> [u8; 32]
-    ensures { result ≡ encode_upper bytes }
+/// Writes two upper-case digits for each byte.
+fn write_upper_hex(bytes: &[u8], digits: &mut [u8])
+    requires { length digits.old ≡ 2 * length bytes.now }
+    ensures { digits.new ≡ encode_upper bytes.now }
 {
-    let mut text = [0; 32];
-    hex::encode_to_slice(bytes, &mut text).unwrap();
-    make_uppercase(&mut text);
-    text
+    hex::encode_to_slice(bytes, digits).unwrap();
+    make_uppercase(digits);
 }
 
 fn make_uppercase(text: &mut [u8])

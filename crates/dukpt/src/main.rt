@@ -1,10 +1,13 @@
 //! The program `dukpt`: one command a run, over the words that it is started with.
 #![tactic(auto)]
 
+mod answer;
 pub mod command;
 pub mod derive;
 pub mod fault;
+mod key_text;
 mod lines;
+pub mod pin;
 pub mod sink;
 mod words;
 

@@ -14,6 +14,15 @@ pub enum Request<'a> {
         /// The key serial number, as written.
         ksn: &'a str,
     },
+    /// The PIN block of a PIN and a PAN.
+    Pin {
+        /// The PIN, as written.
+        pin: &'a str,
+        /// The PAN, as written.
+        pan: &'a str,
+        /// The key to encipher the block under, as written.
+        key: Option<&'a str>,
+    },
 }
 
 /// The request that the words make; the first word is the program's name. The error is `clap`'s:
@@ -33,6 +42,11 @@ fn request_of<'a>(matches: &ArgMatches<'a>) -> Option<Request<'a>> {
             bdk: found.get_str("BDK")?,
             ksn: found.get_str("KSN")?,
         }),
+        ("pin", found) => Some(Request::Pin {
+            pin: found.get_str("PIN")?,
+            pan: found.get_str("PAN")?,
+            key: found.get_str("key"),
+        }),
         _ => None,
     }
 }
@@ -42,7 +56,8 @@ fn program<'a>(alloc: Global) -> Result<Command<'a>, AllocError> {
     Command::new(alloc, "dukpt")
         .about("A payment host, its HSM and its PIN terminals, keyed by TDES DUKPT")
         .subcommand_required(true)
-        .subcommand(derive_words(alloc)?)
+        .subcommand(derive_words(alloc)?)?
+        .subcommand(pin_words(alloc)?)
 }
 
 fn derive_words<'a>(alloc: Global) -> Result<Command<'a>, AllocError> {
@@ -56,4 +71,21 @@ fn derive_words<'a>(alloc: Global) -> Result<Command<'a>, AllocError> {
         .about("Prints the initial key, the transaction key and the PIN key of a key serial number")
         .arg(bdk)?
         .arg(ksn)
+}
+
+fn pin_words<'a>(alloc: Global) -> Result<Command<'a>, AllocError> {
+    let pin = Arg::new(alloc, "PIN")
+        .required(true)
+        .help("The PIN, 4 to 12 digits");
+    let pan = Arg::new(alloc, "PAN")
+        .required(true)
+        .help("The PAN, 12 to 19 digits with its check digit");
+    let key = Arg::new(alloc, "key").long("key").value_name("KEY").help(
+        "Enciphers the block under this key, 32 hexadecimal digits",
+    );
+    Command::new(alloc, "pin")
+        .about("Prints the PIN block of a PIN and a PAN, and the block enciphered")
+        .arg(pin)?
+        .arg(pan)?
+        .arg(key)
 }

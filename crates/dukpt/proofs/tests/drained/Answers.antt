@@ -7,7 +7,7 @@ returns c key serial derivable =
     elim c.derive_command.ensures.status [
       | inl done ↦ done
       | inr one ↦ elim (c.derive_command.ensures.told one) [
-        | inl refusal ↦ absurd (derivable_not_refused _ _ key serial refusal.why derivable refusal.refused)
-        | inr short ↦ absurd (short.lines.1.failed refl)
+        | inl refused ↦ absurd (derivable_not_refused _ _ key serial refused.why derivable refused.refused)
+        | inr short ↦ absurd (short.answer.prefix.1.failed refl)
       ]
     ]

@@ -1,0 +1,17 @@
+use Rattle.std.proofs.Common.{inl, inr}
+use Rattle.dukpt.specs.declared.fault.Fault.TheVariants.{WriteFailed}
+use Rattle.dukpt.proofs.command.run.Goals as goal
+
+pub returns-in-Derive-clause-fault : goal.returns-in-Derive-clause-fault
+returns-in-Derive-clause-fault g c one =
+    elim (c.derive_command.ensures.told one) [
+      | inl refused ↦ record { why = refused.why; line = refused.answer.line }
+      | inr short ↦ record { why = WriteFailed; line = short.answer.line }
+    ]
+
+pub returns-in-Pin-clause-fault : goal.returns-in-Pin-clause-fault
+returns-in-Pin-clause-fault g c one =
+    elim (c.pin_command.ensures.told one) [
+      | inl refused ↦ record { why = refused.why; line = refused.answer.line }
+      | inr short ↦ record { why = WriteFailed; line = short.answer.line }
+    ]
