@@ -1,5 +1,5 @@
 -- A message filled with zero bytes, from its front.
-use Rattle.std.proofs.Common.{◌≡◌, ℕ, ◌+◌, ◌-◌, ◌%◌, ◌<◌, ◌≤◌, List, [], ◌∷◌, ◌++◌, length, take, drop, replicate, refl, sym, ap, ◌∙◌, length-drop, length-append, arith}
+use Rattle.std.proofs.Common.{◌≡◌, ℕ, ◌-◌, ◌%◌, ◌<◌, ◌≤◌, List, [], ◌∷◌, ◌++◌, length, take, drop, replicate, ap, ◌∙◌, length-drop, length-append, arith}
 use Rattle.std.proofs.lemmas.List.{take-append-le, drop-append-le, length-replicate}
 use Rattle.duk_tdes.specs.Blocks.{blocks_of}
 use Rattle.duk_mac.specs.Retail.{zero_filled}

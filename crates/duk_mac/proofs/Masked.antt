@@ -1,5 +1,5 @@
 -- The masked blocks of a message, from its front.
-use Rattle.std.proofs.Common.{◌≡◌, ℕ, ◌+◌, ◌<◌, ◌≤◌, List, [], ◌∷◌, length, take, drop, refl, sym, ap, ◌∙◌, length-drop, arith}
+use Rattle.std.proofs.Common.{◌≡◌, ℕ, ◌<◌, ◌≤◌, List, [], ◌∷◌, length, take, drop, refl, sym, ap, ◌∙◌, length-drop, arith}
 use Rattle.duk_tdes.specs.Blocks.{blocks_of}
 use Rattle.duk_mac.specs.Cmac.{last_block, masked}
 use Rattle.duk_mac.proofs.Blocks.{blocks_of-more, blocks_of-one}

@@ -61,7 +61,7 @@ IsPath-path_from (suc count) place counter end =
     ]
 
 -- the value of a path is a multiple of every power of two up to its last place
-multiple : (path : List ℕ) (low : ℕ) → IsPath path → low ≤ last_place path → (times : ℕ) × (value_of path ≡ times * 2 ^ low)
+pub multiple : (path : List ℕ) (low : ℕ) → IsPath path → low ≤ last_place path → (times : ℕ) × (value_of path ≡ times * 2 ^ low)
 multiple [] low is_path within = (0, omega arith)
 multiple (place ∷ parent) low is_path within =
     let above = multiple parent place is_path.1 (omega (arith, is_path.0)) in

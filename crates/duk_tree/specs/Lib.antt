@@ -1,3 +1,5 @@
 pub mod Serial
 pub mod Path
 pub mod Derivation
+pub mod Next
+pub mod Frontier

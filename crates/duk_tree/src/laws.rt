@@ -1,13 +1,16 @@
 //! Laws of the key tree and of key serial numbers, each the contract of a function that does
 //! nothing.
 
-ghost use Rattle.std.specs.Prelude.{◌≡◌, ◌<◌, ◌^◌, ℕ, List, length};
+ghost use Rattle.std.specs.Prelude.{◌≡◌, ◌<◌, ◌^◌, ℕ, List, length, ◌≢◌, ◌≤◌, ◌+◌, ◌⊎◌, ◌↔◌, ◌∷◌, count_ones};
 ghost use Rattle.std.specs.List.{All};
 ghost use Rattle.duk_des.specs.Block.{IsBlock};
 ghost use Rattle.duk_tdes.specs.Key.{IsKey};
 ghost use Rattle.duk_tree.specs.Derivation.{initial_key_of, step_of, node_key, pin_key_of, request_key_of, response_key_of};
-ghost use Rattle.duk_tree.specs.Path.{IsPath, value_of, path_of};
+ghost use Rattle.duk_tree.specs.Path.{IsPath, value_of, path_of, IsUsable, last_place};
 ghost use Rattle.duk_tree.specs.Serial.{Serial, IsSerial, serial_bytes, serial_of_bytes};
+ghost use Rattle.std.specs.Int.{trailing_zeros, w32};
+ghost use Rattle.duk_tree.specs.Next.{ComesAfter};
+ghost use Rattle.duk_tree.specs.Frontier.{IsHeld, HasOneHeld, IsAncestorOrSelf, IsChild, candidate_at};
 
 /// Each counter of 21 bits is the value of exactly one path.
 pub fn paths()
@@ -43,3 +46,60 @@ pub fn keys()
     duk_tdes::laws::inverse();
     duk_tdes::laws::keys();
 }
+
+/// A usable counter has 21 bits, and a path of one to ten places. A counter has as many one bits as its
+/// path has places, and the lowest of them at the last place.
+pub fn bits()
+    ensures usable { (counter : ℕ) → IsUsable counter
+        → (counter < 2 ^ 21) × (1 ≤ length (path_of counter)) × (length (path_of counter) ≤ 10) }
+    ensures place { (counter : ℕ) → IsUsable counter → last_place (path_of counter) < 21 }
+    ensures ones { (counter : ℕ) → counter < 2 ^ 21 → count_ones counter ≡ length (path_of counter) }
+    ensures lowest { (counter : ℕ) → 0 < counter → counter < 2 ^ 21
+        → trailing_zeros w32 counter ≡ last_place (path_of counter) }
+{}
+
+/// The frontier covers the usable numbers that are left, each once, and none that is used; no two of
+/// its nodes have one last place.
+pub fn frontier()
+    ensures one { (counter node : ℕ) → 1 ≤ counter → IsUsable node → counter ≤ node → HasOneHeld counter node }
+    ensures none_used { (counter held node : ℕ) → counter ≤ 2 ^ 21 → IsHeld counter held → node < counter
+        → ¬ IsAncestorOrSelf held node }
+    ensures places { (counter a b : ℕ) → IsHeld counter a → IsHeld counter b
+        → last_place (path_of a) ≡ last_place (path_of b)
+        → a ≡ b }
+{}
+
+/// The first frontier is the powers of two. From a number to the next, the frontier loses that number
+/// and gains its usable children.
+pub fn moves()
+    ensures first { (node : ℕ) → IsHeld 1 node ↔ ((place : ℕ) × (place < 21) × (node ≡ 2 ^ place)) }
+    ensures moves { (counter next node : ℕ) → IsUsable counter → ComesAfter counter next
+        → IsHeld next node
+        ↔ ((IsHeld counter node × (node ≢ counter)) ⊎ (IsUsable node × IsChild counter node)) }
+{}
+
+/// The children of a usable number stand at the places below its last one, and are usable where it has
+/// fewer than ten ones.
+pub fn children()
+    ensures child { (counter place : ℕ) → IsUsable counter → length (path_of counter) < 10
+        → place < last_place (path_of counter)
+        → IsUsable (counter + 2 ^ place) × (path_of (counter + 2 ^ place) ≡ place ∷ path_of counter) }
+    ensures value { (counter child place : ℕ) → IsUsable counter → IsUsable child
+        → path_of child ≡ place ∷ path_of counter
+        → (place < last_place (path_of counter)) × (child ≡ counter + 2 ^ place) }
+{}
+
+/// At each place the frontier has one candidate, the only node that it may have there.
+pub fn candidates()
+    ensures held { (counter node : ℕ) → IsHeld counter node
+        → node ≡ candidate_at counter (last_place (path_of node)) }
+    ensures candidate { (counter place : ℕ) → 1 ≤ counter → place < 21
+        → IsUsable (candidate_at counter place)
+        → counter ≤ candidate_at counter place
+        → IsHeld counter (candidate_at counter place)
+        × (last_place (path_of (candidate_at counter place)) ≡ place) }
+    ensures either { (counter place : ℕ) → 1 ≤ counter → place < 21
+        → (IsHeld counter (candidate_at counter place)
+        × (last_place (path_of (candidate_at counter place)) ≡ place))
+        ⊎ ((node : ℕ) → IsHeld counter node → last_place (path_of node) ≢ place) }
+{}

@@ -3,12 +3,13 @@
 //!
 //! Every counter of 21 bits is a node of a tree, whose root is counter zero and whose parent
 //! relation drops the lowest one bit. The root has the initial key, and each other node a key made
-//! of its parent's by a step that cannot be undone.
+//! of its parent's by the non-reversible key generation process.
 #![tactic(auto)]
 
 mod counter;
 mod derivation;
 pub mod laws;
+mod next;
 mod serial;
 #[cfg(test)]
 mod tests;
@@ -16,5 +17,6 @@ mod variants;
 
 pub use counter::usable;
 pub use derivation::{derive, initial_key, step};
+pub use next::{MOST_ONES, next_usable};
 pub use serial::{Iksn, Ksn};
 pub use variants::{pin_key, request_key, response_key};

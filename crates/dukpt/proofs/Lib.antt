@@ -1,4 +1,6 @@
+pub mod CountLemmas
 pub mod DeriveLemmas
 pub mod PinLemmas
 pub mod SinkLemmas
 pub mod UpperHex
+pub mod WalkLemmas

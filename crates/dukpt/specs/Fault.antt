@@ -2,7 +2,7 @@
 use Rattle.std.specs.Prelude.{ℕ, List, [], ◌∷◌, ◌++◌, codes}
 use Rattle.dukpt.specs.declared.fault.Fault.{Fault}
 use Rattle.dukpt.specs.Sink.{Told, IsTried}
-use Rattle.dukpt.specs.declared.fault.Fault.TheVariants.{BdkRefused, KsnRefused, CounterRefused, KeyRefused, PinRefused, OutOfMemory, WriteFailed}
+use Rattle.dukpt.specs.declared.fault.Fault.TheVariants.{BdkRefused, KsnRefused, IksnRefused, CountRefused, CounterRefused, KeyRefused, PinRefused, OutOfMemory, WriteFailed}
 use Rattle.duk_pin.specs.declared.fault.PinFault.{PinFault}
 use Rattle.duk_pin.specs.declared.fault.PinFault.TheVariants.{PinLength, PinDigit, PanLength, PanDigit}
 
@@ -21,6 +21,8 @@ name_of PanDigit = codes "PanDigit"
 abbrev pub line_of : Fault → List ℕ
 line_of BdkRefused = codes "BDK refused" ++ line_end
 line_of KsnRefused = codes "KSN refused" ++ line_end
+line_of IksnRefused = codes "IKSN refused" ++ line_end
+line_of CountRefused = codes "count refused" ++ line_end
 line_of CounterRefused = codes "counter refused" ++ line_end
 line_of KeyRefused = codes "key refused" ++ line_end
 line_of (PinRefused fault) = name_of fault ++ line_end

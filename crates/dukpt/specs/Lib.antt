@@ -4,3 +4,4 @@ pub mod Fault
 pub mod Pin
 pub mod Sink
 pub mod Status
+pub mod Walk

@@ -10,7 +10,7 @@ use Rattle.dukpt.specs.Answer.{named_line, IsDone, IsRefusal, IsCutShort}
 use Rattle.dukpt.specs.Derive.{key_of_text}
 use Rattle.dukpt.specs.Sink.{Told}
 use Rattle.dukpt.specs.declared.fault.Fault.{Fault}
-use Rattle.dukpt.specs.declared.fault.Fault.TheVariants.{BdkRefused, KsnRefused, CounterRefused, KeyRefused, PinRefused, OutOfMemory, WriteFailed}
+use Rattle.dukpt.specs.declared.fault.Fault.TheVariants.{BdkRefused, KsnRefused, IksnRefused, CountRefused, CounterRefused, KeyRefused, PinRefused, OutOfMemory, WriteFailed}
 
 -- the key that an optional word writes, where it is given
 abbrev pub IsKeyWord : Option (List ℕ) → Option (List ℕ) → Type 0
@@ -39,6 +39,8 @@ IsPinWordRefused pin pan word (PinRefused PanDigit) = IsPin pin × HasPanLength 
 IsPinWordRefused pin pan word KeyRefused = IsPin pin × IsPan pan × IsKeyWordRefused word
 IsPinWordRefused pin pan word BdkRefused = ⊥
 IsPinWordRefused pin pan word KsnRefused = ⊥
+IsPinWordRefused pin pan word IksnRefused = ⊥
+IsPinWordRefused pin pan word CountRefused = ⊥
 IsPinWordRefused pin pan word CounterRefused = ⊥
 IsPinWordRefused pin pan word OutOfMemory = ⊥
 IsPinWordRefused pin pan word WriteFailed = ⊥

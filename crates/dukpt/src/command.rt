@@ -11,6 +11,7 @@ use crate::derive::derive_command;
 use crate::fault::{Fault, tell};
 use crate::pin::pin_command;
 use crate::sink::{Sink, write_text};
+use crate::walk::walk_command;
 use crate::words::{Request, read_request};
 use clap::Error;
 use clap::error::ErrorKind;
@@ -67,6 +68,13 @@ fn run<W: Sink, F: Sink>(request: Request, output: &mut W, fault: &mut F) -> u8
 {
     match request {
         Request::Derive { bdk, ksn } => derive_command(bdk, ksn, output, fault),
+        Request::Walk {
+            bdk,
+            iksn,
+            count,
+            skip,
+            alone,
+        } => walk_command(bdk, iksn, count, skip, alone, output, fault),
         Request::Pin { pin, pan, key } => pin_command(pin, pan, key, output, fault),
     }
 }

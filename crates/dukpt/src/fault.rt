@@ -14,6 +14,10 @@ pub enum Fault {
     BdkRefused,
     /// The key serial number is not 20 hexadecimal digits.
     KsnRefused,
+    /// The initial key serial number is not 20 hexadecimal digits with a counter of zero.
+    IksnRefused,
+    /// A number of numbers is not one or more decimal digits, or too great.
+    CountRefused,
     /// The counter is zero or has more than ten one bits.
     CounterRefused,
     /// The key of `--key` is not 32 hexadecimal digits.
@@ -34,6 +38,8 @@ impl Fault {
         match self {
             Fault::BdkRefused => b"BDK refused\n",
             Fault::KsnRefused => b"KSN refused\n",
+            Fault::IksnRefused => b"IKSN refused\n",
+            Fault::CountRefused => b"count refused\n",
             Fault::CounterRefused => b"counter refused\n",
             Fault::KeyRefused => b"key refused\n",
             Fault::PinRefused(PinFault::PinLength) => b"PinLength\n",

@@ -25,13 +25,23 @@ pub fn push_line(lines: &mut Lines, name: &[u8], bytes: &[u8])
     ensures len { array_vec_len lines.new
         ≡ array_vec_len lines.old + length name.now + 2 * length bytes.now + 2 }
 {
+    lines.try_extend_from_slice(name).unwrap();
+    lines.push(b' ');
+    push_hex(lines, bytes);
+    lines.push(b'\n');
+}
+
+/// Appends two upper-case digits for each byte.
+pub fn push_hex<const CAP: usize>(text: &mut ArrayVec<u8, CAP>, bytes: &[u8])
+    requires bytes { length bytes.now ≤ MOST_BYTES }
+    requires room { array_vec_len text.old + 2 * length bytes.now ≤ CAP }
+    ensures digits { text.new.items ≡ text.old.items ++ encode_upper bytes.now }
+    ensures len { array_vec_len text.new ≡ array_vec_len text.old + 2 * length bytes.now }
+{
     let mut digits = [0; 2 * MOST_BYTES];
     let digits = &mut digits[..2 * bytes.len()];
     write_upper_hex(bytes, digits);
-    lines.try_extend_from_slice(name).unwrap();
-    lines.push(b' ');
-    lines.try_extend_from_slice(digits).unwrap();
-    lines.push(b'\n');
+    text.try_extend_from_slice(digits).unwrap();
 }
 
 /// Writes two upper-case digits for each byte.

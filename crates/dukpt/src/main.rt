@@ -3,12 +3,14 @@
 
 mod answer;
 pub mod command;
+mod count;
 pub mod derive;
 pub mod fault;
 mod key_text;
 mod lines;
 pub mod pin;
 pub mod sink;
+pub mod walk;
 mod words;
 
 use command::Todo;

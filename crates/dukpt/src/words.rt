@@ -1,7 +1,7 @@
 //! The words of the command line, read with `clap`.
 
 use clap::error::ErrorKind;
-use clap::{Arg, ArgMatches, Command, Error};
+use clap::{Arg, ArgAction, ArgMatches, Command, Error};
 use std::alloc::{AllocError, Global};
 
 /// What the words ask for.
@@ -13,6 +13,19 @@ pub enum Request<'a> {
         bdk: &'a str,
         /// The key serial number, as written.
         ksn: &'a str,
+    },
+    /// A terminal from its first number on.
+    Walk {
+        /// The base derivation key, as written.
+        bdk: &'a str,
+        /// The initial key serial number, as written.
+        iksn: &'a str,
+        /// How many numbers to print, as written.
+        count: &'a str,
+        /// How many numbers to pass before, as written.
+        skip: Option<&'a str>,
+        /// Whether to print the key serial numbers alone.
+        alone: bool,
     },
     /// The PIN block of a PIN and a PAN.
     Pin {
@@ -42,6 +55,13 @@ fn request_of<'a>(matches: &ArgMatches<'a>) -> Option<Request<'a>> {
             bdk: found.get_str("BDK")?,
             ksn: found.get_str("KSN")?,
         }),
+        ("walk", found) => Some(Request::Walk {
+            bdk: found.get_str("BDK")?,
+            iksn: found.get_str("IKSN")?,
+            count: found.get_str("COUNT")?,
+            skip: found.get_str("skip"),
+            alone: found.get_flag("ksn"),
+        }),
         ("pin", found) => Some(Request::Pin {
             pin: found.get_str("PIN")?,
             pan: found.get_str("PAN")?,
@@ -57,6 +77,7 @@ fn program<'a>(alloc: Global) -> Result<Command<'a>, AllocError> {
         .about("A payment host, its HSM and its PIN terminals, keyed by TDES DUKPT")
         .subcommand_required(true)
         .subcommand(derive_words(alloc)?)?
+        .subcommand(walk_words(alloc)?)?
         .subcommand(pin_words(alloc)?)
 }
 
@@ -70,6 +91,33 @@ fn derive_words<'a>(alloc: Global) -> Result<Command<'a>, AllocError> {
     Command::new(alloc, "derive")
         .about("Prints the initial key, the transaction key and the PIN key of a key serial number")
         .arg(bdk)?
+        .arg(ksn)
+}
+
+fn walk_words<'a>(alloc: Global) -> Result<Command<'a>, AllocError> {
+    let bdk = Arg::new(alloc, "BDK")
+        .required(true)
+        .help("The base derivation key, 32 hexadecimal digits");
+    let iksn = Arg::new(alloc, "IKSN")
+        .required(true)
+        .help("The initial key serial number, 20 hexadecimal digits");
+    let count = Arg::new(alloc, "COUNT")
+        .required(true)
+        .help("How many numbers to print, at most 1048576");
+    let skip = Arg::new(alloc, "skip")
+        .long("skip")
+        .value_name("K")
+        .help("Passes so many numbers before, without printing them");
+    let ksn = Arg::new(alloc, "ksn")
+        .long("ksn")
+        .action(ArgAction::SetTrue)
+        .help("Prints the key serial numbers alone");
+    Command::new(alloc, "walk")
+        .about("Walks a terminal through its numbers and prints the key of each")
+        .arg(bdk)?
+        .arg(iksn)?
+        .arg(count)?
+        .arg(skip)?
         .arg(ksn)
 }
 

@@ -1,4 +1,4 @@
-use Rattle.std.proofs.Common.{◌≡◌, ◌++◌, ◌∷◌, ℕ, ◌-◌, suc, length, replicate, set, sym, ap, ◌∙◌, arith}
+use Rattle.std.proofs.Common.{◌≡◌, ◌++◌, ◌-◌, suc, length, replicate, set, ap, ◌∙◌, arith}
 use Rattle.std.proofs.Math.Seq.{set-append_seam}
 use Rattle.duk_mac.proofs.block.padded.Goals as goal
 

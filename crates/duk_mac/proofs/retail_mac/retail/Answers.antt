@@ -1,7 +1,7 @@
-use Rattle.std.proofs.Common.{◌<◌, ◌≤◌, length, take, refl, sym, ap, ◌∙◌, arith, length-drop}
+use Rattle.std.proofs.Common.{◌<◌, ◌≤◌, length, take, sym, ap, ◌∙◌, arith}
 use Rattle.duk_des.specs.Des.{encrypted, decrypted}
 use Rattle.duk_tdes.specs.Blocks.{blocks_of}
-use Rattle.duk_tdes.specs.Key.{xor_bytes, left_half, right_half}
+use Rattle.duk_tdes.specs.Key.{xor_bytes, right_half}
 use Rattle.duk_mac.specs.Chain.{zero_block, chained}
 use Rattle.duk_mac.specs.Retail.{zero_filled, retail_of}
 use Rattle.duk_mac.proofs.Filled.{filled-more, filled-one}

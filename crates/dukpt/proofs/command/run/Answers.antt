@@ -15,3 +15,10 @@ returns-in-Pin-clause-fault g c one =
       | inl refused ↦ record { why = refused.why; line = refused.answer.line }
       | inr short ↦ record { why = WriteFailed; line = short.answer.line }
     ]
+
+pub returns-in-Walk-clause-fault : goal.returns-in-Walk-clause-fault
+returns-in-Walk-clause-fault g c one =
+    elim (c.walk_command.ensures.told one) [
+      | inl refused ↦ record { why = refused.why; line = refused.answer.line }
+      | inr short ↦ record { why = WriteFailed; line = short.answer.line }
+    ]

@@ -1,0 +1,4 @@
+pub mod TakenLemmas
+pub mod CounterLemmas
+pub mod RegisterLemmas
+pub mod ImageLemmas

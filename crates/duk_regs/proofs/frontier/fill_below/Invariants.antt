@@ -1,0 +1,12 @@
+use Rattle.std.proofs.Common.{◌≡◌, ◌<◌, ◌≤◌, ◌+◌, ◌^◌, ℕ, length}
+use Rattle.duk_tree.specs.Derivation.{step_of, low_bytes}
+use Rattle.duk_regs.specs.Registers.{register_at}
+use Rattle.duk_regs.proofs.frontier.fill_below.Given as goal
+
+abbrev pub invariant-loop-place : goal.invariant-loop-place
+invariant-loop-place l = record {
+  are_21 : length l.registers ≡ 21;
+  filled : (place : ℕ) → place < l.place
+      → register_at l.registers place ≡ step_of l.key (low_bytes (record { iksn = l.iksn; counter = l.counter + 2 ^ place }));
+  others_stay : (place : ℕ) → l.place ≤ place → register_at l.registers place ≡ register_at l.initial.registers place;
+}

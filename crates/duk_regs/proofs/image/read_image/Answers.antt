@@ -1,0 +1,18 @@
+use Rattle.std.proofs.Common.{sym, ap, ◌∙◌, arith}
+use Rattle.duk_tree.specs.Serial.{Serial, serial_bytes}
+use Rattle.duk_regs.proofs.ImageLemmas.{image_bytes-set_in}
+use Rattle.duk_regs.proofs.image.read_image.Goals as goal
+
+pub returns-then-leaves_empty-clause-image : goal.returns-then-leaves_empty-clause-image
+returns-then-leaves_empty-clause-image c =
+    let serial = c.read_serial-serial.ensures in
+    image_bytes-set_in c.args.image.now (omega arith) (λ i. omega (arith, c.type_inv.image i)) (omega arith)
+    (ap serial_bytes (sym serial.value) ∙ serial.bytes)
+    (ap (λ (n : Serial). n.counter) (sym serial.value) ∙ sym c.counter.ensures.value ∙ c.if-counter-ne0.false)
+
+pub returns-else-leaves_empty-clause-found : goal.returns-else-leaves_empty-clause-found
+returns-else-leaves_empty-clause-found c = (
+  λ never. absurd (cc),
+  λ image. c.if-leaves_empty.ensures.1
+      (rw (c.read_registers-registers.ensures, c.read_u24-counter.ensures) image.leaves_empty),
+)

@@ -1,0 +1,71 @@
+//! Laws of the registers, each the contract of a function that does nothing.
+
+ghost use Rattle.std.specs.Prelude.{◌≡◌, ◌<◌, ◌≤◌, ◌⊎◌, ◌^◌, ℕ, List, length};
+ghost use Rattle.duk_tree.specs.Path.{IsUsable};
+ghost use Rattle.duk_tree.specs.Derivation.{step_of, low_bytes, transaction_key_of};
+ghost use Rattle.duk_regs.specs.Registers.{RegisterSet, IsRegisterSet, StandsFor, IsTaken, HoldsNode, register_at, empty_register};
+ghost use Rattle.duk_regs.specs.Image.{image_bytes, set_in, IsImage};
+
+/// Registers with the keys of the powers of two stand for the initial key at the first number.
+pub fn first()
+    ensures usable { IsUsable 1 }
+    ensures stands { (initial : List ℕ) (set : RegisterSet) → set.counter ≡ 1 → length set.registers ≡ 21
+        → ((place : ℕ) → place < 21
+        → register_at set.registers place
+        ≡ step_of initial (low_bytes (record { iksn = set.iksn; counter = 2 ^ place })))
+        → StandsFor initial set }
+{
+    duk_tree::laws::paths();
+    duk_tree::laws::bits();
+    duk_tree::laws::moves();
+}
+
+/// A transaction takes the key of its number from registers that stand for an initial key, and leaves
+/// registers that stand for it at the next number.
+pub fn taken()
+    ensures key { (initial : List ℕ) (old new : RegisterSet) (key : List ℕ) → IsUsable old.counter
+        → IsTaken old key new
+        → StandsFor initial old
+        → key ≡ transaction_key_of initial old.iksn old.counter }
+    ensures stands { (initial : List ℕ) (old new : RegisterSet) (key : List ℕ) → IsUsable old.counter
+        → IsTaken old key new
+        → StandsFor initial old
+        → StandsFor initial new }
+    ensures set { (old new : RegisterSet) (key : List ℕ) → IsUsable old.counter
+        → IsTaken old key new
+        → IsRegisterSet old
+        → IsRegisterSet new }
+{
+    duk_tree::laws::paths();
+    duk_tree::laws::bits();
+    duk_tree::laws::frontier();
+    duk_tree::laws::moves();
+    duk_tree::laws::children();
+}
+
+/// Each register holds no key or that of a node of the frontier. So an initial key, a serial number and
+/// a counter determine what a terminal keeps.
+pub fn determined()
+    ensures register { (initial : List ℕ) (set : RegisterSet) (place : ℕ) → 1 ≤ set.counter
+        → StandsFor initial set → place < 21
+        → (register_at set.registers place ≡ empty_register) ⊎ HoldsNode initial set place }
+    ensures same { (initial : List ℕ) (one other : RegisterSet) → 1 ≤ one.counter
+        → one.iksn ≡ other.iksn → one.counter ≡ other.counter
+        → StandsFor initial one → StandsFor initial other
+        → one ≡ other }
+{
+    duk_tree::laws::candidates();
+}
+
+/// What a terminal keeps is found again in its image.
+pub fn images()
+    ensures read { (set : RegisterSet) → IsRegisterSet set
+        → ((place : ℕ) → place < 21 → length (register_at set.registers place) ≡ 16)
+        → set_in (image_bytes set) ≡ set }
+    ensures is_image { (set : RegisterSet) → IsRegisterSet set
+        → ((place : ℕ) → place < 21 → length (register_at set.registers place) ≡ 16)
+        → IsImage (image_bytes set) }
+{
+    duk_tree::laws::serials();
+    duk_tree::laws::bits();
+}

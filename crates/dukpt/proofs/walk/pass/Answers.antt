@@ -1,0 +1,32 @@
+use Rattle.std.proofs.Common.{◌≡◌, ◌+◌, ◌-◌, suc, inl, inr, refl, subst, ◌∙◌, rules, arith}
+use Rattle.duk_tree.specs.Next.{spent_counter}
+use Rattle.dukpt.specs.Walk.{IsPassed, spent_line}
+use Rattle.dukpt.proofs.walk.pass.Goals as goal
+
+pub returns-in-Err-clause-spent : goal.returns-in-Err-clause-spent
+returns-in-Err-clause-spent c line count =
+    let spent : c.loop-passed.registers.counter ≡ spent_counter = search rules in
+    let all : c.loop-passed._passed + suc (c.args.skip - c.loop-passed._passed - 1) ≡ c.args.skip = omega arith in
+    subst (λ n. IsPassed line c.args.registers.counter n count spent_line) all
+    (c.loop-passed.invariant.lines line (suc (c.args.skip - c.loop-passed._passed - 1)) count spent_line (inl (spent, refl)))
+
+pub loop-passed-preserved : goal.loop-passed-preserved
+loop-passed-preserved c =
+    let taken = c.in-Ok.ensures.taken in
+    record {
+      same_iksn = taken.same_iksn ∙ c.loop-passed.invariant.same_iksn;
+      stands = λ initial held. (c.in-Ok.ensures.stands initial (c.loop-passed.invariant.stands initial held)).1;
+      lines = λ line more count text printed.
+          let next : c.loop-passed._passed + suc more ≡ c.loop-passed._passed + 1 + more = omega arith in
+          subst (λ n. IsPassed line c.args.registers.counter n count text) next
+          (c.loop-passed.invariant.lines line (suc more) count text (inr (c.in-Ok.left.counter, taken.next_counter, printed)));
+    }
+
+pub returns-clause-passed : goal.returns-clause-passed
+returns-clause-passed c = record {
+  same_iksn = c.loop-passed.invariant.same_iksn;
+  stands = c.loop-passed.invariant.stands;
+  lines = λ line count text printed.
+      let all : c.loop-passed._passed + 0 ≡ c.args.skip = omega arith in
+      subst (λ n. IsPassed line c.args.registers.counter n count text) all (c.loop-passed.invariant.lines line 0 count text printed);
+}
