@@ -1,4 +1,4 @@
--- Blocks of eight bytes.
+-- Blocks of eight bytes (NIST SP 800-67 section 2).
 use Rattle.std.specs.Prelude.{◌≡◌, ◌<◌, ◌^◌, ℕ, List, length}
 use Rattle.std.specs.List.{All}
 

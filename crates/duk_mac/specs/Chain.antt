@@ -1,4 +1,4 @@
--- The chain of blocks that both MACs run.
+-- The chain of blocks that both MACs run (NIST SP 800-38B section 6.2; ISO/IEC 9797-1).
 use Rattle.std.specs.Prelude.{ℕ, List, [], ◌∷◌, replicate}
 use Rattle.duk_tdes.specs.Key.{xor_bytes}
 

@@ -1,4 +1,4 @@
--- A message as a list of blocks.
+-- A message as a list of blocks (NIST SP 800-38B section 6.2).
 use Rattle.std.specs.Prelude.{ℕ, zero, suc, ◌+◌, ◌/◌, List, [], ◌∷◌, length, take, drop}
 
 -- so many times the next eight bytes
