@@ -6,6 +6,7 @@ ghost use Rattle.dukpt.specs.Derive.{IsDerivable};
 
 use crate::command::{Todo, command};
 use crate::derive::derive_command;
+use crate::pin::pin_command;
 use crate::sink::Sink;
 use crate::walk::walk_command;
 use duk_tdes::Key;
@@ -180,13 +181,21 @@ fn tells_the_first_fault_of_a_walk(rt: HostRuntime) -> Result<(), Fail> {
 #[test]
 fn walks_into_a_full_pipe(rt: HostRuntime) -> Result<(), Fail> {
     let whole = run(rt.alloc(), &["walk", BDK, IKSN, "200"])?;
-    for room in [0, 1, 53, 4000, 4096, 10799, 10800] {
-        let mut output = Pipe::new(rt.alloc(), room, 1000, Full::TakesNone);
-        let mut fault = Vec::new(rt.alloc());
-        let status = walk_command(BDK, IKSN, "200", None, false, &mut output, &mut fault);
-        assert_eq!(rt; status == 0, room == 10800, "{room}");
-        assert!(rt; whole.output.as_slice().starts_with(output.held.as_slice()));
-        assert_eq!(rt; output.held.len(), room);
+    for full in [Full::Fails, Full::TakesNone] {
+        for room in [0, 1, 53, 4000, 4096, 10799, 10800] {
+            let mut output = Pipe::new(rt.alloc(), room, 1000, full);
+            let mut fault = Vec::new(rt.alloc());
+            let status = walk_command(BDK, IKSN, "200", None, false, &mut output, &mut fault);
+            let (want, line) = if room < 10800 {
+                (1, "write failed\n")
+            } else {
+                (0, "")
+            };
+            assert_eq!(rt; status, want, "{room}");
+            assert_eq!(rt; fault.as_slice(), line.as_bytes(), "{room}");
+            assert!(rt; whole.output.as_slice().starts_with(output.held.as_slice()));
+            assert_eq!(rt; output.held.len(), room);
+        }
     }
     Ok(())
 }
@@ -345,6 +354,36 @@ fn tells_a_failed_write(rt: HostRuntime) -> Result<(), Fail> {
                 let mut output = Pipe::new(rt.alloc(), room, at_once, full);
                 let mut fault = Vec::new(rt.alloc());
                 let status = derive_command(BDK, KSN, &mut output, &mut fault);
+                let (want, line) = if room < lines.len() {
+                    (1, "write failed\n")
+                } else {
+                    (0, "")
+                };
+                assert_eq!(rt; status, want, "{room}");
+                assert_eq!(rt; fault.as_slice(), line.as_bytes(), "{room}");
+                assert_eq!(rt; output.held.as_slice(), &lines[..room]);
+            }
+        }
+    }
+    Ok(())
+}
+
+#[test]
+fn shows_a_pin_block_into_a_full_pipe(rt: HostRuntime) -> Result<(), Fail> {
+    let key = "042666B49184CF5C68DE9628D0397B36";
+    let lines = b"block 041274EDCBA9876F\nenciphered 1B9C1845EB993A7A\n";
+    for full in [Full::Fails, Full::TakesNone] {
+        for at_once in [1, 50, 200] {
+            for room in 0..lines.len() + 1 {
+                let mut output = Pipe::new(rt.alloc(), room, at_once, full);
+                let mut fault = Vec::new(rt.alloc());
+                let status = pin_command(
+                    "1234",
+                    "4012345678909",
+                    Some(key),
+                    &mut output,
+                    &mut fault,
+                );
                 let (want, line) = if room < lines.len() {
                     (1, "write failed\n")
                 } else {
