@@ -39,8 +39,8 @@ fn last<const N: usize>(key: &Key<N>, rest: &[u8]) -> [u8; 8]
     }
 }
 
-#[tactic(auto, unfolding(crate::specs::Cmac::doubled))]
 /// The block shifted left by one bit; `CARRY` is added where the bit that falls out is a one.
+#[tactic(auto, unfolding(crate::specs::Cmac::doubled))]
 fn double(block: [u8; 8]) -> [u8; 8]
     ensures { result ≡ doubled block }
 {

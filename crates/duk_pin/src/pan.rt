@@ -29,7 +29,6 @@ impl Pan {
     pub fn parse(text: &str) -> Result<Pan, PinFault>
         ensures ok { IsOk result ↔ IsPan text.now }
         ensures value { IfOk result (λ pan. pan ≡ text.now) }
-
         ensures wrong_length { IsErrOf result PinFault.PanLength
             ↔ ((length text.now < 12) ⊎ (19 < length text.now)) }
         ensures wrong_digit { IsErrOf result PinFault.PanDigit

@@ -32,7 +32,6 @@ impl Pin {
     pub fn parse(text: &str) -> Result<Pin, PinFault>
         ensures ok { IsOk result ↔ IsPin text.now }
         ensures value { IfOk result (λ pin. pin ≡ text.now) }
-
         ensures wrong_length { IsErrOf result PinFault.PinLength
             ↔ ((length text.now < 4) ⊎ (12 < length text.now)) }
         ensures wrong_digit { IsErrOf result PinFault.PinDigit

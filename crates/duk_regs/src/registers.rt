@@ -33,8 +33,8 @@ impl Model for Registers {
 }
 
 impl Registers {
-    /// The registers of a terminal that has used no number yet: the keys of the powers of two. The
-    /// initial key itself is kept nowhere.
+    /// The registers of a terminal that has used no number yet: the keys of the powers of two. None of
+    /// them is that of the root, whose key is the initial key.
     pub fn load(initial: Key<16>, iksn: Iksn) -> Registers
         ensures iksn { result.iksn ≡ iksn }
         ensures counter { result.counter ≡ 1 }
@@ -61,8 +61,9 @@ impl Registers {
         Some(serial_at(self.iksn, self.counter))
     }
 
-    /// Uses the next number: its key, its key serial number, and the registers afterwards, in which
-    /// neither that key nor one that leads to it is left. A terminal that is spent is handed back.
+    /// Uses the next number: its key, its key serial number, and the registers afterwards. The register
+    /// of its node is emptied; where the registers stood for an initial key, each one afterwards is empty
+    /// or has the key of a node that is not used. A terminal that is spent is handed back.
     pub fn take(self) -> Result<(Key<16>, Ksn, Registers), Registers>
         ensures spent { IsErr result ↔ (self.counter ≡ spent_counter) }
         ensures unchanged { IfErr result (λ registers. registers ≡ self) }

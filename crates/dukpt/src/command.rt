@@ -20,7 +20,7 @@ use std::alloc::{AllocError, Global};
 /// What is left to do when the words are dealt with.
 #[derive(Clone, Copy, Debug, PartialEq, Eq)]
 pub enum Todo {
-    /// To end with this status: 0 where all is done, 1 behind a line that tells the fault, 2 where
+    /// To end with this status: 0 where all is done, 1 after a line that tells the fault, 2 where
     /// the words were refused.
     Exit(u8),
 }
@@ -28,7 +28,8 @@ pub enum Todo {
 /// Does what the words ask, the first of which is the program's name.
 ///
 /// What a command prints goes to `output`, and so does help that was asked for; the line of a fault
-/// and the text that refuses the words go to `fault`. What is printed is flushed.
+/// and the text that refuses the words go to `fault`. Where all is done, `output` is flushed before the
+/// status is given.
 pub fn command<W: Sink, F: Sink>(
     alloc: Global,
     words: &[String],
@@ -112,7 +113,7 @@ fn text_of(alloc: Global, error: &Error) -> Result<String, AllocError> {
 }
 
 /// Hands on what `output` still holds back, and gives the status: 0, or 1 where that fails, since
-/// something of what was printed is missing then.
+/// what was printed may be missing then.
 fn flush<W: Sink, F: Sink>(output: &mut W, fault: &mut F) -> u8
     ensures status { (result ≡ 0) ⊎ (result ≡ 1) }
     ensures no_fault { result ≡ 0 → IsUntouched (F.told fault.old) (F.told fault.new) }

@@ -1,4 +1,4 @@
-//! Numbers of numbers, written in decimal.
+//! COUNT and K, how many numbers to print and to skip, written in decimal.
 
 ghost use Rattle.std.specs.Prelude.{◌≡◌, IfSome, IfNone};
 ghost use Rattle.std.specs.Option.{option_copied};

@@ -16,7 +16,7 @@ pub enum Fault {
     KsnRefused,
     /// The initial key serial number is not 20 hexadecimal digits with a counter of zero.
     IksnRefused,
-    /// A number of numbers is not one or more decimal digits, or too great.
+    /// COUNT or K is not one or more decimal digits, or is too great.
     CountRefused,
     /// The counter is zero or has more than ten one bits.
     CounterRefused,
@@ -52,7 +52,7 @@ impl Fault {
     }
 }
 
-/// Writes the line of the fault and gives the status 1. What the line cannot be written of is lost.
+/// Writes the line of the fault and gives the status 1. What cannot be written of the line is lost.
 pub fn tell<F: Sink>(fault: &mut F, why: Fault) -> u8
     ensures status { result ≡ 1 }
     ensures line { IsTried (F.told fault.old) (F.told fault.new) (line_of why) }

@@ -107,7 +107,7 @@ fn walk_words<'a>(alloc: Global) -> Result<Command<'a>, AllocError> {
     let skip = Arg::new(alloc, "skip")
         .long("skip")
         .value_name("K")
-        .help("Passes so many numbers before, without printing them");
+        .help("Skips K numbers before printing");
     let ksn = Arg::new(alloc, "ksn")
         .long("ksn")
         .action(ArgAction::SetTrue)
