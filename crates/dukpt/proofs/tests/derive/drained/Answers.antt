@@ -1,6 +1,6 @@
 use Rattle.std.proofs.Common.{inl, inr, refl}
 use Rattle.dukpt.proofs.DeriveLemmas.{derivable_not_refused}
-use Rattle.dukpt.proofs.tests.drained.Goals as goal
+use Rattle.dukpt.proofs.tests.derive.drained.Goals as goal
 
 pub returns : goal.returns
 returns c key serial derivable =
