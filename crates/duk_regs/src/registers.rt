@@ -1,8 +1,9 @@
 //! The registers of a terminal, from one number to the next.
 
-ghost use Rattle.std.specs.Prelude.{◌≡◌, ◌↔◌, ℕ, List, Some, None, IsErr, IfOk, IfErr, IsSome, IfSome, if◌then◌else◌, ◌==◌};
+ghost use Rattle.std.specs.Prelude.{◌≡◌, ◌↔◌, ℕ, List, Some, None, IsErr, OnOk, IfOk, IfErr, IsSome, IfSome, if◌then◌else◌, ◌==◌};
 ghost use Rattle.duk_tree.specs.Derivation.{transaction_key_of};
 ghost use Rattle.duk_tree.specs.Next.{spent_counter};
+ghost use Rattle.duk_tree.specs.Path.{IsUsable};
 ghost use Rattle.duk_regs.specs.Registers.{IsRegisterSet, StandsFor, IsTaken};
 ghost use Rattle.duk_regs.specs.Image.{image_bytes, set_in, IsImage};
 
@@ -66,6 +67,7 @@ impl Registers {
     /// or has the key of a node that is not used. A terminal that is spent is handed back.
     pub fn take(self) -> Result<(Key<16>, Ksn, Registers), Registers>
         ensures spent { IsErr result ↔ (self.counter ≡ spent_counter) }
+        ensures usable { OnOk result (IsUsable self.counter) }
         ensures unchanged { IfErr result (λ registers. registers ≡ self) }
         ensures serial { IfOk result
             (λ taken. taken.1 ≡ record { iksn = self.iksn; counter = self.counter }) }

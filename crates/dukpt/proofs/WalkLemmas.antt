@@ -1,9 +1,10 @@
 -- The text of a walk, piece by piece.
-use Rattle.std.proofs.Common.{◌≡◌, ℕ, Bool, List, [], ◌++◌, Result, Ok, Err, OnOk, OnErr, append_assoc, append-nil, sym, ap, subst, ◌∙◌}
+use Rattle.std.proofs.Common.{◌≡◌, ◌+◌, ◌-◌, ◌<◌, ℕ, suc, inl, refl, arith, Bool, List, [], ◌++◌, Result, Ok, Err, OnOk, OnErr, append_assoc, append-nil, sym, ap, subst, ◌∙◌}
 use Rattle.dukpt.specs.Sink.{Told, IsWritten}
+use Rattle.duk_tree.specs.Next.{spent_counter}
 use Rattle.duk_tree.specs.Serial.{Serial}
 use Rattle.duk_regs.specs.Registers.{RegisterSet}
-use Rattle.dukpt.specs.Walk.{Asked, IsPrinted, IsPassed, IsLoaded, Passes, Drains, HasPrinted, HasPrintedInPart, HasWalked, HasWalkedInPart, number_text, number_line}
+use Rattle.dukpt.specs.Walk.{Asked, IsPrinted, IsPassed, IsLoaded, Passes, IsSpentWithin, Drains, HasPrinted, HasPrintedInPart, HasWalked, HasWalkedInPart, number_text, number_line, spent_line}
 
 -- a line more is held, behind what is left of the lines before
 pub text_more : (written held part left line rest pushed : List ℕ) → held ≡ part ++ left → pushed ≡ left ++ line
@@ -45,6 +46,17 @@ on_err (Err failed) P fact = fact
 pub on_done : {T E : Type 0} (result : Result T E) (Q P : Type 0) → OnOk result Q → (Q → P) → OnOk result P
 on_done (Ok done) Q P fact then = then fact
 on_done (Err failed) Q P fact then = tt
+
+-- where a terminal has passed so many numbers, its lines go on from where it stands
+abbrev pub GoesOn : RegisterSet → RegisterSet → ℕ → Type 0
+GoesOn old now passed = (line : ℕ → List ℕ) (more count : ℕ) (text : List ℕ) → IsPassed line now.counter more count text
+    → IsPassed line old.counter (passed + more) count text
+
+-- a terminal that is spent there is spent before it has passed all
+pub spent_within : (old now : RegisterSet) (passed skip : ℕ) → passed < skip → now.counter ≡ spent_counter → GoesOn old now passed → IsSpentWithin old skip
+spent_within old now passed skip below spent goes_on line count =
+    let all : passed + suc (skip - passed - 1) ≡ skip = omega arith in
+    subst (λ n. IsPassed line old.counter n count spent_line) all (goes_on line (suc (skip - passed - 1)) count spent_line (inl (spent, refl)))
 
 -- the lines after the numbers that are passed
 pub walked : (initial : List ℕ) (alone : Bool) (old left : RegisterSet) (skip count : ℕ) (output output' : Told)

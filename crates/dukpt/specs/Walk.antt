@@ -4,6 +4,7 @@ use Rattle.std.specs.Char.{IsAsciiDigit}
 use Rattle.hex.specs.Hex.{encode_upper}
 use Rattle.duk_tree.specs.Derivation.{initial_key_of, transaction_key_of}
 use Rattle.duk_tree.specs.Next.{spent_counter, ComesAfter}
+use Rattle.duk_tree.specs.Path.{IsUsable}
 use Rattle.duk_tree.specs.Serial.{Serial, serial_bytes, iksn_of_text}
 use Rattle.duk_regs.specs.Registers.{RegisterSet, StandsFor}
 use Rattle.dukpt.specs.Answer.{IsDone, IsRefusal, IsCutShort}
@@ -84,19 +85,19 @@ number_line initial iksn alone counter =
 abbrev pub spent_line : List ℕ
 spent_line = codes "spent" ++ line_end
 
--- the lines of so many numbers from a counter on, up to the line that tells that the terminal is spent
+-- the lines of so many numbers from a counter on: that of a usable counter, then the rest; or `spent` where the terminal is spent
 abbrev pub IsPrinted : (ℕ → List ℕ) → ℕ → ℕ → List ℕ → Type 0
 IsPrinted line counter zero text = text ≡ []
 IsPrinted line counter (suc count) text =
     ((counter ≡ spent_counter) × (text ≡ spent_line))
-    ⊎ ((next : ℕ) × (rest : List ℕ) × ComesAfter counter next × IsPrinted line next count rest × (text ≡ line counter ++ rest))
+    ⊎ ((next : ℕ) × (rest : List ℕ) × IsUsable counter × ComesAfter counter next × IsPrinted line next count rest × (text ≡ line counter ++ rest))
 
--- the same after so many numbers that are passed and not printed
+-- the same after so many numbers that are passed and not printed: a usable counter, then the rest; or `spent` where the terminal is spent
 abbrev pub IsPassed : (ℕ → List ℕ) → ℕ → ℕ → ℕ → List ℕ → Type 0
 IsPassed line counter zero count text = IsPrinted line counter count text
 IsPassed line counter (suc skip) count text =
     ((counter ≡ spent_counter) × (text ≡ spent_line))
-    ⊎ ((next : ℕ) × ComesAfter counter next × IsPassed line next skip count text)
+    ⊎ ((next : ℕ) × IsUsable counter × ComesAfter counter next × IsPassed line next skip count text)
 
 -- a terminal that has passed so many numbers: it is the same terminal, and its lines go on where they were
 pub record Passes (old : RegisterSet) (skip : ℕ) (new : RegisterSet) : Type 0 where

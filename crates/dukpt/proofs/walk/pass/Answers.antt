@@ -1,14 +1,14 @@
-use Rattle.std.proofs.Common.{◌≡◌, ◌+◌, ◌-◌, suc, inl, inr, refl, subst, ◌∙◌, rules, arith}
+use Rattle.std.proofs.Common.{◌≡◌, ◌+◌, suc, inr, subst, ◌∙◌, rules, arith}
 use Rattle.duk_tree.specs.Next.{spent_counter}
-use Rattle.dukpt.specs.Walk.{IsPassed, spent_line}
+use Rattle.dukpt.specs.Walk.{IsPassed}
+use Rattle.dukpt.proofs.WalkLemmas.{spent_within}
 use Rattle.dukpt.proofs.walk.pass.Goals as goal
 
 pub returns-in-Err-clause-spent : goal.returns-in-Err-clause-spent
-returns-in-Err-clause-spent c line count =
+returns-in-Err-clause-spent c =
     let spent : c.loop-passed.registers.counter ≡ spent_counter = search rules in
-    let all : c.loop-passed._passed + suc (c.args.skip - c.loop-passed._passed - 1) ≡ c.args.skip = omega arith in
-    subst (λ n. IsPassed line c.args.registers.counter n count spent_line) all
-    (c.loop-passed.invariant.lines line (suc (c.args.skip - c.loop-passed._passed - 1)) count spent_line (inl (spent, refl)))
+    let within = spent_within c.args.registers c.loop-passed.registers c.loop-passed._passed c.args.skip (omega arith) spent c.loop-passed.invariant.lines in
+    search (rules, within)
 
 pub loop-passed-preserved : goal.loop-passed-preserved
 loop-passed-preserved c =
@@ -19,7 +19,7 @@ loop-passed-preserved c =
       lines = λ line more count text printed.
           let next : c.loop-passed._passed + suc more ≡ c.loop-passed._passed + 1 + more = omega arith in
           subst (λ n. IsPassed line c.args.registers.counter n count text) next
-          (c.loop-passed.invariant.lines line (suc more) count text (inr (c.in-Ok.left.counter, taken.next_counter, printed)));
+          (c.loop-passed.invariant.lines line (suc more) count text (inr (c.in-Ok.left.counter, c.in-Ok.ensures.usable, taken.next_counter, printed)));
     }
 
 pub returns-clause-passed : goal.returns-clause-passed

@@ -33,7 +33,7 @@ loop-printed-preserved g c =
           let is_line = line_of_number _ c.args.registers.iksn counter c.in-Ok.taken.1 c.in-Ok.taken.0 _ c.args.alone loop.same_iksn c.in-Ok.ensures.serial key in
           let pushed = c.push_number.ensures.line ∙ ap (λ l. c.make_room.new.held.items ++ l) is_line in
           let next : c.loop-printed._printed + suc more ≡ c.loop-printed._printed + 1 + more = omega arith in
-          let here = loop.lines initial (suc more) (line counter ++ rest) stands (inr (c.in-Ok.taken.2.counter, rest, taken.next_counter, printed, refl)) in
+          let here = loop.lines initial (suc more) (line counter ++ rest) stands (inr (c.in-Ok.taken.2.counter, rest, c.in-Ok.ensures.usable, taken.next_counter, printed, refl)) in
           subst (λ t. IsPrinted line c.args.registers.counter (c.loop-printed._printed + 1 + more) t)
           (text_more loop.written c.loop-printed.held.items drains.0 c.make_room.new.held.items (line counter) rest c.push_number.new.held.items drains.1 pushed)
           (subst (λ n. IsPrinted line c.args.registers.counter n (loop.written ++ c.loop-printed.held.items ++ (line counter ++ rest))) next here);

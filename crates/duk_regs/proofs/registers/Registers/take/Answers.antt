@@ -1,6 +1,7 @@
 use Rattle.std.proofs.Common.{get_or, sym, ap, ◌∙◌, subst}
 use Rattle.std.specs.Int.{trailing_zeros, w32}
 use Rattle.duk_tree.specs.Derivation.{transaction_key_of}
+use Rattle.duk_tree.specs.Path.{IsUsable}
 use Rattle.duk_regs.specs.Registers.{RegisterSet, IsTaken, StandsFor}
 use Rattle.duk_regs.proofs.CounterLemmas.{BitLaws, usable_counter}
 use Rattle.duk_regs.proofs.RegisterLemmas.{taken_by}
@@ -14,6 +15,11 @@ invariant_of-left c =
     let fill = c.fill_below.ensures in
     let taken = taken_by laws before c.index-registers-place.result c.no_key.result c.next_usable.result c.fill_below.new.registers is_usable c.self.invariant.are_21 c.no_key.ensures fill.are_21 fill.filled fill.not_filled fill.others_stay c.next_usable.ensures.found c.next_usable.ensures.none in
     rw c.unwrap_or.ensures (c.taken.ensures.set before _ _ is_usable taken c.self.invariant)
+
+pub returns-clause-usable : goal.returns-clause-usable
+returns-clause-usable c =
+    let is_usable = usable_counter c.self.inside.counter c.self.invariant.counter_is c.if-self-eq-SPENT.false in
+    subst (λ (old : RegisterSet). IsUsable old.counter) c.self.view_is is_usable
 
 pub returns-clause-taken : goal.returns-clause-taken
 returns-clause-taken c =
