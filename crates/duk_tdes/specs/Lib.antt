@@ -1,3 +1,4 @@
 pub mod Key
 pub mod Tdes
 pub mod Blocks
+pub mod Cbc

@@ -1,5 +1,6 @@
 -- Triple DES (NIST SP 800-67 section 3) over lists of bytes.
-use Rattle.std.specs.Prelude.{◌≡◌, ◌⊎◌, ℕ, List, length, take, drop, ◌==◌, if◌then◌else◌}
+use Rattle.std.specs.Prelude.{◌≡◌, ◌⊎◌, ◌<◌, ◌^◌, ℕ, List, length, take, drop, ◌==◌, if◌then◌else◌}
+use Rattle.std.specs.List.{All}
 use Rattle.duk_des.specs.Des.{encrypted, decrypted}
 
 -- a TDES key has 16 bytes, where K3 is K1, or 24, where each of the three single keys has its own (section 3, keying options)
@@ -25,3 +26,8 @@ tdes_encrypted key block = encrypted (third_key key) (decrypted (second_key key)
 -- the inverse cipher operation (section 3): decryption under K3, encryption under K2, decryption under K1
 unfoldable pub tdes_decrypted : List ℕ → List ℕ → List ℕ
 tdes_decrypted key block = decrypted (first_key key) (encrypted (second_key key) (decrypted (third_key key) block))
+
+-- the bytes of a TDES key of either length
+pub record IsTdesKey (key : List ℕ) : Type 0 where
+  pub length_is : IsTdesLength (length key)
+  pub bytes_fit : All (λ byte. byte < 2 ^ 8) key

@@ -1,9 +1,10 @@
 //! Laws of TDES, each the contract of a function that does nothing.
 
-ghost use Rattle.std.specs.Prelude.{◌≡◌, ℕ, List, ◌++◌};
+ghost use Rattle.std.specs.Prelude.{◌≡◌, ℕ, List, ◌++◌, length};
 ghost use Rattle.duk_des.specs.Block.{IsBlock};
+ghost use Rattle.duk_tdes.specs.Cbc.{AreWholeBlocks, cbc_encrypted, cbc_decrypted};
 ghost use Rattle.duk_tdes.specs.Key.{IsKey, left_half, right_half, xor_bytes};
-ghost use Rattle.duk_tdes.specs.Tdes.{IsTdesLength, tdes_encrypted, tdes_decrypted};
+ghost use Rattle.duk_tdes.specs.Tdes.{IsTdesKey, IsTdesLength, tdes_encrypted, tdes_decrypted};
 
 /// Under one key of 16 or 24 bytes deciphering undoes enciphering and the reverse, and both make
 /// blocks of blocks.
@@ -27,4 +28,34 @@ pub fn keys()
     ensures left { (key : List ℕ) → IsKey 16 key → IsBlock (left_half key) }
     ensures right { (key : List ℕ) → IsKey 16 key → IsBlock (right_half key) }
     ensures joined { (left right : List ℕ) → IsBlock left → IsBlock right → IsKey 16 (left ++ right) }
+{}
+
+/// Under one key of 16 or 24 bytes, from one initial vector and for whole blocks, CBC decryption undoes CBC encryption
+/// and the reverse, and both make as many whole blocks.
+pub fn cbc_inverse()
+    ensures deciphered { (key initial_vector bytes : List ℕ)
+        → IsTdesKey key → IsBlock initial_vector → AreWholeBlocks bytes
+        → cbc_decrypted key initial_vector (cbc_encrypted key initial_vector bytes) ≡ bytes }
+    ensures enciphered { (key initial_vector bytes : List ℕ)
+        → IsTdesKey key → IsBlock initial_vector → AreWholeBlocks bytes
+        → cbc_encrypted key initial_vector (cbc_decrypted key initial_vector bytes) ≡ bytes }
+    ensures cipher_blocks { (key initial_vector bytes : List ℕ)
+        → IsTdesKey key → IsBlock initial_vector → AreWholeBlocks bytes
+        → AreWholeBlocks (cbc_encrypted key initial_vector bytes) }
+    ensures plain_blocks { (key initial_vector bytes : List ℕ)
+        → IsTdesKey key → IsBlock initial_vector → AreWholeBlocks bytes
+        → AreWholeBlocks (cbc_decrypted key initial_vector bytes) }
+    ensures cipher_length { (key initial_vector bytes : List ℕ)
+        → IsTdesKey key → IsBlock initial_vector → AreWholeBlocks bytes
+        → length (cbc_encrypted key initial_vector bytes) ≡ length bytes }
+    ensures plain_length { (key initial_vector bytes : List ℕ)
+        → IsTdesKey key → IsBlock initial_vector → AreWholeBlocks bytes
+        → length (cbc_decrypted key initial_vector bytes) ≡ length bytes }
+{
+    inverse();
+}
+
+/// The sum of two blocks is a block.
+pub fn sum_of_blocks()
+    ensures { (block mask : List ℕ) → IsBlock block → IsBlock mask → IsBlock (xor_bytes block mask) }
 {}

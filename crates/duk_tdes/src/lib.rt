@@ -5,6 +5,7 @@
 #![tactic(auto)]
 
 mod bytes;
+mod chaining;
 mod cipher;
 mod key;
 pub mod laws;
@@ -12,5 +13,6 @@ pub mod laws;
 mod tests;
 
 pub use bytes::{array_of, xor_bytes};
+pub use chaining::{cbc_decrypt, cbc_encrypt};
 pub use cipher::{tdes_decrypt, tdes_encrypt};
 pub use key::{Key, KeyBytes};
