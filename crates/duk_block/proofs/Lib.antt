@@ -1,0 +1,16 @@
+pub mod HexText
+pub mod DerivedKey
+pub mod Refilled
+pub mod HeaderLength
+pub mod HexBytes
+pub mod OptionalBlocks
+pub mod FaultOrder
+pub mod Bodies
+pub mod Carried
+pub mod Decoded
+pub mod Pieces
+pub mod DerivedIsKey
+pub mod TextPlaces
+pub mod AllMet
+pub mod UnwrapExact
+pub mod SealedLength

@@ -1,0 +1,94 @@
+-- Key blocks of version B (ANSI X9.143, key derivation binding method).
+use Rattle.std.specs.Prelude.{◌≡◌, ◌<◌, ◌≤◌, ◌+◌, ◌*◌, ◌%◌, ◌^◌, ℕ, List, [], ◌++◌, length, codes, ◌==◌, if◌then◌else◌}
+use Rattle.std.specs.Int.{w16, to_be_bytes}
+use Rattle.std.specs.List.{All, concat}
+use Rattle.hex.specs.Hex.{encode_upper}
+use Rattle.duk_mac.specs.Cmac.{cmac_of}
+use Rattle.duk_tdes.specs.Cbc.{AreWholeBlocks, cbc_encrypted}
+use Rattle.duk_tdes.specs.Tdes.{IsTdesKey}
+use Rattle.duk_tdes.specs.declared.key.KeyBytes.{KeyBytes}
+use Rattle.duk_tdes.specs.declared.key.KeyBytes.TheVariants.{Double, Triple}
+use Rattle.duk_block.specs.declared.header.Header.{Header}
+use Rattle.duk_block.specs.Derived.{derived_key, encryption_usage, mac_usage}
+use Rattle.duk_block.specs.HeaderText.{IsHeader, header_text}
+use Rattle.duk_block.specs.Hexadecimal.{IsHexadecimal}
+use Rattle.duk_block.specs.Optional.{IsOptionalBlock}
+
+-- the bytes of a key of either length
+abbrev pub bytes_of : KeyBytes → List ℕ
+bytes_of (Double key) = key
+bytes_of (Triple key) = key
+
+-- a key of these bytes, by their number
+abbrev pub key_from : List ℕ → KeyBytes
+key_from bytes = if length bytes == 16 then Double bytes else Triple bytes
+
+-- the payload: the key's length in bits as two bytes, the key, and padding
+abbrev pub payload_of : List ℕ → List ℕ → List ℕ
+payload_of key padding = to_be_bytes w16 (8 * length key) ++ key ++ padding
+
+-- the MAC: over what stands before the ciphertext, as it stands, and the clear payload
+abbrev pub mac_of : List ℕ → List ℕ → List ℕ → List ℕ
+mac_of protection_key front payload = cmac_of (derived_key mac_usage protection_key) (front ++ payload)
+
+-- the ciphertext: the payload in CBC with the MAC as initial vector
+abbrev pub ciphertext_of : List ℕ → List ℕ → List ℕ → List ℕ
+ciphertext_of protection_key mac payload = cbc_encrypted (derived_key encryption_usage protection_key) mac payload
+
+-- The text is a key block that binds the header to the key under the protection key. In front stand the
+-- header's characters and the optional blocks; the body behind them is the ciphertext and the MAC in hexadecimal.
+pub record IsKeyBlock (text protection_key : List ℕ) (header : Header) (key : List ℕ) : Type 0 where
+  pub reserved : List ℕ
+  pub optional_blocks : List (List ℕ)
+  pub front : List ℕ
+  pub body : List ℕ
+  pub ciphertext : List ℕ
+  pub mac : List ℕ
+  pub padding : List ℕ
+  pub laid_out : text ≡ front ++ body
+  pub front_is : front ≡ header_text (length text) header (length optional_blocks) reserved ++ concat optional_blocks
+  pub length_has_four_digits : length text < 10000
+  pub header_is : IsHeader header
+  pub reserved_width : length reserved ≡ 2
+  pub count_has_two_digits : length optional_blocks < 100
+  pub each_optional : All IsOptionalBlock optional_blocks
+  pub body_is_read : IsHexadecimal body (ciphertext ++ mac)
+  pub mac_width : length mac ≡ 8
+  pub key_is : IsTdesKey key
+  pub payload_is : AreWholeBlocks (payload_of key padding)
+  pub authentic : mac ≡ mac_of protection_key front (payload_of key padding)
+  pub enciphered : ciphertext ≡ ciphertext_of protection_key mac (payload_of key padding)
+
+-- what this project reads and writes: at most 512 characters, in whole blocks of eight
+pub record IsWithinLimits (text : List ℕ) : Type 0 where
+  pub least : 80 ≤ length text
+  pub most : length text ≤ 512
+  pub whole : length text % 8 ≡ 0
+
+-- a key block as this project writes it: no optional block, two zeros as reserved characters, this padding, and the
+-- hexadecimal digits in upper case
+pub record IsWrittenKeyBlock (text protection_key : List ℕ) (header : Header) (key padding : List ℕ) : Type 0 where
+  pub block : IsKeyBlock text protection_key header key
+  pub no_optional : block.optional_blocks ≡ []
+  pub reserved_zeros : block.reserved ≡ codes "00"
+  pub padding_is : block.padding ≡ padding
+  pub upper_case : block.body ≡ encode_upper (block.ciphertext ++ block.mac)
+
+-- a key and padding of these lengths fit a key block with no optional block: the payload, with two bytes for the key's
+-- length in front, is made of whole blocks, and the text is within the limits
+pub record FitsKeyBlock (key padding : ℕ) : Type 0 where
+  pub whole : (2 + key + padding) % 8 ≡ 0
+  pub most : 32 + 2 * (2 + key + padding) ≤ 512
+
+-- the text has these characters in front, and behind them, in upper case, the ciphertext and the MAC of this payload
+pub record IsSealed (protection_key front payload text : List ℕ) : Type 0 where
+  pub mac : List ℕ
+  pub ciphertext : List ℕ
+  pub laid_out : text ≡ front ++ encode_upper ciphertext ++ encode_upper mac
+  pub mac_width : length mac ≡ 8
+  pub mac_bytes : All (λ byte. byte < 2 ^ 8) mac
+  pub ciphertext_width : length ciphertext ≡ length payload
+  pub ciphertext_bytes : All (λ byte. byte < 2 ^ 8) ciphertext
+  pub payload_is : AreWholeBlocks payload
+  pub authentic : mac ≡ mac_of protection_key front payload
+  pub enciphered : ciphertext ≡ ciphertext_of protection_key mac payload

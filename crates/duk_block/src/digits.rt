@@ -1,0 +1,69 @@
+//! Numbers in decimal and bytes in hexadecimal, as characters.
+
+ghost use Rattle.std.specs.Prelude.{◌≡◌, ◌<◌, ◌≤◌, ◌+◌, ◌*◌, ◌++◌, ◌%◌, MatchBool, MatchOption, length};
+ghost use Rattle.std.specs.List.{AllPass};
+ghost use Rattle.hex.specs.Hex.{encode_upper, is_hex_digit};
+ghost use Rattle.duk_block.specs.Digits.{four_digits};
+ghost use Rattle.duk_block.specs.Hexadecimal.{IsHexadecimal};
+
+use arrayvec::ArrayVec;
+
+const UPPER_CASE: [u8; 16] = *b"0123456789ABCDEF";
+
+/// The number as four decimal digits.
+pub fn four_digits(number: usize) -> [u8; 4]
+    requires { number < 10000 }
+    ensures { result ≡ four_digits number }
+{
+    [
+        b'0' + (number / 1000) as u8,
+        b'0' + (number / 100 % 10) as u8,
+        b'0' + (number / 10 % 10) as u8,
+        b'0' + (number % 10) as u8,
+    ]
+}
+
+/// Writes bytes at the end of a text.
+pub fn append(text: &mut ArrayVec<u8, 512>, bytes: &[u8])
+    requires { length text.old.items + length bytes.now ≤ 512 }
+    ensures { text.new.items ≡ text.old.items ++ bytes.now }
+{
+    text.try_extend_from_slice(bytes).unwrap();
+}
+
+/// Writes bytes in hexadecimal, in upper case, at the end of a text.
+pub fn append_hex(text: &mut ArrayVec<u8, 512>, bytes: &[u8])
+    requires { length text.old.items + 2 * length bytes.now ≤ 512 }
+    ensures { text.new.items ≡ text.old.items ++ encode_upper bytes.now }
+{
+    for byte in bytes {
+        text.push(UPPER_CASE[usize::from(*byte / 16)]);
+        text.push(UPPER_CASE[usize::from(*byte % 16)]);
+    }
+}
+
+/// Reads hexadecimal digits in either case, two for each byte, and says whether they are such digits.
+pub fn read_hex(digits: &[u8], bytes: &mut [u8]) -> bool
+    requires { length digits.now ≡ 2 * length bytes.old }
+    ensures { MatchBool result (IsHexadecimal digits.now bytes.new)
+        (AllPass is_hex_digit digits.now → ⊥) }
+{
+    hex::decode_to_slice(digits, bytes).is_ok()
+}
+
+/// The bytes of a text of hexadecimal digits in either case.
+pub fn hex_bytes(digits: &[u8]) -> Option<ArrayVec<u8, 512>>
+    requires even { length digits.now % 2 ≡ 0 }
+    requires room { length digits.now ≤ 512 }
+    ensures { MatchOption result (AllPass is_hex_digit digits.now → ⊥)
+        (λ bytes. IsHexadecimal digits.now bytes.items) }
+{
+    let mut buffer = [0; 256];
+    let size = digits.len() / 2;
+    if !read_hex(digits, &mut buffer[..size]) {
+        return None;
+    }
+    let mut bytes = ArrayVec::new();
+    append(&mut bytes, &buffer[..size]);
+    Some(bytes)
+}

@@ -1,0 +1,40 @@
+//! Laws of key blocks, each the contract of a function that does nothing.
+
+ghost use Rattle.std.specs.Prelude.{◌≡◌, ℕ, List, length};
+ghost use Rattle.duk_tdes.specs.Tdes.{IsTdesKey, IsTdesLength};
+ghost use Rattle.duk_block.specs.declared.header.Header.{Header};
+ghost use Rattle.duk_block.specs.Derived.{derived_key, encryption_usage};
+ghost use Rattle.duk_block.specs.KeyBlock.{IsKeyBlock};
+
+use duk_tdes::Key;
+
+/// The bytes of a key of 16 or 24 bytes are those of a TDES key, as many as its type says.
+pub fn tdes_key<const N: usize>(key: &Key<N>)
+    requires { IsTdesLength N }
+    ensures key { IsTdesKey key.now }
+    ensures size { length key.now ≡ N }
+{
+    key.bytes();
+}
+
+/// A key derived for enciphering is a TDES key.
+pub fn derived_keys()
+    ensures { (protection_key : List ℕ) → IsTdesKey protection_key
+        → IsTdesKey (derived_key encryption_usage protection_key) }
+{
+    duk_tdes::laws::inverse();
+    duk_tdes::laws::sum_of_blocks();
+}
+
+/// Under one protection key a text is a key block of at most one header and one key. So what was wrapped is unwrapped
+/// to the same header and key.
+pub fn one_reading()
+    ensures { (text protection_key : List ℕ) (header other_header : Header) (key other_key : List ℕ)
+        → IsTdesKey protection_key
+        → IsKeyBlock text protection_key header key
+        → IsKeyBlock text protection_key other_header other_key
+        → (header ≡ other_header) × (key ≡ other_key) }
+{
+    derived_keys();
+    duk_tdes::laws::cbc_inverse();
+}

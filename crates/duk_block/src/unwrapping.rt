@@ -1,0 +1,126 @@
+//! Unwrapping a key.
+
+ghost use Rattle.std.specs.Prelude.{◌≡◌, ◌≤◌, ◌%◌, ◌++◌, ℕ, List, IfOk, IfErr, MatchOption, length};
+ghost use Rattle.std.specs.List.{AllPass};
+ghost use Rattle.hex.specs.Hex.{is_hex_digit};
+ghost use Rattle.duk_tdes.specs.Tdes.{IsTdesLength};
+ghost use Rattle.duk_block.specs.Hexadecimal.{IsHexadecimal};
+ghost use Rattle.duk_block.specs.KeyBlock.{IsKeyBlock, IsWithinLimits, bytes_of, key_from};
+ghost use Rattle.duk_block.specs.Faults.{Carries, HasBody, HasCount, HasHeader, HasPayload, IsFirstFault, MetBefore};
+ghost use Rattle.duk_block.specs.Unwrapped.{ReadsKeyBlocks, RefusesFirstFaults};
+
+use crate::digits::hex_bytes;
+use crate::fault::BlockFault;
+use crate::header::{Header, has_length, optional_count};
+use crate::laws;
+use crate::optional::after_optional;
+use crate::payload::key_in;
+use crate::sealing::{block_mac, deciphered};
+use arrayvec::ArrayVec;
+use duk_tdes::{Key, KeyBytes, array_of};
+
+/// Reads a key block under the key block protection key: its header and the key that it binds to the header. `N` is 16
+/// or 24.
+///
+/// A text that is no key block, or longer than 512 characters, is refused with the first of the faults, from `Length`
+/// to `Payload`, that it has. Hexadecimal digits are read in either case. The last two characters of the header, the
+/// contents of optional blocks and the padding may be anything.
+pub fn unwrap<const N: usize>(kbpk: &Key<N>, text: &[u8]) -> Result<(Header, KeyBytes), BlockFault>
+    requires { IsTdesLength N }
+    ensures found { IfOk result
+        (λ found. IsWithinLimits text.now × IsKeyBlock text.now kbpk.now found.0 (bytes_of found.1)) }
+    ensures only { ReadsKeyBlocks result text.now kbpk.now }
+    ensures refused { RefusesFirstFaults result text.now kbpk.now }
+{
+    laws::tdes_key(kbpk);
+    laws::derived_keys();
+    laws::one_reading();
+    duk_tdes::laws::cbc_inverse();
+    read(kbpk, text)
+}
+
+/// The header and the key of a key block, or its first fault.
+fn read<const N: usize>(kbpk: &Key<N>, text: &[u8]) -> Result<(Header, KeyBytes), BlockFault>
+    requires { IsTdesLength N }
+    ensures found { IfOk result
+        (λ found. IsWithinLimits text.now × IsKeyBlock text.now kbpk.now found.0 (bytes_of found.1)) }
+    ensures length { IfOk result (λ found. found.1 ≡ key_from (bytes_of found.1)) }
+    ensures refused { IfErr result (IsFirstFault text.now kbpk.now) }
+{
+    let (header, count) = header_of(text)?;
+    let Some(body) = body_of(text, count) else {
+        return Err(BlockFault::OptionalBlock);
+    };
+    let payload = opened(kbpk, text, body)?;
+    match key_in(payload.as_slice()) {
+        Some(key) => Ok((header, key)),
+        None => Err(BlockFault::Payload),
+    }
+}
+
+/// The header, and the number of optional blocks behind it.
+fn header_of(text: &[u8]) -> Result<(Header, u8), BlockFault>
+    ensures found { IfOk result (λ found. HasHeader text.now found.0 found.1) }
+    ensures refused { IfErr result
+        (λ fault. (protection_key : List ℕ) → IsFirstFault text.now protection_key fault) }
+{
+    if !has_length(text) {
+        return Err(BlockFault::Length);
+    }
+    if text[0] != b'B' {
+        return Err(BlockFault::Version);
+    }
+    let header = Header::from_text(text);
+    if !header.is_printable() {
+        return Err(BlockFault::HeaderField);
+    }
+    match optional_count(text) {
+        Some(count) => Ok((header, count)),
+        None => Err(BlockFault::HeaderField),
+    }
+}
+
+/// What stands behind the optional blocks, where ciphertext and MAC have room in it.
+fn body_of(text: &[u8], count: u8) -> Option<&[u8]>
+    requires header { 16 ≤ length text.now }
+    requires count { HasCount text.now count }
+    ensures { MatchOption result ((body : List ℕ) → HasBody text.now body → ⊥)
+        (λ body. HasBody text.now body.now) }
+{
+    let body = after_optional(count, &text[16..])?;
+    if body.len() >= 64 && body.len() % 16 == 0 {
+        Some(body)
+    } else {
+        None
+    }
+}
+
+/// The payload, where the body is hexadecimal and has the right MAC.
+fn opened<const N: usize>(
+    kbpk: &Key<N>,
+    text: &[u8],
+    body: &[u8],
+) -> Result<ArrayVec<u8, 512>, BlockFault>
+    requires key { IsTdesLength N }
+    requires most { length text.now ≤ 512 }
+    requires body { HasBody text.now body.now }
+    requires met { MetBefore text.now kbpk.now BlockFault.Hex }
+    ensures found { IfOk result (λ payload. HasPayload text.now kbpk.now payload.items) }
+    ensures length { IfOk result (λ payload. 24 ≤ length payload.items) }
+    ensures only { IfOk result (λ payload.
+        (other : List ℕ) → HasPayload text.now kbpk.now other → other ≡ payload.items) }
+    ensures refused { IfErr result (IsFirstFault text.now kbpk.now) }
+{
+    let front = &text[..text.len() - body.len()];
+    let Some(bytes) = hex_bytes(body) else {
+        return Err(BlockFault::Hex);
+    };
+    let (ciphertext, mac) = bytes.as_slice().split_at(body.len() / 2 - 8);
+    let mac = array_of(mac);
+    let payload = deciphered(kbpk, mac, ciphertext);
+    if block_mac(kbpk, front, payload.as_slice()) == mac {
+        Ok(payload)
+    } else {
+        Err(BlockFault::Mac)
+    }
+}

@@ -1,0 +1,78 @@
+//! Wrapping a key.
+
+ghost use Rattle.std.specs.Prelude.{◌≡◌, ◌↔◌, ◌+◌, ◌*◌, ◌%◌, ◌≤◌, IfOk, IsOk, MatchOption, length};
+ghost use Rattle.duk_tdes.specs.Tdes.{IsTdesLength};
+ghost use Rattle.duk_block.specs.HeaderText.{IsHeader};
+ghost use Rattle.duk_block.specs.KeyBlock.{FitsKeyBlock, IsSealed, IsWithinLimits, IsWrittenKeyBlock};
+
+use crate::digits::append_hex;
+use crate::fault::BlockFault;
+use crate::header::Header;
+use crate::payload::payload_with;
+use crate::sealing::{block_mac, enciphered};
+use arrayvec::ArrayVec;
+use duk_tdes::Key;
+
+/// Wraps a key in a key block with no optional block: the header, and the key with this padding behind it enciphered
+/// under a key derived from the key block protection key. `N` and `M` are 16 or 24.
+///
+/// Refuses a header with a character outside 20 to 7E hexadecimal as `HeaderField`; then, as `PadLength`, padding that
+/// does not fill the payload to whole blocks of 8 bytes, where a length of 2 bytes and the key stand before it, or with
+/// which the text would have more than 512 characters. Padding may be longer than needed; it should be random.
+pub fn wrap<const N: usize, const M: usize>(
+    kbpk: &Key<N>,
+    header: &Header,
+    key: &Key<M>,
+    pad: &[u8],
+) -> Result<ArrayVec<u8, 512>, BlockFault>
+    requires protection_key { IsTdesLength N }
+    requires key { IsTdesLength M }
+    ensures fields { (result ≡ Err BlockFault.HeaderField) ↔ ¬ IsHeader header.now }
+    ensures padding { (result ≡ Err BlockFault.PadLength)
+        ↔ (IsHeader header.now × ¬ FitsKeyBlock M (length pad.now)) }
+    ensures ok { IsOk result ↔ (IsHeader header.now × FitsKeyBlock M (length pad.now)) }
+    ensures limits { IfOk result (λ text. IsWithinLimits text.items) }
+    ensures written { IfOk result
+        (λ text. IsWrittenKeyBlock text.items kbpk.now header.now key.now pad.now) }
+{
+    if !header.is_printable() {
+        return Err(BlockFault::HeaderField);
+    }
+    match text_length(M, pad.len()) {
+        Some(total) => Ok(sealed(kbpk, header.text(total), payload_with(key, pad).as_slice())),
+        None => Err(BlockFault::PadLength),
+    }
+}
+
+/// The length of a text with no optional block, where key and padding fit one.
+fn text_length(key: usize, pad: usize) -> Option<usize>
+    requires { IsTdesLength key }
+    ensures { MatchOption result (¬ FitsKeyBlock key pad)
+        (λ total. FitsKeyBlock key pad × (total ≡ 32 + 2 * (2 + key + pad))) }
+{
+    let payload = pad.checked_add(2 + key)?;
+    if payload % 8 == 0 && payload <= 240 {
+        Some(32 + 2 * payload)
+    } else {
+        None
+    }
+}
+
+/// The text of these characters in front, and the payload, sealed: its ciphertext and the MAC, in hexadecimal.
+fn sealed<const N: usize>(
+    kbpk: &Key<N>,
+    front: ArrayVec<u8, 512>,
+    payload: &[u8],
+) -> ArrayVec<u8, 512>
+    requires protection_key { IsTdesLength N }
+    requires room { length front.items + 2 * length payload.now ≤ 496 }
+    requires whole { length payload.now % 8 ≡ 0 }
+    ensures { IsSealed kbpk.now front.items payload.now result.items }
+{
+    let mac = block_mac(kbpk, front.as_slice(), payload);
+    let ciphertext = enciphered(kbpk, mac, payload);
+    let mut text = front;
+    append_hex(&mut text, ciphertext.as_slice());
+    append_hex(&mut text, &mac);
+    text
+}
