@@ -4,7 +4,7 @@ use Rattle.duk_tree.specs.Serial.{Serial}
 use Rattle.duk_tree.specs.Path.{IsUsable}
 use Rattle.dukpt.specs.Derive.{IsDerivable, IsRefused}
 use Rattle.dukpt.specs.declared.fault.Fault.{Fault}
-use Rattle.dukpt.specs.declared.fault.Fault.TheVariants.{BdkRefused, KsnRefused, IksnRefused, CountRefused, CounterRefused, KeyRefused, PinRefused, OutOfMemory, WriteFailed}
+use Rattle.dukpt.specs.declared.fault.Fault.TheVariants.{BdkRefused, KsnRefused, IksnRefused, CountRefused, CounterRefused, KbpkRefused, FieldsRefused, KeyRefused, PadRefused, PinRefused, BlockRefused, OutOfMemory, WriteFailed}
 
 pub derivable_not_refused : (bdk ksn key : List ℕ) (serial : Serial) (why : Fault)
     → IsDerivable bdk ksn key serial → IsRefused bdk ksn why → ⊥
@@ -15,7 +15,11 @@ derivable_not_refused bdk ksn key serial CounterRefused can refused =
     refused.3 (subst (λ (s : Serial). IsUsable s.counter) same can.usable)
 derivable_not_refused bdk ksn key serial IksnRefused can refused = refused
 derivable_not_refused bdk ksn key serial CountRefused can refused = refused
+derivable_not_refused bdk ksn key serial KbpkRefused can refused = refused
+derivable_not_refused bdk ksn key serial FieldsRefused can refused = refused
 derivable_not_refused bdk ksn key serial KeyRefused can refused = refused
+derivable_not_refused bdk ksn key serial PadRefused can refused = refused
 derivable_not_refused bdk ksn key serial (PinRefused fault) can refused = refused
+derivable_not_refused bdk ksn key serial (BlockRefused fault) can refused = refused
 derivable_not_refused bdk ksn key serial OutOfMemory can refused = refused
 derivable_not_refused bdk ksn key serial WriteFailed can refused = refused

@@ -10,6 +10,10 @@ use Rattle.dukpt.specs.declared.fault.Fault.TheVariants.{WriteFailed}
 abbrev pub named_line : List ℕ → List ℕ → List ℕ
 named_line name bytes = name ++ codes " " ++ encode_upper bytes ++ line_end
 
+-- a line that names a text: the name, a space, the text
+abbrev pub text_line : List ℕ → List ℕ → List ℕ
+text_line name text = name ++ codes " " ++ text ++ line_end
+
 -- status 0: exactly these lines were written
 pub record IsDone (lines : List ℕ) (output output' fault fault' : Told) : Type 0 where
   pub written : IsWritten output output' lines

@@ -8,7 +8,7 @@ use Rattle.duk_tree.specs.Derivation.{initial_key_of, derived_key_of, pin_key_of
 use Rattle.dukpt.specs.Answer.{named_line, IsDone, IsRefusal, IsCutShort}
 use Rattle.dukpt.specs.Sink.{Told}
 use Rattle.dukpt.specs.declared.fault.Fault.{Fault}
-use Rattle.dukpt.specs.declared.fault.Fault.TheVariants.{BdkRefused, KsnRefused, IksnRefused, CountRefused, CounterRefused, KeyRefused, PinRefused, OutOfMemory, WriteFailed}
+use Rattle.dukpt.specs.declared.fault.Fault.TheVariants.{BdkRefused, KsnRefused, IksnRefused, CountRefused, CounterRefused, KbpkRefused, FieldsRefused, KeyRefused, PadRefused, PinRefused, BlockRefused, OutOfMemory, WriteFailed}
 
 -- the key that a text of 32 hexadecimal digits, of either case, writes
 abbrev pub key_of_text : List ℕ → Option (List ℕ)
@@ -34,6 +34,10 @@ IsRefused bdk ksn IksnRefused = ⊥
 IsRefused bdk ksn CountRefused = ⊥
 IsRefused bdk ksn KeyRefused = ⊥
 IsRefused bdk ksn (PinRefused fault) = ⊥
+IsRefused bdk ksn KbpkRefused = ⊥
+IsRefused bdk ksn FieldsRefused = ⊥
+IsRefused bdk ksn PadRefused = ⊥
+IsRefused bdk ksn (BlockRefused fault) = ⊥
 IsRefused bdk ksn OutOfMemory = ⊥
 IsRefused bdk ksn WriteFailed = ⊥
 

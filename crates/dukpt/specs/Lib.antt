@@ -1,7 +1,10 @@
 pub mod Answer
 pub mod Derive
 pub mod Fault
+pub mod KeyText
 pub mod Pin
 pub mod Sink
 pub mod Status
+pub mod Unwrap
 pub mod Walk
+pub mod Wrap

@@ -10,7 +10,7 @@ use Rattle.dukpt.specs.Answer.{named_line, IsDone, IsRefusal, IsCutShort}
 use Rattle.dukpt.specs.Derive.{key_of_text}
 use Rattle.dukpt.specs.Sink.{Told}
 use Rattle.dukpt.specs.declared.fault.Fault.{Fault}
-use Rattle.dukpt.specs.declared.fault.Fault.TheVariants.{BdkRefused, KsnRefused, IksnRefused, CountRefused, CounterRefused, KeyRefused, PinRefused, OutOfMemory, WriteFailed}
+use Rattle.dukpt.specs.declared.fault.Fault.TheVariants.{BdkRefused, KsnRefused, IksnRefused, CountRefused, CounterRefused, KbpkRefused, FieldsRefused, KeyRefused, PadRefused, PinRefused, BlockRefused, OutOfMemory, WriteFailed}
 
 -- the key that an optional word writes, where it is given
 abbrev pub IsKeyWord : Option (List ℕ) → Option (List ℕ) → Type 0
@@ -42,6 +42,10 @@ IsPinWordRefused pin pan word KsnRefused = ⊥
 IsPinWordRefused pin pan word IksnRefused = ⊥
 IsPinWordRefused pin pan word CountRefused = ⊥
 IsPinWordRefused pin pan word CounterRefused = ⊥
+IsPinWordRefused pin pan word KbpkRefused = ⊥
+IsPinWordRefused pin pan word FieldsRefused = ⊥
+IsPinWordRefused pin pan word PadRefused = ⊥
+IsPinWordRefused pin pan word (BlockRefused fault) = ⊥
 IsPinWordRefused pin pan word OutOfMemory = ⊥
 IsPinWordRefused pin pan word WriteFailed = ⊥
 

@@ -12,7 +12,7 @@ use Rattle.dukpt.specs.Derive.{key_of_text}
 use Rattle.dukpt.specs.Fault.{line_end}
 use Rattle.dukpt.specs.Sink.{Told, IsWritten, IsCut}
 use Rattle.dukpt.specs.declared.fault.Fault.{Fault}
-use Rattle.dukpt.specs.declared.fault.Fault.TheVariants.{BdkRefused, KsnRefused, IksnRefused, CountRefused, CounterRefused, KeyRefused, PinRefused, OutOfMemory, WriteFailed}
+use Rattle.dukpt.specs.declared.fault.Fault.TheVariants.{BdkRefused, KsnRefused, IksnRefused, CountRefused, CounterRefused, KbpkRefused, FieldsRefused, KeyRefused, PadRefused, PinRefused, BlockRefused, OutOfMemory, WriteFailed}
 
 -- the greatest number of numbers that may be asked for: one more than a terminal has
 abbrev pub most_numbers : ℕ
@@ -68,6 +68,10 @@ IsWalkRefused bdk iksn count skip KsnRefused = ⊥
 IsWalkRefused bdk iksn count skip CounterRefused = ⊥
 IsWalkRefused bdk iksn count skip KeyRefused = ⊥
 IsWalkRefused bdk iksn count skip (PinRefused fault) = ⊥
+IsWalkRefused bdk iksn count skip KbpkRefused = ⊥
+IsWalkRefused bdk iksn count skip FieldsRefused = ⊥
+IsWalkRefused bdk iksn count skip PadRefused = ⊥
+IsWalkRefused bdk iksn count skip (BlockRefused fault) = ⊥
 IsWalkRefused bdk iksn count skip OutOfMemory = ⊥
 IsWalkRefused bdk iksn count skip WriteFailed = ⊥
 

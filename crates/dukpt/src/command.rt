@@ -11,8 +11,10 @@ use crate::derive::derive_command;
 use crate::fault::{Fault, tell};
 use crate::pin::pin_command;
 use crate::sink::{Sink, write_text};
+use crate::unwrap::unwrap_command;
 use crate::walk::walk_command;
 use crate::words::{Request, read_request};
+use crate::wrap::wrap_command;
 use clap::Error;
 use clap::error::ErrorKind;
 use std::alloc::{AllocError, Global};
@@ -56,13 +58,13 @@ fn answer<W: Sink, F: Sink>(alloc: Global, words: &[String], output: &mut W, fau
     ensures refused { result ≡ 2 → Keeps (W.told output.old).contents (W.told output.new).contents }
 {
     match read_request(alloc, words) {
-        Ok(request) => run(request, output, fault),
+        Ok(request) => run(alloc, request, output, fault),
         Err(error) => show(alloc, error, output, fault),
     }
 }
 
 /// Does the command of a request and gives the status.
-fn run<W: Sink, F: Sink>(request: Request, output: &mut W, fault: &mut F) -> u8
+fn run<W: Sink, F: Sink>(alloc: Global, request: Request, output: &mut W, fault: &mut F) -> u8
     ensures status { (result ≡ 0) ⊎ (result ≡ 1) }
     ensures no_fault { result ≡ 0 → IsUntouched (F.told fault.old) (F.told fault.new) }
     ensures fault { result ≡ 1 → IsFaultTold (F.told fault.old) (F.told fault.new) }
@@ -77,6 +79,13 @@ fn run<W: Sink, F: Sink>(request: Request, output: &mut W, fault: &mut F) -> u8
             alone,
         } => walk_command(bdk, iksn, count, skip, alone, output, fault),
         Request::Pin { pin, pan, key } => pin_command(pin, pan, key, output, fault),
+        Request::Wrap {
+            kbpk,
+            fields,
+            key,
+            pad,
+        } => wrap_command(alloc, kbpk, fields, key, pad, output, fault),
+        Request::Unwrap { kbpk, block } => unwrap_command(kbpk, block, output, fault),
     }
 }
 

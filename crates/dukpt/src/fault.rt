@@ -5,6 +5,7 @@ ghost use Rattle.dukpt.specs.Sink.{IsTried};
 ghost use Rattle.dukpt.specs.Fault.{line_of};
 
 use crate::sink::{Sink, write_text};
+use duk_block::BlockFault;
 use duk_pin::PinFault;
 
 /// Why a command ends with status 1.
@@ -20,10 +21,18 @@ pub enum Fault {
     CountRefused,
     /// The counter is zero or has more than ten one bits.
     CounterRefused,
-    /// The key of `--key` is not 32 hexadecimal digits.
+    /// The key block protection key is neither 32 nor 48 hexadecimal digits.
+    KbpkRefused,
+    /// The header fields are not 7 bytes.
+    FieldsRefused,
+    /// The key of `--key` is not 32 hexadecimal digits, or the key of `wrap` neither 32 nor 48.
     KeyRefused,
+    /// The padding is not zero or more pairs of hexadecimal digits.
+    PadRefused,
     /// The PIN or the PAN is refused.
     PinRefused(PinFault),
+    /// The key block is refused, or the key cannot be wrapped.
+    BlockRefused(BlockFault),
     /// Memory was refused.
     OutOfMemory,
     /// What had to be written could not be.
@@ -41,11 +50,22 @@ impl Fault {
             Fault::IksnRefused => b"IKSN refused\n",
             Fault::CountRefused => b"count refused\n",
             Fault::CounterRefused => b"counter refused\n",
+            Fault::KbpkRefused => b"KBPK refused\n",
+            Fault::FieldsRefused => b"fields refused\n",
             Fault::KeyRefused => b"key refused\n",
+            Fault::PadRefused => b"pad refused\n",
             Fault::PinRefused(PinFault::PinLength) => b"PinLength\n",
             Fault::PinRefused(PinFault::PinDigit) => b"PinDigit\n",
             Fault::PinRefused(PinFault::PanLength) => b"PanLength\n",
             Fault::PinRefused(PinFault::PanDigit) => b"PanDigit\n",
+            Fault::BlockRefused(BlockFault::Length) => b"Length\n",
+            Fault::BlockRefused(BlockFault::Version) => b"Version\n",
+            Fault::BlockRefused(BlockFault::HeaderField) => b"HeaderField\n",
+            Fault::BlockRefused(BlockFault::OptionalBlock) => b"OptionalBlock\n",
+            Fault::BlockRefused(BlockFault::Hex) => b"Hex\n",
+            Fault::BlockRefused(BlockFault::Mac) => b"Mac\n",
+            Fault::BlockRefused(BlockFault::Payload) => b"Payload\n",
+            Fault::BlockRefused(BlockFault::PadLength) => b"PadLength\n",
             Fault::OutOfMemory => b"out of memory\n",
             Fault::WriteFailed => b"write failed\n",
         }

@@ -4,18 +4,18 @@ ghost use Rattle.std.specs.Prelude.{◌≡◌, ◌+◌, ◌*◌, ◌++◌, ◌�
 ghost use Rattle.std.specs.Char.{to_ascii_uppercase};
 ghost use Rattle.arrayvec.specs.ArrayVec.{array_vec_len};
 ghost use Rattle.hex.specs.Hex.{encode_upper};
-ghost use Rattle.dukpt.specs.Answer.{named_line};
+ghost use Rattle.dukpt.specs.Answer.{named_line, text_line};
 
 use arrayvec::ArrayVec;
 
-/// How many bytes the lines of a command may have; those of `derive` have 115.
-pub const LINES_ROOM: usize = 128;
+/// How many bytes the lines of a command may have: those of a key block, and its line's end.
+pub const LINES_ROOM: usize = 513;
 
 /// The lines of a command.
 pub type Lines = ArrayVec<u8, LINES_ROOM>;
 
-/// The longest bytes that a line names: a key's.
-const MOST_BYTES: usize = 16;
+/// The longest bytes that a line names: those of a triple-length key.
+const MOST_BYTES: usize = 24;
 
 /// Appends the line that names some bytes: the name, a space, two digits for each byte and LF.
 pub fn push_line(lines: &mut Lines, name: &[u8], bytes: &[u8])
@@ -28,6 +28,19 @@ pub fn push_line(lines: &mut Lines, name: &[u8], bytes: &[u8])
     lines.try_extend_from_slice(name).unwrap();
     lines.push(b' ');
     push_hex(lines, bytes);
+    lines.push(b'\n');
+}
+
+/// Appends the line that names a text: the name, a space, the text and LF.
+pub fn push_text_line(lines: &mut Lines, name: &[u8], text: &[u8])
+    requires { array_vec_len lines.old + length name.now + length text.now + 2 ≤ LINES_ROOM }
+    ensures line { lines.new.items ≡ lines.old.items ++ text_line name.now text.now }
+    ensures len { array_vec_len lines.new
+        ≡ array_vec_len lines.old + length name.now + length text.now + 2 }
+{
+    lines.try_extend_from_slice(name).unwrap();
+    lines.push(b' ');
+    lines.try_extend_from_slice(text).unwrap();
     lines.push(b'\n');
 }
 

@@ -10,8 +10,10 @@ mod key_text;
 mod lines;
 pub mod pin;
 pub mod sink;
+pub mod unwrap;
 pub mod walk;
 mod words;
+pub mod wrap;
 
 use command::Todo;
 use fault::{Fault, tell};

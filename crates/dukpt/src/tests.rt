@@ -7,6 +7,7 @@ use std::io::Write;
 
 mod command;
 mod derive;
+mod key_block;
 mod pin;
 mod walk;
 

@@ -36,6 +36,24 @@ pub enum Request<'a> {
         /// The key to encipher the block under, as written.
         key: Option<&'a str>,
     },
+    /// The key block of a key.
+    Wrap {
+        /// The key block protection key, as written.
+        kbpk: &'a str,
+        /// The fields of the header, as written.
+        fields: &'a str,
+        /// The key, as written.
+        key: &'a str,
+        /// The padding, as written.
+        pad: &'a str,
+    },
+    /// The header and the key of a key block.
+    Unwrap {
+        /// The key block protection key, as written.
+        kbpk: &'a str,
+        /// The key block.
+        block: &'a str,
+    },
 }
 
 /// The request that the words make; the first word is the program's name. The error is `clap`'s:
@@ -67,6 +85,16 @@ fn request_of<'a>(matches: &ArgMatches<'a>) -> Option<Request<'a>> {
             pan: found.get_str("PAN")?,
             key: found.get_str("key"),
         }),
+        ("wrap", found) => Some(Request::Wrap {
+            kbpk: found.get_str("KBPK")?,
+            fields: found.get_str("FIELDS")?,
+            key: found.get_str("KEY")?,
+            pad: found.get_str("PAD")?,
+        }),
+        ("unwrap", found) => Some(Request::Unwrap {
+            kbpk: found.get_str("KBPK")?,
+            block: found.get_str("BLOCK")?,
+        }),
         _ => None,
     }
 }
@@ -78,7 +106,9 @@ fn program<'a>(alloc: Global) -> Result<Command<'a>, AllocError> {
         .subcommand_required(true)
         .subcommand(derive_words(alloc)?)?
         .subcommand(walk_words(alloc)?)?
-        .subcommand(pin_words(alloc)?)
+        .subcommand(pin_words(alloc)?)?
+        .subcommand(wrap_words(alloc)?)?
+        .subcommand(unwrap_words(alloc)?)
 }
 
 fn derive_words<'a>(alloc: Global) -> Result<Command<'a>, AllocError> {
@@ -136,4 +166,38 @@ fn pin_words<'a>(alloc: Global) -> Result<Command<'a>, AllocError> {
         .arg(pin)?
         .arg(pan)?
         .arg(key)
+}
+
+fn wrap_words<'a>(alloc: Global) -> Result<Command<'a>, AllocError> {
+    let fields = Arg::new(alloc, "FIELDS").required(true).help(
+        "The header fields, 7 characters: usage, algorithm, mode, version and exportability",
+    );
+    let key = Arg::new(alloc, "KEY")
+        .required(true)
+        .help("The key, 32 or 48 hexadecimal digits");
+    let pad = Arg::new(alloc, "PAD")
+        .required(true)
+        .help("The padding in hexadecimal, which should be random");
+    Command::new(alloc, "wrap")
+        .about("Prints the key block of a key")
+        .arg(kbpk_word(alloc))?
+        .arg(fields)?
+        .arg(key)?
+        .arg(pad)
+}
+
+fn unwrap_words<'a>(alloc: Global) -> Result<Command<'a>, AllocError> {
+    let block = Arg::new(alloc, "BLOCK")
+        .required(true)
+        .help("The key block");
+    Command::new(alloc, "unwrap")
+        .about("Prints the header fields and the key of a key block")
+        .arg(kbpk_word(alloc))?
+        .arg(block)
+}
+
+fn kbpk_word<'a>(alloc: Global) -> Arg<'a> {
+    Arg::new(alloc, "KBPK").required(true).help(
+        "The key block protection key, 32 or 48 hexadecimal digits",
+    )
 }

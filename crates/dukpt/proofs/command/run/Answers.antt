@@ -22,3 +22,17 @@ returns-in-Walk-clause-fault g c one =
       | inl refused ↦ record { why = refused.why; line = refused.answer.line }
       | inr short ↦ record { why = WriteFailed; line = short.answer.line }
     ]
+
+pub returns-in-Wrap-clause-fault : goal.returns-in-Wrap-clause-fault
+returns-in-Wrap-clause-fault g c one =
+    elim (c.wrap_command.ensures.told one) [
+      | inl refused ↦ record { why = refused.why; line = refused.answer.line }
+      | inr short ↦ record { why = WriteFailed; line = short.answer.line }
+    ]
+
+pub returns-in-Unwrap-clause-fault : goal.returns-in-Unwrap-clause-fault
+returns-in-Unwrap-clause-fault g c one =
+    elim (c.unwrap_command.ensures.told one) [
+      | inl refused ↦ record { why = refused.why; line = refused.answer.line }
+      | inr short ↦ record { why = WriteFailed; line = short.answer.line }
+    ]
