@@ -5,3 +5,5 @@ pub mod KeyLemmas
 pub mod NodeLemmas
 pub mod FrontierLemmas
 pub mod NextLemmas
+pub mod CountLemmas
+pub mod ChainLemmas

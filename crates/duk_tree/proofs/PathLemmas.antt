@@ -12,7 +12,7 @@ use Rattle.duk_tree.specs.Path.{last_place, IsPath, value_of, places_from, has_o
 abbrev pub path_from : ℕ → ℕ → ℕ → List ℕ
 path_from place count counter = filter (has_one counter) (places_from place count)
 
-power_above : (place : ℕ) → 2 ^ suc place ≡ 2 ^ place + 2 ^ place
+pub power_above : (place : ℕ) → 2 ^ suc place ≡ 2 ^ place + 2 ^ place
 power_above place = pow-suc 2 place ∙ omega arith
 
 half : (counter place : ℕ) → counter / 2 ^ place / 2 ≡ counter / 2 ^ suc place

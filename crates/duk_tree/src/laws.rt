@@ -1,15 +1,15 @@
 //! Laws of the key tree and of key serial numbers, each the contract of a function that does
 //! nothing.
 
-ghost use Rattle.std.specs.Prelude.{◌≡◌, ◌<◌, ◌^◌, ℕ, List, length, ◌≢◌, ◌≤◌, ◌+◌, ◌⊎◌, ◌↔◌, ◌∷◌, count_ones};
-ghost use Rattle.std.specs.List.{All};
+ghost use Rattle.std.specs.Prelude.{◌≡◌, ◌<◌, ◌^◌, ℕ, List, length, ◌≢◌, ◌≤◌, ◌+◌, ◌⊎◌, ◌↔◌, [], ◌∷◌, ◌++◌, count_ones};
+ghost use Rattle.std.specs.List.{All, Contains};
 ghost use Rattle.duk_des.specs.Block.{IsBlock};
 ghost use Rattle.duk_tdes.specs.Key.{IsKey};
 ghost use Rattle.duk_tree.specs.Derivation.{initial_key_of, step_of, node_key, pin_key_of, request_key_of, response_key_of};
 ghost use Rattle.duk_tree.specs.Path.{IsPath, value_of, path_of, IsUsable, last_place};
 ghost use Rattle.duk_tree.specs.Serial.{Serial, IsSerial, serial_bytes, serial_of_bytes};
 ghost use Rattle.std.specs.Int.{trailing_zeros, w32};
-ghost use Rattle.duk_tree.specs.Next.{ComesAfter};
+ghost use Rattle.duk_tree.specs.Next.{ComesAfter, IsChainAfter};
 ghost use Rattle.duk_tree.specs.Frontier.{IsHeld, HasOneHeld, IsAncestorOrSelf, IsChild, candidate_at};
 
 /// Each counter of 21 bits is the value of exactly one path.
@@ -102,4 +102,18 @@ pub fn candidates()
         → (IsHeld counter (candidate_at counter place)
         × (last_place (path_of (candidate_at counter place)) ≡ place))
         ⊎ ((node : ℕ) → IsHeld counter node → last_place (path_of node) ≢ place) }
+{}
+
+/// A terminal has 1,048,575 numbers. After each counter there is one chain of numbers, each the least
+/// usable one above the one before it, as `next_usable` finds it, and none above the last. After zero
+/// it has all the usable counters (ANSI X9.24-1:2009 annex A), 1,048,575 of them, and ends at 1FF800.
+pub fn chain()
+    ensures exists { (counter : ℕ) → (numbers : List ℕ) × IsChainAfter counter numbers }
+    ensures only { (counter : ℕ) (a b : List ℕ) → IsChainAfter counter a → IsChainAfter counter b
+        → a ≡ b }
+    ensures all { (numbers : List ℕ) → IsChainAfter 0 numbers
+        → (counter : ℕ) → Contains numbers counter ↔ IsUsable counter }
+    ensures count { (numbers : List ℕ) → IsChainAfter 0 numbers → length numbers ≡ 1_048_575 }
+    ensures last { (numbers : List ℕ) → IsChainAfter 0 numbers
+        → (earlier : List ℕ) × (numbers ≡ earlier ++ 0x1F_F800 ∷ []) }
 {}
