@@ -74,8 +74,8 @@ impl Header {
         Header::from_fields(array_of(&text[5..12]))
     }
 
-    /// Whether each field can be printed.
-    pub(crate) fn is_printable(&self) -> bool
+    /// Whether each field can be printed, as a key block wants: its characters are 20 to 7E hexadecimal.
+    pub fn is_printable(&self) -> bool
         ensures { IsTrue result ↔ IsHeader self.now }
     {
         self.fields()

@@ -1,5 +1,6 @@
 pub mod CountLemmas
 pub mod DeriveLemmas
+pub mod PadLemmas
 pub mod PinLemmas
 pub mod SinkLemmas
 pub mod UnwrapLemmas

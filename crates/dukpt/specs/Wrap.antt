@@ -77,7 +77,6 @@ IsWrapRefused words KbpkRefused = IsNoTdesKeyText words.kbpk
 IsWrapRefused words FieldsRefused = IsSomeKeyText words.kbpk × (length words.fields ≢ 7)
 IsWrapRefused words KeyRefused = IsSomeKeyText words.kbpk × (length words.fields ≡ 7) × IsNoTdesKeyText words.key
 IsWrapRefused words PadRefused = IsSomeKeyText words.kbpk × (length words.fields ≡ 7) × IsSomeKeyText words.key × IsNoPadText words.pad
-IsWrapRefused words OutOfMemory = IsSomeKeyText words.kbpk × (length words.fields ≡ 7) × IsSomeKeyText words.key
 IsWrapRefused words (BlockRefused fault) = (asked : Wrapping) × IsWrapRead words asked × IsWrapFault asked fault
 IsWrapRefused words BdkRefused = ⊥
 IsWrapRefused words KsnRefused = ⊥
@@ -85,6 +84,7 @@ IsWrapRefused words IksnRefused = ⊥
 IsWrapRefused words CountRefused = ⊥
 IsWrapRefused words CounterRefused = ⊥
 IsWrapRefused words (PinRefused fault) = ⊥
+IsWrapRefused words OutOfMemory = ⊥
 IsWrapRefused words WriteFailed = ⊥
 
 -- the line: the text of the key block
@@ -99,7 +99,7 @@ pub record IsWrapShown (words : WrapWords) (output output' fault fault' : Told) 
   pub line_is : IsWrapLine asked line
   pub answer : IsDone line output output' fault fault'
 
--- status 1 where the words are refused, or memory is
+-- status 1 where the words are refused
 pub record IsWrapNotShown (words : WrapWords) (output output' fault fault' : Told) : Type 0 where
   pub why : Fault
   pub refused : IsWrapRefused words why

@@ -58,13 +58,13 @@ fn answer<W: Sink, F: Sink>(alloc: Global, words: &[String], output: &mut W, fau
     ensures refused { result ≡ 2 → Keeps (W.told output.old).contents (W.told output.new).contents }
 {
     match read_request(alloc, words) {
-        Ok(request) => run(alloc, request, output, fault),
+        Ok(request) => run(request, output, fault),
         Err(error) => show(alloc, error, output, fault),
     }
 }
 
 /// Does the command of a request and gives the status.
-fn run<W: Sink, F: Sink>(alloc: Global, request: Request, output: &mut W, fault: &mut F) -> u8
+fn run<W: Sink, F: Sink>(request: Request, output: &mut W, fault: &mut F) -> u8
     ensures status { (result ≡ 0) ⊎ (result ≡ 1) }
     ensures no_fault { result ≡ 0 → IsUntouched (F.told fault.old) (F.told fault.new) }
     ensures fault { result ≡ 1 → IsFaultTold (F.told fault.old) (F.told fault.new) }
@@ -84,7 +84,7 @@ fn run<W: Sink, F: Sink>(alloc: Global, request: Request, output: &mut W, fault:
             fields,
             key,
             pad,
-        } => wrap_command(alloc, kbpk, fields, key, pad, output, fault),
+        } => wrap_command(kbpk, fields, key, pad, output, fault),
         Request::Unwrap { kbpk, block } => unwrap_command(kbpk, block, output, fault),
     }
 }

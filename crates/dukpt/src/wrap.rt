@@ -1,8 +1,8 @@
 //! The command `wrap`: the key block of a key.
 
-ghost use Rattle.std.specs.Prelude.{◌≡◌, ◌≢◌, ◌⊎◌, ◌++◌, ◌≤◌, IfOk, IfErr, MatchOption, length};
+ghost use Rattle.std.specs.Prelude.{◌≡◌, ◌≢◌, ◌⊎◌, ◌++◌, ◌≤◌, ℕ, List, IfOk, IfErr, MatchBool, MatchOption, length};
 ghost use Rattle.duk_block.specs.Hexadecimal.{IsHexadecimal};
-ghost use Rattle.duk_block.specs.KeyBlock.{bytes_of};
+ghost use Rattle.duk_block.specs.KeyBlock.{FitsKeyBlock, bytes_of};
 ghost use Rattle.duk_tdes.specs.Tdes.{IsTdesLength};
 ghost use Rattle.dukpt.specs.Fault.{line_end};
 ghost use Rattle.dukpt.specs.Wrap.{Wrapping, wrapping, wrap_words, IsFieldsText, IsNoPadText, IsWrapRead, IsWrapRefused, IsWrapping, IsWrapFault, IsWrapLine, IsWrapShown, IsWrapNotShown, IsWrapShownInPart};
@@ -15,8 +15,9 @@ use crate::sink::Sink;
 use arrayvec::ArrayVec;
 use duk_block::{BlockFault, Header, laws, wrap};
 use duk_tdes::{Key, KeyBytes, array_of};
-use hex::FromHexError;
-use std::alloc::Global;
+
+/// The most bytes that the payload of a key block of 512 characters has: longer padding fits none.
+const MOST_PADDING: usize = 240;
 
 /// Writes the key block (ANSI X9.143) of a key, a line, and gives the status: 0, or 1 with a line on
 /// `fault`.
@@ -24,10 +25,9 @@ use std::alloc::Global;
 /// `kbpk` is to be the key block protection key and `key` the key, each 32 or 48 hexadecimal digits of
 /// either case; `fields` the usage, algorithm, mode, version and exportability; `pad` the padding in
 /// hexadecimal. The faults, in this order: `KBPK refused`, `fields refused` (not 7 bytes), `key
-/// refused`, `pad refused` (or `out of memory`), then `HeaderField` and `PadLength` of the block; then
-/// `write failed`, where a write to `output` failed or took no byte.
+/// refused`, `pad refused`, then `HeaderField` and `PadLength` of the block; then `write failed`, where
+/// a write to `output` failed or took no byte.
 pub fn wrap_command<W: Sink, F: Sink>(
-    alloc: Global,
     kbpk: &str,
     fields: &str,
     key: &str,
@@ -44,11 +44,11 @@ pub fn wrap_command<W: Sink, F: Sink>(
         ⊎ IsWrapShownInPart (wrap_words kbpk.now fields.now key.now pad.now)
         (W.told output.old) (W.told output.new) (F.told fault.old) (F.told fault.new) }
 {
-    finish(shown(alloc, kbpk, fields, key, pad), output, fault)
+    finish(shown(kbpk, fields, key, pad), output, fault)
 }
 
 /// The line of the words, or their first fault.
-fn shown(alloc: Global, kbpk: &str, fields: &str, key: &str, pad: &str) -> Result<Lines, Fault>
+fn shown(kbpk: &str, fields: &str, key: &str, pad: &str) -> Result<Lines, Fault>
     ensures lines { IfOk result (λ lines. (asked : Wrapping)
         × IsWrapRead (wrap_words kbpk.now fields.now key.now pad.now) asked × IsWrapLine asked lines.items) }
     ensures refused { IfErr result
@@ -63,7 +63,12 @@ fn shown(alloc: Global, kbpk: &str, fields: &str, key: &str, pad: &str) -> Resul
     let Some(key) = read_tdes_key(key) else {
         return Err(Fault::KeyRefused);
     };
-    let pad = read_pad(alloc, pad)?;
+    if !is_hexadecimal(pad) {
+        return Err(Fault::PadRefused);
+    }
+    let Some(pad) = read_pad(pad) else {
+        return Err(Fault::BlockRefused(long_pad_fault(&header)));
+    };
     match wrapped(kbpk, &header, key, pad.as_slice()) {
         Ok(text) => Ok(line_of(text.as_slice())),
         Err(fault) => Err(Fault::BlockRefused(fault)),
@@ -81,16 +86,41 @@ fn read_fields(text: &[u8]) -> Option<Header>
     }
 }
 
-/// The bytes that pairs of hexadecimal digits of either case write.
-fn read_pad(alloc: Global, text: &str) -> Result<Vec<u8>, Fault>
-    ensures read { IfOk result (λ pad. IsHexadecimal text.now pad.items) }
-    ensures refused { IfErr result (λ why. (why ≡ Fault.OutOfMemory)
-        ⊎ ((why ≡ Fault.PadRefused) × IsNoPadText text.now)) }
+/// Whether the text is zero or more pairs of hexadecimal digits of either case.
+fn is_hexadecimal(text: &str) -> bool
+    ensures { MatchBool result ((padding : List ℕ) × IsHexadecimal text.now padding)
+        (IsNoPadText text.now) }
 {
-    match hex::decode(alloc, text) {
-        Ok(pad) => Ok(pad),
-        Err(FromHexError::OutOfMemory) => Err(Fault::OutOfMemory),
-        Err(_) => Err(Fault::PadRefused),
+    text.len() % 2 == 0 && text.as_bytes().iter().all(u8::is_ascii_hexdigit)
+}
+
+/// The padding that a text writes in hexadecimal, if some key block has room for it.
+fn read_pad(text: &str) -> Option<ArrayVec<u8, MOST_PADDING>>
+    ensures { MatchOption result
+        ((padding : List ℕ) (key : ℕ) → IsHexadecimal text.now padding
+        → ¬ FitsKeyBlock key (length padding))
+        (λ padding. IsHexadecimal text.now padding.items) }
+{
+    let size = text.len() / 2;
+    if size > MOST_PADDING {
+        return None;
+    }
+    let mut padding = ArrayVec::from([0; MOST_PADDING]);
+    padding.truncate(size);
+    hex::decode_to_slice(text, padding.as_mut_slice()).ok()?;
+    Some(padding)
+}
+
+/// Why a key is not wrapped with padding that fits no key block: a field that cannot be printed is
+/// told first.
+fn long_pad_fault(header: &Header) -> BlockFault
+    ensures { (protection_key key padding : List ℕ) → ¬ FitsKeyBlock (length key) (length padding)
+        → IsWrapFault (wrapping protection_key header.now key padding) result }
+{
+    if header.is_printable() {
+        BlockFault::PadLength
+    } else {
+        BlockFault::HeaderField
     }
 }
 
