@@ -95,7 +95,8 @@ pub record IsFirstFault (text protection_key : List ℕ) (fault : BlockFault) : 
   pub unmet : ¬ Meets text protection_key fault
   pub earlier_met : MetBefore text protection_key fault
 
--- the header's characters are this header's and this number of optional blocks
+-- the header's characters are this header's and this number of optional blocks: what a private function of `unwrap`
+-- answers
 pub record HasHeader (text : List ℕ) (header : Header) (count : ℕ) : Type 0 where
   pub length_is : HasLength text
   pub version_is : HasVersion text

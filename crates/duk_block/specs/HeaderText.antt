@@ -4,7 +4,7 @@ use Rattle.std.specs.List.{All}
 use Rattle.duk_block.specs.declared.header.Header.{Header}
 use Rattle.duk_block.specs.Digits.{four_digits, two_digits}
 
--- a printable ASCII character
+-- a printable ASCII character; that each field is made of such characters is this project's own
 abbrev pub IsPrintable : ℕ → Type 0
 IsPrintable byte = (0x20 ≤ byte) × (byte ≤ 0x7E)
 

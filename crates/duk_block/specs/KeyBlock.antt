@@ -37,6 +37,8 @@ ciphertext_of protection_key mac payload = cbc_encrypted (derived_key encryption
 
 -- The text is a key block that binds the header to the key under the protection key. In front stand the
 -- header's characters and the optional blocks; the body behind them is the ciphertext and the MAC in hexadecimal.
+-- This project's own: the reserved characters may be anything, the header's fields can be printed, and the key has 16 or
+-- 24 bytes.
 pub record IsKeyBlock (text protection_key : List ℕ) (header : Header) (key : List ℕ) : Type 0 where
   pub reserved : List ℕ
   pub optional_blocks : List (List ℕ)
@@ -59,11 +61,16 @@ pub record IsKeyBlock (text protection_key : List ℕ) (header : Header) (key : 
   pub authentic : mac ≡ mac_of protection_key front (payload_of key padding)
   pub enciphered : ciphertext ≡ ciphertext_of protection_key mac (payload_of key padding)
 
--- what this project reads and writes: at most 512 characters, in whole blocks of eight
+-- what this project reads and writes: 80 to 512 characters, a multiple of eight; the limits are this project's own
 pub record IsWithinLimits (text : List ℕ) : Type 0 where
   pub least : 80 ≤ length text
   pub most : length text ≤ 512
   pub whole : length text % 8 ≡ 0
+
+-- the text wraps this header and key under the protection key, within the limits
+pub record Wraps (protection_key text : List ℕ) (header : Header) (key : List ℕ) : Type 0 where
+  pub limits : IsWithinLimits text
+  pub block : IsKeyBlock text protection_key header key
 
 -- a key block as this project writes it: no optional block, two zeros as reserved characters, this padding, and the
 -- hexadecimal digits in upper case
@@ -80,7 +87,8 @@ pub record FitsKeyBlock (key padding : ℕ) : Type 0 where
   pub whole : (2 + key + padding) % 8 ≡ 0
   pub most : 32 + 2 * (2 + key + padding) ≤ 512
 
--- the text has these characters in front, and behind them, in upper case, the ciphertext and the MAC of this payload
+-- the text has these characters in front, and behind them, in upper case, the ciphertext and the MAC of this payload:
+-- what a private function of `wrap` writes
 pub record IsSealed (protection_key front payload text : List ℕ) : Type 0 where
   pub mac : List ℕ
   pub ciphertext : List ℕ

@@ -7,7 +7,8 @@ use crate::digits::{append, four_digits};
 use arrayvec::ArrayVec;
 use duk_tdes::array_of;
 
-/// What a key block says of its key, in characters. Each is printable ASCII, 20 to 7E hexadecimal.
+/// What a key block says of its key, in characters. Each is to be printable ASCII, 20 to 7E hexadecimal, else `wrap`
+/// refuses it.
 #[derive(Clone, Copy, PartialEq, Eq, Debug)]
 pub struct Header {
     /// What the key is for, as `P0` for PIN encryption.

@@ -3,7 +3,7 @@
 ghost use Rattle.std.specs.Prelude.{◌≡◌, ℕ, List, length};
 ghost use Rattle.duk_tdes.specs.Tdes.{IsTdesKey, IsTdesLength};
 ghost use Rattle.duk_block.specs.declared.header.Header.{Header};
-ghost use Rattle.duk_block.specs.Derived.{derived_key, encryption_usage};
+ghost use Rattle.duk_block.specs.Derived.{derived_key, encryption_usage, mac_usage};
 ghost use Rattle.duk_block.specs.KeyBlock.{IsKeyBlock};
 
 use duk_tdes::Key;
@@ -17,13 +17,14 @@ pub fn tdes_key<const N: usize>(key: &Key<N>)
     key.bytes();
 }
 
-/// A key derived for enciphering is a TDES key.
+/// The keys derived for enciphering and for MACs are TDES keys.
 pub fn derived_keys()
-    ensures { (protection_key : List ℕ) → IsTdesKey protection_key
+    ensures encryption { (protection_key : List ℕ) → IsTdesKey protection_key
         → IsTdesKey (derived_key encryption_usage protection_key) }
+    ensures mac { (protection_key : List ℕ) → IsTdesKey protection_key
+        → IsTdesKey (derived_key mac_usage protection_key) }
 {
-    duk_tdes::laws::inverse();
-    duk_tdes::laws::sum_of_blocks();
+    duk_mac::laws::cmac_is_a_block();
 }
 
 /// Under one protection key a text is a key block of at most one header and one key. So what was wrapped is unwrapped

@@ -10,7 +10,7 @@ use crate::derived::{encryption_key, mac_key};
 use crate::digits::append;
 use arrayvec::ArrayVec;
 use duk_mac::cmac;
-use duk_tdes::{Key, array_of, cbc_decrypt, cbc_encrypt};
+use duk_tdes::{Key, cbc_decrypt, cbc_encrypt};
 
 /// The MAC of a key block: `front` is what stands before its ciphertext, and `payload` is clear.
 pub fn block_mac<const N: usize>(kbpk: &Key<N>, front: &[u8], payload: &[u8]) -> [u8; 8]
@@ -22,8 +22,7 @@ pub fn block_mac<const N: usize>(kbpk: &Key<N>, front: &[u8], payload: &[u8]) ->
     let mut message = ArrayVec::new();
     append(&mut message, front);
     append(&mut message, payload);
-    // copied, since an array of these bytes is known to be a block
-    array_of(&cmac(&mac_key(kbpk), message.as_slice()))
+    cmac(&mac_key(kbpk), message.as_slice())
 }
 
 /// The payload enciphered, with the MAC as initial vector.

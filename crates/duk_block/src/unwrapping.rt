@@ -22,9 +22,9 @@ use duk_tdes::{Key, KeyBytes, array_of};
 /// Reads a key block under the key block protection key: its header and the key that it binds to the header. `N` is 16
 /// or 24.
 ///
-/// A text that is no key block, or longer than 512 characters, is refused with the first of the faults, from `Length`
-/// to `Payload`, that it has. Hexadecimal digits are read in either case. The last two characters of the header, the
-/// contents of optional blocks and the padding may be anything.
+/// The text is of 80 to 512 characters and a multiple of 8. Any other text, and one that is no key block, is refused with
+/// the first of the faults, from `Length` to `Payload`, that it has. Hexadecimal digits are read in either case. The
+/// last two characters of the header, the ids and contents of optional blocks and the padding may be anything.
 pub fn unwrap<const N: usize>(kbpk: &Key<N>, text: &[u8]) -> Result<(Header, KeyBytes), BlockFault>
     requires { IsTdesLength N }
     ensures found { IfOk result

@@ -1,3 +1,4 @@
 pub mod Blocks
 pub mod Masked
 pub mod Filled
+pub mod CmacIsBlock

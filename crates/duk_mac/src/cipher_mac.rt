@@ -1,6 +1,7 @@
 //! CMAC (NIST SP 800-38B).
 
 ghost use Rattle.std.specs.Prelude.{◌≡◌, ◌≤◌, length};
+ghost use Rattle.duk_des.specs.Block.{IsBlock};
 ghost use Rattle.duk_tdes.specs.Tdes.{IsTdesLength};
 ghost use Rattle.duk_mac.specs.Cmac.{doubled, last_block, cmac_of};
 
@@ -13,7 +14,8 @@ const CARRY: u64 = 0x1B;
 /// The CMAC of a message of any length under a TDES key: `N` is 16 or 24.
 pub fn cmac<const N: usize>(key: &Key<N>, message: &[u8]) -> [u8; 8]
     requires { IsTdesLength N }
-    ensures { result ≡ cmac_of key.now message.now }
+    ensures mac { result ≡ cmac_of key.now message.now }
+    ensures block { IsBlock result }
 {
     let mut chain = [0; 8];
     let mut rest = message;

@@ -5,6 +5,7 @@
 
 mod block;
 mod cipher_mac;
+pub mod laws;
 mod retail_mac;
 
 pub use cipher_mac::cmac;

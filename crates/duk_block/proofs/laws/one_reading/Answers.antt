@@ -9,7 +9,7 @@ use Rattle.duk_block.proofs.laws.one_reading.Goals as goal
 
 pub returns : goal.returns
 returns c = λ text protection_key header other_header key other_key is_key block other.
-    let derived = c.derived_keys.ensures protection_key is_key in
+    let derived = c.derived_keys.ensures.encryption protection_key is_key in
     let cbc = c.cbc_inverse.ensures in
     let enciphering : List ℕ = derived_key encryption_usage protection_key in
     let payload : List ℕ = payload_of key block.padding in

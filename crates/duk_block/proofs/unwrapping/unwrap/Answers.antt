@@ -8,7 +8,7 @@ returns-clause-only g c =
     let text = c.args.text.now in
     let key = c.args.kbpk.now in
     let is_key = c.tdes_key.ensures.key in
-    let derived = c.derived_keys.ensures key is_key in
+    let derived = c.derived_keys.ensures.encryption key is_key in
     reads text key c.read.result
     (record {
       one_reading = λ header other k l one two. c.one_reading.ensures text key header other k l is_key one two;
@@ -21,7 +21,7 @@ returns-clause-refused g c =
     let text = c.args.text.now in
     let key = c.args.kbpk.now in
     let is_key = c.tdes_key.ensures.key in
-    let derived = c.derived_keys.ensures key is_key in
+    let derived = c.derived_keys.ensures.encryption key is_key in
     refuses text key c.read.result
     (record {
       one_reading = λ header other k l one two. c.one_reading.ensures text key header other k l is_key one two;

@@ -23,8 +23,8 @@ loop-rest-preserved g c =
     ∙ sym (ap (chained enciphered chain) (masked-more c.args.key.now rest long))
     ∙ c.loop-rest.invariant
 
-pub returns : goal.returns
-returns g c =
+pub returns-clause-mac : goal.returns-clause-mac
+returns-clause-mac g c =
     let enciphered = tdes_encrypted c.args.key.now in
     let chain = c.loop-rest.chain in
     let short : length c.loop-rest.rest.now ≤ 8 = omega arith in
