@@ -1,0 +1,4 @@
+pub mod FrameLemmas
+pub mod RequestLemmas
+pub mod AnswerLemmas
+pub mod OneReading

@@ -1,0 +1,35 @@
+use Rattle.std.proofs.Common.{◌≡◌, Some, length, take, drop, ap, sym, ◌∙◌, subst}
+use Rattle.std.proofs.lemmas.List.{take_rest}
+use Rattle.byteorder.specs.Endian.{big_number}
+use Rattle.duk_pin.specs.Pan.{IsPan}
+use Rattle.duk_tree.specs.Serial.{serial_of_bytes}
+use Rattle.duk_frame.proofs.RequestLemmas.{request_places, amount_at, block_at, mac_at, same_request}
+use Rattle.duk_frame.proofs.request.fields_at_their_places.Goals as goal
+
+pub returns-in_err-read_pan-clause-every : goal.returns-in_err-read_pan-clause-every
+returns-in_err-read_pan-clause-every c = λ request is.
+    let bytes = c.args.bytes.now in
+    let places = request_places bytes request c.serials.ensures.ten is in
+    let n : c.from-digits.result ≡ length request.pan = c.from-digits.ensures ∙ places.digits in
+    let pan : c.split_at.result.0.now ≡ request.pan =
+    c.split_at.ensures.front ∙ ap (take c.from-digits.result) (take_rest bytes 15) ∙ ap (λ k. take k (drop 15 bytes)) n ∙ places.pan in
+    let wrong = c.in_err-read_pan.ensures.every (subst IsPan (sym pan) is.fields.pan_is) in
+    cc
+
+pub returns-clause-every : goal.returns-clause-every
+returns-clause-every c = λ request is.
+    let bytes = c.args.bytes.now in
+    let places = request_places bytes request c.serials.ensures.ten is in
+    let n : c.from-digits.result ≡ length request.pan = c.from-digits.ensures ∙ places.digits in
+    let pan : c.split_at.result.0.now ≡ request.pan =
+    c.split_at.ensures.front ∙ ap (take c.from-digits.result) (take_rest bytes 15) ∙ ap (λ k. take k (drop 15 bytes)) n ∙ places.pan in
+    let rest : c.split_at.result.1.now ≡ drop (length request.pan) (drop 15 bytes) =
+    c.split_at.ensures.back ∙ ap (drop c.from-digits.result) (take_rest bytes 15) ∙ ap (λ k. drop k (drop 15 bytes)) n in
+    let serial : c.from_bytes.result ≡ request.ksn =
+    c.from_bytes.ensures.value
+    ∙ ap serial_of_bytes (c.array_of.ensures.bytes ∙ places.serial)
+    ∙ c.serials.ensures.found request.ksn is.fields.ksn_is in
+    let amount : c.read_u32.result ≡ request.amount = c.read_u32.ensures ∙ ap (big_number 4) rest ∙ amount_at bytes request is places in
+    let block : c.array_of-2.result ≡ request.block = c.array_of-2.ensures.bytes ∙ ap (λ xs. take 8 (drop 4 xs)) rest ∙ block_at bytes request is places in
+    let mac : c.array_of-3.result ≡ request.mac = c.array_of-3.ensures.bytes ∙ take_rest c.split_at.result.1.now 12 ∙ ap (drop 12) rest ∙ mac_at bytes request is places in
+    ap Some (same_request _ request serial (c.in_ok-read_pan.ensures.found ∙ pan) amount block mac)

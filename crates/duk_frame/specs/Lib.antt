@@ -1,0 +1,5 @@
+pub mod Frame
+pub mod Code
+pub mod Request
+pub mod Answer
+pub mod Payment

@@ -1,0 +1,47 @@
+//! What all frames have in common.
+
+ghost use Rattle.std.specs.Prelude.{◌≡◌, ◌≤◌, ◌+◌, ◌++◌, [], ◌∷◌, length};
+ghost use Rattle.arrayvec.specs.ArrayVec.{array_vec_len};
+ghost use Rattle.byteorder.specs.Endian.{big_bytes};
+ghost use Rattle.duk_frame.specs.Frame.{mac_text_of};
+
+use arrayvec::ArrayVec;
+use byteorder::{BigEndian, ByteOrder};
+
+/// The most bytes of a frame.
+const MOST: usize = 64;
+
+/// A whole frame with its length.
+pub type Frame = ArrayVec<u8, 64>;
+
+/// The first byte of every body.
+const VERSION: u8 = 1;
+
+/// The bytes that the MAC of a frame is made over: those between its length, the first 2, and its MAC, the last 8.
+pub fn mac_text(frame: &[u8]) -> &[u8]
+    requires { 10 ≤ length frame.now }
+    ensures { result.now ≡ mac_text_of frame.now }
+{
+    &frame[2..frame.len() - 8]
+}
+
+/// A frame as far as its body's version and kind, where the body is to have this length.
+pub(crate) fn begin_frame(length: u16, kind: u8) -> Frame
+    ensures bytes { result.items ≡ big_bytes 2 length ++ 1 ∷ kind ∷ [] }
+    ensures len { array_vec_len result ≡ 4 }
+{
+    let mut head = [0, 0, VERSION, kind];
+    BigEndian::write_u16(&mut head, length);
+    let mut frame = Frame::new();
+    append(&mut frame, &head);
+    frame
+}
+
+/// Appends bytes to a frame that has room for them.
+pub(crate) fn append(frame: &mut Frame, bytes: &[u8])
+    requires { array_vec_len frame.old + length bytes.now ≤ MOST }
+    ensures bytes { frame.new.items ≡ frame.old.items ++ bytes.now }
+    ensures len { array_vec_len frame.new ≡ array_vec_len frame.old + length bytes.now }
+{
+    frame.try_extend_from_slice(bytes).unwrap();
+}

@@ -1,0 +1,32 @@
+//! Laws of frames, each the contract of a function that does nothing.
+
+ghost use Rattle.std.specs.Prelude.{◌≡◌, ◌≤◌, List, ℕ, length};
+ghost use Rattle.duk_frame.specs.Answer.{IsAnswer, IsReply, reply_text};
+ghost use Rattle.duk_frame.specs.Frame.{mac_text_of};
+ghost use Rattle.duk_frame.specs.Request.{IsRequest, request_text};
+ghost use Rattle.duk_tree.specs.Serial.{Serial};
+
+use crate::answer::AnswerFrame;
+use crate::code::Code;
+use crate::request::Request;
+
+/// Bytes are the frame of at most one request, or of at most one answer, and never of both.
+pub fn one_reading()
+    ensures request { (bytes : List ℕ) (request other : Request) → IsRequest bytes request
+        → IsRequest bytes other → request ≡ other }
+    ensures answer { (bytes : List ℕ) (answer other : AnswerFrame) → IsAnswer bytes answer
+        → IsAnswer bytes other → answer ≡ other }
+    ensures apart { (bytes : List ℕ) (request : Request) (answer : AnswerFrame) → IsRequest bytes request
+        → ¬ IsAnswer bytes answer }
+{
+    duk_tree::laws::serials();
+}
+
+/// A request and an accepted reply are long enough for `mac_text`, which is the body before the MAC.
+pub fn mac_texts()
+    ensures request { (bytes : List ℕ) (request : Request) → IsRequest bytes request
+        → (10 ≤ length bytes)
+        × (mac_text_of bytes ≡ request_text request.ksn request.pan request.amount request.block) }
+    ensures reply { (bytes : List ℕ) (ksn : Serial) (code : Code) (mac : List ℕ) → IsReply bytes ksn code mac
+        → (10 ≤ length bytes) × (mac_text_of bytes ≡ reply_text ksn code) }
+{}

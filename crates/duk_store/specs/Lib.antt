@@ -1,0 +1,7 @@
+pub mod Meaning
+pub mod Restart
+pub mod Cell
+pub mod Log
+pub mod Device
+pub mod MemoryCell
+pub mod MemoryLog

@@ -1,0 +1,7 @@
+pub mod Body
+pub mod Loading
+pub mod Terminal
+pub mod Restart
+pub mod Load
+pub mod Begin
+pub mod Reply

@@ -1,0 +1,43 @@
+-- A terminal: what it is, and what its store holds of it. This project's own.
+use Rattle.std.specs.Prelude.{◌≡◌, true, Some, None, ◌==◌, if◌then◌else◌}
+use Rattle.duk_store.specs.Cell.{Kept}
+use Rattle.duk_store.specs.Meaning.{Meaning, FindsOnly}
+use Rattle.duk_regs.specs.Registers.{RegisterSet}
+use Rattle.duk_tree.specs.Next.{spent_counter}
+use Rattle.duk_tree.specs.Serial.{Serial}
+use Rattle.duk_term.specs.Body.{body_bytes}
+use Rattle.duk_term.specs.declared.answer.Next.{Next}
+use Rattle.duk_term.specs.declared.answer.Next.TheVariants as next
+use Rattle.duk_term.specs.declared.state.State.{State}
+use Rattle.duk_term.specs.declared.state.State.TheVariants.{Stopped, Empty, Loaded}
+
+-- a terminal: its cell, and its state, which is stopped, or running with nothing, or running with registers and perhaps a pending
+-- transaction
+pub record Term (C : Type 0) : Type 0 where
+  pub cell : C
+  pub state : State
+
+-- the key serial number of the number that registers use next
+abbrev pub serial_of : RegisterSet → Serial
+serial_of set = record { iksn = set.iksn; counter = set.counter }
+
+-- the cell runs, and a restart would find this alone
+pub record Holds (cell : Meaning Kept) (kept : Kept) : Type 0 where
+  pub runs : cell.running ≡ true
+  pub finds : cell.honest → FindsOnly cell kept
+
+-- what the cell of a running terminal holds: nothing, or the image of its registers
+abbrev pub Agrees : Meaning Kept → State → Type 0
+Agrees cell Stopped = Unit {0}
+Agrees cell Empty = Holds cell None
+Agrees cell (Loaded set pending) = Holds cell (Some (body_bytes set))
+
+-- what a terminal tells of its next number
+abbrev pub next_of : State → Next
+next_of Stopped = next.Stopped
+next_of Empty = next.Empty
+next_of (Loaded set pending) = if set.counter == spent_counter then next.Spent else next.At (serial_of set)
+
+-- a state with registers
+abbrev pub HasRegisters : State → Type 0
+HasRegisters state = (set : RegisterSet) × (pending : _) × (state ≡ Loaded set pending)
