@@ -72,6 +72,19 @@ pub record Wraps (protection_key text : List ℕ) (header : Header) (key : List 
   pub limits : IsWithinLimits text
   pub block : IsKeyBlock text protection_key header key
 
+-- the text wraps this key, for this use: what the use asks of header and key is met
+pub record WrapsFor (IsForUse : Header → List ℕ → Type 0) (protection_key text key : List ℕ) : Type 0 where
+  pub header : Header
+  pub wraps : Wraps protection_key text header key
+  pub use_is : IsForUse header key
+
+-- the text wraps a key for another use
+pub record WrapsOther (IsForUse : Header → List ℕ → Type 0) (protection_key text : List ℕ) : Type 0 where
+  pub header : Header
+  pub key : List ℕ
+  pub wraps : Wraps protection_key text header key
+  pub use_is_other : ¬ IsForUse header key
+
 -- a key block as this project writes it: no optional block, two zeros as reserved characters, this padding, and the
 -- hexadecimal digits in upper case
 pub record IsWrittenKeyBlock (text protection_key : List ℕ) (header : Header) (key padding : List ℕ) : Type 0 where

@@ -2,7 +2,7 @@
 use Rattle.std.specs.Prelude.{◌≡◌, ◌⊎◌, ℕ, List, [], ◌∷◌, length, codes}
 use Rattle.duk_block.specs.declared.header.Header.{Header}
 use Rattle.duk_block.specs.Faults.{IsFirstFault}
-use Rattle.duk_block.specs.KeyBlock.{Wraps}
+use Rattle.duk_block.specs.KeyBlock.{WrapsFor, WrapsOther}
 use Rattle.duk_term.specs.declared.fault.TermFault.{TermFault}
 use Rattle.duk_term.specs.declared.fault.TermFault.TheVariants as fault
 
@@ -19,17 +19,12 @@ pub record IsInitialKey (header : Header) (key : List ℕ) : Type 0 where
   pub length_is : length key ≡ 16
 
 -- the text is a key block of this initial key
-pub record WrapsInitialKey (loading text initial : List ℕ) : Type 0 where
-  pub header : Header
-  pub wraps : Wraps loading text header initial
-  pub use_is : IsInitialKey header initial
+abbrev pub WrapsInitialKey : List ℕ → List ℕ → List ℕ → Type 0
+WrapsInitialKey loading text initial = WrapsFor IsInitialKey loading text initial
 
 -- the text is a key block of a key for another use
-pub record WrapsOtherKey (loading text : List ℕ) : Type 0 where
-  pub header : Header
-  pub key : List ℕ
-  pub wraps : Wraps loading text header key
-  pub use_is_other : ¬ IsInitialKey header key
+abbrev pub WrapsOtherKey : List ℕ → List ℕ → Type 0
+WrapsOtherKey loading text = WrapsOther IsInitialKey loading text
 
 -- why a text has no initial key for a terminal: it is no key block, or one of another key
 abbrev pub IsLoadingFault : List ℕ → List ℕ → TermFault → Type 0

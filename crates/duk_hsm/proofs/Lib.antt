@@ -1,0 +1,2 @@
+mod KeySets
+mod Prefixes

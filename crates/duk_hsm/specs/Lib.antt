@@ -1,0 +1,4 @@
+pub mod Keys
+pub mod Loading
+pub mod Load
+pub mod Commands

@@ -1,0 +1,40 @@
+//! Why a host security module refuses.
+
+use duk_block::BlockFault;
+use thiserror::Error;
+
+/// Why a host security module does not do what it was asked. `Display` writes the name, and that of the fault inside
+/// it.
+#[derive(Debug, Clone, Copy, PartialEq, Eq, Error)]
+pub enum HsmFault {
+    /// The key block cannot be read, or cannot be written with this padding.
+    #[error("Block {0}")]
+    Block(BlockFault),
+    /// The key block has a key for another use.
+    #[error("WrongUse")]
+    WrongUse,
+    /// A key set with this prefix is held.
+    #[error("PrefixTaken")]
+    PrefixTaken,
+    /// As many key sets are held as there are slots.
+    #[error("SlotsFull")]
+    SlotsFull,
+    /// A zone key is held.
+    #[error("ZoneTaken")]
+    ZoneTaken,
+    /// No key set with the prefix of the key serial number is held.
+    #[error("NoKeySet")]
+    NoKeySet,
+    /// No zone key is held.
+    #[error("NoZone")]
+    NoZone,
+    /// The counter of the key serial number numbers no transaction.
+    #[error("BadCounter")]
+    BadCounter,
+    /// The MAC is not that of the text.
+    #[error("BadMac")]
+    BadMac,
+    /// The block is that of no PIN under the PAN.
+    #[error("BadPinBlock")]
+    BadPinBlock,
+}

@@ -1,0 +1,207 @@
+//! A host security module.
+
+ghost use Rattle.std.specs.Prelude.{◌≡◌, ◌↔◌, ◌<◌, None, [], IfOk, IfErr, IsOk, IsSome, IsTrue, length};
+ghost use Rattle.duk_tdes.specs.Tdes.{IsTdesLength};
+ghost use Rattle.duk_hsm.specs.Keys.{AreHsmKeys, key_set_of};
+ghost use Rattle.duk_hsm.specs.Load.{IsBdkLoaded, IsZoneLoaded, LoadBdkRefused, LoadZoneRefused};
+ghost use Rattle.duk_hsm.specs.Commands.{IsIssued, IsReplyMac, IsRequestMac, IsTransactionKey, IsTranslated, IssueRefused, NoTransactionKey, TranslateRefused, VerifyRefused};
+
+use crate::fault::HsmFault;
+use crate::key_set::{KeySet, PREFIX_LENGTH, SLOTS, bdk_with};
+use crate::loading::{base_key_in, zone_key_in};
+use crate::payment::{enciphered, pin_in};
+use arrayvec::ArrayVec;
+use duk_block::{Header, wrap};
+use duk_mac::retail;
+use duk_pin::{Pan, encode};
+use duk_tdes::{Key, KeyBytes, array_of};
+use duk_tree::{Iksn, Ksn, derive, initial_key, request_key, response_key, usable};
+use std::marker::Model;
+
+/// The header of an initial key that is issued.
+const INITIAL_KEY: Header = Header {
+    usage: *b"B1",
+    algorithm: b'T',
+    mode: b'X',
+    version: *b"00",
+    exportability: b'N',
+};
+
+/// A host security module: a local master key of `N` bytes (16 or 24), up to eight base derivation keys, each for the
+/// key serial numbers that begin with its five bytes, and perhaps a zone key.
+#[derive(Drop)]
+pub struct Hsm<const N: usize> {
+    lmk: Key<N>,
+    zone: Option<KeyBytes>,
+    key_sets: ArrayVec<KeySet, SLOTS>,
+}
+
+impl<const N: usize> Model for Hsm<N> {
+    ghost use Rattle.duk_hsm.specs.Keys.{AreHsmKeys, HsmKeys, held};
+
+    ghost Value = { HsmKeys };
+
+    ghost view = { λ hsm. held hsm.lmk hsm.zone hsm.key_sets.items };
+
+    ghost invariant = { λ hsm. AreHsmKeys (held hsm.lmk hsm.zone hsm.key_sets.items) };
+}
+
+impl<const N: usize> Hsm<N> {
+    /// A host security module that holds its local master key alone.
+    pub fn new(lmk: Key<N>) -> Self
+        ensures { result ≡ record { lmk = lmk.entry; zone = None; key_sets = [] } }
+    {
+        Hsm {
+            lmk,
+            zone: None,
+            key_sets: ArrayVec::new(),
+        }
+    }
+
+    /// Whether a zone key is held.
+    pub fn has_zone(&self) -> bool
+        ensures zone { IsTrue result ↔ IsSome self.now.zone }
+        ensures keys { AreHsmKeys self.now }
+    {
+        self.zone.is_some()
+    }
+
+    /// Whether a key set with this prefix is held.
+    pub fn has_key_set(&self, prefix: &[u8; PREFIX_LENGTH]) -> bool
+        ensures held { IsTrue result ↔ IsSome (key_set_of self.now prefix.now) }
+        ensures keys { AreHsmKeys self.now }
+    {
+        self.key_set(prefix).is_some()
+    }
+
+    /// Takes in the base derivation key of a key block under the local master key, for the key serial numbers that
+    /// begin with `prefix`. The block is to have usage `B0`, algorithm `T`, mode `X` or `N`, and a key of 16 bytes.
+    ///
+    /// Refused with, in this order, and nothing changes: `Block`, where the text is no key block; `WrongUse`, where its
+    /// key is for another use; `PrefixTaken`; `SlotsFull`.
+    pub fn load_bdk(&mut self, prefix: [u8; PREFIX_LENGTH], block: &[u8]) -> Result<(), HsmFault>
+        requires { IsTdesLength N }
+        ensures loaded { IfOk result (λ _. IsBdkLoaded self.old prefix block.now self.new) }
+        ensures refused { IfErr result (LoadBdkRefused self.old prefix block.now) }
+        ensures same { IfErr result (λ _. self.new ≡ self.old) }
+    {
+        let bdk = base_key_in(&self.lmk, block)?;
+        if self.has_key_set(&prefix) {
+            return Err(HsmFault::PrefixTaken);
+        }
+        match self.key_sets.try_push(KeySet { prefix, bdk }) {
+            Ok(()) => Ok(()),
+            Err(_) => Err(HsmFault::SlotsFull),
+        }
+    }
+
+    /// Takes in the zone key of a key block under the local master key. The block is to have usage `P0`, algorithm `T`,
+    /// and mode `E`, `B` or `N`.
+    ///
+    /// Refused with, in this order, and nothing changes: `Block`, where the text is no key block; `WrongUse`, where its
+    /// key is for another use; `ZoneTaken`.
+    pub fn load_zone(&mut self, block: &[u8]) -> Result<(), HsmFault>
+        requires { IsTdesLength N }
+        ensures loaded { IfOk result (λ _. IsZoneLoaded self.old block.now self.new) }
+        ensures refused { IfErr result (LoadZoneRefused self.old block.now) }
+        ensures same { IfErr result (λ _. self.new ≡ self.old) }
+    {
+        let zone = zone_key_in(&self.lmk, block)?;
+        if self.has_zone() {
+            return Err(HsmFault::ZoneTaken);
+        }
+        self.zone = Some(zone);
+        Ok(())
+    }
+
+    /// Writes the initial key of a terminal as a key block under the loading key of `M` bytes (16 or 24), with usage
+    /// `B1`, algorithm `T`, mode `X`, version `00`, exportability `N` and this padding.
+    ///
+    /// Refused with `NoKeySet`, and then with `Block` of `PadLength`, where padding of this length does not fit.
+    pub fn issue<const M: usize>(
+        &self,
+        iksn: Iksn,
+        loading: &Key<M>,
+        pad: &[u8],
+    ) -> Result<ArrayVec<u8, 512>, HsmFault>
+        requires { IsTdesLength M }
+        ensures issued { IfOk result (λ text. IsIssued self.now iksn loading.now pad.now text.items) }
+        ensures refused { IfErr result (IssueRefused self.now iksn pad.now) }
+    {
+        let Some(bdk) = self.key_set(&array_of(&iksn.bytes()[..PREFIX_LENGTH])) else {
+            return Err(HsmFault::NoKeySet);
+        };
+        wrap(loading, &INITIAL_KEY, &initial_key(&bdk, iksn), pad).map_err(HsmFault::Block)
+    }
+
+    /// Tells whether `mac` is the retail MAC of a text, which is not empty, under the transaction key's variant for
+    /// requests.
+    ///
+    /// Refused with, in this order: `NoKeySet`; `BadCounter`, where the counter numbers no transaction; `BadMac`.
+    pub fn verify(&self, ksn: Ksn, text: &[u8], mac: [u8; 8]) -> Result<(), HsmFault>
+        requires { 0 < length text.now }
+        ensures verified { IsOk result ↔ IsRequestMac self.now ksn text.now mac }
+        ensures refused { IfErr result (VerifyRefused self.now ksn text.now mac) }
+    {
+        let key = self.transaction_key(ksn)?;
+        if retail(&request_key(&key), text) == mac {
+            Ok(())
+        } else {
+            Err(HsmFault::BadMac)
+        }
+    }
+
+    /// The retail MAC of a text, which is not empty, under the transaction key's variant for responses.
+    ///
+    /// Refused with `NoKeySet`, and then with `BadCounter`, where the counter numbers no transaction.
+    pub fn reply_mac(&self, ksn: Ksn, text: &[u8]) -> Result<[u8; 8], HsmFault>
+        requires { 0 < length text.now }
+        ensures made { IfOk result (IsReplyMac self.now ksn text.now) }
+        ensures refused { IfErr result (NoTransactionKey self.now ksn) }
+    {
+        let key = self.transaction_key(ksn)?;
+        Ok(retail(&response_key(&key), text))
+    }
+
+    /// Turns a PIN block that is enciphered under the transaction key's variant for PINs into one that is enciphered
+    /// under the zone key: it is deciphered, its PIN is read with the PAN and encoded again.
+    ///
+    /// Refused with, in this order: `NoKeySet`; `BadCounter`, where the counter numbers no transaction; `NoZone`;
+    /// `BadPinBlock`, where the deciphered block is that of no PIN under the PAN.
+    pub fn translate(&self, ksn: Ksn, block: [u8; 8], pan: &Pan) -> Result<[u8; 8], HsmFault>
+        ensures translated { IfOk result (IsTranslated self.now ksn block pan.now) }
+        ensures refused { IfErr result (TranslateRefused self.now ksn block pan.now) }
+    {
+        let key = self.transaction_key(ksn)?;
+        let Some(zone) = &self.zone else {
+            return Err(HsmFault::NoZone);
+        };
+        match pin_in(&key, block, pan) {
+            Some(pin) => Ok(enciphered(zone, encode(&pin, pan))),
+            None => Err(HsmFault::BadPinBlock),
+        }
+    }
+
+    /// The transaction key of a key serial number.
+    fn transaction_key(&self, ksn: Ksn) -> Result<Key<16>, HsmFault>
+        ensures found { IfOk result (IsTransactionKey self.now ksn) }
+        ensures refused { IfErr result (NoTransactionKey self.now ksn) }
+    {
+        let Some(bdk) = self.key_set(&array_of(&ksn.bytes()[..PREFIX_LENGTH])) else {
+            return Err(HsmFault::NoKeySet);
+        };
+        if usable(ksn.counter()) {
+            Ok(derive(&bdk, ksn))
+        } else {
+            Err(HsmFault::BadCounter)
+        }
+    }
+
+    /// The base derivation key of the key set with this prefix.
+    fn key_set(&self, prefix: &[u8; PREFIX_LENGTH]) -> Option<Key<16>>
+        ensures bdk { result ≡ key_set_of self.now prefix.now }
+        ensures keys { AreHsmKeys self.now }
+    {
+        bdk_with(self.key_sets.as_slice(), prefix)
+    }
+}
