@@ -1,6 +1,6 @@
 -- A terminal: what it is, and what its store holds of it. This project's own.
-use Rattle.std.specs.Prelude.{◌≡◌, true, Some, None, ◌==◌, if◌then◌else◌}
-use Rattle.duk_store.specs.Cell.{Kept}
+use Rattle.std.specs.Prelude.{◌≡◌, true, ℕ, List, Some, None, ◌==◌, if◌then◌else◌}
+use Rattle.duk_store.specs.Cell.{Kept, PutFailed}
 use Rattle.duk_store.specs.Meaning.{Meaning, FindsOnly}
 use Rattle.duk_regs.specs.Registers.{RegisterSet}
 use Rattle.duk_tree.specs.Next.{spent_counter}
@@ -8,6 +8,8 @@ use Rattle.duk_tree.specs.Serial.{Serial}
 use Rattle.duk_term.specs.Body.{body_bytes}
 use Rattle.duk_term.specs.declared.answer.Next.{Next}
 use Rattle.duk_term.specs.declared.answer.Next.TheVariants as next
+use Rattle.duk_term.specs.declared.fault.TermFault.{TermFault}
+use Rattle.duk_term.specs.declared.fault.TermFault.TheVariants as fault
 use Rattle.duk_term.specs.declared.state.State.{State}
 use Rattle.duk_term.specs.declared.state.State.TheVariants.{Stopped, Empty, Loaded}
 
@@ -41,3 +43,17 @@ next_of (Loaded set pending) = if set.counter == spent_counter then next.Spent e
 -- a state with registers
 abbrev pub HasRegisters : State → Type 0
 HasRegisters state = (set : RegisterSet) × (pending : _) × (state ≡ Loaded set pending)
+
+-- an image that was not kept: the terminal is stopped
+abbrev pub IsNotKept : {C : Type 0} → (C → Meaning Kept) → (C → Type 0) → List ℕ → Term C → Term C → TermFault → Type 0
+IsNotKept meaning worn body old new (fault.Store why) = (new.state ≡ Stopped) × PutFailed (meaning old.cell) (worn old.cell) (meaning new.cell) body why
+IsNotKept meaning worn body old new fault.NotLoaded = ⊥
+IsNotKept meaning worn body old new fault.AlreadyLoaded = ⊥
+IsNotKept meaning worn body old new (fault.Block why) = ⊥
+IsNotKept meaning worn body old new fault.WrongUse = ⊥
+IsNotKept meaning worn body old new fault.Spent = ⊥
+IsNotKept meaning worn body old new fault.Stopped = ⊥
+IsNotKept meaning worn body old new fault.Malformed = ⊥
+IsNotKept meaning worn body old new fault.NotPending = ⊥
+IsNotKept meaning worn body old new fault.NotMine = ⊥
+IsNotKept meaning worn body old new fault.BadMac = ⊥

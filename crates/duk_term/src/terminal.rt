@@ -3,13 +3,13 @@
 ghost use Rattle.std.specs.Prelude.{◌≡◌, ℕ, IfOk, IfErr};
 ghost use Rattle.duk_store.specs.Meaning.{StaysButCalm};
 ghost use Rattle.duk_tdes.specs.Tdes.{IsTdesLength};
-ghost use Rattle.duk_term.specs.Begin.{BeginRefused, IsBegun, IsNotKept};
+ghost use Rattle.duk_term.specs.Begin.{BeginRefused, IsBegun};
 ghost use Rattle.duk_term.specs.Body.{IsFoundAgain, body_bytes};
 ghost use Rattle.duk_store.specs.Cell.{IsPut};
 ghost use Rattle.duk_term.specs.Load.{IsLoaded, LoadRefused, loading_of};
 ghost use Rattle.duk_term.specs.Reply.{IsTold, ReplyRefused, after_answer};
 ghost use Rattle.duk_term.specs.Restart.{IsRestarted, RestartRefused};
-ghost use Rattle.duk_term.specs.Terminal.{next_of};
+ghost use Rattle.duk_term.specs.Terminal.{IsNotKept, next_of};
 ghost use Rattle.duk_term.specs.declared.state.State.TheVariants as state;
 
 use crate::answer::{Answer, Next};
