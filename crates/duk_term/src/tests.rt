@@ -89,10 +89,12 @@ fn reply(code: Code) -> Result<Frame, Fail> {
 fn a_transaction(rt: HostRuntime) -> Result<(), Fail> {
     let mut terminal = loaded()?;
     let request = terminal.begin(&purchase()?)?;
-    assert_eq!(rt; &request.as_slice()[..40], REQUEST.as_slice());
+    assert_eq!(rt; request.as_slice().get(..40), Some(REQUEST.as_slice()));
     assert_eq!(rt; request.len(), 48);
     let mut changed = reply(Code::Approved)?;
-    changed.as_mut_slice()[23] ^= 1;
+    if let Some(byte) = changed.as_mut_slice().last_mut() {
+        *byte ^= 1;
+    }
     assert_eq!(rt; terminal.reply(changed.as_slice()), Err(TermFault::BadMac));
     let refusal = write_refusal(KSN, 4);
     assert_eq!(rt; terminal.reply(refusal.as_slice()), Ok(Answer::Refused(4)));
@@ -136,7 +138,7 @@ fn loads(rt: HostRuntime) -> Result<(), Fail> {
         Some(TermFault::NotLoaded)
     );
     assert_eq!(rt;
-        terminal.load(&key(LOADING), &block.as_slice()[..79], serial()?),
+        terminal.load(&key(LOADING), b"B0080", serial()?),
         Err(TermFault::Block(BlockFault::Length))
     );
     assert_eq!(rt;
