@@ -153,7 +153,7 @@ field_of_digits_read pin field reads is_field same =
     pin_field_from_parts pin (take count body) (drop count body) field count pin_long same filler joined
 
 -- a text of digits is given back by their values
-ascii_of_values : (text : List ℕ) → All IsAsciiDigit text → ascii_of (values text) ≡ text
+pub ascii_of_values : (text : List ℕ) → All IsAsciiDigit text → ascii_of (values text) ≡ text
 ascii_of_values [] digits = refl
 ascii_of_values (digit ∷ text) digits =
     let is : IsAsciiDigit digit = All-head IsAsciiDigit digit text digits in

@@ -3,3 +3,4 @@ pub mod DigitLemmas
 pub mod NibbleLemmas
 pub mod FieldLemmas
 pub mod BlockLemmas
+pub mod PinLemmas

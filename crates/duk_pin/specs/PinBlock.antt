@@ -1,6 +1,7 @@
 -- PIN blocks of ISO 9564-1 format 0: the fields as lists of 16 nibbles, from the left.
-use Rattle.std.specs.Prelude.{◌≡◌, ℕ, ◌-◌, List, ◌∷◌, ◌++◌, length, take, drop, replicate}
-use Rattle.duk_pin.specs.Digits.{values}
+use Rattle.std.specs.Prelude.{◌≡◌, ℕ, ◌-◌, Bool, ◌&&◌, ◌==◌, nat_lt, nat_le, if◌then◌else◌, List, [], ◌∷◌, ◌++◌, length, take, drop, replicate, Option, Some, None}
+use Rattle.std.specs.List.{list_all}
+use Rattle.duk_pin.specs.Digits.{ascii_of, values}
 use Rattle.duk_pin.specs.Nibbles.{nibbles, bytes_of, xor_nibbles}
 use Rattle.duk_pin.specs.Pin.{IsPin}
 use Rattle.duk_pin.specs.Pan.{IsPan}
@@ -33,3 +34,22 @@ pub record IsPinBlock (pin pan block : List ℕ) : Type 0 where
 -- the bytes of that block
 unfoldable pub pin_block : List ℕ → List ℕ → List ℕ
 pin_block pin pan = bytes_of (xor_nibbles (pin_field pin) (account_field pan))
+
+-- the nibbles of a PIN field behind the first two: as many decimal digits as the length says, and F up to the end (ISO 9564-1 format 0)
+abbrev pub are_digits_and_fill : ℕ → List ℕ → Bool
+are_digits_and_fill count nibbles = list_all (λ digit. nat_lt digit 10) (take count nibbles) && list_all (λ fill. fill == 0xF) (drop count nibbles)
+
+-- nibbles begin as a PIN field does: with 0 and a length from 4 to 12 (ISO 9564-1 format 0)
+abbrev pub is_pin_start : ℕ → ℕ → Bool
+is_pin_start control count = (control == 0) && (nat_le 4 count && nat_le count 12)
+
+-- the PIN in a PIN field: the digits, as many as the length says; there is none in other nibbles
+abbrev pub pin_in_field : List ℕ → Option (List ℕ)
+pin_in_field [] = None
+pin_in_field (control ∷ []) = None
+pin_in_field (control ∷ count ∷ nibbles) =
+    if is_pin_start control count && are_digits_and_fill count nibbles then Some (ascii_of (take count nibbles)) else None
+
+-- the PIN in a block under a PAN, if it is the block of one
+abbrev pub pin_in_block : List ℕ → List ℕ → Option (List ℕ)
+pin_in_block pan block = pin_in_field (xor_nibbles (nibbles block) (account_field pan))

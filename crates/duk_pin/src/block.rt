@@ -1,7 +1,7 @@
 //! PIN blocks of format 0 (ISO 9564-1).
 
 ghost use Rattle.std.specs.Prelude.{◌≡◌, ℕ, List, IfSome, IfNone};
-ghost use Rattle.duk_pin.specs.PinBlock.{IsPinBlock, pin_block};
+ghost use Rattle.duk_pin.specs.PinBlock.{IsPinBlock, pin_block, pin_in_block};
 
 use crate::field::Field;
 use crate::pan::Pan;
@@ -22,6 +22,7 @@ pub fn decode(block: [u8; 8], pan: &Pan) -> Option<Pin>
     ensures found { IfSome result (λ pin. IsPinBlock pin pan.now block) }
     ensures none { IfNone result ((pin : List ℕ) → ¬ (IsPinBlock pin pan.now block)) }
     ensures encoded { (pin : List ℕ) → IsPinBlock pin pan.now block → result ≡ Some pin }
+    ensures value { result ≡ pin_in_block pan.now block }
 {
     Field::of_block(block).xor(Field::of_account(pan)).to_pin()
 }

@@ -7,7 +7,7 @@ ghost use Rattle.duk_pin.specs.Nibbles.{IsField, nibbles, xor_nibbles};
 ghost use Rattle.duk_pin.specs.Pin.{IsPin};
 ghost use Rattle.duk_pin.specs.Pan.{IsPan};
 ghost use Rattle.duk_pin.specs.Reading.{ReadsAsPin};
-ghost use Rattle.duk_pin.specs.PinBlock.{pin_field, account_digits, account_field};
+ghost use Rattle.duk_pin.specs.PinBlock.{pin_field, pin_in_field, account_digits, account_field};
 
 use crate::nibbles;
 use crate::pan::Pan;
@@ -102,6 +102,7 @@ impl Field {
     pub fn to_pin(self) -> Option<Pin>
         ensures found { IfSome result (λ pin. IsPin pin × (pin_field pin ≡ self)) }
         ensures every { (pin : List ℕ) → IsPin pin → pin_field pin ≡ self → result ≡ Some pin }
+        ensures value { result ≡ pin_in_field self }
     {
         if self.reads_as_pin() {
             Some(Pin::from_values(self.digits()))

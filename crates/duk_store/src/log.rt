@@ -54,6 +54,7 @@ pub trait UsedLog: Drop {
         ensures read { IfOk result (IsRead (meaning self.old) (meaning self.new) place) }
         ensures counted { IfOk result (λ _. count self.new ≡ count self.old) }
         ensures capacity { capacity self.new ≡ capacity self.old }
+        ensures disarmed { disarmed self.old → disarmed self.new }
         ensures failed { IfErr result (ReadFailed (meaning self.old) (meaning self.new)) };
 
     /// Appends a number. `room` tells whether there is place for it.

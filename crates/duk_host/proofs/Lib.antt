@@ -1,0 +1,5 @@
+mod UsedLemmas
+mod ListLemmas
+mod ReadingLemmas
+mod HandleLemmas
+mod RestartLemmas

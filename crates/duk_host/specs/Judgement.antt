@@ -1,0 +1,137 @@
+-- The judgement of a request: this project's own, over the transaction keys of ANSI X9.24-1:2009 annex A.
+use Rattle.std.specs.Prelude.{◌≡◌, ◌⊎◌, ◌<◌, ℕ, List, None, replicate}
+use Rattle.duk_frame.specs.Answer.{refusal_text}
+use Rattle.duk_frame.specs.Frame.{framed}
+use Rattle.duk_frame.specs.Payment.{payment_reply}
+use Rattle.duk_frame.specs.Request.{IsRequest, request_text}
+use Rattle.duk_frame.specs.declared.code.Code.{Code}
+use Rattle.duk_frame.specs.declared.code.Code.TheVariants.{Unreadable}
+use Rattle.duk_frame.specs.declared.request.Request.{Request}
+use Rattle.duk_hsm.specs.Commands.{HasBadCounter, HasNoPin, IsOtherMac, IsRequestMac, IsTransactionKey, IsTranslated}
+use Rattle.duk_hsm.specs.Keys.{HsmKeys, key_set_of, prefix_of}
+use Rattle.duk_tree.specs.Serial.{Serial, serial_bytes}
+use Rattle.duk_host.specs.Used.{IsUsed}
+use Rattle.duk_host.specs.declared.reason.Reason.{Reason}
+use Rattle.duk_host.specs.declared.reason.Reason.TheVariants as reason
+
+-- what an issuer says of a PAN, an amount and a PIN block under the zone key
+abbrev pub Decision : Type 0
+Decision = List ℕ → ℕ → List ℕ → Code
+
+-- what requests are judged by: the keys that are held, the used numbers, for how many more there is room, and the issuer's decision
+pub record Bench : Type 1 where
+  pub keys : HsmKeys
+  pub used : Serial → Type 0
+  pub room : ℕ
+  pub decides : Decision
+
+-- those things together, where the used numbers are given as the numbers that the ten bytes of key serial numbers spell
+abbrev pub bench_with : HsmKeys → List ℕ → ℕ → Decision → Bench
+bench_with keys used room decides = record { keys = keys; used = IsUsed used; room = room; decides = decides }
+
+-- the body of a request before its MAC
+abbrev pub text_of : Request → List ℕ
+text_of request = request_text request.ksn request.pan request.amount request.block
+
+-- the number of a reason in a refusal
+abbrev pub reason_number : Reason → ℕ
+reason_number reason.Malformed = 1
+reason_number reason.UnknownKeySet = 2
+reason_number reason.BadCounter = 3
+reason_number reason.BadMac = 4
+reason_number reason.Used = 5
+reason_number reason.LogFull = 6
+
+-- the MAC of the request is that of its text under the transaction key's variant for requests. So its key set is held, and its counter
+-- numbers a transaction
+abbrev pub IsAuthentic : HsmKeys → Request → Type 0
+IsAuthentic keys request = IsRequestMac keys request.ksn (text_of request) request.mac
+
+-- the number is used
+pub record IsUsedAgain (bench : Bench) (request : Request) : Type 0 where
+  pub authentic : IsAuthentic bench.keys request
+  pub used : bench.used request.ksn
+
+-- there is no room for the number
+pub record HasNoRoom (bench : Bench) (request : Request) : Type 0 where
+  pub authentic : IsAuthentic bench.keys request
+  pub fresh : ¬ bench.used request.ksn
+  pub full : bench.room ≡ 0
+
+-- the least reason against the MAC of a request
+abbrev pub MacRefused : HsmKeys → Request → Reason → Type 0
+MacRefused keys request reason.UnknownKeySet = key_set_of keys (prefix_of request.ksn) ≡ None
+MacRefused keys request reason.BadCounter = HasBadCounter keys request.ksn
+MacRefused keys request reason.BadMac = IsOtherMac keys request.ksn (text_of request) request.mac
+MacRefused keys request reason.Malformed = ⊥
+MacRefused keys request reason.Used = ⊥
+MacRefused keys request reason.LogFull = ⊥
+
+-- the least reason against a request: each says that those before it do not hold
+abbrev pub Refuses : Bench → Request → Reason → Type 0
+Refuses bench request reason.Malformed = ⊥
+Refuses bench request reason.UnknownKeySet = key_set_of bench.keys (prefix_of request.ksn) ≡ None
+Refuses bench request reason.BadCounter = HasBadCounter bench.keys request.ksn
+Refuses bench request reason.BadMac = IsOtherMac bench.keys request.ksn (text_of request) request.mac
+Refuses bench request reason.Used = IsUsedAgain bench request
+Refuses bench request reason.LogFull = HasNoRoom bench request
+
+-- the frame of a refusal
+abbrev pub refusal_frame : List ℕ → Reason → List ℕ
+refusal_frame ksn reason = framed (refusal_text ksn (reason_number reason))
+
+-- the bytes are no request, and the refusal's key serial number is ten zero bytes
+pub record IsMalformed (bytes frame : List ℕ) : Type 0 where
+  pub no_request : (request : Request) → ¬ IsRequest bytes request
+  pub frame_is : frame ≡ refusal_frame (replicate 10 0) reason.Malformed
+
+-- the bytes are a request that is refused
+pub record IsRefusedRequest (bench : Bench) (bytes frame : List ℕ) : Type 0 where
+  pub request : Request
+  pub reason : Reason
+  pub is_request : IsRequest bytes request
+  pub refuses : Refuses bench request reason
+  pub frame_is : frame ≡ refusal_frame (serial_bytes request.ksn) reason
+
+-- the frame is the refusal of the bytes
+abbrev pub IsRefused : Bench → List ℕ → List ℕ → Type 0
+IsRefused bench bytes frame = IsMalformed bytes frame ⊎ IsRefusedRequest bench bytes frame
+
+-- there is no reason against a request
+pub record IsAcceptable (bench : Bench) (request : Request) : Type 0 where
+  pub authentic : IsAuthentic bench.keys request
+  pub fresh : ¬ bench.used request.ksn
+  pub room : 0 < bench.room
+
+-- the issuer says this of the PIN block, under the zone key
+pub record IsDecided (keys : HsmKeys) (decides : Decision) (request : Request) (code : Code) : Type 0 where
+  pub block : List ℕ
+  pub translated : IsTranslated keys request.ksn request.block request.pan block
+  pub code_is : code ≡ decides request.pan request.amount block
+
+-- the deciphered PIN block is that of no PIN under the PAN, and the issuer is not asked
+pub record IsUnreadable (keys : HsmKeys) (request : Request) (code : Code) : Type 0 where
+  pub no_pin : HasNoPin keys request.ksn request.block request.pan
+  pub code_is : code ≡ Unreadable
+
+-- the code for a request
+abbrev pub IsCodeOf : HsmKeys → Decision → Request → Code → Type 0
+IsCodeOf keys decides request code = IsDecided keys decides request code ⊎ IsUnreadable keys request code
+
+-- the accepted reply with this code, under the transaction key of the number
+pub record IsReplyWith (keys : HsmKeys) (ksn : Serial) (code : Code) (frame : List ℕ) : Type 0 where
+  pub key : List ℕ
+  pub key_is : IsTransactionKey keys ksn key
+  pub frame_is : frame ≡ payment_reply key ksn code
+
+-- the accepted reply to a request
+pub record IsReplyTo (keys : HsmKeys) (decides : Decision) (request : Request) (frame : List ℕ) : Type 0 where
+  pub code : Code
+  pub code_is : IsCodeOf keys decides request code
+  pub reply : IsReplyWith keys request.ksn code frame
+
+-- the bytes are a request that is accepted with this reply
+pub record IsAccepted (bench : Bench) (bytes : List ℕ) (request : Request) (frame : List ℕ) : Type 0 where
+  pub is_request : IsRequest bytes request
+  pub acceptable : IsAcceptable bench request
+  pub reply : IsReplyTo bench.keys bench.decides request frame

@@ -1,0 +1,7 @@
+pub mod Used
+pub mod Table
+pub mod Judgement
+pub mod Host
+pub mod Reading
+pub mod Restart
+pub mod Handle

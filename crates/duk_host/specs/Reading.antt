@@ -1,0 +1,87 @@
+-- How a host reads the used numbers from its log: this project's own.
+use Rattle.std.specs.Prelude.{◌≡◌, ◌≤◌, ◌⊎◌, ℕ, List, length, take}
+use Rattle.duk_store.specs.Log.{Numbers, IsRead, ReadStopped}
+use Rattle.duk_store.specs.Meaning.{Meaning, Stays}
+use Rattle.duk_store.specs.declared.fault.StoreFault.TheVariants.{Device, Damaged}
+use Rattle.duk_tree.specs.Path.{IsUsable}
+use Rattle.duk_tree.specs.Serial.{Serial, IsSerial}
+use Rattle.duk_host.specs.Used.{AreUsable, IsOneMore, IsUsed, Lists}
+use Rattle.duk_host.specs.declared.fault.HostFault.{HostFault}
+use Rattle.duk_host.specs.declared.fault.HostFault.TheVariants as fault
+
+-- a number that was not used before is used
+pub record IsTakenIn (used : List ℕ) (ksn : Serial) (more : List ℕ) : Type 0 where
+  pub serial : IsSerial ksn
+  pub usable : IsUsable ksn.counter
+  pub fresh : ¬ IsUsed used ksn
+  pub one_more : IsOneMore used ksn more
+
+-- a number numbers no transaction, or was used before
+abbrev pub IsNotToBeUsed : List ℕ → Serial → Type 0
+IsNotToBeUsed used ksn = (¬ IsUsable ksn.counter) ⊎ IsUsed used ksn
+
+-- a number that is not to be used
+pub record IsBadNumber (used : List ℕ) (ksn : Serial) : Type 0 where
+  pub serial : IsSerial ksn
+  pub not_to_be_used : IsNotToBeUsed used ksn
+
+-- why a number is not taken in (of memory nothing is said)
+abbrev pub TakeInRefused : List ℕ → Serial → HostFault → Type 0
+TakeInRefused used ksn fault.NoMemory = Unit {0}
+TakeInRefused used ksn (fault.Store why) = (why ≡ Damaged) × IsBadNumber used ksn
+TakeInRefused used ksn fault.Stopped = ⊥
+TakeInRefused used ksn fault.Read = ⊥
+TakeInRefused used ksn fault.Write = ⊥
+TakeInRefused used ksn fault.Truncated = ⊥
+TakeInRefused used ksn fault.TooLong = ⊥
+
+-- the number at a place of the log is read, and taken in
+pub record IsReadOne (old new : Meaning Numbers) (place : ℕ) (used more : List ℕ) : Type 0 where
+  pub number : Serial
+  pub read : IsRead old new place number
+  pub taken : IsTakenIn used number more
+
+-- the number at a place of the log is read, and not to be used
+pub record IsBadPlace (old new : Meaning Numbers) (place : ℕ) (used : List ℕ) : Type 0 where
+  pub number : Serial
+  pub read : IsRead old new place number
+  pub bad : IsBadNumber used number
+
+-- why the number at a place is not taken in, and what that leaves
+abbrev pub ReadOneRefused : Meaning Numbers → Meaning Numbers → ℕ → List ℕ → HostFault → Type 0
+ReadOneRefused old new place used fault.NoMemory = Stays old new
+ReadOneRefused old new place used (fault.Store why) = ((why ≡ Device) × ReadStopped old new) ⊎ ((why ≡ Damaged) × IsBadPlace old new place used)
+ReadOneRefused old new place used fault.Stopped = ⊥
+ReadOneRefused old new place used fault.Read = ⊥
+ReadOneRefused old new place used fault.Write = ⊥
+ReadOneRefused old new place used fault.Truncated = ⊥
+ReadOneRefused old new place used fault.TooLong = ⊥
+
+-- the first numbers of the log are these
+pub record IsReadUp (old new : Meaning Numbers) (seen : Numbers) : Type 0 where
+  pub stays : Stays old new
+  pub first : old.honest → (numbers : Numbers) → old.found numbers → take (length seen) numbers ≡ seen
+
+-- as many numbers of the log are read, and they are the used ones
+pub record AreRead (old new : Meaning Numbers) (count : ℕ) (used : List ℕ) : Type 0 where
+  pub seen : Numbers
+  pub read : IsReadUp old new seen
+  pub counted : length seen ≡ count
+  pub lists : Lists seen used
+
+-- the first numbers of the log, at most as many, are none that may be used
+pub record AreBad (old new : Meaning Numbers) (count : ℕ) : Type 0 where
+  pub seen : Numbers
+  pub read : IsReadUp old new seen
+  pub counted : length seen ≤ count
+  pub not_usable : ¬ AreUsable seen
+
+-- why the numbers of the log are not read, and what that leaves
+abbrev pub ReadRefused : Meaning Numbers → Meaning Numbers → ℕ → HostFault → Type 0
+ReadRefused old new count fault.NoMemory = Stays old new
+ReadRefused old new count (fault.Store why) = ((why ≡ Device) × ReadStopped old new) ⊎ ((why ≡ Damaged) × AreBad old new count)
+ReadRefused old new count fault.Stopped = ⊥
+ReadRefused old new count fault.Read = ⊥
+ReadRefused old new count fault.Write = ⊥
+ReadRefused old new count fault.Truncated = ⊥
+ReadRefused old new count fault.TooLong = ⊥

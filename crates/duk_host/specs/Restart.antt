@@ -1,0 +1,55 @@
+-- A host's restart: this project's own.
+use Rattle.std.specs.Prelude.{◌≡◌, ◌⊎◌, ℕ, List, Some, None, length}
+use Rattle.duk_store.specs.Log.{Numbers}
+use Rattle.duk_store.specs.Meaning.{Meaning}
+use Rattle.duk_store.specs.Restart.{Restarted, RestartFailed}
+use Rattle.duk_store.specs.declared.fault.StoreFault.{StoreFault}
+use Rattle.duk_store.specs.declared.fault.StoreFault.TheVariants.{Damaged}
+use Rattle.duk_host.specs.Host.{HostOf}
+use Rattle.duk_host.specs.Used.{AreUsable, Lists}
+use Rattle.duk_host.specs.declared.fault.HostFault.{HostFault}
+use Rattle.duk_host.specs.declared.fault.HostFault.TheVariants as fault
+
+-- all but the log and the used numbers is as it was
+pub record KeepsEnds {L I : Type 0} (old new : HostOf L I) : Type 0 where
+  pub keys : new.keys ≡ old.keys
+  pub issuer : new.issuer ≡ old.issuer
+
+-- a restart that is done: the log's restart is, and the used numbers are those of the list that it found
+pub record IsRestarted {L I : Type 0} (meaning : L → Meaning Numbers) (old new : HostOf L I) (found : ℕ) : Type 0 where
+  pub numbers : Numbers
+  pub used : List ℕ
+  pub ends : KeepsEnds old new
+  pub log : Restarted (meaning old.log) (meaning new.log) numbers
+  pub counted : (meaning old.log).honest → length numbers ≡ found
+  pub used_are : new.used ≡ Some used
+  pub lists : (meaning old.log).honest → Lists numbers used
+
+-- the log kept a list in which a number occurs twice, or one that numbers no transaction
+pub record FoundNoUsed {L I : Type 0} (meaning : L → Meaning Numbers) (old new : HostOf L I) : Type 0 where
+  pub numbers : Numbers
+  pub log : Restarted (meaning old.log) (meaning new.log) numbers
+  pub not_usable : (meaning old.log).honest → ¬ AreUsable numbers
+
+-- a restart that failed: the host is stopped, since its log failed, or found such a list
+pub record RestartStopped {L I : Type 0} (meaning : L → Meaning Numbers) (old new : HostOf L I) (why : StoreFault) : Type 0 where
+  pub ends : KeepsEnds old new
+  pub stopped : new.used ≡ None
+  pub cause : RestartFailed (meaning old.log) (meaning new.log) why ⊎ ((why ≡ Damaged) × FoundNoUsed meaning old new)
+
+-- a restart that was refused memory: the host is stopped, and its log's restart is done
+pub record RestartNoMemory {L I : Type 0} (meaning : L → Meaning Numbers) (old new : HostOf L I) : Type 0 where
+  pub numbers : Numbers
+  pub ends : KeepsEnds old new
+  pub stopped : new.used ≡ None
+  pub log : Restarted (meaning old.log) (meaning new.log) numbers
+
+-- why a restart is refused
+abbrev pub RestartRefused : {L I : Type 0} → (L → Meaning Numbers) → HostOf L I → HostOf L I → HostFault → Type 0
+RestartRefused meaning old new (fault.Store why) = RestartStopped meaning old new why
+RestartRefused meaning old new fault.NoMemory = RestartNoMemory meaning old new
+RestartRefused meaning old new fault.Stopped = ⊥
+RestartRefused meaning old new fault.Read = ⊥
+RestartRefused meaning old new fault.Write = ⊥
+RestartRefused meaning old new fault.Truncated = ⊥
+RestartRefused meaning old new fault.TooLong = ⊥

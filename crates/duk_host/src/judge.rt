@@ -1,0 +1,75 @@
+//! The judgement of a request.
+
+ghost use Rattle.std.specs.Prelude.{◌≡◌, ◌≤◌, ℕ, List, IfOk, IfErr, MatchOption, length};
+ghost use Rattle.duk_frame.specs.Frame.{mac_text_of};
+ghost use Rattle.duk_frame.specs.Request.{IsRequest};
+ghost use Rattle.duk_host.specs.Judgement.{Decision, IsAcceptable, IsAuthentic, IsRefused, MacRefused, Refuses, bench_with, text_of};
+
+use crate::reason::Reason;
+use crate::used::UsedNumbers;
+use duk_frame::{Frame, Request, mac_text, read_request};
+use duk_hsm::{Hsm, HsmFault};
+
+/// The request in the bytes, where there is no reason against it, or else the refusal of the least reason.
+pub(crate) fn judge<const N: usize>(
+    hsm: &Hsm<N>,
+    used: &UsedNumbers,
+    room: u64,
+    bytes: &[u8],
+) -> Result<Request, Frame>
+    ensures acceptable { (decides : Decision) → IfOk result (IsAcceptable (bench_with hsm.now used.now room decides)) }
+    ensures request { IfOk result (IsRequest bytes.now) }
+    ensures refused { (decides : Decision) → IfErr result
+        (λ frame. IsRefused (bench_with hsm.now used.now room decides) bytes.now frame.items) }
+{
+    let Some(request) = read_request(bytes) else {
+        return Err(Reason::Malformed.frame([0; 10]));
+    };
+    duk_frame::laws::mac_texts();
+    match reason_against(hsm, used, room, &request, mac_text(bytes)) {
+        None => Ok(request),
+        Some(reason) => Err(reason.frame(request.ksn.bytes())),
+    }
+}
+
+/// The least reason against a request with this text.
+fn reason_against<const N: usize>(
+    hsm: &Hsm<N>,
+    used: &UsedNumbers,
+    room: u64,
+    request: &Request,
+    text: &[u8],
+) -> Option<Reason>
+    requires text { text.now ≡ text_of request.now }
+    ensures { (decides : Decision) → MatchOption result
+        (IsAcceptable (bench_with hsm.now used.now room decides) request.now)
+        (Refuses (bench_with hsm.now used.now room decides) request.now) }
+{
+    let reason = reason_against_mac(hsm, request, text);
+    if reason.is_some() {
+        reason
+    } else if used.contains(request.ksn) {
+        Some(Reason::Used)
+    } else if room == 0 {
+        Some(Reason::LogFull)
+    } else {
+        None
+    }
+}
+
+/// The least reason against the MAC of a request with this text.
+fn reason_against_mac<const N: usize>(
+    hsm: &Hsm<N>,
+    request: &Request,
+    text: &[u8],
+) -> Option<Reason>
+    requires text { text.now ≡ text_of request.now }
+    ensures { MatchOption result (IsAuthentic hsm.now request.now) (MacRefused hsm.now request.now) }
+{
+    match hsm.verify(request.ksn, text, request.mac) {
+        Ok(()) => None,
+        Err(HsmFault::NoKeySet) => Some(Reason::UnknownKeySet),
+        Err(HsmFault::BadCounter) => Some(Reason::BadCounter),
+        Err(_) => Some(Reason::BadMac),
+    }
+}

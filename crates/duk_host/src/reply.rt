@@ -1,0 +1,37 @@
+//! The reply to a request that is accepted.
+
+ghost use Rattle.std.specs.Prelude.{◌≡◌, IsSome};
+ghost use Rattle.duk_hsm.specs.Commands.{HasTransactionKey};
+ghost use Rattle.duk_host.specs.Judgement.{IsCodeOf, IsReplyWith};
+
+use crate::issuer::Issuer;
+use duk_frame::{Code, Frame, Request, mac_text, write_reply};
+use duk_hsm::Hsm;
+use duk_tree::Ksn;
+
+/// The code for a request: what the issuer says of its PIN block under the zone key. Where the block is that of no PIN,
+/// the issuer is not asked.
+pub(crate) fn code_for<const N: usize, I: Issuer>(
+    hsm: &Hsm<N>,
+    issuer: &I,
+    request: &Request,
+) -> Code
+    requires zone { IsSome hsm.now.zone }
+    requires key { HasTransactionKey hsm.now request.now.ksn }
+    ensures { IsCodeOf hsm.now (I.decides issuer.now) request.now result }
+{
+    match hsm.translate(request.ksn, request.block, &request.pan) {
+        Ok(block) => issuer.decide(&request.pan, request.amount, block),
+        Err(_) => Code::Unreadable,
+    }
+}
+
+/// The accepted reply with this code.
+pub(crate) fn reply_frame<const N: usize>(hsm: &Hsm<N>, ksn: Ksn, code: Code) -> Frame
+    requires key { HasTransactionKey hsm.now ksn }
+    ensures { IsReplyWith hsm.now ksn code result.items }
+{
+    let draft = write_reply(ksn, code, [0; 8]);
+    let mac = hsm.reply_mac(ksn, mac_text(draft.as_slice())).unwrap();
+    write_reply(ksn, code, mac)
+}

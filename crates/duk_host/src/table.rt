@@ -1,0 +1,94 @@
+//! An issuer that knows its cards by a table.
+
+ghost use Rattle.std.specs.Prelude.{◌≡◌};
+ghost use Rattle.duk_block.specs.KeyBlock.{bytes_of};
+ghost use Rattle.duk_tdes.specs.Tdes.{tdes_decrypted};
+ghost use Rattle.duk_host.specs.Table.{card_code, card_of, table_decision};
+
+use crate::issuer::Issuer;
+use duk_frame::Code;
+use duk_pin::{Pan, Pin, decode};
+use duk_tdes::{KeyBytes, tdes_decrypt};
+use std::marker::Model;
+
+/// A card. It has no `Debug`, so that no PIN is printed by chance.
+#[derive(Clone, Copy)]
+pub struct Card {
+    /// Its account number.
+    pub pan: Pan,
+    /// Its PIN.
+    pub pin: Pin,
+    /// The greatest amount of a payment, in the smallest unit of the currency.
+    pub limit: u32,
+}
+
+/// An issuer with a table of cards, to which PIN blocks come under a zone key.
+#[derive(Drop)]
+pub struct TableIssuer {
+    zone: KeyBytes,
+    cards: Vec<Card>,
+}
+
+impl Model for TableIssuer {
+    ghost use Rattle.duk_block.specs.KeyBlock.{bytes_of};
+    ghost use Rattle.duk_host.specs.Table.{CardTable};
+
+    ghost Value = { CardTable };
+
+    ghost view = { λ issuer. record { zone = bytes_of issuer.zone; cards = issuer.cards.items } };
+}
+
+impl TableIssuer {
+    /// An issuer of these cards. Of two cards with one PAN the first counts.
+    pub fn new(zone: KeyBytes, cards: Vec<Card>) -> Self
+        ensures { result ≡ record { zone = bytes_of zone; cards = cards.items } }
+    {
+        TableIssuer { zone, cards }
+    }
+}
+
+/// The first of these cards with a PAN.
+fn card_of(cards: &[Card], pan: &Pan) -> Option<Card>
+    ensures { result ≡ card_of pan.now cards.now }
+{
+    cards.iter().find(|card| card.pan == *pan).copied()
+}
+
+impl Issuer for TableIssuer {
+    ghost decides = { table_decision };
+
+    fn decide(&self, pan: &Pan, amount: u32, block: [u8; 8]) -> Code {
+        let Some(card) = card_of(self.cards.as_slice(), pan) else {
+            return Code::NoCard;
+        };
+        match decode(deciphered(&self.zone, block), pan) {
+            Some(pin) => card.judge(&pin, amount),
+            None => Code::Unreadable,
+        }
+    }
+}
+
+impl Card {
+    /// The code for a PIN that was entered and an amount.
+    fn judge(&self, pin: &Pin, amount: u32) -> Code
+        ensures { result ≡ card_code self.now pin.now amount }
+    {
+        if self.pin != *pin {
+            Code::WrongPin
+        } else if amount > self.limit {
+            Code::OverLimit
+        } else {
+            Code::Approved
+        }
+    }
+}
+
+/// A block deciphered under a key of either length.
+fn deciphered(key: &KeyBytes, block: [u8; 8]) -> [u8; 8]
+    ensures { result ≡ tdes_decrypted (bytes_of key.now) block }
+{
+    match key {
+        KeyBytes::Double(key) => tdes_decrypt(key, block),
+        KeyBytes::Triple(key) => tdes_decrypt(key, block),
+    }
+}

@@ -1,0 +1,64 @@
+//! The numbers that were used.
+
+ghost use Rattle.std.specs.Prelude.{◌≡◌, ◌↔◌, [], IsTrue, IfOk, OnErr};
+ghost use Rattle.std.specs.Bool.{MatchBool};
+ghost use Rattle.duk_tree.specs.Serial.{IsSerial};
+ghost use Rattle.duk_host.specs.Used.{IsOneMore, IsUsed, number_of};
+
+use byteorder::{BigEndian, ByteOrder};
+use duk_tree::Ksn;
+use std::alloc::{AllocError, Global};
+use std::collections::BTreeSet;
+use std::marker::Model;
+
+/// The used key serial numbers, which are found by the number that their ten bytes spell.
+#[derive(Drop)]
+pub(crate) struct UsedNumbers {
+    numbers: BTreeSet<u128>,
+}
+
+impl Model for UsedNumbers {
+    ghost use Rattle.std.specs.Prelude.{List, ℕ};
+
+    ghost Value = { List ℕ };
+
+    ghost view = { λ used. used.numbers.keys };
+}
+
+impl UsedNumbers {
+    /// None is used. This takes no memory.
+    pub(crate) fn new(alloc: Global) -> Self
+        ensures { result ≡ [] }
+    {
+        UsedNumbers {
+            numbers: BTreeSet::new(alloc),
+        }
+    }
+
+    /// Whether a key serial number is used.
+    pub(crate) fn contains(&self, ksn: Ksn) -> bool
+        ensures { IsTrue result ↔ IsUsed self.now ksn }
+    {
+        self.numbers.contains(&number(ksn))
+    }
+
+    /// Adds a key serial number, and tells whether it was not used before.
+    pub(crate) fn insert(&mut self, ksn: Ksn) -> Result<bool, AllocError>
+        ensures added { IfOk result (λ _. IsOneMore self.old ksn self.new) }
+        ensures fresh { IfOk result (λ fresh. MatchBool fresh (¬ IsUsed self.old ksn) (IsUsed self.old ksn)) }
+        ensures serial { IsSerial ksn }
+        ensures same { OnErr result (self.new ≡ self.old) }
+    {
+        duk_tree::laws::serials();
+        Ok(self.numbers.insert(number(ksn))?)
+    }
+}
+
+/// The number that the ten bytes of a key serial number spell.
+#[tactic(auto, unfolding(crate::specs::Used::number_of))]
+fn number(ksn: Ksn) -> u128
+    ensures value { result ≡ number_of ksn }
+    ensures serial { IsSerial ksn }
+{
+    BigEndian::read_uint128(&ksn.bytes(), 10)
+}
