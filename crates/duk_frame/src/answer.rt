@@ -3,7 +3,7 @@
 ghost use Rattle.std.specs.Prelude.{◌≡◌, ◌≤◌, ◌++◌, IfSome, Some, List, ℕ, length};
 ghost use Rattle.duk_frame.specs.Frame.{framed, mac_text_of};
 ghost use Rattle.duk_frame.specs.Answer.{AreAnswerFields, IsAnswer, IsReason, IsRefusal, IsReply, answer_bytes, refusal_text, reply_text};
-ghost use Rattle.duk_tree.specs.Serial.{Serial};
+ghost use Rattle.duk_tree.specs.Serial.{IsSerial, Serial, serial_bytes};
 
 use crate::code::Code;
 use crate::frame::{Frame, append, begin_frame};
@@ -60,7 +60,8 @@ pub fn write_reply(ksn: Ksn, code: Code, mac: [u8; 8]) -> Frame
 /// The frame of a refusal: version 1, kind 3, the key serial number in 10 bytes, and the reason.
 pub fn write_refusal(ksn: [u8; 10], reason: u8) -> Frame
     requires { IsReason reason }
-    ensures { result.items ≡ framed (refusal_text ksn reason) }
+    ensures frame { result.items ≡ framed (refusal_text ksn reason) }
+    ensures refusal { (serial : Serial) → IsSerial serial → serial_bytes serial ≡ ksn → IsRefusal result.items serial reason }
 {
     let mut frame = begin_frame(REFUSAL_BODY as u16, REFUSAL);
     append(&mut frame, &ksn);

@@ -3,3 +3,4 @@ mod ListLemmas
 mod ReadingLemmas
 mod HandleLemmas
 mod RestartLemmas
+mod JudgeLemmas

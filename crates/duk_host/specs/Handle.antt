@@ -58,6 +58,7 @@ Answers words bytes old new frame = AnswersRefusal words bytes old new frame ⊎
 pub record IsNotKept {L I : Type 0} (words : Words L I) (old new : HostOf L I) (ksn : Serial) (why : StoreFault) : Type 0 where
   pub ends : KeepsEnds old new
   pub stopped : new.used ≡ None
+  pub capacity : words.capacity new.log ≡ words.capacity old.log
   pub not_appended : AppendFailed (words.meaning old.log) (words.meaning new.log) ksn why
 
 -- why a number is not kept, and what that leaves

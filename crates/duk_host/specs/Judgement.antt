@@ -1,6 +1,6 @@
 -- The judgement of a request: this project's own, over the transaction keys of ANSI X9.24-1:2009 annex A.
 use Rattle.std.specs.Prelude.{◌≡◌, ◌⊎◌, ◌<◌, ℕ, List, None, replicate}
-use Rattle.duk_frame.specs.Answer.{refusal_text}
+use Rattle.duk_frame.specs.Answer.{IsRefusal, IsReply, refusal_text}
 use Rattle.duk_frame.specs.Frame.{framed}
 use Rattle.duk_frame.specs.Payment.{payment_reply}
 use Rattle.duk_frame.specs.Request.{IsRequest, request_text}
@@ -80,9 +80,14 @@ Refuses bench request reason.LogFull = HasNoRoom bench request
 abbrev pub refusal_frame : List ℕ → Reason → List ℕ
 refusal_frame ksn reason = framed (refusal_text ksn (reason_number reason))
 
+-- the key serial number of ten zero bytes
+abbrev pub no_serial : Serial
+no_serial = record { iksn = 0; counter = 0 }
+
 -- the bytes are no request, and the refusal's key serial number is ten zero bytes
 pub record IsMalformed (bytes frame : List ℕ) : Type 0 where
   pub no_request : (request : Request) → ¬ IsRequest bytes request
+  pub is_refusal : IsRefusal frame no_serial 1
   pub frame_is : frame ≡ refusal_frame (replicate 10 0) reason.Malformed
 
 -- the bytes are a request that is refused
@@ -91,6 +96,7 @@ pub record IsRefusedRequest (bench : Bench) (bytes frame : List ℕ) : Type 0 wh
   pub reason : Reason
   pub is_request : IsRequest bytes request
   pub refuses : Refuses bench request reason
+  pub is_refusal : IsRefusal frame request.ksn (reason_number reason)
   pub frame_is : frame ≡ refusal_frame (serial_bytes request.ksn) reason
 
 -- the frame is the refusal of the bytes
@@ -121,7 +127,9 @@ IsCodeOf keys decides request code = IsDecided keys decides request code ⊎ IsU
 -- the accepted reply with this code, under the transaction key of the number
 pub record IsReplyWith (keys : HsmKeys) (ksn : Serial) (code : Code) (frame : List ℕ) : Type 0 where
   pub key : List ℕ
+  pub mac : List ℕ
   pub key_is : IsTransactionKey keys ksn key
+  pub is_reply : IsReply frame ksn code mac
   pub frame_is : frame ≡ payment_reply key ksn code
 
 -- the accepted reply to a request

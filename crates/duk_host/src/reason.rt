@@ -1,6 +1,8 @@
 //! Why a request is refused.
 
 ghost use Rattle.std.specs.Prelude.{◌≡◌};
+ghost use Rattle.duk_frame.specs.Answer.{IsRefusal};
+ghost use Rattle.duk_tree.specs.Serial.{IsSerial, Serial, serial_bytes};
 ghost use Rattle.duk_host.specs.Judgement.{reason_number, refusal_frame};
 
 use duk_frame::{Frame, write_refusal};
@@ -39,7 +41,9 @@ impl Reason {
 
     /// The frame of the refusal, with the ten bytes of a key serial number.
     pub(crate) fn frame(self, ksn: [u8; 10]) -> Frame
-        ensures { result.items ≡ refusal_frame ksn self }
+        ensures frame { result.items ≡ refusal_frame ksn self }
+        ensures refusal { (serial : Serial) → IsSerial serial → serial_bytes serial ≡ ksn
+            → IsRefusal result.items serial (reason_number self) }
     {
         write_refusal(ksn, self.number())
     }

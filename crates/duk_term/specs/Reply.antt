@@ -38,9 +38,15 @@ completed Stopped = Stopped
 completed Empty = Empty
 completed (Loaded set pending) = Loaded set None
 
+-- the bytes are that frame
+pub record IsHostReply (bytes : List ℕ) (pending : Pending) (code : Code) : Type 0 where
+  pub mac : List ℕ
+  pub reply : IsReply bytes pending.ksn code mac
+  pub bytes_are : bytes ≡ reply_to pending code
+
 -- what the bytes tell a terminal in this state
 abbrev pub IsTold : State → List ℕ → Answer → Type 0
-IsTold state bytes (Done code) = (pending : Pending) × IsPending state pending × (bytes ≡ reply_to pending code)
+IsTold state bytes (Done code) = (pending : Pending) × IsPending state pending × IsHostReply bytes pending code
 IsTold state bytes (Refused reason) = (pending : Pending) × IsPending state pending × IsRefusal bytes pending.ksn reason
 
 -- the state after that

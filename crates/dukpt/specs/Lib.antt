@@ -3,7 +3,6 @@ pub mod Derive
 pub mod Fault
 pub mod KeyText
 pub mod Pin
-pub mod Sink
 pub mod Status
 pub mod Unwrap
 pub mod Walk

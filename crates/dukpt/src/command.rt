@@ -4,19 +4,19 @@ ghost use Rattle.std.specs.Prelude.{◌≡◌, ◌⊎◌};
 ghost use Rattle.std.specs.Io.KnownBytes.{Keeps};
 ghost use Rattle.dukpt.specs.Fault.{line_of, IsFaultTold};
 ghost use Rattle.dukpt.specs.declared.fault.Fault.{Fault};
-ghost use Rattle.dukpt.specs.Sink.{IsUntouched, IsTried};
+ghost use Rattle.duk_script.specs.Sink.{IsUntouched, IsTried};
 ghost use Rattle.dukpt.specs.Status.{status_of, IsStatus};
 
 use crate::derive::derive_command;
 use crate::fault::{Fault, tell};
 use crate::pin::pin_command;
-use crate::sink::{Sink, write_text};
 use crate::unwrap::unwrap_command;
 use crate::walk::walk_command;
 use crate::words::{Request, read_request};
 use crate::wrap::wrap_command;
 use clap::Error;
 use clap::error::ErrorKind;
+use duk_script::sink::{Sink, write_text};
 use std::alloc::{AllocError, Global};
 
 /// What is left to do when the words are dealt with.

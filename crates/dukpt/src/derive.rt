@@ -8,7 +8,7 @@ use crate::answer::finish;
 use crate::fault::Fault;
 use crate::key_text::read_key;
 use crate::lines::{Lines, push_line};
-use crate::sink::Sink;
+use duk_script::sink::Sink;
 use duk_tdes::Key;
 use duk_tree::{Ksn, derive, initial_key, pin_key, usable};
 

@@ -9,15 +9,14 @@ pub mod fault;
 mod key_text;
 mod lines;
 pub mod pin;
-pub mod sink;
 pub mod unwrap;
 pub mod walk;
 mod words;
 pub mod wrap;
 
 use command::Todo;
+use duk_script::sink::{Sink, write_text};
 use fault::{Fault, tell};
-use sink::write_text;
 use std::process::ExitCode;
 use std::rt::Env;
 use std::{env, io};
@@ -39,7 +38,7 @@ fn process_words(rt: &(impl Env + AllocGlobal)) -> io::Result<Vec<String>> {
 }
 
 /// Tells why the words of the process could not be read, and gives the status.
-fn refuse_words(error: &io::Error, fault: &mut impl sink::Sink) -> u8 {
+fn refuse_words(error: &io::Error, fault: &mut impl Sink) -> u8 {
     if error.kind() == io::ErrorKind::OutOfMemory {
         return tell(fault, Fault::OutOfMemory);
     }

@@ -8,8 +8,8 @@ use crate::answer::finish;
 use crate::fault::Fault;
 use crate::key_text::read_key;
 use crate::lines::{Lines, push_line};
-use crate::sink::Sink;
 use duk_pin::{Pan, Pin, encode};
+use duk_script::sink::Sink;
 use duk_tdes::{Key, tdes_encrypt};
 
 /// Writes the PIN block of a PIN and a PAN (ISO 9564-1 format 0) and, where a key is given, the block

@@ -4,16 +4,16 @@ ghost use Rattle.std.specs.Prelude.{◌≡◌, ◌⊎◌, ◌+◌, ◌≤◌, �
 ghost use Rattle.std.specs.Option.{option_copied};
 ghost use Rattle.arrayvec.specs.ArrayVec.{array_vec_len};
 ghost use Rattle.duk_regs.specs.Registers.{StandsFor};
-ghost use Rattle.dukpt.specs.Sink.{IsCut};
+ghost use Rattle.duk_script.specs.Sink.{IsCut};
 ghost use Rattle.dukpt.specs.Walk.{Asked, IsWalkRead, IsWalkRefused, IsLoaded, Passes, IsSpentWithin, HasPrinted, HasPrintedInPart, HasWalked, HasWalkedInPart, IsWalked, IsNotWalked, IsWalkedInPart, number_text, spent_line, Drains};
 
 use crate::count::{read_count, read_skip};
 use crate::fault::{Fault, tell};
 use crate::key_text::read_key;
 use crate::lines::push_hex;
-use crate::sink::{Sink, WriteFailed, write_text};
 use arrayvec::ArrayVec;
 use duk_regs::Registers;
+use duk_script::sink::{Sink, WriteFailed, write_text};
 use duk_tdes::Key;
 use duk_tree::{Iksn, Ksn, initial_key};
 

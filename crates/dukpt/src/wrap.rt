@@ -11,9 +11,9 @@ use crate::answer::finish;
 use crate::fault::Fault;
 use crate::key_text::read_tdes_key;
 use crate::lines::Lines;
-use crate::sink::Sink;
 use arrayvec::ArrayVec;
 use duk_block::{BlockFault, Header, laws, wrap};
+use duk_script::sink::Sink;
 use duk_tdes::{Key, KeyBytes, array_of};
 
 /// The most bytes that the payload of a key block of 512 characters has: longer padding fits none.

@@ -7,7 +7,7 @@ ghost use Rattle.dukpt.specs.Derive.{IsDerivable};
 use super::{BDK, Full, KSN, Pipe, run};
 use crate::command::Todo;
 use crate::derive::derive_command;
-use crate::sink::Sink;
+use duk_script::sink::Sink;
 use std::io;
 use std::test::Fail;
 

@@ -26,7 +26,7 @@ returns-else-eq-clause-every c = λ ksn reason is.
     let fields = read (goal.at.returns-else-eq-clause-every c).After-from_bytes-ksn ksn reason is in
     absurd (differ _ _ _ c.eq.ensures c.if-eq.false (
     c.as_slice.ensures.value
-    ∙ c.write_refusal.ensures
+    ∙ c.write_refusal.ensures.frame
     ∙ ap (λ serial. framed (refusal_text serial (get_or c.args.bytes.now 14 0))) c.bytes.ensures.bytes
     ∙ ap answer_bytes fields
     ∙ sym is.laid_out

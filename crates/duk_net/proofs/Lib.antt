@@ -1,0 +1,5 @@
+mod OwnerLemmas
+mod PlaceLemmas
+mod UpLemmas
+mod LoadLemmas
+mod RunLemmas

@@ -1,0 +1,35 @@
+-- A world in which nothing happened yet: this project's own.
+use Rattle.std.specs.Prelude.{◌≡◌, false, ℕ, List, [], None, All}
+use Rattle.duk_host.specs.Host.{HostOf}
+use Rattle.duk_store.specs.Meaning.{Meaning, FindsOnly}
+use Rattle.duk_term.specs.Terminal.{Term}
+use Rattle.duk_term.specs.declared.state.State.TheVariants.{Stopped}
+use Rattle.duk_net.specs.World.{Meanings, WorldOf}
+
+-- the world of a host and terminals: nothing was sent, and nobody owns anything
+abbrev pub first_world : {C L I : Type 0} → HostOf L I → List ℕ → List (Term C) → WorldOf C L I
+first_world host loading terminals = record { host = host; loading = loading; terminals = terminals; requests = []; answers = []; owners = [] }
+
+-- an honest store, newly made, in which nothing was ever kept: a restart finds this, which stands for nothing
+pub record IsUnused {V : Type 0} (store : Meaning V) (nothing : V) : Type 0 where
+  pub honest : store.honest
+  pub stopped : store.running ≡ false
+  pub finds : FindsOnly store nothing
+
+-- a terminal, newly made over an unused cell
+pub record IsNewTerminal {C L I : Type 0} (m : Meanings C L I) (terminal : Term C) : Type 0 where
+  pub stopped : terminal.state ≡ Stopped
+  pub cell : IsUnused (m.cell terminal.cell) None
+
+-- a host, newly made over an unused log
+pub record IsNewHost {C L I : Type 0} (m : Meanings C L I) (host : HostOf L I) : Type 0 where
+  pub stopped : host.used ≡ None
+  pub log : IsUnused (m.host.meaning host.log) []
+
+-- all ends are newly made, and nothing was sent
+pub record IsFirst {C L I : Type 0} (m : Meanings C L I) (world : WorldOf C L I) : Type 0 where
+  pub host : IsNewHost m world.host
+  pub terminals : All (IsNewTerminal m) world.terminals
+  pub no_requests : world.requests ≡ []
+  pub no_answers : world.answers ≡ []
+  pub no_owners : world.owners ≡ []

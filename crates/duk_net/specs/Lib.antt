@@ -1,0 +1,12 @@
+pub mod Owner
+pub mod World
+pub mod First
+pub mod Load
+pub mod Begin
+pub mod Up
+pub mod Down
+pub mod Restart
+pub mod Arm
+pub mod Step
+pub mod Run
+pub mod InMemory

@@ -1,0 +1,24 @@
+//! Terminals, one host and the network between them, under any list of events.
+//!
+//! The network keeps every frame that was ever sent, and an event names the one that it delivers: so frames may be lost,
+//! come again, late, or in any order. A stop is a store that was armed to fail, followed by a restart.
+#![tactic(auto)]
+
+mod event;
+mod host_events;
+mod outcome;
+mod owner;
+mod places;
+mod runs;
+mod system;
+mod terminal_events;
+#[cfg(test)]
+mod tests;
+mod told;
+mod world;
+
+pub use event::{End, Event};
+pub use outcome::Outcome;
+pub use owner::Owner;
+pub use runs::{NetFault, run};
+pub use world::World;

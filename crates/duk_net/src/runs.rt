@@ -1,0 +1,115 @@
+//! Runs of events.
+
+ghost use Rattle.std.specs.Prelude.{◌≡◌, ◌++◌, ◌∷◌, [], IfOk, IfErr, OnErr};
+ghost use Rattle.duk_host.specs.Host.{words_of};
+ghost use Rattle.duk_net.specs.Run.{IsLeft, IsRun, IsStepInto, RunRefused};
+ghost use Rattle.duk_net.specs.Step.{Step};
+ghost use Rattle.duk_net.specs.World.{meanings_of};
+
+use crate::event::{End, Event};
+use crate::outcome::Outcome;
+use crate::places::push_within;
+use crate::system::System;
+use crate::world::World;
+use duk_host::Issuer;
+use duk_store::{Cell, UsedLog};
+use std::alloc::AllocError;
+use thiserror::Error;
+
+/// Why a run of events ends before its last.
+#[derive(Debug, Clone, Copy, PartialEq, Eq, Error)]
+pub enum NetFault {
+    /// Memory was refused to an event. So many events before it are done, and it is not: a world that is run again from
+    /// it on goes on as if it had not come. Of the host's restart it may leave the host stopped.
+    #[error("NoMemory after {done}")]
+    NoMemory {
+        /// How many events are done.
+        done: usize,
+    },
+}
+
+/// Lets the events happen to a world, one after the other, and puts what comes of each at the end of `out`.
+pub fn run<const N: usize, C: Cell, L: UsedLog, I: Issuer>(
+    world: &mut World<N, C, L, I>,
+    events: &[Event],
+    out: &mut Vec<Outcome>,
+) -> Result<(), NetFault>
+    ensures run { IfOk result (λ _. IsRun
+        (meanings_of C.meaning C.worn C.arms (words_of L.meaning L.count L.capacity I.decides) L.arms)
+        world.old events.now out.old.items out.new.items world.new) }
+    ensures refused { IfErr result (RunRefused
+        (meanings_of C.meaning C.worn C.arms (words_of L.meaning L.count L.capacity I.decides) L.arms)
+        world.old events.now out.old.items out.new.items world.new) }
+{
+    run_system(&mut world.system, events, out)
+}
+
+/// Lets the events happen, one after the other.
+fn run_system<const N: usize, C: Cell, L: UsedLog, I: Issuer>(
+    system: &mut System<N, C, L, I>,
+    events: &[Event],
+    out: &mut Vec<Outcome>,
+) -> Result<(), NetFault>
+    ensures run { IfOk result (λ _. IsRun
+        (meanings_of C.meaning C.worn C.arms (words_of L.meaning L.count L.capacity I.decides) L.arms)
+        system.old events.now out.old.items out.new.items system.new) }
+    ensures refused { IfErr result (RunRefused
+        (meanings_of C.meaning C.worn C.arms (words_of L.meaning L.count L.capacity I.decides) L.arms)
+        system.old events.now out.old.items out.new.items system.new) }
+{
+    let mut done = 0;
+    for event in events {
+        match step_into(system, event, out) {
+            Ok(()) => done += 1,
+            Err(_) => return Err(NetFault::NoMemory { done }),
+        }
+    }
+    Ok(())
+}
+
+/// Lets an event happen, and puts what comes of it at the end of `out`.
+fn step_into<const N: usize, C: Cell, L: UsedLog, I: Issuer>(
+    system: &mut System<N, C, L, I>,
+    event: &Event,
+    out: &mut Vec<Outcome>,
+) -> Result<(), AllocError>
+    ensures step { IfOk result (λ _. IsStepInto
+        (meanings_of C.meaning C.worn C.arms (words_of L.meaning L.count L.capacity I.decides) L.arms)
+        system.old event.now out.old.items out.new.items system.new) }
+    ensures out { OnErr result (out.new.items ≡ out.old.items) }
+    ensures left { OnErr result (IsLeft
+        (meanings_of C.meaning C.worn C.arms (words_of L.meaning L.count L.capacity I.decides) L.arms)
+        system.old event.now system.new) }
+{
+    out.reserve(1)?;
+    let outcome = step(system, event)?;
+    push_within(out, outcome);
+    Ok(())
+}
+
+/// Lets an event happen.
+fn step<const N: usize, C: Cell, L: UsedLog, I: Issuer>(
+    system: &mut System<N, C, L, I>,
+    event: &Event,
+) -> Result<Outcome, AllocError>
+    ensures step { IfOk result (λ outcome. Step
+        (meanings_of C.meaning C.worn C.arms (words_of L.meaning L.count L.capacity I.decides) L.arms)
+        system.old event.now outcome system.new) }
+    ensures left { OnErr result (IsLeft
+        (meanings_of C.meaning C.worn C.arms (words_of L.meaning L.count L.capacity I.decides) L.arms)
+        system.old event.now system.new) }
+{
+    match *event {
+        Event::Load { t, iksn } => system.load(t, iksn),
+        Event::Begin { t, purchase } => system.begin(t, &purchase),
+        Event::Up { k } => system.up(k),
+        Event::Down { k, t } => Ok(system.down(k, t)),
+        Event::RestartTerm { t } => Ok(system.restart_terminal(t)),
+        Event::RestartHost => system.restart_host(),
+        Event::Arm { end: End::Host, n } => Ok(system.arm_host(n)),
+        Event::Arm {
+            end: End::Term(t),
+            n,
+        } => Ok(system.arm_terminal(t, n)),
+    }
+}

@@ -1,0 +1,95 @@
+//! A world of terminals and one host.
+
+ghost use Rattle.std.specs.Prelude.{◌≡◌};
+ghost use Rattle.duk_host.specs.Host.{words_of};
+ghost use Rattle.duk_net.specs.First.{IsFirst, first_world};
+ghost use Rattle.duk_net.specs.World.{meanings_of};
+
+use crate::owner::Owner;
+use crate::system::System;
+use duk_frame::Frame;
+use duk_host::{Host, Issuer};
+use duk_store::{Cell, UsedLog};
+use duk_tdes::Key;
+use duk_term::Terminal;
+use std::alloc::Global;
+use std::marker::Model;
+
+/// Terminals and one host, and a network between them that keeps every frame which was ever sent. Any frame may be
+/// delivered at any time, again, late or never.
+#[derive(Drop)]
+pub struct World<const N: usize, C: Cell, L: UsedLog, I: Issuer> {
+    pub(crate) system: System<N, C, L, I>,
+}
+
+impl<const N: usize, C: Cell, L: UsedLog, I: Issuer> Model for World<N, C, L, I> {
+    ghost use Rattle.duk_net.specs.World.{WorldOf};
+
+    ghost Value = { WorldOf C L I };
+
+    ghost view = { λ world. world.system };
+}
+
+impl<const N: usize, C: Cell, L: UsedLog, I: Issuer> World<N, C, L, I> {
+    /// A world of this host and these terminals, all of them newly made over stores in which nothing was ever kept.
+    /// `loading` is the key under which the host's security module issues initial keys to terminals. This takes no
+    /// memory.
+    pub fn new(
+        alloc: Global,
+        host: Host<N, L, I>,
+        loading: Key<16>,
+        terminals: Vec<Terminal<C>>,
+    ) -> Self
+        requires first { IsFirst
+            (meanings_of C.meaning C.worn C.arms (words_of L.meaning L.count L.capacity I.decides) L.arms)
+            (first_world host loading terminals.items) }
+        ensures { result ≡ first_world host loading terminals.items }
+    {
+        World {
+            system: System {
+                host,
+                loading,
+                terminals,
+                requests: Vec::new(alloc),
+                answers: Vec::new(alloc),
+                owners: Vec::new(alloc),
+            },
+        }
+    }
+
+    /// The frames of all requests that were ever sent, in order.
+    pub fn requests(&self) -> &[Frame]
+        ensures { result.now ≡ self.now.requests }
+    {
+        self.system.requests.as_slice()
+    }
+
+    /// The frames of all answers that were ever sent, in order.
+    pub fn answers(&self) -> &[Frame]
+        ensures { result.now ≡ self.now.answers }
+    {
+        self.system.answers.as_slice()
+    }
+
+    /// Which terminal owns which initial key serial number: each one that a terminal was loaded with stands there once,
+    /// whatever was restarted since.
+    pub fn owners(&self) -> &[Owner]
+        ensures { result.now ≡ self.now.owners }
+    {
+        self.system.owners.as_slice()
+    }
+
+    /// The terminals, in the order of their numbers.
+    pub fn terminals(&self) -> &[Terminal<C>]
+        ensures { result.now ≡ self.now.terminals }
+    {
+        self.system.terminals.as_slice()
+    }
+
+    /// The host.
+    pub fn host(&self) -> &Host<N, L, I>
+        ensures { result.now ≡ self.now.host }
+    {
+        &self.system.host
+    }
+}

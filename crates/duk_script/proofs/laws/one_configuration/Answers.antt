@@ -1,0 +1,8 @@
+use Rattle.duk_script.proofs.OnceLemmas.{no_file_fault, one_file}
+use Rattle.duk_script.proofs.laws.one_configuration.Goals as goal
+
+pub returns-clause-one : goal.returns-clause-one
+returns-clause-one c = one_file
+
+pub returns-clause-no_fault : goal.returns-clause-no_fault
+returns-clause-no_fault c = no_file_fault

@@ -1,0 +1,32 @@
+use Rattle.std.proofs.Common.{inl, inr, subst}
+use Rattle.std.proofs.lemmas.Result.{err_from_is_err_and}
+use Rattle.duk_script.specs.OutcomeText.{lines_of}
+use Rattle.duk_script.specs.Sink.{IsCut}
+use Rattle.duk_script.proofs.PlayLemmas.{cut_off, if_err, on_ok, played, played_up_to}
+use Rattle.duk_script.proofs.session.play_under.Goals as goal
+
+pub returns-in-Ok-clause-done : goal.returns-in-Ok-clause-done
+returns-in-Ok-clause-done g c =
+    let all = played c.args.config c.args.lmk.now c.in_ok-world.world c.run.new.world c.args.events.now c.new-outcomes.result.items c.run.new.out.items c.requires.lmk c.in_ok-world.ensures.opened c.new-outcomes.ensures.items c.in-Ok.ensures.run in
+    on_ok _ _ (λ written. (c.run.new.out.items, all, rw (← c.as_slice.ensures.value) written)) c.write_lines.result c.write_lines.ensures.written
+
+pub returns-in-Ok-clause-refused : goal.returns-in-Ok-clause-refused
+returns-in-Ok-clause-refused g c =
+    let told = g.W.Sink.told in
+    let all = played c.args.config c.args.lmk.now c.in_ok-world.world c.run.new.world c.args.events.now c.new-outcomes.result.items c.run.new.out.items c.requires.lmk c.in_ok-world.ensures.opened c.new-outcomes.ensures.items c.in-Ok.ensures.run in
+    if_err _ _ (λ why cut. cut_off c.args.config c.args.events.now (told c.args.writer.now) (told c.write_lines.new.writer) c.run.new.out.items why (inl all)
+    (cut.0, subst (λ outcomes. IsCut (told c.args.writer.now) (told c.write_lines.new.writer) (lines_of outcomes)) c.as_slice.ensures.value cut.1)) c.write_lines.result c.write_lines.ensures.cut
+
+pub returns-in_err-write_lines-in-Err-clause-refused : goal.returns-in_err-write_lines-in-Err-clause-refused
+returns-in_err-write_lines-in-Err-clause-refused g c =
+    let told = g.W.Sink.told in
+    let part = played_up_to c.args.config c.args.lmk.now c.in_ok-world.world c.run.new.world c.args.events.now c.new-outcomes.result.items c.run.new.out.items c.in-Err.field-0 c.requires.lmk c.in_ok-world.ensures.opened c.new-outcomes.ensures.items c.in-Err.ensures.refused in
+    let cut = c.in_err-write_lines-in-Err.ensures.cut in
+    let p = err_from_is_err_and c.from_residual-in_err-write_lines-in-Err.result c.from_residual-in_err-write_lines-in-Err.ensures.1 in
+    rw (p.1, p.2) (cut_off c.args.config c.args.events.now (told c.args.writer.now) (told c.write_lines-in-Err.new.writer) c.run.new.out.items _ (inr part)
+    (cut.0, subst (λ outcomes. IsCut (told c.args.writer.now) (told c.write_lines-in-Err.new.writer) (lines_of outcomes)) c.as_slice-in-Err.ensures.value cut.1))
+
+pub returns-clause-refused : goal.returns-clause-refused
+returns-clause-refused g c =
+    let part = played_up_to c.args.config c.args.lmk.now c.in_ok-world.world c.run.new.world c.args.events.now c.new-outcomes.result.items c.run.new.out.items c.in-Err.field-0 c.requires.lmk c.in_ok-world.ensures.opened c.new-outcomes.ensures.items c.in-Err.ensures.refused in
+    inr (record { outcomes = c.run.new.out.items; played = part; written = rw (← c.as_slice-in-Err.ensures.value) c.in_ok-write_lines-in-Err.ensures.written })

@@ -1,0 +1,20 @@
+-- Why the values at a key state no entries: this project's own, as a private function of `read_config` answers.
+use Rattle.std.specs.Prelude.{◌≡◌, List}
+use Rattle.toml.specs.Data.{Data}
+use Rattle.duk_script.specs.declared.fault.ConfigKey.{ConfigKey}
+use Rattle.duk_script.specs.declared.fault.ScriptFault.{ScriptFault}
+use Rattle.duk_script.specs.declared.fault.ScriptFault.TheVariants as fault
+use Rattle.duk_script.specs.Entries.{IsFirstBadEntry}
+
+-- an entry of this key is the first that is bad, or memory is refused
+abbrev pub IsEntriesFault : {Entry : Type 0} → (Data → Entry → Type 0) → (Entry → Entry → Type 0) → ConfigKey → List Data → ScriptFault → Type 0
+IsEntriesFault States Repeats key values (fault.BadEntry told place) = (told ≡ key) × IsFirstBadEntry States Repeats values place
+IsEntriesFault States Repeats key values fault.NoMemory = Unit {0}
+IsEntriesFault States Repeats key values fault.ConfigTooLong = ⊥
+IsEntriesFault States Repeats key values fault.NotToml = ⊥
+IsEntriesFault States Repeats key values (fault.UnknownKey name) = ⊥
+IsEntriesFault States Repeats key values (fault.BadKey told) = ⊥
+IsEntriesFault States Repeats key values fault.CannotRead = ⊥
+IsEntriesFault States Repeats key values fault.TooLong = ⊥
+IsEntriesFault States Repeats key values (fault.NotAnEvent line) = ⊥
+IsEntriesFault States Repeats key values fault.WriteFailed = ⊥

@@ -1,0 +1,53 @@
+-- The names of faults, each followed by that of the fault inside it (this project's own).
+use Rattle.std.specs.Prelude.{ℕ, List, ◌++◌, codes}
+use Rattle.duk_block.specs.declared.fault.BlockFault.{BlockFault}
+use Rattle.duk_block.specs.declared.fault.BlockFault.TheVariants.{Length, Version, HeaderField, OptionalBlock, Hex, Mac, Payload, PadLength}
+use Rattle.duk_store.specs.declared.fault.StoreFault.{StoreFault}
+use Rattle.duk_store.specs.declared.fault.StoreFault.TheVariants as store
+use Rattle.duk_term.specs.declared.fault.TermFault.{TermFault}
+use Rattle.duk_term.specs.declared.fault.TermFault.TheVariants as term
+use Rattle.duk_host.specs.declared.fault.HostFault.{HostFault}
+use Rattle.duk_host.specs.declared.fault.HostFault.TheVariants as host
+
+-- a fault of a key block
+abbrev pub block_fault_text : BlockFault → List ℕ
+block_fault_text Length = codes "Length"
+block_fault_text Version = codes "Version"
+block_fault_text HeaderField = codes "HeaderField"
+block_fault_text OptionalBlock = codes "OptionalBlock"
+block_fault_text Hex = codes "Hex"
+block_fault_text Mac = codes "Mac"
+block_fault_text Payload = codes "Payload"
+block_fault_text PadLength = codes "PadLength"
+
+-- a fault of a store
+abbrev pub store_fault_text : StoreFault → List ℕ
+store_fault_text store.Device = codes "Device"
+store_fault_text store.Stopped = codes "Stopped"
+store_fault_text store.Damaged = codes "Damaged"
+store_fault_text store.Worn = codes "Worn"
+store_fault_text store.NoMemory = codes "NoMemory"
+
+-- a fault of a terminal
+abbrev pub term_fault_text : TermFault → List ℕ
+term_fault_text term.NotLoaded = codes "NotLoaded"
+term_fault_text term.AlreadyLoaded = codes "AlreadyLoaded"
+term_fault_text (term.Block fault) = codes "Block " ++ block_fault_text fault
+term_fault_text term.WrongUse = codes "WrongUse"
+term_fault_text term.Spent = codes "Spent"
+term_fault_text term.Stopped = codes "Stopped"
+term_fault_text (term.Store fault) = codes "Store " ++ store_fault_text fault
+term_fault_text term.Malformed = codes "Malformed"
+term_fault_text term.NotPending = codes "NotPending"
+term_fault_text term.NotMine = codes "NotMine"
+term_fault_text term.BadMac = codes "BadMac"
+
+-- a fault of the host
+abbrev pub host_fault_text : HostFault → List ℕ
+host_fault_text host.NoMemory = codes "NoMemory"
+host_fault_text (host.Store fault) = codes "Store " ++ store_fault_text fault
+host_fault_text host.Stopped = codes "Stopped"
+host_fault_text host.Read = codes "Read"
+host_fault_text host.Write = codes "Write"
+host_fault_text host.Truncated = codes "Truncated"
+host_fault_text host.TooLong = codes "TooLong"

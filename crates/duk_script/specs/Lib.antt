@@ -1,0 +1,17 @@
+pub mod Script
+pub mod Reading
+pub mod FaultText
+pub mod OutcomeText
+pub mod Sink
+pub mod ConfigKeys
+pub mod Settings
+pub mod Values
+pub mod Names
+pub mod Entries
+pub mod EntryFaults
+pub mod ConfigTable
+pub mod ConfigFaults
+pub mod ConfigFile
+pub mod Opened
+pub mod Source
+pub mod Session

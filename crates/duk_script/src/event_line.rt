@@ -1,0 +1,120 @@
+//! The line of an event.
+
+ghost use Rattle.std.specs.Prelude.{◌≡◌, ◌++◌, ℕ, List, Some, codes, decimal, IfSome};
+ghost use Rattle.duk_net.specs.declared.event.End.{End};
+ghost use Rattle.duk_net.specs.declared.event.Event.{Event};
+ghost use Rattle.duk_term.specs.declared.purchase.Purchase.{Purchase};
+ghost use Rattle.duk_script.specs.Script.{IsNumber, IsTerminal, IsEventLine, terminal_name};
+ghost use Rattle.duk_script.specs.Reading.{AreLoadWords, AreBeginWords, AreDownWords, AreArmWords, IsPurchase};
+
+use crate::words::{read_end, read_number, read_terminal, split_word};
+use duk_net::{End, Event};
+use duk_pin::{Pan, Pin};
+use duk_term::Purchase;
+use duk_tree::Iksn;
+use std::str;
+
+/// The event of a line, if it is one.
+#[tactic(auto, using(crate::proofs::AsciiLemmas::IsUtf8_from_event))]
+pub(crate) fn read_event(line: &[u8]) -> Option<Event>
+    ensures found { IfSome result (IsEventLine line.now) }
+    ensures every { (event : Event) → IsEventLine line.now event → result ≡ Some event }
+{
+    event_of(str::from_utf8(line).ok()?)
+}
+
+/// The event of a line of text, if it is one.
+fn event_of(line: &str) -> Option<Event>
+    ensures found { IfSome result (IsEventLine line.now) }
+    ensures every { (event : Event) → IsEventLine line.now event → result ≡ Some event }
+{
+    let (command, words) = split_word(line)?;
+    match command {
+        "load" => load(words),
+        "begin" => begin(words),
+        "up" => up(words),
+        "down" => down(words),
+        "restart" => restart(words),
+        "arm" => arm(words),
+        _ => None,
+    }
+}
+
+/// `T IKSN`.
+fn load(words: &str) -> Option<Event>
+    ensures found { IfSome result (IsEventLine (codes "load " ++ words.now)) }
+    ensures every { (t iksn : ℕ) → AreLoadWords words.now t iksn → result ≡ Some (Event.Load t iksn) }
+{
+    let (t, iksn) = split_word(words)?;
+    let t = read_terminal(t)?;
+    let iksn = Iksn::parse(iksn)?;
+    Some(Event::Load { t, iksn })
+}
+
+/// `T PAN PIN AMOUNT`.
+fn begin(words: &str) -> Option<Event>
+    ensures found { IfSome result (IsEventLine (codes "begin " ++ words.now)) }
+    ensures every { (t : ℕ) (purchase : Purchase) → AreBeginWords words.now t purchase
+        → result ≡ Some (Event.Begin t purchase) }
+{
+    let (t, purchase) = split_word(words)?;
+    let t = read_terminal(t)?;
+    let purchase = read_purchase(purchase)?;
+    Some(Event::Begin { t, purchase })
+}
+
+/// `PAN PIN AMOUNT`.
+fn read_purchase(words: &str) -> Option<Purchase>
+    ensures found { IfSome result (IsPurchase words.now) }
+    ensures every { (purchase : Purchase) → IsPurchase words.now purchase → result ≡ Some purchase }
+{
+    let (pan, rest) = split_word(words)?;
+    let (pin, amount) = split_word(rest)?;
+    let pan = Pan::parse(pan).ok()?;
+    let pin = Pin::parse(pin).ok()?;
+    let amount = read_number(amount)?;
+    Some(Purchase { pan, pin, amount })
+}
+
+/// `K`.
+fn up(words: &str) -> Option<Event>
+    ensures found { IfSome result (IsEventLine (codes "up " ++ words.now)) }
+    ensures every { (k : ℕ) → IsNumber k → words.now ≡ decimal k → result ≡ Some (Event.Up k) }
+{
+    let k = read_number(words)?;
+    Some(Event::Up { k })
+}
+
+/// `K T`.
+fn down(words: &str) -> Option<Event>
+    ensures found { IfSome result (IsEventLine (codes "down " ++ words.now)) }
+    ensures every { (k t : ℕ) → AreDownWords words.now k t → result ≡ Some (Event.Down k t) }
+{
+    let (k, t) = split_word(words)?;
+    let k = read_number(k)?;
+    let t = read_terminal(t)?;
+    Some(Event::Down { k, t })
+}
+
+/// `T` or `host`.
+fn restart(words: &str) -> Option<Event>
+    ensures found { IfSome result (IsEventLine (codes "restart " ++ words.now)) }
+    ensures host { words.now ≡ codes "host" → result ≡ Some Event.RestartHost }
+    ensures terminal { (t : ℕ) → IsTerminal t → words.now ≡ terminal_name t → result ≡ Some (Event.RestartTerm t) }
+{
+    match read_end(words)? {
+        End::Host => Some(Event::RestartHost),
+        End::Term(t) => Some(Event::RestartTerm { t }),
+    }
+}
+
+/// `T N` or `host N`.
+fn arm(words: &str) -> Option<Event>
+    ensures found { IfSome result (IsEventLine (codes "arm " ++ words.now)) }
+    ensures every { (end : End) (n : ℕ) → AreArmWords words.now end n → result ≡ Some (Event.Arm end n) }
+{
+    let (end, n) = split_word(words)?;
+    let end = read_end(end)?;
+    let n = read_number(n)?;
+    Some(Event::Arm { end, n })
+}

@@ -1,0 +1,101 @@
+//! A script, from its bytes to the lines of its outcomes.
+
+ghost use Rattle.std.specs.Prelude.{◌≡◌, OnOk, IfErr};
+ghost use Rattle.duk_block.specs.KeyBlock.{bytes_of};
+ghost use Rattle.duk_script.specs.OutcomeText.{lines_of};
+ghost use Rattle.duk_script.specs.Session.{IsDone, IsPlayed, IsRefused, PlayRefused, session};
+ghost use Rattle.duk_script.specs.Sink.{IsCut, IsWritten};
+ghost use Rattle.duk_tdes.specs.Tdes.{IsTdesLength};
+
+use crate::config::Config;
+use crate::fault::ScriptFault;
+use crate::opening::open_world;
+use crate::read::read_config;
+use crate::script::parse_script;
+use crate::sink::{Sink, write_text};
+use crate::source::{Source, read_text};
+use crate::text::outcome_line;
+use duk_net::{Event, Outcome, run};
+use duk_tdes::{Key, KeyBytes};
+use std::alloc::Global;
+
+/// Runs a script over stores in memory, and writes a line for what comes of each event.
+///
+/// The whole script is read and parsed before the first event. Every end is restarted first, without a line. Refused with
+/// the first of these: what `read_config` refuses; `CannotRead`, where a read of the script failed; `TooLong`, above
+/// 1,048,576 bytes; `NotAnEvent`, of its first bad line; and then nothing is written. After `NoMemory` the lines of the
+/// events done are written. After `WriteFailed` a part of the lines is.
+pub fn run_script<R: Source, W: Sink>(
+    alloc: Global,
+    config: &[u8],
+    reader: &mut R,
+    writer: &mut W,
+) -> Result<(), ScriptFault>
+    ensures done { OnOk result
+        (IsDone (session config.now (R.told reader.old) (R.told reader.new) (W.told writer.old) (W.told writer.new))) }
+    ensures refused { IfErr result
+        (IsRefused (session config.now (R.told reader.old) (R.told reader.new) (W.told writer.old) (W.told writer.new))) }
+{
+    let config = read_config(alloc, config)?;
+    let text = read_text(alloc, reader)?;
+    let events = parse_script(alloc, text.as_slice())?;
+    let lmk = config.lmk;
+    play(alloc, &lmk, config, events.as_slice(), writer)
+}
+
+/// Plays events in the world of a configuration, and writes what comes of them.
+fn play<W: Sink>(
+    alloc: Global,
+    lmk: &KeyBytes,
+    config: Config,
+    events: &[Event],
+    writer: &mut W,
+) -> Result<(), ScriptFault>
+    requires { lmk.now ≡ config.lmk }
+    ensures done { OnOk result (IsPlayed config events.now (W.told writer.old) (W.told writer.new)) }
+    ensures refused { IfErr result (PlayRefused config events.now (W.told writer.old) (W.told writer.new)) }
+{
+    match lmk {
+        KeyBytes::Double(lmk) => play_under(alloc, lmk, config, events, writer),
+        KeyBytes::Triple(lmk) => play_under(alloc, lmk, config, events, writer),
+    }
+}
+
+/// Plays events in the world of a configuration with this local master key.
+fn play_under<const N: usize, W: Sink>(
+    alloc: Global,
+    lmk: &Key<N>,
+    config: Config,
+    events: &[Event],
+    writer: &mut W,
+) -> Result<(), ScriptFault>
+    requires length { IsTdesLength N }
+    requires lmk { lmk.now ≡ bytes_of config.lmk }
+    ensures done { OnOk result (IsPlayed config events.now (W.told writer.old) (W.told writer.new)) }
+    ensures refused { IfErr result (PlayRefused config events.now (W.told writer.old) (W.told writer.new)) }
+{
+    let mut world = open_world(alloc, lmk, config)?;
+    let mut outcomes = Vec::new(alloc);
+    match run(&mut world, events, &mut outcomes) {
+        Ok(()) => write_lines(writer, outcomes.as_slice()),
+        Err(_) => {
+            write_lines(writer, outcomes.as_slice())?;
+            Err(ScriptFault::NoMemory)
+        }
+    }
+}
+
+/// Writes the lines of outcomes.
+fn write_lines<W: Sink>(writer: &mut W, outcomes: &[Outcome]) -> Result<(), ScriptFault>
+    ensures written { OnOk result (IsWritten (W.told writer.old) (W.told writer.new) (lines_of outcomes.now)) }
+    ensures cut { IfErr result (λ why. (why ≡ ScriptFault.WriteFailed)
+        × IsCut (W.told writer.old) (W.told writer.new) (lines_of outcomes.now)) }
+{
+    for outcome in outcomes {
+        match write_text(writer, outcome_line(*outcome).as_slice()) {
+            Ok(()) => {}
+            Err(_) => return Err(ScriptFault::WriteFailed),
+        }
+    }
+    Ok(())
+}
