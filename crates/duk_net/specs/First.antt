@@ -1,5 +1,5 @@
 -- A world in which nothing happened yet: this project's own.
-use Rattle.std.specs.Prelude.{◌≡◌, false, ℕ, List, [], None, All}
+use Rattle.std.specs.Prelude.{◌≡◌, ℕ, List, [], None, All}
 use Rattle.duk_host.specs.Host.{HostOf}
 use Rattle.duk_store.specs.Meaning.{Meaning, FindsOnly}
 use Rattle.duk_term.specs.Terminal.{Term}
@@ -10,10 +10,9 @@ use Rattle.duk_net.specs.World.{Meanings, WorldOf}
 abbrev pub first_world : {C L I : Type 0} → HostOf L I → List ℕ → List (Term C) → WorldOf C L I
 first_world host loading terminals = record { host = host; loading = loading; terminals = terminals; requests = []; answers = []; owners = [] }
 
--- an honest store, newly made, in which nothing was ever kept: a restart finds this, which stands for nothing
+-- an honest store in which nothing was ever kept: a restart finds this, which stands for nothing
 pub record IsUnused {V : Type 0} (store : Meaning V) (nothing : V) : Type 0 where
   pub honest : store.honest
-  pub stopped : store.running ≡ false
   pub finds : FindsOnly store nothing
 
 -- a terminal, newly made over an unused cell

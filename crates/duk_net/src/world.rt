@@ -71,8 +71,7 @@ impl<const N: usize, C: Cell, L: UsedLog, I: Issuer> World<N, C, L, I> {
         self.system.answers.as_slice()
     }
 
-    /// Which terminal owns which initial key serial number: each one that a terminal was loaded with stands there once,
-    /// whatever was restarted since.
+    /// Which terminal owns which initial key serial number: the one that was loaded with it, whatever was restarted since.
     pub fn owners(&self) -> &[Owner]
         ensures { result.now ≡ self.now.owners }
     {
