@@ -16,3 +16,4 @@ mod OnceLemmas
 mod SessionLemmas
 mod SourceLemmas
 mod PlayLemmas
+mod FaultLemmas

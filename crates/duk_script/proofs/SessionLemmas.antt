@@ -32,7 +32,7 @@ written_next a b c outcomes place outcome line within is line_is before written 
     subst (λ text. IsWritten a c text) (sym (lines_next outcomes place outcome within is))
     (written_then a b c (lines_of (take place outcomes)) (line_of outcome) before (subst (λ text. IsWritten b c text) line_is written))
 
-cut_longer : (a c : Told) (text rest : List ℕ) → IsCut a c text → IsCut a c (text ++ rest)
+pub cut_longer : (a c : Told) (text rest : List ℕ) → IsCut a c text → IsCut a c (text ++ rest)
 cut_longer a c text rest (count, cut) = (
   count,
   record {

@@ -3,6 +3,7 @@ pub mod Reading
 pub mod FaultText
 pub mod OutcomeText
 pub mod Sink
+pub mod FaultLine
 pub mod ConfigKeys
 pub mod Settings
 pub mod Values

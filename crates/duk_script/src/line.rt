@@ -85,6 +85,16 @@ impl Line {
         self
     }
 
+    /// The line and a colon.
+    pub(crate) fn colon(mut self) -> Line
+        requires { length self.text.items < LINE_ROOM }
+        ensures text { result.text.items ≡ self.text.items ++ 58 ∷ [] }
+        ensures len { length result.text.items ≡ length self.text.items + 1 }
+    {
+        self.text.push(b':');
+        self
+    }
+
     /// The line and a key serial number.
     pub(crate) fn ksn(mut self, ksn: Ksn) -> Line
         requires { length self.text.items + 20 < LINE_ROOM }

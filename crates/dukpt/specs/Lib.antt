@@ -3,6 +3,7 @@ pub mod Derive
 pub mod Fault
 pub mod KeyText
 pub mod Pin
+pub mod Run
 pub mod Status
 pub mod Unwrap
 pub mod Walk

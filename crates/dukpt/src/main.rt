@@ -6,9 +6,11 @@ pub mod command;
 mod count;
 pub mod derive;
 pub mod fault;
+pub mod files;
 mod key_text;
 mod lines;
 pub mod pin;
+pub mod run;
 pub mod unwrap;
 pub mod walk;
 mod words;
@@ -17,19 +19,22 @@ pub mod wrap;
 use command::Todo;
 use duk_script::sink::{Sink, write_text};
 use fault::{Fault, tell};
+use files::run_files;
 use std::process::ExitCode;
 use std::rt::Env;
 use std::{env, io};
 
 fn main(rt: HostRuntime) -> ExitCode {
     let (mut output, mut fault) = (rt.stdout(), rt.stderr());
-    let todo = match process_words(&rt) {
-        Ok(words) => command::command(rt.alloc(), words.as_slice(), &mut output, &mut fault),
-        Err(error) => Todo::Exit(refuse_words(&error, &mut fault)),
+    let words = match process_words(&rt) {
+        Ok(words) => words,
+        Err(error) => return ExitCode::from(refuse_words(&error, &mut fault)),
     };
-    match todo {
-        Todo::Exit(status) => ExitCode::from(status),
-    }
+    let status = match command::command(rt.alloc(), words.as_slice(), &mut output, &mut fault) {
+        Todo::Exit(status) => status,
+        Todo::Run { config, script } => run_files(&rt, config, script, &mut output, &mut fault),
+    };
+    ExitCode::from(status)
 }
 
 /// The words of the process, the program's name first.

@@ -9,6 +9,7 @@ mod command;
 mod derive;
 mod key_block;
 mod pin;
+mod script;
 mod walk;
 
 const BDK: &str = "0123456789ABCDEFFEDCBA9876543210";
@@ -18,7 +19,8 @@ const KSN: &str = "FFFF9876543210E00001";
 /// What a run of the program wrote and how it ended.
 #[derive(Drop)]
 struct Ended {
-    todo: Todo,
+    /// None where a script is left to run.
+    status: Option<u8>,
     output: Vec<u8>,
     fault: Vec<u8>,
 }
@@ -31,9 +33,12 @@ fn run(alloc: Global, words: &[&str]) -> Result<Ended, AllocError> {
     }
     let mut output = Vec::new(alloc);
     let mut fault = Vec::new(alloc);
-    let todo = command(alloc, all.as_slice(), &mut output, &mut fault);
+    let status = match command(alloc, all.as_slice(), &mut output, &mut fault) {
+        Todo::Exit(status) => Some(status),
+        Todo::Run { .. } => None,
+    };
     Ok(Ended {
-        todo,
+        status,
         output,
         fault,
     })

@@ -54,6 +54,13 @@ pub enum Request<'a> {
         /// The key block.
         block: &'a str,
     },
+    /// The outcomes of a script.
+    Run {
+        /// The path of the configuration.
+        config: &'a str,
+        /// The path of the script.
+        script: &'a str,
+    },
 }
 
 /// The request that the words make; the first word is the program's name. The error is `clap`'s:
@@ -95,6 +102,10 @@ fn request_of<'a>(matches: &ArgMatches<'a>) -> Option<Request<'a>> {
             kbpk: found.get_str("KBPK")?,
             block: found.get_str("BLOCK")?,
         }),
+        ("run", found) => Some(Request::Run {
+            config: found.get_str("CONFIG")?,
+            script: found.get_str("SCRIPT")?,
+        }),
         _ => None,
     }
 }
@@ -108,7 +119,8 @@ fn program<'a>(alloc: Global) -> Result<Command<'a>, AllocError> {
         .subcommand(walk_words(alloc)?)?
         .subcommand(pin_words(alloc)?)?
         .subcommand(wrap_words(alloc)?)?
-        .subcommand(unwrap_words(alloc)?)
+        .subcommand(unwrap_words(alloc)?)?
+        .subcommand(run_words(alloc)?)
 }
 
 fn derive_words<'a>(alloc: Global) -> Result<Command<'a>, AllocError> {
@@ -194,6 +206,19 @@ fn unwrap_words<'a>(alloc: Global) -> Result<Command<'a>, AllocError> {
         .about("Prints the header fields and the key of a key block")
         .arg(kbpk_word(alloc))?
         .arg(block)
+}
+
+fn run_words<'a>(alloc: Global) -> Result<Command<'a>, AllocError> {
+    let config = Arg::new(alloc, "CONFIG")
+        .required(true)
+        .help("The file of the configuration, in TOML");
+    let script = Arg::new(alloc, "SCRIPT")
+        .required(true)
+        .help("The file of the script, an event on each line");
+    Command::new(alloc, "run")
+        .about("Runs a script of events, and prints what comes of each")
+        .arg(config)?
+        .arg(script)
 }
 
 fn kbpk_word<'a>(alloc: Global) -> Arg<'a> {

@@ -18,7 +18,7 @@ fn refuses_words(rt: HostRuntime) -> Result<(), Fail> {
     ];
     for words in cases {
         let run = run(rt.alloc(), words)?;
-        assert_eq!(rt; run.todo, Todo::Exit(2));
+        assert_eq!(rt; run.status, Some(2));
         assert!(rt; run.fault.as_slice().starts_with(b"error: "));
         assert!(rt; run.fault.as_slice().ends_with(b"\n"));
         assert!(rt; run.output.is_empty());
@@ -36,7 +36,7 @@ fn shows_help(rt: HostRuntime) -> Result<(), Fail> {
     ];
     for words in cases {
         let run = run(rt.alloc(), words)?;
-        assert_eq!(rt; run.todo, Todo::Exit(0));
+        assert_eq!(rt; run.status, Some(0));
         assert!(rt; run.output.as_slice().ends_with(b"\n"));
         assert!(rt; run.fault.is_empty());
     }

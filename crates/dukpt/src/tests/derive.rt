@@ -5,7 +5,6 @@ ghost use Rattle.duk_tree.specs.Serial.{Serial};
 ghost use Rattle.dukpt.specs.Derive.{IsDerivable};
 
 use super::{BDK, Full, KSN, Pipe, run};
-use crate::command::Todo;
 use crate::derive::derive_command;
 use duk_script::sink::Sink;
 use std::io;
@@ -19,7 +18,7 @@ pin 042666B49184CF5C68DE9628D0397B36
 #[test]
 fn derives_the_keys_of_a_number(rt: HostRuntime) -> Result<(), Fail> {
     let upper = run(rt.alloc(), &["derive", BDK, KSN])?;
-    assert_eq!(rt; upper.todo, Todo::Exit(0));
+    assert_eq!(rt; upper.status, Some(0));
     assert_eq!(rt; upper.output.as_slice(), LINES.as_bytes());
     assert!(rt; upper.fault.is_empty());
     let lower = [
@@ -49,7 +48,7 @@ fn tells_the_first_fault(rt: HostRuntime) -> Result<(), Fail> {
         ("0123456789ABCDEFFEDCBA987654321G", long, "BDK refused\n"),
     ] {
         let run = run(rt.alloc(), &["derive", bdk, ksn])?;
-        assert_eq!(rt; run.todo, Todo::Exit(1), "{bdk} {ksn}");
+        assert_eq!(rt; run.status, Some(1), "{bdk} {ksn}");
         assert_eq!(rt; run.fault.as_slice(), line.as_bytes(), "{bdk} {ksn}");
         assert!(rt; run.output.is_empty(), "{bdk} {ksn}");
     }

@@ -1,7 +1,6 @@
 //! Runs of `wrap` and `unwrap`.
 
 use super::{Ended, run};
-use crate::command::Todo;
 use std::alloc::{AllocError, Global};
 use std::test::Fail;
 
@@ -25,7 +24,7 @@ fn unwraps_a_published_block(rt: HostRuntime) -> Result<(), Fail> {
     let lower = "B0080P0TE00E000094b420079cc80ba3461f86fe26efc4a3b8e4fa4c5f5341176eed7b727b8a248e";
     for block in [BLOCK, lower] {
         let run = run(rt.alloc(), &["unwrap", KBPK, block])?;
-        assert_eq!(rt; run.todo, Todo::Exit(0));
+        assert_eq!(rt; run.status, Some(0));
         assert_eq!(rt; run.output.as_slice(), LINES.as_bytes());
         assert!(rt; run.fault.is_empty());
     }
@@ -80,7 +79,7 @@ fn tells_the_first_fault_of_a_key_block(rt: HostRuntime) -> Result<(), Fail> {
         ),
     ] {
         let run = run(rt.alloc(), &["unwrap", kbpk, block])?;
-        assert_eq!(rt; run.todo, Todo::Exit(1), "{block}");
+        assert_eq!(rt; run.status, Some(1), "{block}");
         assert_eq!(rt; run.fault.as_slice(), line.as_bytes(), "{block}");
         assert!(rt; run.output.is_empty(), "{block}");
     }
@@ -100,7 +99,7 @@ fn wraps_what_is_unwrapped(rt: HostRuntime) -> Result<(), Fail> {
         ),
     ] {
         let wrapped = run(rt.alloc(), &["wrap", kbpk, "P0TE00E", key, pad])?;
-        assert_eq!(rt; wrapped.todo, Todo::Exit(0), "{key}");
+        assert_eq!(rt; wrapped.status, Some(0), "{key}");
         let text = str::from_utf8(wrapped.output.as_slice())?;
         assert!(rt; text.starts_with(front), "{key}");
         let block = text.strip_suffix('\n').ok_or("a line")?;
@@ -127,7 +126,7 @@ fn tells_the_first_fault_of_a_wrap(rt: HostRuntime) -> Result<(), Fail> {
         (KBPK, "P0TE00E", KEY, "A5A5A5A5A5", "PadLength\n"),
     ] {
         let run = run(rt.alloc(), &["wrap", kbpk, fields, key, pad])?;
-        assert_eq!(rt; run.todo, Todo::Exit(1), "{fields} {line}");
+        assert_eq!(rt; run.status, Some(1), "{fields} {line}");
         assert_eq!(rt; run.fault.as_slice(), line.as_bytes(), "{fields} {line}");
         assert!(rt; run.output.is_empty(), "{fields} {line}");
     }

@@ -1,7 +1,6 @@
 //! The command `pin`.
 
 use super::{Full, Pipe, run};
-use crate::command::Todo;
 use crate::pin::pin_command;
 use std::test::Fail;
 
@@ -14,7 +13,7 @@ fn shows_pin_blocks(rt: HostRuntime) -> Result<(), Fail> {
         ("1234", "123456789012", "block 041235DCBA9876FE\n"),
     ] {
         let run = run(rt.alloc(), &["pin", pin, pan])?;
-        assert_eq!(rt; run.todo, Todo::Exit(0), "{pin} {pan}");
+        assert_eq!(rt; run.status, Some(0), "{pin} {pan}");
         assert_eq!(rt; run.output.as_slice(), block.as_bytes(), "{pin} {pan}");
     }
     let words = [
@@ -25,7 +24,7 @@ fn shows_pin_blocks(rt: HostRuntime) -> Result<(), Fail> {
         "042666B49184CF5C68DE9628D0397B36",
     ];
     let run = run(rt.alloc(), &words)?;
-    assert_eq!(rt; run.todo, Todo::Exit(0));
+    assert_eq!(rt; run.status, Some(0));
     let lines = "block 041274EDCBA9876F\nenciphered 1B9C1845EB993A7A\n";
     assert_eq!(rt; run.output.as_slice(), lines.as_bytes());
     assert!(rt; run.fault.is_empty());
@@ -52,7 +51,7 @@ fn tells_the_first_fault_of_a_pin(rt: HostRuntime) -> Result<(), Fail> {
         ),
     ] {
         let run = run(rt.alloc(), &["pin", pin, pan, "--key", key])?;
-        assert_eq!(rt; run.todo, Todo::Exit(1), "{pin} {pan}");
+        assert_eq!(rt; run.status, Some(1), "{pin} {pan}");
         assert_eq!(rt; run.fault.as_slice(), line.as_bytes(), "{pin} {pan}");
         assert!(rt; run.output.is_empty(), "{pin} {pan}");
     }

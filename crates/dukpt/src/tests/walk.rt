@@ -1,7 +1,6 @@
 //! The command `walk`.
 
 use super::{BDK, Full, KSN, Pipe, run};
-use crate::command::Todo;
 use crate::walk::walk_command;
 use duk_tdes::Key;
 use duk_tree::{Ksn, derive};
@@ -24,7 +23,7 @@ fn walks_through_the_numbers(rt: HostRuntime) -> Result<(), Fail> {
     ];
     for (words, lines) in cases {
         let run = run(rt.alloc(), words)?;
-        assert_eq!(rt; run.todo, Todo::Exit(0));
+        assert_eq!(rt; run.status, Some(0));
         assert_eq!(rt; run.output.as_slice(), lines.as_bytes());
         assert!(rt; run.fault.is_empty());
     }
@@ -35,7 +34,7 @@ fn walks_through_the_numbers(rt: HostRuntime) -> Result<(), Fail> {
 fn walks_to_the_last_number(rt: HostRuntime) -> Result<(), Fail> {
     let words = ["walk", BDK, IKSN, "2", "--skip", "1048574", "--ksn"];
     let run = run(rt.alloc(), &words)?;
-    assert_eq!(rt; run.todo, Todo::Exit(0));
+    assert_eq!(rt; run.status, Some(0));
     let lines = "FFFF9876543210FFF800\nspent\n";
     assert_eq!(rt; run.output.as_slice(), lines.as_bytes());
     Ok(())
@@ -44,7 +43,7 @@ fn walks_to_the_last_number(rt: HostRuntime) -> Result<(), Fail> {
 #[test]
 fn passes_all_numbers_in_silence(rt: HostRuntime) -> Result<(), Fail> {
     let run = run(rt.alloc(), &["walk", BDK, IKSN, "0", "--skip", "1048575"])?;
-    assert_eq!(rt; run.todo, Todo::Exit(0));
+    assert_eq!(rt; run.status, Some(0));
     assert!(rt; run.output.is_empty());
     Ok(())
 }
@@ -52,7 +51,7 @@ fn passes_all_numbers_in_silence(rt: HostRuntime) -> Result<(), Fail> {
 #[test]
 fn tells_that_none_is_left_to_pass(rt: HostRuntime) -> Result<(), Fail> {
     let run = run(rt.alloc(), &["walk", BDK, IKSN, "0", "--skip", "1048576"])?;
-    assert_eq!(rt; run.todo, Todo::Exit(0));
+    assert_eq!(rt; run.status, Some(0));
     assert_eq!(rt; run.output.as_slice(), b"spent\n".as_slice());
     Ok(())
 }
@@ -89,7 +88,7 @@ fn tells_the_first_fault_of_a_walk(rt: HostRuntime) -> Result<(), Fail> {
         (BDK, IKSN, "1", "1048577", "count refused\n"),
     ] {
         let run = run(rt.alloc(), &["walk", bdk, iksn, count, "--skip", skip])?;
-        assert_eq!(rt; run.todo, Todo::Exit(1), "{count} {skip}");
+        assert_eq!(rt; run.status, Some(1), "{count} {skip}");
         assert_eq!(rt; run.fault.as_slice(), line.as_bytes(), "{count} {skip}");
         assert!(rt; run.output.is_empty(), "{count} {skip}");
     }

@@ -1,0 +1,83 @@
+//! The line that tells a fault of a configuration or a script.
+
+ghost use Rattle.std.specs.Prelude.{◌≡◌, ◌++◌, ◌≤◌, codes, decimal, length, OnOk, OnErr};
+ghost use Rattle.duk_script.specs.ConfigKeys.{key_name};
+ghost use Rattle.duk_script.specs.FaultLine.{fault_line, unknown_line};
+ghost use Rattle.duk_script.specs.Sink.{IsCut, IsTried, IsWritten};
+
+use crate::fault::{ConfigKey, ScriptFault};
+use crate::line::{Line, LineText};
+use crate::sink::{Sink, WriteFailed, write_text};
+
+/// Writes the line of a fault, LF at its end. What cannot be written of the line is lost.
+pub fn print_fault<F: Sink>(why: &ScriptFault, fault: &mut F)
+    ensures line { IsTried (F.told fault.old) (F.told fault.new) (fault_line why.now) }
+{
+    match why {
+        ScriptFault::ConfigTooLong => tell(fault, b"config: too long\n"),
+        ScriptFault::NotToml => tell(fault, b"config: not TOML\n"),
+        ScriptFault::UnknownKey(name) => tell_unknown(fault, name.as_bytes()),
+        ScriptFault::BadKey(key) => tell(fault, bad_key(*key).end().as_slice()),
+        ScriptFault::BadEntry(key, place) => tell(fault, bad_entry(*key, *place).as_slice()),
+        ScriptFault::CannotRead => tell(fault, b"script: cannot read\n"),
+        ScriptFault::TooLong => tell(fault, b"script: too long\n"),
+        ScriptFault::NotAnEvent(line) => tell(fault, not_an_event(*line).as_slice()),
+        ScriptFault::WriteFailed => tell(fault, b"script: write failed\n"),
+        ScriptFault::NoMemory => tell(fault, b"out of memory\n"),
+    }
+}
+
+/// Writes a line, as far as that can be done.
+fn tell<F: Sink>(fault: &mut F, line: &[u8])
+    ensures line { IsTried (F.told fault.old) (F.told fault.new) line.now }
+{
+    let _ = write_text(fault, line);
+}
+
+/// Writes the line of an unknown key, as far as that can be done.
+fn tell_unknown<F: Sink>(fault: &mut F, name: &[u8])
+    ensures line { IsTried (F.told fault.old) (F.told fault.new) (unknown_line name.now) }
+{
+    let _ = write_unknown(fault, name);
+}
+
+/// Writes the line of an unknown key, which may have any length.
+fn write_unknown<F: Sink>(fault: &mut F, name: &[u8]) -> Result<(), WriteFailed>
+    ensures written { OnOk result (IsWritten (F.told fault.old) (F.told fault.new) (unknown_line name.now)) }
+    ensures cut { OnErr result (IsCut (F.told fault.old) (F.told fault.new) (unknown_line name.now)) }
+{
+    write_text(fault, b"config: unknown ")?;
+    write_text(fault, name)?;
+    write_text(fault, b"\n")
+}
+
+/// The line of a key with a wrong value, but for its end.
+#[tactic(auto, using(crate::proofs::FaultLemmas::short_name))]
+fn bad_key(key: ConfigKey) -> Line
+    ensures text { result.text.items ≡ codes "config: bad " ++ key_name key }
+    ensures bound { length result.text.items ≤ 30 }
+{
+    Line::of_word(b"config:")
+        .word(b"bad")
+        .word(key.name().as_bytes())
+}
+
+/// The line of an entry with a wrong value.
+fn bad_entry(key: ConfigKey, place: u64) -> LineText
+    ensures { result.items ≡ codes "config: bad " ++ key_name key ++ codes " " ++ decimal place ++ codes "\n" }
+{
+    bad_key(key).number(place).end()
+}
+
+/// The line of a line that is no event.
+fn not_an_event(line: u64) -> LineText
+    ensures { result.items ≡ codes "line " ++ decimal line ++ codes ": not an event\n" }
+{
+    Line::of_word(b"line")
+        .number(line)
+        .colon()
+        .word(b"not")
+        .word(b"an")
+        .word(b"event")
+        .end()
+}
