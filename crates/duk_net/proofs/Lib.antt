@@ -3,3 +3,17 @@ mod PlaceLemmas
 mod UpLemmas
 mod LoadLemmas
 mod RunLemmas
+mod StepLemmas
+mod ReachLemmas
+mod OwnerStays
+mod ActsLemmas
+mod SafeLemmas
+mod TermSafeLemmas
+mod LoadSafeLemmas
+mod BeginSafeLemmas
+mod WorldSafeLemmas
+mod UnusedLemmas
+mod AcceptedLemmas
+mod OwnKeyLemmas
+mod PendingLemmas
+mod CompletedLemmas

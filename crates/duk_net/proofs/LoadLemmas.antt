@@ -1,10 +1,14 @@
 -- Why the host's security module issues no initial key.
-use Rattle.std.proofs.Common.{◌≡◌, ℕ, None, replicate, rules}
-use Rattle.duk_block.specs.KeyBlock.{FitsKeyBlock}
-use Rattle.duk_hsm.specs.Commands.{IssueRefused}
+use Rattle.std.proofs.Common.{◌≡◌, ℕ, List, None, replicate, rules}
+use Rattle.duk_block.specs.KeyBlock.{FitsKeyBlock, IsKeyBlock}
+use Rattle.duk_block.specs.declared.header.Header.{Header}
+use Rattle.duk_hsm.specs.Commands.{IsIssued, IssueRefused}
 use Rattle.duk_hsm.specs.Keys.{HsmKeys, iksn_prefix_of, key_set_of}
 use Rattle.duk_hsm.specs.declared.fault.HsmFault.{HsmFault}
 use Rattle.duk_hsm.specs.declared.fault.HsmFault.TheVariants as fault
+use Rattle.duk_tdes.specs.Tdes.{IsTdesKey}
+use Rattle.duk_term.specs.Loading.{WrapsInitialKey}
+use Rattle.duk_net.specs.InitialKey.{IsInitialKeyOf}
 
 fits : FitsKeyBlock 16 6
 fits = search rules
@@ -21,3 +25,18 @@ no_key_set keys iksn fault.NoZone refused = absurd refused
 no_key_set keys iksn fault.BadCounter refused = absurd refused
 no_key_set keys iksn fault.BadMac refused = absurd refused
 no_key_set keys iksn fault.BadPinBlock refused = absurd refused
+
+-- under one key a text is a key block of at most one header and one key
+abbrev pub OneKeyBlock : Type 0
+OneKeyBlock = (text protection_key : List ℕ) (header other_header : Header) (key other_key : List ℕ) → IsTdesKey protection_key
+    → IsKeyBlock text protection_key header key → IsKeyBlock text protection_key other_header other_key → (header ≡ other_header) × (key ≡ other_key)
+
+-- a terminal finds no other key in what is issued for it than its own initial key
+pub own_key : (keys : HsmKeys) (iksn : ℕ) (loading padding text : List ℕ) → OneKeyBlock → IsTdesKey loading → IsIssued keys iksn loading padding text
+    → (initial : List ℕ) → WrapsInitialKey loading text initial → IsInitialKeyOf keys iksn initial
+own_key keys iksn loading padding text one loading_is issued initial wrapped = record {
+  bdk = issued.bdk;
+  held = issued.held;
+  initial_is = (one text loading _ _ _ _ loading_is wrapped.wraps.block issued.written.block).1;
+  is_key = record { size_is = wrapped.use_is.length_is; bytes_fit = wrapped.wraps.block.key_is.bytes_fit };
+}

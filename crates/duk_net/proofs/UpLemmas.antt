@@ -9,7 +9,7 @@ use Rattle.duk_net.specs.Up.{AnswersAs, IsAnswered, Ups, answer_outcome}
 use Rattle.duk_net.specs.World.{Frame, IsAt, Meanings, WorldOf}
 
 -- bytes are the frame of at most one answer
-abbrev OneReading : Type 0
+abbrev pub OneReading : Type 0
 OneReading = (bytes : List ℕ) (answer other : AnswerFrame) → IsAnswer bytes answer → IsAnswer bytes other → answer ≡ other
 
 -- what the host does is told by what its frame says

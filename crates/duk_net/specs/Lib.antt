@@ -1,6 +1,7 @@
 pub mod Owner
 pub mod World
 pub mod First
+pub mod InitialKey
 pub mod Load
 pub mod Begin
 pub mod Up
@@ -10,3 +11,10 @@ pub mod Arm
 pub mod Step
 pub mod Run
 pub mod InMemory
+pub mod Reached
+pub mod Gained
+pub mod UsedNumbers
+pub mod UnusedKeys
+pub mod Accepted
+pub mod OwnKey
+pub mod Completed

@@ -5,8 +5,10 @@ use Rattle.duk_hsm.specs.Keys.{iksn_prefix_of, key_set_of}
 use Rattle.duk_store.specs.Cell.{Kept}
 use Rattle.duk_store.specs.Meaning.{Meaning}
 use Rattle.duk_term.specs.Load.{IsLoaded, LoadRefused, Loading, loading_of}
+use Rattle.duk_term.specs.Loading.{WrapsInitialKey}
 use Rattle.duk_term.specs.Terminal.{Term}
 use Rattle.duk_term.specs.declared.fault.TermFault.TheVariants.{Store}
+use Rattle.duk_net.specs.InitialKey.{IsInitialKeyOf}
 use Rattle.duk_net.specs.Owner.{IsElsewhere, owned_by}
 use Rattle.duk_net.specs.World.{Acts, FindsNoTerminal, Has, Meanings, WorldOf}
 use Rattle.duk_net.specs.declared.owner.Owner.{Owner}
@@ -18,11 +20,13 @@ pub record MayLoad {C L I : Type 0} (old : WorldOf C L I) (t iksn : ℕ) : Type 
   pub there : Has old.terminals t
   pub not_elsewhere : ¬ IsElsewhere old.owners iksn t
 
--- what the terminal is given: the key block that the host's security module issues under the loading key, with six zero bytes of padding
+-- what the terminal is given: the key block that the host's security module issues under the loading key, with six zero bytes of padding.
+-- A terminal finds no other key in it than its own initial key
 pub record IsIssuedFor {C L I : Type 0} (old : WorldOf C L I) (iksn : ℕ) (asked : Loading) : Type 0 where
   pub block : List ℕ
   pub issued : IsIssued old.host.keys iksn old.loading (replicate 6 0) block
   pub asked_is : asked ≡ loading_of old.loading block iksn
+  pub own_key : (initial : List ℕ) → WrapsInitialKey old.loading block initial → IsInitialKeyOf old.host.keys iksn initial
 
 -- what the terminal makes of it
 abbrev pub TakesLoad : {C : Type 0} → (C → Meaning Kept) → (C → Type 0) → ℕ → Loading → Outcome → Term C → Term C → Type 0

@@ -6,6 +6,7 @@
 
 mod event;
 mod host_events;
+pub mod laws;
 mod outcome;
 mod owner;
 mod places;

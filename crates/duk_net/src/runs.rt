@@ -1,12 +1,20 @@
 //! Runs of events.
 
-ghost use Rattle.std.specs.Prelude.{◌≡◌, ◌++◌, ◌∷◌, [], IfOk, IfErr, OnErr};
+ghost use Rattle.std.specs.Prelude.{◌≡◌, ◌++◌, ◌∷◌, [], ℕ, All, Some, IfOk, IfErr, OnErr};
 ghost use Rattle.duk_host.specs.Host.{words_of};
+ghost use Rattle.duk_net.specs.Accepted.{AcceptsOnce, KeepsAccepted};
+ghost use Rattle.duk_net.specs.Completed.{Completed};
+ghost use Rattle.duk_net.specs.Gained.{EachGained, HoldsOfGained};
+ghost use Rattle.duk_net.specs.UsedNumbers.{IsSentByOwner, NoneTwice};
+ghost use Rattle.duk_net.specs.Owner.{owner_of};
+ghost use Rattle.duk_net.specs.OwnKey.{IsOwnReply, IsOwnRequest, IsRefusedAsUsedOrFull};
 ghost use Rattle.duk_net.specs.Run.{IsLeft, IsRun, IsStepInto, RunRefused};
 ghost use Rattle.duk_net.specs.Step.{Step};
+ghost use Rattle.duk_net.specs.UnusedKeys.{HoldNoUsedKey, HoldsOfTerminal, StandsAboveUsed};
 ghost use Rattle.duk_net.specs.World.{meanings_of};
 
 use crate::event::{End, Event};
+use crate::laws;
 use crate::outcome::Outcome;
 use crate::places::push_within;
 use crate::system::System;
@@ -29,6 +37,11 @@ pub enum NetFault {
 }
 
 /// Lets the events happen to a world, one after the other, and puts what comes of each at the end of `out`.
+///
+/// What holds of a world and of this call, whatever the events are and however it ends: no two transactions use one
+/// number; the host accepts each number at most once, and each request and reply is made under the terminal's own key; a
+/// terminal completes only with the host's reply to its number; and no terminal holds, or may find after a stop, the key
+/// of a used number or of an ancestor of one.
 pub fn run<const N: usize, C: Cell, L: UsedLog, I: Issuer>(
     world: &mut World<N, C, L, I>,
     events: &[Event],
@@ -40,7 +53,36 @@ pub fn run<const N: usize, C: Cell, L: UsedLog, I: Issuer>(
     ensures refused { IfErr result (RunRefused
         (meanings_of C.meaning C.worn C.arms (words_of L.meaning L.count L.capacity I.decides) L.arms)
         world.old events.now out.old.items out.new.items world.new) }
+    ensures none_twice { NoneTwice world.new.requests }
+    ensures owners_stay { (iksn t : ℕ)
+        → owner_of world.old.owners iksn ≡ Some t → owner_of world.new.owners iksn ≡ Some t }
+    ensures keys_stay { world.new.host.keys ≡ world.old.host.keys }
+    ensures by_owner { EachGained (IsSentByOwner world.new.owners) out.old.items out.new.items }
+    ensures accepted_once { HoldsOfGained (AcceptsOnce world.old.answers) out.old.items out.new.items }
+    ensures accepted_is_kept { KeepsAccepted
+        (meanings_of C.meaning C.worn C.arms (words_of L.meaning L.count L.capacity I.decides) L.arms)
+        world.new }
+    ensures own_requests { All (IsOwnRequest world.new.host.keys) world.new.requests }
+    ensures own_replies { All (IsOwnReply world.new.host.keys) world.new.answers }
+    ensures refusals { EachGained IsRefusedAsUsedOrFull out.old.items out.new.items }
+    ensures completed { HoldsOfGained
+        (Completed
+        (meanings_of C.meaning C.worn C.arms (words_of L.meaning L.count L.capacity I.decides) L.arms)
+        world.old world.new.terminals)
+        out.old.items out.new.items }
+    ensures above_used { All (HoldsOfTerminal
+        (meanings_of C.meaning C.worn C.arms (words_of L.meaning L.count L.capacity I.decides) L.arms)
+        (StandsAboveUsed world.new.host.keys world.new.requests)) world.new.terminals }
+    ensures no_used_key { All (HoldsOfTerminal
+        (meanings_of C.meaning C.worn C.arms (words_of L.meaning L.count L.capacity I.decides) L.arms)
+        (HoldNoUsedKey world.new.host.keys world.new.requests)) world.new.terminals }
 {
+    laws::no_number_twice::<C, L, I>();
+    laws::no_used_key::<C, L, I>();
+    laws::accepted_once::<C, L, I>();
+    laws::own_key::<C, L, I>();
+    laws::completed::<C, L, I>();
+    laws::what_stays::<C, L, I>();
     run_system(&mut world.system, events, out)
 }
 

@@ -67,6 +67,8 @@ impl<const N: usize, C: Cell, L: UsedLog, I: Issuer> System<N, C, L, I> {
             return Ok(Outcome::IksnElsewhere { t });
         }
         self.owners.reserve(1)?;
+        duk_block::laws::one_reading();
+        duk_block::laws::tdes_key(&self.loading);
         let Ok(block) = self.host.hsm().issue(iksn, &self.loading, &PADDING) else {
             return Ok(Outcome::NoKeySet { t });
         };

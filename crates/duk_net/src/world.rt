@@ -1,10 +1,15 @@
 //! A world of terminals and one host.
 
-ghost use Rattle.std.specs.Prelude.{◌≡◌};
+ghost use Rattle.std.specs.Prelude.{◌≡◌, All};
 ghost use Rattle.duk_host.specs.Host.{words_of};
+ghost use Rattle.duk_net.specs.Accepted.{KeepsAccepted};
 ghost use Rattle.duk_net.specs.First.{IsFirst, first_world};
+ghost use Rattle.duk_net.specs.UsedNumbers.{NoneTwice};
+ghost use Rattle.duk_net.specs.OwnKey.{IsOwnReply, IsOwnRequest};
+ghost use Rattle.duk_net.specs.UnusedKeys.{HoldNoUsedKey, HoldsOfTerminal, StandsAboveUsed};
 ghost use Rattle.duk_net.specs.World.{meanings_of};
 
+use crate::laws;
 use crate::owner::Owner;
 use crate::system::System;
 use duk_frame::Frame;
@@ -23,11 +28,17 @@ pub struct World<const N: usize, C: Cell, L: UsedLog, I: Issuer> {
 }
 
 impl<const N: usize, C: Cell, L: UsedLog, I: Issuer> Model for World<N, C, L, I> {
-    ghost use Rattle.duk_net.specs.World.{WorldOf};
+    ghost use Rattle.duk_host.specs.Host.{words_of};
+    ghost use Rattle.duk_net.specs.Reached.{Reached};
+    ghost use Rattle.duk_net.specs.World.{WorldOf, meanings_of};
 
     ghost Value = { WorldOf C L I };
 
     ghost view = { λ world. world.system };
+
+    ghost invariant = { λ world. Reached
+        (meanings_of C.meaning C.worn C.arms (words_of L.meaning L.count L.capacity I.decides) L.arms)
+        world.system };
 }
 
 impl<const N: usize, C: Cell, L: UsedLog, I: Issuer> World<N, C, L, I> {
@@ -43,8 +54,24 @@ impl<const N: usize, C: Cell, L: UsedLog, I: Issuer> World<N, C, L, I> {
         requires first { IsFirst
             (meanings_of C.meaning C.worn C.arms (words_of L.meaning L.count L.capacity I.decides) L.arms)
             (first_world host loading terminals.items) }
-        ensures { result ≡ first_world host loading terminals.items }
+        ensures first { result ≡ first_world host loading terminals.items }
+        ensures none_twice { NoneTwice result.requests }
+        ensures accepted_is_kept { KeepsAccepted
+            (meanings_of C.meaning C.worn C.arms (words_of L.meaning L.count L.capacity I.decides) L.arms)
+            result }
+        ensures own_requests { All (IsOwnRequest result.host.keys) result.requests }
+        ensures own_replies { All (IsOwnReply result.host.keys) result.answers }
+        ensures above_used { All (HoldsOfTerminal
+            (meanings_of C.meaning C.worn C.arms (words_of L.meaning L.count L.capacity I.decides) L.arms)
+            (StandsAboveUsed result.host.keys result.requests)) result.terminals }
+        ensures no_used_key { All (HoldsOfTerminal
+            (meanings_of C.meaning C.worn C.arms (words_of L.meaning L.count L.capacity I.decides) L.arms)
+            (HoldNoUsedKey result.host.keys result.requests)) result.terminals }
     {
+        laws::no_number_twice::<C, L, I>();
+        laws::no_used_key::<C, L, I>();
+        laws::accepted_once::<C, L, I>();
+        laws::own_key::<C, L, I>();
         World {
             system: System {
                 host,

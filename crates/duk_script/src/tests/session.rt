@@ -5,7 +5,7 @@ use crate::tests::config::{BDK, CARD, KEYS, joined};
 use std::alloc::Global;
 use std::test::Fail;
 
-const SIZES: &str = "terminals = 2\nlog = 100\n";
+pub(super) const SIZES: &str = "terminals = 2\nlog = 100\n";
 
 const ONE_NUMBER: &str = "terminals = 2\nlog = 1\n";
 
@@ -42,7 +42,7 @@ no such terminal
 ",
 );
 
-const ANY_ORDER: (&str, &str) = (
+pub(super) const ANY_ORDER: (&str, &str) = (
     "load t1 FFFF9876543210E00000
 begin t1 4012345678909 1234 1
 begin t1 4012345678909 1234 1
@@ -92,7 +92,7 @@ answer 4 accepted FFFF9876543210E00004 14
 ",
 );
 
-const STOPS_OF_A_TERMINAL: (&str, &str) = (
+pub(super) const STOPS_OF_A_TERMINAL: (&str, &str) = (
     "load t1 FFFF9876543210E00000
 begin t1 4012345678909 1234 1
 arm t1 0
@@ -119,7 +119,7 @@ t1 sent 3 FFFF9876543210E00004
 ",
 );
 
-const STOPS_OF_THE_HOST: (&str, &str) = (
+pub(super) const STOPS_OF_THE_HOST: (&str, &str) = (
     "load t1 FFFF9876543210E00000
 begin t1 4012345678909 1234 1
 begin t1 4012345678909 1234 1

@@ -2,7 +2,7 @@ use Rattle.std.proofs.Common.{◌≡◌, true, false, None, refl, inl, inr, sym,
 use Rattle.duk_hsm.specs.Commands.{IsIssued}
 use Rattle.duk_hsm.specs.Keys.{iksn_prefix_of, key_set_of}
 use Rattle.duk_net.specs.Owner.{IsElsewhere}
-use Rattle.duk_net.proofs.LoadLemmas.{no_key_set}
+use Rattle.duk_net.proofs.LoadLemmas.{no_key_set, own_key}
 use Rattle.duk_net.proofs.PlaceLemmas.{acts_at, has_one}
 use Rattle.duk_net.proofs.system.System.load.Goals as goal
 
@@ -35,6 +35,8 @@ returns-in_default-issue-clause-outcome g c =
 pub returns-clause-outcome : goal.returns-clause-outcome
 returns-clause-outcome g c =
     let terminals = c.self.inside.terminals in
+    let issued = subst (λ keys. IsIssued keys c.args.iksn c.self.inside.loading (replicate 6 0) c.as_slice-2.result.now) c.hsm.ensures
+    (subst (λ text. IsIssued c.hsm.result.now c.args.iksn c.self.inside.loading (replicate 6 0) text) (sym c.as_slice-2.ensures.value) c.in-Ok.ensures.issued) in
     rw (← c.self.view_is) (inr (inr (inr (record {
       asked = _;
       may = record {
@@ -43,9 +45,9 @@ returns-clause-outcome g c =
       };
       issued = record {
         block = c.as_slice-2.result.now;
-        issued = subst (λ keys. IsIssued keys c.args.iksn c.self.inside.loading (replicate 6 0) c.as_slice-2.result.now) c.hsm.ensures
-            (subst (λ text. IsIssued c.hsm.result.now c.args.iksn c.self.inside.loading (replicate 6 0) text) (sym c.as_slice-2.ensures.value) c.in-Ok.ensures.issued);
+        issued = issued;
         asked_is = refl;
+        own_key = own_key c.self.inside.host.keys c.args.iksn c.self.inside.loading (replicate 6 0) c.as_slice-2.result.now c.one_reading.ensures c.tdes_key.ensures.key issued;
       };
       terminal = acts_at c.args.t c.in-Some.place c.len.result _ terminals.items c.index_mut-terminal.result.now _ c.in-Some.ensures.0 c.in-Some.ensures.1 (c.len.ensures ∙ terminals.ok.0) c.index_mut-terminal.ensures.value c.load-outcome.ensures;
       rest = rw (c.record_owner.ensures, c.reserve.ensures.items) refl;

@@ -1,0 +1,29 @@
+use Rattle.std.proofs.Common.{inl, refl}
+use Rattle.duk_host.specs.Host.{words_of}
+use Rattle.duk_pin.specs.PinBlock.{pin_block}
+use Rattle.duk_net.specs.World.{meanings_of}
+use Rattle.duk_net.proofs.OwnKeyLemmas.{KeyLaws, leads_refuses, reached_own}
+use Rattle.duk_net.proofs.laws.own_key.Goals as goal
+use Rattle.duk_net.proofs.laws.own_key.Goals.{After-inverse}
+
+laws_of : (g : _) → After-inverse g → KeyLaws (meanings_of g.C.Cell.meaning g.C.Cell.worn g.C.Cell.arms (words_of g.L.UsedLog.meaning g.L.UsedLog.count g.L.UsedLog.capacity g.I.Issuer.decides) g.L.UsedLog.arms)
+laws_of g c = record {
+  stands = c.no_used_key.ensures.above;
+  one_request = c.one_reading.ensures.request;
+  one_answer = c.one_reading.ensures.answer;
+  prefixes = c.prefixes.ensures;
+  node = c.keys.ensures.node;
+  pin_key = c.keys.ensures.pin;
+  deciphered = λ key pin pan is_key is.
+      let block = c.eight_bytes.ensures pin pan (pin_block pin pan) is in
+      c.inverse.ensures.deciphered 16 key (pin_block pin pan) (inl refl) is_key (record { eight = block.0; bytes_fit = block.1 });
+}
+
+pub returns-clause-requests : goal.returns-clause-requests
+returns-clause-requests g c = λ world reached. (reached_own _ (laws_of g c) world reached).0
+
+pub returns-clause-replies : goal.returns-clause-replies
+returns-clause-replies g c = λ world reached. (reached_own _ (laws_of g c) world reached).1
+
+pub returns-clause-refused : goal.returns-clause-refused
+returns-clause-refused g c = leads_refuses _ (laws_of g c)
