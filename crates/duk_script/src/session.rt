@@ -1,6 +1,6 @@
 //! A script, from its bytes to the lines of its outcomes.
 
-ghost use Rattle.std.specs.Prelude.{◌≡◌, OnOk, IfErr};
+ghost use Rattle.std.specs.Prelude.{◌≡◌, ◌⊎◌, OnOk, IfErr};
 ghost use Rattle.duk_block.specs.KeyBlock.{bytes_of};
 ghost use Rattle.duk_script.specs.OutcomeText.{lines_of};
 ghost use Rattle.duk_script.specs.Session.{IsDone, IsPlayed, IsRefused, PlayRefused, session};
@@ -78,10 +78,19 @@ fn play_under<const N: usize, W: Sink>(
     let mut outcomes = Vec::new(alloc);
     match run(&mut world, events, &mut outcomes) {
         Ok(()) => write_lines(writer, outcomes.as_slice()),
-        Err(_) => {
-            write_lines(writer, outcomes.as_slice())?;
-            Err(ScriptFault::NoMemory)
-        }
+        Err(_) => Err(write_done(writer, outcomes.as_slice())),
+    }
+}
+
+/// Writes the lines of the events that were done before memory was refused. Gives the fault to tell: that, or that the
+/// lines could not be written.
+fn write_done<W: Sink>(writer: &mut W, outcomes: &[Outcome]) -> ScriptFault
+    ensures { ((result ≡ ScriptFault.NoMemory) × IsWritten (W.told writer.old) (W.told writer.new) (lines_of outcomes.now))
+        ⊎ ((result ≡ ScriptFault.WriteFailed) × IsCut (W.told writer.old) (W.told writer.new) (lines_of outcomes.now)) }
+{
+    match write_lines(writer, outcomes) {
+        Ok(()) => ScriptFault::NoMemory,
+        Err(why) => why,
     }
 }
 

@@ -1,7 +1,7 @@
 //! Scripts that are run, under a configuration with two terminals and one card.
 
-use crate::run_script;
 use crate::tests::config::{BDK, CARD, KEYS, joined};
+use crate::{ScriptFault, run_script};
 use std::alloc::Global;
 use std::test::Fail;
 
@@ -212,6 +212,25 @@ fn a_script_that_is_too_long(rt: HostRuntime) -> Result<(), Fail> {
             output.extend_from_slice(format!(in rt.alloc(); "{fault}")?.as_bytes())?;
         }
         assert_eq!(rt; output.as_slice(), line.as_bytes());
+    }
+    Ok(())
+}
+
+/// Where memory is refused, nothing is written or the lines of the first events. Here it is ample, unless the tests run
+/// with an allocation that fails.
+#[test]
+fn refused_memory(rt: HostRuntime) -> Result<(), Fail> {
+    let config = joined(rt.alloc(), &[KEYS, SIZES, BDK, CARD])?;
+    let (script, lines) = ANY_ORDER;
+    let mut output = Vec::with_capacity(rt.alloc(), lines.len())?;
+    let mut input = script.as_bytes();
+    let result = run_script(rt.alloc(), config.as_bytes(), &mut input, &mut output);
+    if result.is_err() {
+        assert_eq!(rt; result, Err(ScriptFault::NoMemory));
+        assert!(rt; lines.as_bytes().starts_with(output.as_slice()));
+        assert!(rt; output.is_empty() || output.ends_with(b"\n"));
+    } else {
+        assert_eq!(rt; output.as_slice(), lines.as_bytes());
     }
     Ok(())
 }

@@ -1,6 +1,7 @@
 //! The command `run`.
 
 use crate::command::{Todo, command};
+use crate::files::run_files;
 use crate::run::run_status;
 use duk_script::{ConfigKey, ScriptFault, print_fault};
 use std::alloc::{AllocError, Global};
@@ -31,12 +32,18 @@ struct Ended {
     fault: Vec<u8>,
 }
 
-/// Runs a script under a configuration that is given in parts.
-fn run(alloc: Global, config: &[&str], script: &str) -> Result<Ended, AllocError> {
+/// The parts, one behind the other.
+fn joined(alloc: Global, parts: &[&str]) -> Result<String, AllocError> {
     let mut text = String::new(alloc);
-    for part in config {
+    for part in parts {
         text.push_str(part)?;
     }
+    Ok(text)
+}
+
+/// Runs a script under a configuration that is given in parts.
+fn run(alloc: Global, config: &[&str], script: &str) -> Result<Ended, AllocError> {
+    let text = joined(alloc, config)?;
     let mut reader = script.as_bytes();
     let mut output = Vec::new(alloc);
     let mut fault = Vec::new(alloc);
@@ -172,5 +179,49 @@ fn leaves_the_files_to_do(rt: HostRuntime) -> Result<(), Fail> {
     );
     assert!(rt; output.is_empty());
     assert!(rt; fault.is_empty());
+    Ok(())
+}
+
+#[test]
+fn tells_a_configuration_that_cannot_be_read(rt: HostRuntime) -> Result<(), Fail> {
+    for path in ["no such folder/bank.toml", "."] {
+        let mut output = Vec::new(rt.alloc());
+        let mut fault = Vec::new(rt.alloc());
+        let status = run_files(&rt, path, "no such script", &mut output, &mut fault);
+        assert_eq!(rt; status, 1, "{path}");
+        assert!(rt; output.is_empty(), "{path}");
+        assert_eq!(rt;
+            fault.as_slice(),
+            "config: cannot read\n".as_bytes(),
+            "{path}"
+        );
+    }
+    Ok(())
+}
+
+/// Where memory is refused, that is told behind the lines of the first events. Here it is ample, unless the tests run
+/// with an allocation that fails.
+#[test]
+fn tells_refused_memory(rt: HostRuntime) -> Result<(), Fail> {
+    let lines = "t1 loaded FFFF9876543210E00000\nt1 sent 1 FFFF9876543210E00001\n";
+    let config = joined(rt.alloc(), &[TOP, LOG, BDK, CARD])?;
+    let mut script = "load t1 FFFF9876543210E00000\nbegin t1 4012345678909 1234 500\n".as_bytes();
+    let mut output = Vec::with_capacity(rt.alloc(), lines.len())?;
+    let mut fault = Vec::with_capacity(rt.alloc(), 80)?;
+    let status = run_status(
+        rt.alloc(),
+        config.as_bytes(),
+        &mut script,
+        &mut output,
+        &mut fault,
+    );
+    if status == 0 {
+        assert_eq!(rt; output.as_slice(), lines.as_bytes());
+        assert!(rt; fault.is_empty());
+    } else {
+        assert!(rt; lines.as_bytes().starts_with(output.as_slice()));
+        assert!(rt; output.is_empty() || output.ends_with(b"\n"));
+        assert_eq!(rt; fault.as_slice(), "out of memory\n".as_bytes());
+    }
     Ok(())
 }

@@ -1,5 +1,4 @@
 use Rattle.std.proofs.Common.{inl, inr, subst}
-use Rattle.std.proofs.lemmas.Result.{err_from_is_err_and}
 use Rattle.duk_script.specs.OutcomeText.{lines_of}
 use Rattle.duk_script.specs.Sink.{IsCut}
 use Rattle.duk_script.proofs.PlayLemmas.{cut_off, if_err, on_ok, played, played_up_to}
@@ -17,16 +16,13 @@ returns-in-Ok-clause-refused g c =
     if_err _ _ (λ why cut. cut_off c.args.config c.args.events.now (told c.args.writer.now) (told c.write_lines.new.writer) c.run.new.out.items why (inl all)
     (cut.0, subst (λ outcomes. IsCut (told c.args.writer.now) (told c.write_lines.new.writer) (lines_of outcomes)) c.as_slice.ensures.value cut.1)) c.write_lines.result c.write_lines.ensures.cut
 
-pub returns-in_err-write_lines-in-Err-clause-refused : goal.returns-in_err-write_lines-in-Err-clause-refused
-returns-in_err-write_lines-in-Err-clause-refused g c =
-    let told = g.W.Sink.told in
-    let part = played_up_to c.args.config c.args.lmk.now c.in_ok-world.world c.run.new.world c.args.events.now c.new-outcomes.result.items c.run.new.out.items c.in-Err.field-0 c.requires.lmk c.in_ok-world.ensures.opened c.new-outcomes.ensures.items c.in-Err.ensures.refused in
-    let cut = c.in_err-write_lines-in-Err.ensures.cut in
-    let p = err_from_is_err_and c.from_residual-in_err-write_lines-in-Err.result c.from_residual-in_err-write_lines-in-Err.ensures.1 in
-    rw (p.1, p.2) (cut_off c.args.config c.args.events.now (told c.args.writer.now) (told c.write_lines-in-Err.new.writer) c.run.new.out.items _ (inr part)
-    (cut.0, subst (λ outcomes. IsCut (told c.args.writer.now) (told c.write_lines-in-Err.new.writer) (lines_of outcomes)) c.as_slice-in-Err.ensures.value cut.1))
-
 pub returns-clause-refused : goal.returns-clause-refused
 returns-clause-refused g c =
+    let told = g.W.Sink.told in
+    let lines = c.as_slice-in-Err.ensures.value in
     let part = played_up_to c.args.config c.args.lmk.now c.in_ok-world.world c.run.new.world c.args.events.now c.new-outcomes.result.items c.run.new.out.items c.in-Err.field-0 c.requires.lmk c.in_ok-world.ensures.opened c.new-outcomes.ensures.items c.in-Err.ensures.refused in
-    inr (record { outcomes = c.run.new.out.items; played = part; written = rw (← c.as_slice-in-Err.ensures.value) c.in_ok-write_lines-in-Err.ensures.written })
+    elim c.write_done.ensures [
+      | inl whole ↦ rw whole.0 (inr (record { outcomes = c.run.new.out.items; played = part; written = rw (← lines) whole.1 }))
+      | inr cut ↦ cut_off c.args.config c.args.events.now (told c.args.writer.now) (told c.write_done.new.writer) c.run.new.out.items _ (inr part)
+          (cut.0, subst (λ outcomes. IsCut (told c.args.writer.now) (told c.write_done.new.writer) (lines_of outcomes)) lines cut.1)
+    ]
