@@ -36,7 +36,7 @@ pub enum AnswerFrame {
     },
     /// The request was refused.
     Refusal {
-        /// The key serial number of the request.
+        /// The key serial number of the request, or that of ten zero bytes where the bytes were no request.
         ksn: Ksn,
         /// Why, from 1 to 6.
         reason: u8,

@@ -86,7 +86,7 @@ pub enum Outcome {
     },
     /// The host refused.
     HostFaulted(HostFault),
-    /// Another terminal was loaded with this initial key serial number.
+    /// Another terminal owns this initial key serial number.
     IksnElsewhere {
         /// The terminal that was to be loaded.
         t: u32,

@@ -10,7 +10,8 @@ use crate::places::push_within;
 use duk_term::TermFault;
 use duk_tree::Iksn;
 
-/// An initial key serial number, and the terminal that owns it: the one that was loaded with it.
+/// An initial key serial number, and the terminal that owns it: the one that was loaded with it, or whose store failed in
+/// that load.
 #[derive(Clone, Copy, Debug, PartialEq, Eq)]
 pub struct Owner {
     /// The initial key serial number.

@@ -27,8 +27,8 @@ use thiserror::Error;
 /// Why a run of events ends before its last.
 #[derive(Debug, Clone, Copy, PartialEq, Eq, Error)]
 pub enum NetFault {
-    /// Memory was refused to an event. So many events before it are done, and it is not: a world that is run again from
-    /// it on goes on as if it had not come. Of the host's restart it may leave the host stopped.
+    /// Memory was refused to an event: those before it are done, and it is not. A run from that event on goes on from
+    /// there. Only where it restarts the host, the host may be left stopped.
     #[error("NoMemory after {done}")]
     NoMemory {
         /// How many events are done.

@@ -98,7 +98,8 @@ impl<const N: usize, C: Cell, L: UsedLog, I: Issuer> World<N, C, L, I> {
         self.system.answers.as_slice()
     }
 
-    /// Which terminal owns which initial key serial number: the one that was loaded with it, whatever was restarted since.
+    /// Which terminal owns which initial key serial number: the one that was loaded with it, or whose store failed in that
+    /// load, whatever was restarted since.
     pub fn owners(&self) -> &[Owner]
         ensures { result.now ≡ self.now.owners }
     {

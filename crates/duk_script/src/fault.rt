@@ -70,7 +70,7 @@ pub enum ScriptFault {
     /// An entry of a key has a missing, unknown, wrong or repeated value. Entries are counted from 1.
     #[error("config: bad {0} {1}")]
     BadEntry(ConfigKey, u64),
-    /// A read of the script failed, or there were too many reads.
+    /// The script's file cannot be opened, or a read of it failed.
     #[error("script: cannot read")]
     CannotRead,
     /// The script has more than 1,048,576 bytes.
