@@ -5,7 +5,8 @@ use Rattle.duk_tdes.specs.declared.key.KeyBytes.{KeyBytes}
 use Rattle.duk_block.specs.declared.header.Header.{Header}
 use Rattle.duk_block.specs.declared.fault.BlockFault.{BlockFault}
 use Rattle.duk_block.specs.Faults.{IsFirstFault, Meets}
-use Rattle.duk_block.specs.KeyBlock.{IsKeyBlock, IsWithinLimits, bytes_of, key_from}
+use Rattle.duk_block.specs.KeyBlock.{IsKeyBlock, IsWithinLimits}
+use Rattle.duk_tdes.specs.KeyBytes.{bytes_of, key_from}
 use Rattle.duk_block.specs.Unwrapped.{ReadsKeyBlocks, RefusesFirstFaults}
 use Rattle.duk_block.proofs.FaultOrder.{IsFirstFault-same}
 

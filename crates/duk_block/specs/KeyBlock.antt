@@ -1,27 +1,16 @@
 -- Key blocks of version B (ANSI X9.143, key derivation binding method).
-use Rattle.std.specs.Prelude.{◌≡◌, ◌<◌, ◌≤◌, ◌+◌, ◌*◌, ◌%◌, ◌^◌, ℕ, List, [], ◌++◌, length, codes, ◌==◌, if◌then◌else◌}
+use Rattle.std.specs.Prelude.{◌≡◌, ◌<◌, ◌≤◌, ◌+◌, ◌*◌, ◌%◌, ◌^◌, ℕ, List, [], ◌++◌, length, codes}
 use Rattle.std.specs.Int.{w16, to_be_bytes}
 use Rattle.std.specs.List.{All, concat}
 use Rattle.hex.specs.Hex.{encode_upper}
 use Rattle.duk_mac.specs.Cmac.{cmac_of}
 use Rattle.duk_tdes.specs.Cbc.{AreWholeBlocks, cbc_encrypted}
 use Rattle.duk_tdes.specs.Tdes.{IsTdesKey}
-use Rattle.duk_tdes.specs.declared.key.KeyBytes.{KeyBytes}
-use Rattle.duk_tdes.specs.declared.key.KeyBytes.TheVariants.{Double, Triple}
 use Rattle.duk_block.specs.declared.header.Header.{Header}
 use Rattle.duk_block.specs.Derived.{derived_key, encryption_usage, mac_usage}
 use Rattle.duk_block.specs.HeaderText.{IsHeader, header_text}
 use Rattle.duk_block.specs.Hexadecimal.{IsHexadecimal}
 use Rattle.duk_block.specs.Optional.{IsOptionalBlock}
-
--- the bytes of a key of either length
-abbrev pub bytes_of : KeyBytes → List ℕ
-bytes_of (Double key) = key
-bytes_of (Triple key) = key
-
--- a key of these bytes, by their number
-abbrev pub key_from : List ℕ → KeyBytes
-key_from bytes = if length bytes == 16 then Double bytes else Triple bytes
 
 -- the payload: the key's length in bits as two bytes, the key, and padding
 abbrev pub payload_of : List ℕ → List ℕ → List ℕ

@@ -4,7 +4,8 @@ use Rattle.duk_tdes.specs.declared.key.KeyBytes.{KeyBytes}
 use Rattle.duk_block.specs.declared.header.Header.{Header}
 use Rattle.duk_block.specs.declared.fault.BlockFault.{BlockFault}
 use Rattle.duk_block.specs.Faults.{IsFirstFault}
-use Rattle.duk_block.specs.KeyBlock.{IsKeyBlock, IsWithinLimits, key_from}
+use Rattle.duk_block.specs.KeyBlock.{IsKeyBlock, IsWithinLimits}
+use Rattle.duk_tdes.specs.KeyBytes.{key_from}
 
 -- where the text is a key block within the limits, its header and key are the answer
 abbrev pub ReadsKeyBlocks : Result (Header × KeyBytes) BlockFault → List ℕ → List ℕ → Type 0

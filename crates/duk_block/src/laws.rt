@@ -1,21 +1,10 @@
 //! Laws of key blocks, each the contract of a function that does nothing.
 
-ghost use Rattle.std.specs.Prelude.{◌≡◌, ℕ, List, length};
-ghost use Rattle.duk_tdes.specs.Tdes.{IsTdesKey, IsTdesLength};
+ghost use Rattle.std.specs.Prelude.{◌≡◌, ℕ, List};
+ghost use Rattle.duk_tdes.specs.Tdes.{IsTdesKey};
 ghost use Rattle.duk_block.specs.declared.header.Header.{Header};
 ghost use Rattle.duk_block.specs.Derived.{derived_key, encryption_usage, mac_usage};
 ghost use Rattle.duk_block.specs.KeyBlock.{IsKeyBlock};
-
-use duk_tdes::Key;
-
-/// The bytes of a key of 16 or 24 bytes are those of a TDES key, as many as its type says.
-pub fn tdes_key<const N: usize>(key: &Key<N>)
-    requires { IsTdesLength N }
-    ensures key { IsTdesKey key.now }
-    ensures size { length key.now ≡ N }
-{
-    key.bytes();
-}
 
 /// The keys derived for enciphering and for MACs are TDES keys.
 pub fn derived_keys()

@@ -3,7 +3,8 @@
 ghost use Rattle.std.specs.Prelude.{◌≡◌, ◌≤◌, ℕ, List, IfSome, MatchOption, length};
 ghost use Rattle.duk_tdes.specs.Tdes.{IsTdesKey, IsTdesLength};
 ghost use Rattle.duk_block.specs.Faults.{Carries};
-ghost use Rattle.duk_block.specs.KeyBlock.{bytes_of, key_from, payload_of};
+ghost use Rattle.duk_block.specs.KeyBlock.{payload_of};
+ghost use Rattle.duk_tdes.specs.KeyBytes.{bytes_of, key_from};
 
 use crate::digits::append;
 use arrayvec::ArrayVec;

@@ -5,7 +5,8 @@ ghost use Rattle.std.specs.List.{AllPass};
 ghost use Rattle.hex.specs.Hex.{is_hex_digit};
 ghost use Rattle.duk_tdes.specs.Tdes.{IsTdesLength};
 ghost use Rattle.duk_block.specs.Hexadecimal.{IsHexadecimal};
-ghost use Rattle.duk_block.specs.KeyBlock.{IsKeyBlock, IsWithinLimits, bytes_of, key_from};
+ghost use Rattle.duk_block.specs.KeyBlock.{IsKeyBlock, IsWithinLimits};
+ghost use Rattle.duk_tdes.specs.KeyBytes.{bytes_of, key_from};
 ghost use Rattle.duk_block.specs.Faults.{Carries, HasBody, HasCount, HasHeader, HasPayload, IsFirstFault, MetBefore};
 ghost use Rattle.duk_block.specs.Unwrapped.{ReadsKeyBlocks, RefusesFirstFaults};
 
@@ -32,7 +33,7 @@ pub fn unwrap<const N: usize>(kbpk: &Key<N>, text: &[u8]) -> Result<(Header, Key
     ensures only { ReadsKeyBlocks result text.now kbpk.now }
     ensures refused { RefusesFirstFaults result text.now kbpk.now }
 {
-    laws::tdes_key(kbpk);
+    duk_tdes::laws::tdes_key(kbpk);
     laws::derived_keys();
     laws::one_reading();
     duk_tdes::laws::cbc_inverse();

@@ -19,8 +19,8 @@ pub enum Code {
 }
 
 impl Code {
-    /// The two digits.
-    pub(crate) fn text(self) -> [u8; 2]
+    /// The two digits, as ASCII.
+    pub fn text(self) -> [u8; 2]
         ensures text { result ≡ code_text self }
     {
         match self {

@@ -8,11 +8,11 @@ ghost use Rattle.duk_frame.specs.Frame.{mac_text_of};
 use arrayvec::ArrayVec;
 use byteorder::{BigEndian, ByteOrder};
 
-/// The most bytes of a frame.
-const MOST: usize = 64;
+/// The bytes that a frame has room for. The longest, a request with a PAN of 19 digits, has 54.
+const FRAME_ROOM: usize = 64;
 
 /// A whole frame with its length.
-pub type Frame = ArrayVec<u8, 64>;
+pub type Frame = ArrayVec<u8, FRAME_ROOM>;
 
 /// The first byte of every body.
 const VERSION: u8 = 1;
@@ -39,7 +39,7 @@ pub(crate) fn begin_frame(length: u16, kind: u8) -> Frame
 
 /// Appends bytes to a frame that has room for them.
 pub(crate) fn append(frame: &mut Frame, bytes: &[u8])
-    requires { array_vec_len frame.old + length bytes.now ≤ MOST }
+    requires { array_vec_len frame.old + length bytes.now ≤ FRAME_ROOM }
     ensures bytes { frame.new.items ≡ frame.old.items ++ bytes.now }
     ensures len { array_vec_len frame.new ≡ array_vec_len frame.old + length bytes.now }
 {

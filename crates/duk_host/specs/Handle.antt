@@ -65,11 +65,7 @@ pub record IsNotKept {L I : Type 0} (words : Words L I) (old new : HostOf L I) (
 abbrev pub KeepRefused : {L I : Type 0} → Words L I → HostOf L I → HostOf L I → Serial → HostFault → Type 0
 KeepRefused words old new ksn fault.NoMemory = new ≡ old
 KeepRefused words old new ksn (fault.Store why) = IsNotKept words old new ksn why
-KeepRefused words old new ksn fault.Stopped = ⊥
-KeepRefused words old new ksn fault.Read = ⊥
-KeepRefused words old new ksn fault.Write = ⊥
-KeepRefused words old new ksn fault.Truncated = ⊥
-KeepRefused words old new ksn fault.TooLong = ⊥
+KeepRefused words old new ksn _ = ⊥
 
 -- a request is to be accepted, and its number is not kept
 pub record AcceptFailed {L I : Type 0} (words : Words L I) (bytes : List ℕ) (old new : HostOf L I) (why : HostFault) : Type 0 where
@@ -83,7 +79,4 @@ abbrev pub HandleRefused : {L I : Type 0} → Words L I → List ℕ → HostOf 
 HandleRefused words bytes old new fault.Stopped = (old.used ≡ None) × (new ≡ old)
 HandleRefused words bytes old new fault.NoMemory = AcceptFailed words bytes old new fault.NoMemory
 HandleRefused words bytes old new (fault.Store why) = AcceptFailed words bytes old new (fault.Store why)
-HandleRefused words bytes old new fault.Read = ⊥
-HandleRefused words bytes old new fault.Write = ⊥
-HandleRefused words bytes old new fault.Truncated = ⊥
-HandleRefused words bytes old new fault.TooLong = ⊥
+HandleRefused words bytes old new _ = ⊥

@@ -58,23 +58,18 @@ pub record HasNoRoom (bench : Bench) (request : Request) : Type 0 where
   pub fresh : ¬ bench.used request.ksn
   pub full : bench.room ≡ 0
 
--- the least reason against the MAC of a request
-abbrev pub MacRefused : HsmKeys → Request → Reason → Type 0
-MacRefused keys request reason.UnknownKeySet = key_set_of keys (prefix_of request.ksn) ≡ None
-MacRefused keys request reason.BadCounter = HasBadCounter keys request.ksn
-MacRefused keys request reason.BadMac = IsOtherMac keys request.ksn (text_of request) request.mac
-MacRefused keys request reason.Malformed = ⊥
-MacRefused keys request reason.Used = ⊥
-MacRefused keys request reason.LogFull = ⊥
+-- the least reason against the MAC of a request: each says that those before it do not hold
+abbrev pub IsReasonAgainstMac : HsmKeys → Request → Reason → Type 0
+IsReasonAgainstMac keys request reason.UnknownKeySet = key_set_of keys (prefix_of request.ksn) ≡ None
+IsReasonAgainstMac keys request reason.BadCounter = HasBadCounter keys request.ksn
+IsReasonAgainstMac keys request reason.BadMac = IsOtherMac keys request.ksn (text_of request) request.mac
+IsReasonAgainstMac keys request _ = ⊥
 
--- the least reason against a request: each says that those before it do not hold
-abbrev pub Refuses : Bench → Request → Reason → Type 0
-Refuses bench request reason.Malformed = ⊥
-Refuses bench request reason.UnknownKeySet = key_set_of bench.keys (prefix_of request.ksn) ≡ None
-Refuses bench request reason.BadCounter = HasBadCounter bench.keys request.ksn
-Refuses bench request reason.BadMac = IsOtherMac bench.keys request.ksn (text_of request) request.mac
-Refuses bench request reason.Used = IsUsedAgain bench request
-Refuses bench request reason.LogFull = HasNoRoom bench request
+-- the least reason against a request: one against its MAC, or else that its number is used, or else that there is no room for it
+abbrev pub IsReasonAgainst : Bench → Request → Reason → Type 0
+IsReasonAgainst bench request reason.Used = IsUsedAgain bench request
+IsReasonAgainst bench request reason.LogFull = HasNoRoom bench request
+IsReasonAgainst bench request why = IsReasonAgainstMac bench.keys request why
 
 -- the frame of a refusal
 abbrev pub refusal_frame : List ℕ → Reason → List ℕ
@@ -95,7 +90,7 @@ pub record IsRefusedRequest (bench : Bench) (bytes frame : List ℕ) : Type 0 wh
   pub request : Request
   pub reason : Reason
   pub is_request : IsRequest bytes request
-  pub refuses : Refuses bench request reason
+  pub refuses : IsReasonAgainst bench request reason
   pub is_refusal : IsRefusal frame request.ksn (reason_number reason)
   pub frame_is : frame ≡ refusal_frame (serial_bytes request.ksn) reason
 

@@ -29,11 +29,7 @@ pub record IsBadNumber (used : List ℕ) (ksn : Serial) : Type 0 where
 abbrev pub TakeInRefused : List ℕ → Serial → HostFault → Type 0
 TakeInRefused used ksn fault.NoMemory = Unit {0}
 TakeInRefused used ksn (fault.Store why) = (why ≡ Damaged) × IsBadNumber used ksn
-TakeInRefused used ksn fault.Stopped = ⊥
-TakeInRefused used ksn fault.Read = ⊥
-TakeInRefused used ksn fault.Write = ⊥
-TakeInRefused used ksn fault.Truncated = ⊥
-TakeInRefused used ksn fault.TooLong = ⊥
+TakeInRefused used ksn _ = ⊥
 
 -- the number at a place of the log is read, and taken in
 pub record IsReadOne (old new : Meaning Numbers) (place : ℕ) (used more : List ℕ) : Type 0 where
@@ -51,11 +47,7 @@ pub record IsBadPlace (old new : Meaning Numbers) (place : ℕ) (used : List ℕ
 abbrev pub ReadOneRefused : Meaning Numbers → Meaning Numbers → ℕ → List ℕ → HostFault → Type 0
 ReadOneRefused old new place used fault.NoMemory = Stays old new
 ReadOneRefused old new place used (fault.Store why) = ((why ≡ Device) × ReadStopped old new) ⊎ ((why ≡ Damaged) × IsBadPlace old new place used)
-ReadOneRefused old new place used fault.Stopped = ⊥
-ReadOneRefused old new place used fault.Read = ⊥
-ReadOneRefused old new place used fault.Write = ⊥
-ReadOneRefused old new place used fault.Truncated = ⊥
-ReadOneRefused old new place used fault.TooLong = ⊥
+ReadOneRefused old new place used _ = ⊥
 
 -- the first numbers of the log are these
 pub record IsReadUp (old new : Meaning Numbers) (seen : Numbers) : Type 0 where
@@ -80,8 +72,4 @@ pub record AreBad (old new : Meaning Numbers) (count : ℕ) : Type 0 where
 abbrev pub ReadRefused : Meaning Numbers → Meaning Numbers → ℕ → HostFault → Type 0
 ReadRefused old new count fault.NoMemory = Stays old new
 ReadRefused old new count (fault.Store why) = ((why ≡ Device) × ReadStopped old new) ⊎ ((why ≡ Damaged) × AreBad old new count)
-ReadRefused old new count fault.Stopped = ⊥
-ReadRefused old new count fault.Read = ⊥
-ReadRefused old new count fault.Write = ⊥
-ReadRefused old new count fault.Truncated = ⊥
-ReadRefused old new count fault.TooLong = ⊥
+ReadRefused old new count _ = ⊥

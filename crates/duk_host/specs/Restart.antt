@@ -26,7 +26,7 @@ pub record IsRestarted {L I : Type 0} (meaning : L → Meaning Numbers) (old new
   pub lists : (meaning old.log).honest → Lists numbers used
 
 -- the log kept a list in which a number occurs twice, or one that numbers no transaction
-pub record FoundNoUsed {L I : Type 0} (meaning : L → Meaning Numbers) (old new : HostOf L I) : Type 0 where
+pub record FoundUnusable {L I : Type 0} (meaning : L → Meaning Numbers) (old new : HostOf L I) : Type 0 where
   pub numbers : Numbers
   pub log : Restarted (meaning old.log) (meaning new.log) numbers
   pub not_usable : (meaning old.log).honest → ¬ AreUsable numbers
@@ -35,7 +35,7 @@ pub record FoundNoUsed {L I : Type 0} (meaning : L → Meaning Numbers) (old new
 pub record RestartStopped {L I : Type 0} (meaning : L → Meaning Numbers) (old new : HostOf L I) (why : StoreFault) : Type 0 where
   pub ends : KeepsEnds old new
   pub stopped : new.used ≡ None
-  pub cause : RestartFailed (meaning old.log) (meaning new.log) why ⊎ ((why ≡ Damaged) × FoundNoUsed meaning old new)
+  pub cause : RestartFailed (meaning old.log) (meaning new.log) why ⊎ ((why ≡ Damaged) × FoundUnusable meaning old new)
 
 -- a restart that was refused memory: the host is stopped, and its log's restart is done
 pub record RestartNoMemory {L I : Type 0} (meaning : L → Meaning Numbers) (old new : HostOf L I) : Type 0 where
@@ -48,8 +48,4 @@ pub record RestartNoMemory {L I : Type 0} (meaning : L → Meaning Numbers) (old
 abbrev pub RestartRefused : {L I : Type 0} → (L → Meaning Numbers) → HostOf L I → HostOf L I → HostFault → Type 0
 RestartRefused meaning old new (fault.Store why) = RestartStopped meaning old new why
 RestartRefused meaning old new fault.NoMemory = RestartNoMemory meaning old new
-RestartRefused meaning old new fault.Stopped = ⊥
-RestartRefused meaning old new fault.Read = ⊥
-RestartRefused meaning old new fault.Write = ⊥
-RestartRefused meaning old new fault.Truncated = ⊥
-RestartRefused meaning old new fault.TooLong = ⊥
+RestartRefused meaning old new _ = ⊥

@@ -3,7 +3,7 @@
 ghost use Rattle.std.specs.Prelude.{◌≡◌, ◌≤◌, ℕ, List, IfOk, IfErr, MatchOption, length};
 ghost use Rattle.duk_frame.specs.Frame.{mac_text_of};
 ghost use Rattle.duk_frame.specs.Request.{IsRequest};
-ghost use Rattle.duk_host.specs.Judgement.{Decision, IsAcceptable, IsAuthentic, IsRefused, MacRefused, Refuses, bench_with, text_of};
+ghost use Rattle.duk_host.specs.Judgement.{Decision, IsAcceptable, IsAuthentic, IsRefused, IsReasonAgainstMac, IsReasonAgainst, bench_with, text_of};
 
 use crate::reason::Reason;
 use crate::used::UsedNumbers;
@@ -43,7 +43,7 @@ fn reason_against<const N: usize>(
     requires text { text.now ≡ text_of request.now }
     ensures { (decides : Decision) → MatchOption result
         (IsAcceptable (bench_with hsm.now used.now room decides) request.now)
-        (Refuses (bench_with hsm.now used.now room decides) request.now) }
+        (IsReasonAgainst (bench_with hsm.now used.now room decides) request.now) }
 {
     let reason = reason_against_mac(hsm, request, text);
     if reason.is_some() {
@@ -64,7 +64,7 @@ fn reason_against_mac<const N: usize>(
     text: &[u8],
 ) -> Option<Reason>
     requires text { text.now ≡ text_of request.now }
-    ensures { MatchOption result (IsAuthentic hsm.now request.now) (MacRefused hsm.now request.now) }
+    ensures { MatchOption result (IsAuthentic hsm.now request.now) (IsReasonAgainstMac hsm.now request.now) }
 {
     match hsm.verify(request.ksn, text, request.mac) {
         Ok(()) => None,

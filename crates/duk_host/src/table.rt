@@ -1,14 +1,13 @@
 //! An issuer that knows its cards by a table.
 
 ghost use Rattle.std.specs.Prelude.{◌≡◌};
-ghost use Rattle.duk_block.specs.KeyBlock.{bytes_of};
-ghost use Rattle.duk_tdes.specs.Tdes.{tdes_decrypted};
+ghost use Rattle.duk_tdes.specs.KeyBytes.{bytes_of};
 ghost use Rattle.duk_host.specs.Table.{card_code, card_of, table_decision};
 
 use crate::issuer::Issuer;
 use duk_frame::Code;
 use duk_pin::{Pan, Pin, decode};
-use duk_tdes::{KeyBytes, tdes_decrypt};
+use duk_tdes::KeyBytes;
 use std::marker::Model;
 
 /// A card. It has no `Debug`, so that no PIN is printed by chance.
@@ -30,7 +29,7 @@ pub struct TableIssuer {
 }
 
 impl Model for TableIssuer {
-    ghost use Rattle.duk_block.specs.KeyBlock.{bytes_of};
+    ghost use Rattle.duk_tdes.specs.KeyBytes.{bytes_of};
     ghost use Rattle.duk_host.specs.Table.{CardTable};
 
     ghost Value = { CardTable };
@@ -61,7 +60,7 @@ impl Issuer for TableIssuer {
         let Some(card) = card_of(self.cards.as_slice(), pan) else {
             return Code::NoCard;
         };
-        match decode(deciphered(&self.zone, block), pan) {
+        match decode(self.zone.decrypt(block), pan) {
             Some(pin) => card.judge(&pin, amount),
             None => Code::Unreadable,
         }
@@ -80,15 +79,5 @@ impl Card {
         } else {
             Code::Approved
         }
-    }
-}
-
-/// A block deciphered under a key of either length.
-fn deciphered(key: &KeyBytes, block: [u8; 8]) -> [u8; 8]
-    ensures { result ≡ tdes_decrypted (bytes_of key.now) block }
-{
-    match key {
-        KeyBytes::Double(key) => tdes_decrypt(key, block),
-        KeyBytes::Triple(key) => tdes_decrypt(key, block),
     }
 }

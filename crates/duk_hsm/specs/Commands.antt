@@ -36,14 +36,7 @@ pub record IsPadFault (padding : List ℕ) (why : BlockFault) : Type 0 where
 abbrev pub IssueRefused : HsmKeys → ℕ → List ℕ → HsmFault → Type 0
 IssueRefused keys iksn padding fault.NoKeySet = key_set_of keys (iksn_prefix_of iksn) ≡ None
 IssueRefused keys iksn padding (fault.Block why) = IsSome (key_set_of keys (iksn_prefix_of iksn)) × IsPadFault padding why
-IssueRefused keys iksn padding fault.WrongUse = ⊥
-IssueRefused keys iksn padding fault.PrefixTaken = ⊥
-IssueRefused keys iksn padding fault.SlotsFull = ⊥
-IssueRefused keys iksn padding fault.ZoneTaken = ⊥
-IssueRefused keys iksn padding fault.NoZone = ⊥
-IssueRefused keys iksn padding fault.BadCounter = ⊥
-IssueRefused keys iksn padding fault.BadMac = ⊥
-IssueRefused keys iksn padding fault.BadPinBlock = ⊥
+IssueRefused keys iksn padding _ = ⊥
 
 -- the transaction key of a key serial number under the held keys: its key set is held, and its counter numbers a transaction
 pub record IsTransactionKey (keys : HsmKeys) (ksn : Serial) (key : List ℕ) : Type 0 where
@@ -65,14 +58,7 @@ pub record HasBadCounter (keys : HsmKeys) (ksn : Serial) : Type 0 where
 abbrev pub NoTransactionKey : HsmKeys → Serial → HsmFault → Type 0
 NoTransactionKey keys ksn fault.NoKeySet = key_set_of keys (prefix_of ksn) ≡ None
 NoTransactionKey keys ksn fault.BadCounter = HasBadCounter keys ksn
-NoTransactionKey keys ksn (fault.Block why) = ⊥
-NoTransactionKey keys ksn fault.WrongUse = ⊥
-NoTransactionKey keys ksn fault.PrefixTaken = ⊥
-NoTransactionKey keys ksn fault.SlotsFull = ⊥
-NoTransactionKey keys ksn fault.ZoneTaken = ⊥
-NoTransactionKey keys ksn fault.NoZone = ⊥
-NoTransactionKey keys ksn fault.BadMac = ⊥
-NoTransactionKey keys ksn fault.BadPinBlock = ⊥
+NoTransactionKey keys ksn _ = ⊥
 
 -- the retail MAC of a text under the transaction key's variant for requests
 pub record IsRequestMac (keys : HsmKeys) (ksn : Serial) (text mac : List ℕ) : Type 0 where
@@ -97,13 +83,7 @@ abbrev pub VerifyRefused : HsmKeys → Serial → List ℕ → List ℕ → HsmF
 VerifyRefused keys ksn text mac fault.NoKeySet = key_set_of keys (prefix_of ksn) ≡ None
 VerifyRefused keys ksn text mac fault.BadCounter = HasBadCounter keys ksn
 VerifyRefused keys ksn text mac fault.BadMac = IsOtherMac keys ksn text mac
-VerifyRefused keys ksn text mac (fault.Block why) = ⊥
-VerifyRefused keys ksn text mac fault.WrongUse = ⊥
-VerifyRefused keys ksn text mac fault.PrefixTaken = ⊥
-VerifyRefused keys ksn text mac fault.SlotsFull = ⊥
-VerifyRefused keys ksn text mac fault.ZoneTaken = ⊥
-VerifyRefused keys ksn text mac fault.NoZone = ⊥
-VerifyRefused keys ksn text mac fault.BadPinBlock = ⊥
+VerifyRefused keys ksn text mac _ = ⊥
 
 -- the PIN in a block that is enciphered under the transaction key's variant for PINs
 abbrev pub IsPinOf : List ℕ → List ℕ → List ℕ → List ℕ → Type 0
@@ -132,9 +112,4 @@ TranslateRefused keys ksn block pan fault.NoKeySet = key_set_of keys (prefix_of 
 TranslateRefused keys ksn block pan fault.BadCounter = HasBadCounter keys ksn
 TranslateRefused keys ksn block pan fault.NoZone = HasTransactionKey keys ksn × (keys.zone ≡ None)
 TranslateRefused keys ksn block pan fault.BadPinBlock = HasNoPin keys ksn block pan
-TranslateRefused keys ksn block pan (fault.Block why) = ⊥
-TranslateRefused keys ksn block pan fault.WrongUse = ⊥
-TranslateRefused keys ksn block pan fault.PrefixTaken = ⊥
-TranslateRefused keys ksn block pan fault.SlotsFull = ⊥
-TranslateRefused keys ksn block pan fault.ZoneTaken = ⊥
-TranslateRefused keys ksn block pan fault.BadMac = ⊥
+TranslateRefused keys ksn block pan _ = ⊥

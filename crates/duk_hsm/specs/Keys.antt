@@ -2,7 +2,7 @@
 use Rattle.std.specs.Prelude.{◌≡◌, ◌≢◌, ◌≤◌, ℕ, List, Option, Some, AllPairs, find, length, take}
 use Rattle.std.specs.Option.{option_map}
 use Rattle.std.specs.Str.{bytes_eq}
-use Rattle.duk_block.specs.KeyBlock.{bytes_of}
+use Rattle.duk_tdes.specs.KeyBytes.{bytes_of}
 use Rattle.duk_tdes.specs.Key.{IsKey}
 use Rattle.duk_tdes.specs.Tdes.{IsTdesKey}
 use Rattle.duk_tdes.specs.declared.key.KeyBytes.{KeyBytes}

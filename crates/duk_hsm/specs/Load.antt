@@ -45,22 +45,11 @@ LoadBdkRefused keys prefix text (fault.Block why) = IsFirstFault text keys.lmk w
 LoadBdkRefused keys prefix text fault.WrongUse = WrapsOther IsBaseKey keys.lmk text
 LoadBdkRefused keys prefix text fault.PrefixTaken = HasBaseKey keys text × IsSome (key_set_of keys prefix)
 LoadBdkRefused keys prefix text fault.SlotsFull = HasBaseKey keys text × (key_set_of keys prefix ≡ None) × (length keys.key_sets ≡ 8)
-LoadBdkRefused keys prefix text fault.ZoneTaken = ⊥
-LoadBdkRefused keys prefix text fault.NoKeySet = ⊥
-LoadBdkRefused keys prefix text fault.NoZone = ⊥
-LoadBdkRefused keys prefix text fault.BadCounter = ⊥
-LoadBdkRefused keys prefix text fault.BadMac = ⊥
-LoadBdkRefused keys prefix text fault.BadPinBlock = ⊥
+LoadBdkRefused keys prefix text _ = ⊥
 
 -- why no zone key is held
 abbrev pub LoadZoneRefused : HsmKeys → List ℕ → HsmFault → Type 0
 LoadZoneRefused keys text (fault.Block why) = IsFirstFault text keys.lmk why
 LoadZoneRefused keys text fault.WrongUse = WrapsOther IsZoneKey keys.lmk text
 LoadZoneRefused keys text fault.ZoneTaken = HasZoneKey keys text × IsSome keys.zone
-LoadZoneRefused keys text fault.PrefixTaken = ⊥
-LoadZoneRefused keys text fault.SlotsFull = ⊥
-LoadZoneRefused keys text fault.NoKeySet = ⊥
-LoadZoneRefused keys text fault.NoZone = ⊥
-LoadZoneRefused keys text fault.BadCounter = ⊥
-LoadZoneRefused keys text fault.BadMac = ⊥
-LoadZoneRefused keys text fault.BadPinBlock = ⊥
+LoadZoneRefused keys text _ = ⊥

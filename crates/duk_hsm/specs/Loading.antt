@@ -29,27 +29,12 @@ abbrev pub IsZoneKey : Header → List ℕ → Type 0
 IsZoneKey header key = IsZoneHeader header
 
 -- why a text has no key: it is no key block, and this is its first fault
-abbrev pub IsUnwrapFault : List ℕ → List ℕ → HsmFault → Type 0
-IsUnwrapFault protection_key text (fault.Block why) = IsFirstFault text protection_key why
-IsUnwrapFault protection_key text fault.WrongUse = ⊥
-IsUnwrapFault protection_key text fault.PrefixTaken = ⊥
-IsUnwrapFault protection_key text fault.SlotsFull = ⊥
-IsUnwrapFault protection_key text fault.ZoneTaken = ⊥
-IsUnwrapFault protection_key text fault.NoKeySet = ⊥
-IsUnwrapFault protection_key text fault.NoZone = ⊥
-IsUnwrapFault protection_key text fault.BadCounter = ⊥
-IsUnwrapFault protection_key text fault.BadMac = ⊥
-IsUnwrapFault protection_key text fault.BadPinBlock = ⊥
+abbrev pub HasNoKey : List ℕ → List ℕ → HsmFault → Type 0
+HasNoKey protection_key text (fault.Block why) = IsFirstFault text protection_key why
+HasNoKey protection_key text _ = ⊥
 
 -- why a text has no key for this use: it is no key block, or one of a key for another use
-abbrev pub IsWrapFault : (Header → List ℕ → Type 0) → List ℕ → List ℕ → HsmFault → Type 0
-IsWrapFault IsForUse protection_key text (fault.Block why) = IsFirstFault text protection_key why
-IsWrapFault IsForUse protection_key text fault.WrongUse = WrapsOther IsForUse protection_key text
-IsWrapFault IsForUse protection_key text fault.PrefixTaken = ⊥
-IsWrapFault IsForUse protection_key text fault.SlotsFull = ⊥
-IsWrapFault IsForUse protection_key text fault.ZoneTaken = ⊥
-IsWrapFault IsForUse protection_key text fault.NoKeySet = ⊥
-IsWrapFault IsForUse protection_key text fault.NoZone = ⊥
-IsWrapFault IsForUse protection_key text fault.BadCounter = ⊥
-IsWrapFault IsForUse protection_key text fault.BadMac = ⊥
-IsWrapFault IsForUse protection_key text fault.BadPinBlock = ⊥
+abbrev pub HasNoKeyFor : (Header → List ℕ → Type 0) → List ℕ → List ℕ → HsmFault → Type 0
+HasNoKeyFor IsForUse protection_key text (fault.Block why) = IsFirstFault text protection_key why
+HasNoKeyFor IsForUse protection_key text fault.WrongUse = WrapsOther IsForUse protection_key text
+HasNoKeyFor IsForUse protection_key text _ = ⊥

@@ -9,7 +9,7 @@ ghost use Rattle.duk_hsm.specs.Commands.{IsIssued, IsReplyMac, IsRequestMac, IsT
 use crate::fault::HsmFault;
 use crate::key_set::{KeySet, PREFIX_LENGTH, SLOTS, bdk_with};
 use crate::loading::{base_key_in, zone_key_in};
-use crate::payment::{enciphered, pin_in};
+use crate::payment::pin_in;
 use arrayvec::ArrayVec;
 use duk_block::{Header, wrap};
 use duk_mac::retail;
@@ -177,7 +177,7 @@ impl<const N: usize> Hsm<N> {
             return Err(HsmFault::NoZone);
         };
         match pin_in(&key, block, pan) {
-            Some(pin) => Ok(enciphered(zone, encode(&pin, pan))),
+            Some(pin) => Ok(zone.encrypt(encode(&pin, pan))),
             None => Err(HsmFault::BadPinBlock),
         }
     }

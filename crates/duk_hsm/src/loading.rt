@@ -2,8 +2,9 @@
 
 ghost use Rattle.std.specs.Prelude.{◌≡◌, ◌↔◌, IfOk, IfErr, IsTrue};
 ghost use Rattle.duk_tdes.specs.Tdes.{IsTdesLength};
-ghost use Rattle.duk_block.specs.KeyBlock.{Wraps, WrapsFor, bytes_of, key_from};
-ghost use Rattle.duk_hsm.specs.Loading.{IsBaseHeader, IsBaseKey, IsUnwrapFault, IsWrapFault, IsZoneHeader, IsZoneKey};
+ghost use Rattle.duk_block.specs.KeyBlock.{Wraps, WrapsFor};
+ghost use Rattle.duk_tdes.specs.KeyBytes.{bytes_of, key_from};
+ghost use Rattle.duk_hsm.specs.Loading.{IsBaseHeader, IsBaseKey, HasNoKey, HasNoKeyFor, IsZoneHeader, IsZoneKey};
 
 use crate::fault::HsmFault;
 use duk_block::{Header, unwrap};
@@ -13,7 +14,7 @@ use duk_tdes::{Key, KeyBytes};
 pub(crate) fn base_key_in<const N: usize>(lmk: &Key<N>, block: &[u8]) -> Result<Key<16>, HsmFault>
     requires { IsTdesLength N }
     ensures found { IfOk result (WrapsFor IsBaseKey lmk.now block.now) }
-    ensures refused { IfErr result (IsWrapFault IsBaseKey lmk.now block.now) }
+    ensures refused { IfErr result (HasNoKeyFor IsBaseKey lmk.now block.now) }
 {
     let (header, key) = unwrapped(lmk, block)?;
     match key {
@@ -26,7 +27,7 @@ pub(crate) fn base_key_in<const N: usize>(lmk: &Key<N>, block: &[u8]) -> Result<
 pub(crate) fn zone_key_in<const N: usize>(lmk: &Key<N>, block: &[u8]) -> Result<KeyBytes, HsmFault>
     requires { IsTdesLength N }
     ensures found { IfOk result (λ key. WrapsFor IsZoneKey lmk.now block.now (bytes_of key)) }
-    ensures refused { IfErr result (IsWrapFault IsZoneKey lmk.now block.now) }
+    ensures refused { IfErr result (HasNoKeyFor IsZoneKey lmk.now block.now) }
 {
     let (header, key) = unwrapped(lmk, block)?;
     if is_zone_header(&header) {
@@ -41,7 +42,7 @@ fn unwrapped<const N: usize>(lmk: &Key<N>, block: &[u8]) -> Result<(Header, KeyB
     requires { IsTdesLength N }
     ensures found { IfOk result (λ found. Wraps lmk.now block.now found.0 (bytes_of found.1)) }
     ensures length { IfOk result (λ found. found.1 ≡ key_from (bytes_of found.1)) }
-    ensures refused { IfErr result (IsUnwrapFault lmk.now block.now) }
+    ensures refused { IfErr result (HasNoKey lmk.now block.now) }
 {
     unwrap(lmk, block).map_err(HsmFault::Block)
 }

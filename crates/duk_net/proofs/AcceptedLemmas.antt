@@ -79,14 +79,14 @@ UsesAll log None = Unit {0}
 UsesAll log (Some used) = (numbers : Numbers) × FindsOnly log numbers × ((ksn : Serial) → IsSerial ksn → Contains numbers ksn → IsUsed used ksn)
 
 -- the log of a host keeps each number that these answers accept, and a running host uses each number that its log keeps
-pub record HostSafe {C L I : Type 0} (m : Meanings C L I) (at : HostOf L I) (answers : List Frame) : Type 0 where
+pub record HostKeepsAccepted {C L I : Type 0} (m : Meanings C L I) (at : HostOf L I) (answers : List Frame) : Type 0 where
   pub honest : (m.host.meaning at.log).honest
   pub keeps : (numbers : Numbers) → (m.host.meaning at.log).found numbers → (ksn : Serial) → IsAcceptedNumber answers ksn → Contains numbers ksn
   pub uses : UsesAll (m.host.meaning at.log) at.used
 
 -- the log of a world's host keeps each accepted number
-abbrev pub IsSafe : {C L I : Type 0} → Meanings C L I → WorldOf C L I → Type 0
-IsSafe m world = HostSafe m world.host world.answers
+abbrev pub KeepsAllAccepted : {C L I : Type 0} → Meanings C L I → WorldOf C L I → Type 0
+KeepsAllAccepted m world = HostKeepsAccepted m world.host world.answers
 
 -- a log is honest, and each list that a restart of it finds has the numbers of a list that a restart would have found before
 record Grows (old new : Meaning Numbers) : Type 0 where
@@ -117,8 +117,8 @@ append_failed_grows old new ksn store_fault.Worn honest failed = absurd failed
 append_failed_grows old new ksn store_fault.NoMemory honest failed = absurd failed
 
 -- a host whose log grows keeps each accepted number
-grown_safe : {C L I : Type 0} (m : Meanings C L I) (old new : HostOf L I) (answers : List Frame) → HostSafe m old answers
-    → Grows (m.host.meaning old.log) (m.host.meaning new.log) → UsesAll (m.host.meaning new.log) new.used → HostSafe m new answers
+grown_safe : {C L I : Type 0} (m : Meanings C L I) (old new : HostOf L I) (answers : List Frame) → HostKeepsAccepted m old answers
+    → Grows (m.host.meaning old.log) (m.host.meaning new.log) → UsesAll (m.host.meaning new.log) new.used → HostKeepsAccepted m new answers
 grown_safe m old new answers safe grows uses = record {
   honest = grows.honest;
   keeps = λ numbers found ksn accepted. let before = grows.within numbers found in before.2 ksn (safe.keeps before.0 before.1 ksn accepted);
@@ -126,8 +126,8 @@ grown_safe m old new answers safe grows uses = record {
 }
 
 -- a host that does not answer keeps each accepted number
-no_answer_safe : {C L I : Type 0} (m : Meanings C L I) (old new : HostOf L I) (answers : List Frame) (bytes : List ℕ) (why : HostFault) → HostSafe m old answers
-    → HandleRefused m.host bytes old new why → HostSafe m new answers
+no_answer_safe : {C L I : Type 0} (m : Meanings C L I) (old new : HostOf L I) (answers : List Frame) (bytes : List ℕ) (why : HostFault) → HostKeepsAccepted m old answers
+    → HandleRefused m.host bytes old new why → HostKeepsAccepted m new answers
 no_answer_safe m old new answers bytes fault.Stopped safe refused = rw refused.1 safe
 no_answer_safe m old new answers bytes fault.NoMemory safe refused = rw refused.not_kept safe
 no_answer_safe m old new answers bytes (fault.Store why) safe refused =
@@ -139,8 +139,8 @@ no_answer_safe m old new answers bytes fault.Truncated safe refused = absurd ref
 no_answer_safe m old new answers bytes fault.TooLong safe refused = absurd refused
 
 -- a host whose restart is refused keeps each accepted number
-restart_refused_safe : {C L I : Type 0} (m : Meanings C L I) (old new : HostOf L I) (answers : List Frame) (why : HostFault) → HostSafe m old answers
-    → RestartRefused m.host.meaning old new why → HostSafe m new answers
+restart_refused_safe : {C L I : Type 0} (m : Meanings C L I) (old new : HostOf L I) (answers : List Frame) (why : HostFault) → HostKeepsAccepted m old answers
+    → RestartRefused m.host.meaning old new why → HostKeepsAccepted m new answers
 restart_refused_safe m old new answers (fault.Store why) safe refused =
     let grows : Grows (m.host.meaning old.log) (m.host.meaning new.log) = elim refused.cause [
       | inl failed ↦ finds_as_before _ _ (failed.stops.nature.honest.0 safe.honest) (failed.stops.within safe.honest)
@@ -162,7 +162,7 @@ uses_as_before old new (Some used) same uses =
     (uses.0, λ other. ((λ found. (uses.1 other).0 ((same other).0 found)), (λ is. (same other).1 ((uses.1 other).1 is))), uses.2)
 
 -- whatever else happens to the host, it keeps each accepted number
-touched_safe : {C L I : Type 0} (m : Meanings C L I) (old new : HostOf L I) (answers : List Frame) → HostSafe m old answers → TouchesHost m old new → HostSafe m new answers
+touched_safe : {C L I : Type 0} (m : Meanings C L I) (old new : HostOf L I) (answers : List Frame) → HostKeepsAccepted m old answers → TouchesHost m old new → HostKeepsAccepted m new answers
 touched_safe m old new answers safe (no_answer bytes why refused) = no_answer_safe m old new answers bytes why safe refused
 touched_safe m old new answers safe (host_restarted found restarted) = grown_safe m old new answers safe (restarted_grows _ _ restarted.numbers safe.honest restarted.log)
     (rw restarted.used_are (restarted.numbers, restarted.log.settles.finds safe.honest, λ ksn serial. ((restarted.lists safe.honest).members ksn serial).0))
@@ -172,7 +172,7 @@ touched_safe m old new answers safe (host_armed steps armed) = grown_safe m old 
     (rw armed.used (uses_as_before (m.host.meaning old.log) (m.host.meaning new.log) old.used armed.stays.found safe.uses))
 
 -- the number that a host accepts was not accepted before
-accepts_fresh : {C L I : Type 0} (m : Meanings C L I) (old new : HostOf L I) (answers : List Frame) (bytes frame : List ℕ) (ksn : Serial) → OneReading → HostSafe m old answers
+accepts_fresh : {C L I : Type 0} (m : Meanings C L I) (old new : HostOf L I) (answers : List Frame) (bytes frame : List ℕ) (ksn : Serial) → OneReading → HostKeepsAccepted m old answers
     → AnswersReply m.host bytes old new frame → RepliesTo frame ksn → ¬ IsAcceptedNumber answers ksn
 accepts_fresh m old new answers bytes frame ksn one safe reply told accepted =
     let with = reply.accepted.reply.reply in
@@ -182,8 +182,8 @@ accepts_fresh m old new answers bytes frame ksn one safe reply told accepted =
     reply.accepted.acceptable.fresh (rw is at used)
 
 -- a host that accepts a request keeps each accepted number, with that of the request
-accepts_safe : {C L I : Type 0} (m : Meanings C L I) (old new : HostOf L I) (answers : List Frame) (bytes : List ℕ) (frame : Frame) → OneReading → HostSafe m old answers
-    → AnswersReply m.host bytes old new frame.items → HostSafe m new (answers ++ frame ∷ [])
+accepts_safe : {C L I : Type 0} (m : Meanings C L I) (old new : HostOf L I) (answers : List Frame) (bytes : List ℕ) (frame : Frame) → OneReading → HostKeepsAccepted m old answers
+    → AnswersReply m.host bytes old new frame.items → HostKeepsAccepted m new (answers ++ frame ∷ [])
 accepts_safe m old new answers bytes frame one safe reply =
     let kept = reply.kept in
     let with = reply.accepted.reply.reply in
@@ -207,8 +207,8 @@ accepts_safe m old new answers bytes frame one safe reply =
     }
 
 -- a host that refuses a request keeps each accepted number
-refuses_safe : {C L I : Type 0} (m : Meanings C L I) (at : HostOf L I) (answers : List Frame) (frame : Frame) (number : Serial) (reason : ℕ) → OneReading → HostSafe m at answers
-    → IsRefusal frame.items number reason → HostSafe m at (answers ++ frame ∷ [])
+refuses_safe : {C L I : Type 0} (m : Meanings C L I) (at : HostOf L I) (answers : List Frame) (frame : Frame) (number : Serial) (reason : ℕ) → OneReading → HostKeepsAccepted m at answers
+    → IsRefusal frame.items number reason → HostKeepsAccepted m at (answers ++ frame ∷ [])
 refuses_safe m at answers frame number reason one safe refusal = record {
   honest = safe.honest;
   keeps = λ numbers found ksn accepted. elim (accepted_cases answers frame ksn accepted) [
@@ -237,13 +237,13 @@ gains_none : (old new : List Frame) (outcome : Outcome) → new ≡ old → Acce
 gains_none old new outcome same none = record { stays = λ ksn accepted. rw same accepted; accepts = λ ksn accepts. absurd (none ksn accepts) }
 
 -- what a step that leaves host and answers alone does to accepted numbers
-same_view : {C L I : Type 0} (m : Meanings C L I) (old next new : WorldOf C L I) (outcome : Outcome) → IsSafe m old → new ≡ next → next.host ≡ old.host → next.answers ≡ old.answers → AcceptsNone outcome
-    → IsSafe m new × Gains old.answers outcome new.answers
+same_view : {C L I : Type 0} (m : Meanings C L I) (old next new : WorldOf C L I) (outcome : Outcome) → KeepsAllAccepted m old → new ≡ next → next.host ≡ old.host → next.answers ≡ old.answers → AcceptsNone outcome
+    → KeepsAllAccepted m new × Gains old.answers outcome new.answers
 same_view m old next new outcome safe is hosts answers none = rw is (rw (hosts, answers) safe, gains_none old.answers next.answers outcome answers none)
 
 -- what a step does to accepted numbers
-view_safe : {C L I : Type 0} (m : Meanings C L I) (old : WorldOf C L I) (outcome : Outcome) (new : WorldOf C L I) → OneReading → IsSafe m old → View m old outcome new
-    → IsSafe m new × Gains old.answers outcome new.answers
+view_safe : {C L I : Type 0} (m : Meanings C L I) (old : WorldOf C L I) (outcome : Outcome) (new : WorldOf C L I) → OneReading → KeepsAllAccepted m old → View m old outcome new
+    → KeepsAllAccepted m new × Gains old.answers outcome new.answers
 view_safe m old outcome new one safe (nothing same quiet) = same_view m old _ new outcome safe same refl refl (quiet_accepts outcome quiet)
 view_safe m old outcome new one safe (load t iksn given quiet) = same_view m old _ new outcome safe given.rest refl refl (quiet_accepts outcome quiet)
 view_safe m old outcome new one safe (send t k purchase ksn is sent) = same_view m old _ new outcome safe sent.rest refl refl (rw is (λ ksn accepts. accepts))
@@ -273,7 +273,7 @@ view_safe m old outcome new one safe (host touches rest quiet) =
     (rw answers (touched_safe m old.host new.host old.answers safe touches), gains_none old.answers new.answers outcome answers (quiet_accepts outcome quiet))
 
 -- the restart of the host that was refused memory keeps each accepted number
-left_safe : {C L I : Type 0} (m : Meanings C L I) (old new : WorldOf C L I) → IsSafe m old → IsHostLeft m old new → IsSafe m new
+left_safe : {C L I : Type 0} (m : Meanings C L I) (old new : WorldOf C L I) → KeepsAllAccepted m old → IsHostLeft m old new → KeepsAllAccepted m new
 left_safe m old new safe left = rw (ap (λ world. world.answers) left.rest) (touched_safe m old.host new.host old.answers safe (left_touches m old new left))
 
 -- where no answers were sent, no number is accepted
@@ -281,7 +281,7 @@ none_accepted : (ksn : Serial) → ¬ IsAcceptedNumber [] ksn
 none_accepted ksn (code, is) = omega (arith, is.sent.1)
 
 -- a new world keeps each accepted number, since none was accepted
-first_safe : {C L I : Type 0} (m : Meanings C L I) (world : WorldOf C L I) → IsFirst m world → IsSafe m world
+first_safe : {C L I : Type 0} (m : Meanings C L I) (world : WorldOf C L I) → IsFirst m world → KeepsAllAccepted m world
 first_safe m world first = record {
   honest = first.host.log.honest;
   keeps = λ numbers found ksn accepted. absurd (none_accepted ksn (rw first.no_answers at accepted));
@@ -289,8 +289,8 @@ first_safe m world first = record {
 }
 
 -- each world that is reached keeps each accepted number
-pub reached_safe : {C L I : Type 0} (m : Meanings C L I) → OneReading → (world : WorldOf C L I) → Reached m world → IsSafe m world
-reached_safe m one = reached_all m (IsSafe m) (first_safe m) (λ old new reached safe moves. elim moves [
+pub reached_safe : {C L I : Type 0} (m : Meanings C L I) → OneReading → (world : WorldOf C L I) → Reached m world → KeepsAllAccepted m world
+reached_safe m one = reached_all m (KeepsAllAccepted m) (first_safe m) (λ old new reached safe moves. elim moves [
   | inl happens ↦ (view_safe m old happens.outcome new one safe (step_view m old happens.event happens.outcome new happens.step)).0
   | inr left ↦ left_safe m old new safe left
 ])

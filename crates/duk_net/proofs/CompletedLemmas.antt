@@ -19,7 +19,7 @@ use Rattle.duk_net.specs.declared.event.Event.{Event}
 use Rattle.duk_net.specs.declared.outcome.Outcome.{Outcome}
 use Rattle.duk_net.specs.declared.outcome.Outcome.TheVariants as came
 use Rattle.duk_net.proofs.AcceptedLemmas.{any_cases}
-use Rattle.duk_net.proofs.PendingLemmas.{PendingSafe, SendsNumber, SentByOwners, Tells, done_by_host, done_is_over, pending_comes, pending_safe, sends_number, step_tells, used_stays}
+use Rattle.duk_net.proofs.PendingLemmas.{OwnPending, SendsNumber, SentByOwners, Tells, done_by_host, done_is_over, pending_comes, pending_safe, sends_number, step_tells, used_stays}
 use Rattle.duk_net.proofs.ReachLemmas.{leads_all, reached_step}
 use Rattle.duk_net.proofs.UpLemmas.{OneReading}
 use Rattle.duk_net.proofs.StepLemmas.{View, step_view}
@@ -134,7 +134,7 @@ still_replied answers outcomes last ksn code came = elim came [
 ]
 
 module _ {C L I : Type 0} (m : Meanings C L I) (terminals : List (Term C)) (answers : List Frame) (outcomes : List Outcome) (old : WorldOf C L I) (outcome : Outcome) (new : WorldOf C L I)
-    (ended : Ended terminals old.terminals answers old.answers old.requests outcomes) (safe : PendingSafe old) (view : View m old outcome new) where
+    (ended : Ended terminals old.terminals answers old.answers old.requests outcomes) (safe : OwnPending old) (view : View m old outcome new) where
   -- a step completes what the host accepted before
   accepted_on : AcceptedBefore answers (outcomes ++ outcome ∷ [])
   accepted_on earlier later t ksn code is = elim (last_or_before outcomes earlier later outcome (came.Done t ksn code) is) [

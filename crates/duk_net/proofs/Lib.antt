@@ -1,4 +1,3 @@
-mod OwnerLemmas
 mod PlaceLemmas
 mod UpLemmas
 mod LoadLemmas

@@ -9,7 +9,7 @@ use Rattle.duk_frame.specs.declared.answer.AnswerFrame.{AnswerFrame}
 use Rattle.duk_frame.specs.declared.answer.AnswerFrame.TheVariants.{Refusal, Reply}
 use Rattle.duk_frame.specs.declared.request.Request.{Request}
 use Rattle.duk_host.specs.Host.{bench_of}
-use Rattle.duk_host.specs.Judgement.{Bench, IsAuthentic, IsReplyWith, Refuses, reason_number}
+use Rattle.duk_host.specs.Judgement.{Bench, IsAuthentic, IsReplyWith, IsReasonAgainst, reason_number}
 use Rattle.duk_hsm.specs.Keys.{HsmKeys, iksn_prefix_of, key_set_of, prefix_of}
 use Rattle.duk_pin.specs.PinBlock.{IsPinBlock, pin_block}
 use Rattle.duk_tdes.specs.Key.{IsKey}
@@ -46,7 +46,7 @@ all_at : {A : Type 0} (P : A → Type 0) (things : List A) (place : ℕ) (thing 
 all_at P things place thing all is = subst P (get_or_from_slice_get things place thing thing is) (all place thing (slice_get_within things place thing is))
 
 -- against an authentic request there is no reason but that its number is used or that the log is full
-used_or_full : (bench : Bench) (request : Request) (why : _) → IsAuthentic bench.keys request → Refuses bench request why → (reason_number why ≡ 5) ⊎ (reason_number why ≡ 6)
+used_or_full : (bench : Bench) (request : Request) (why : _) → IsAuthentic bench.keys request → IsReasonAgainst bench request why → (reason_number why ≡ 5) ⊎ (reason_number why ≡ 6)
 used_or_full bench request why authentic refuses = grind arith
 
 -- a quiet outcome is no refusal

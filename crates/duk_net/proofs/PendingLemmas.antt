@@ -242,15 +242,15 @@ sends_by_owner owners (came.Sent u k sent) t ksn owns sends =
 sends_by_owner owners _ t ksn owns sends = absurd sends
 
 -- each number that is pending was sent, by the terminal that owns its initial key serial number
-abbrev pub PendingSafe : {C L I : Type 0} → WorldOf C L I → Type 0
-PendingSafe world = (t : ℕ) (ksn : Serial) → IsPendingAt world.terminals t ksn → IsUsedNumber world.requests ksn × (owner_of world.owners ksn.iksn ≡ Some t)
+abbrev pub OwnPending : {C L I : Type 0} → WorldOf C L I → Type 0
+OwnPending world = (t : ℕ) (ksn : Serial) → IsPendingAt world.terminals t ksn → IsUsedNumber world.requests ksn × (owner_of world.owners ksn.iksn ≡ Some t)
 
 -- a terminal sends none but under an initial key serial number that it owns
 abbrev pub SentByOwners : {C L I : Type 0} → Meanings C L I → Type 0
 SentByOwners {C} {L} {I} m = (old new : WorldOf C L I) (outcomes : List Outcome) → Reached m old → CallLeads m old outcomes new → All (IsSentByOwner new.owners) outcomes
 
 -- in a world in which nothing happened nothing is pending
-first_safe : {C L I : Type 0} (m : Meanings C L I) (world : WorldOf C L I) → IsFirst m world → PendingSafe world
+first_safe : {C L I : Type 0} (m : Meanings C L I) (world : WorldOf C L I) → IsFirst m world → OwnPending world
 first_safe m world first t ksn waits =
     let stands = at_contains world.terminals t waits.terminal waits.at in
     let stopped = (All-contains (IsNewTerminal m) world.terminals waits.terminal first.terminals stands).stopped in
@@ -258,7 +258,7 @@ first_safe m world first t ksn waits =
 
 -- a step leaves no other number pending than such ones
 step_safe : {C L I : Type 0} (m : Meanings C L I) (old : WorldOf C L I) (outcome : Outcome) (new : WorldOf C L I)
-    → PendingSafe old → View m old outcome new → IsSentByOwner new.owners outcome → PendingSafe new
+    → OwnPending old → View m old outcome new → IsSentByOwner new.owners outcome → OwnPending new
 step_safe m old outcome new safe view owned t ksn waits = elim (pending_comes m old outcome new t ksn view waits) [
   | inl before ↦
       let was = safe t ksn before in
@@ -270,18 +270,18 @@ step_safe m old outcome new safe view owned t ksn waits = elim (pending_comes m 
 ]
 
 -- so it is as a world moves on
-moves_safe : {C L I : Type 0} (m : Meanings C L I) → SentByOwners m → (old new : WorldOf C L I) → Reached m old → PendingSafe old → Moves m old new → PendingSafe new
+moves_safe : {C L I : Type 0} (m : Meanings C L I) → SentByOwners m → (old new : WorldOf C L I) → Reached m old → OwnPending old → Moves m old new → OwnPending new
 moves_safe m owners old new reached safe moves = elim moves [
   | inl happens ↦
       let led : CallLeads m old (happens.outcome ∷ []) new = record { events = happens.event ∷ []; mid = new; run = (new, happens.step, refl); left = inl refl } in
       let owned = owners old new (happens.outcome ∷ []) reached led in
       step_safe m old happens.outcome new safe (step_view m old happens.event happens.outcome new happens.step) (All-head (IsSentByOwner new.owners) happens.outcome [] owned)
-  | inr left ↦ subst (λ world. PendingSafe world) (sym left.rest) safe
+  | inr left ↦ subst (λ world. OwnPending world) (sym left.rest) safe
 ]
 
 -- so it is in each world that is reached
-pub pending_safe : {C L I : Type 0} (m : Meanings C L I) → SentByOwners m → (world : WorldOf C L I) → Reached m world → PendingSafe world
-pending_safe m owners world reached = reached_all m PendingSafe (first_safe m) (moves_safe m owners) world reached
+pub pending_safe : {C L I : Type 0} (m : Meanings C L I) → SentByOwners m → (world : WorldOf C L I) → Reached m world → OwnPending world
+pending_safe m owners world reached = reached_all m OwnPending (first_safe m) (moves_safe m owners) world reached
 
 -- a transaction that is done was pending, and the accepted reply to it was sent
 pub done_by_host : {C L I : Type 0} (m : Meanings C L I) (old : WorldOf C L I) (t : ℕ) (ksn : Serial) (code : Code) (new : WorldOf C L I)
@@ -302,7 +302,7 @@ done_by_host m old t ksn code new (k, frame, at, goes) =
 
 -- of a transaction that is done, nothing stays pending
 pub done_is_over : {C L I : Type 0} (m : Meanings C L I) (old : WorldOf C L I) (t : ℕ) (ksn : Serial) (code : Code) (new : WorldOf C L I)
-    → PendingSafe old → Tells m old (came.Done t ksn code) new → ¬ IsPendingIn new.terminals ksn
+    → OwnPending old → Tells m old (came.Done t ksn code) new → ¬ IsPendingIn new.terminals ksn
 done_is_over m old t ksn code new safe tells (u, waits) =
     let acts = tells.3.terminal in
     elim (acts_cases t _ old.terminals new.terminals acts u ksn waits) [

@@ -1,6 +1,9 @@
 -- What holds of every world that is reached, and of every run from one.
-use Rattle.std.proofs.Common.{◌≡◌, ◌⊎◌, ◌++◌, ◌∷◌, [], zero, suc, List, Result, Ok, Err, IfOk, IfErr, take, inl, inr, refl, sym, subst, append_assoc, append-nil}
-use Rattle.duk_net.specs.First.{IsFirst}
+use Rattle.std.proofs.Common.{◌≡◌, ◌⊎◌, ◌++◌, ◌∷◌, [], zero, suc, ℕ, List, Result, Ok, Err, IfOk, IfErr, take, inl, inr, refl, sym, subst, append_assoc, append-nil}
+use Rattle.duk_host.specs.Host.{HostOf}
+use Rattle.duk_term.specs.Terminal.{Term}
+use Rattle.duk_net.specs.First.{IsFirst, IsNewHost, IsNewTerminal, first_world}
+use Rattle.std.specs.Prelude.{All}
 use Rattle.duk_net.specs.Gained.{HoldsOfGained}
 use Rattle.duk_net.specs.Reached.{CallLeads, Moves, Reached}
 use Rattle.duk_net.specs.Restart.{IsHostLeft}
@@ -12,6 +15,12 @@ use Rattle.duk_net.specs.declared.event.Event.TheVariants as event
 use Rattle.duk_net.specs.declared.outcome.Outcome.{Outcome}
 use Rattle.duk_net.specs.declared.runs.NetFault.{NetFault}
 use Rattle.duk_net.specs.declared.runs.NetFault.TheVariants.{NoMemory}
+
+-- the world of a new host and new terminals is reached, by no move
+pub starts : {C L I : Type 0} (m : Meanings C L I) (host : HostOf L I) (loading : List ℕ) (terminals : List (Term C))
+    → IsNewHost m host → All (IsNewTerminal m) terminals → Reached m (first_world host loading terminals)
+starts m host loading terminals new_host new_terminals =
+    (0, record { host = new_host; terminals = new_terminals; no_requests = refl; no_answers = refl; no_owners = refl })
 
 -- what holds of a new world, and stays as a world that was reached moves on, holds of every world that is reached
 pub reached_all : {C L I : Type 0} (m : Meanings C L I) (P : WorldOf C L I → Type 0)

@@ -89,5 +89,6 @@ pub hold_no_used_key : (books : Books) (t : ℕ) (set : RegisterSet) → UsableF
 hold_no_used_key books t set fits unused each safe = record {
   initial = safe.stands.initial;
   initial_is = safe.stands.initial_is;
+  are_21 = safe.stands.stands.are_21;
   registers = holds_no_used_node books t set fits unused each safe;
 }

@@ -1,5 +1,5 @@
 -- What terminals hold of the tree of keys (ANSI X9.24-1:2009 annex A): this project's own.
-use Rattle.std.specs.Prelude.{◌≡◌, ◌<◌, ◌⊎◌, ℕ, List, Some, None}
+use Rattle.std.specs.Prelude.{◌≡◌, ◌<◌, ◌⊎◌, ℕ, List, Some, None, length}
 use Rattle.duk_hsm.specs.Keys.{HsmKeys}
 use Rattle.duk_regs.specs.Registers.{RegisterSet, StandsFor, empty_register, register_at}
 use Rattle.duk_store.specs.Cell.{Kept}
@@ -43,10 +43,11 @@ pub record HoldsUnusedNode (requests : List Frame) (initial : List ℕ) (set : R
 abbrev pub HoldsNoUsedNode : List Frame → List ℕ → RegisterSet → ℕ → Type 0
 HoldsNoUsedNode requests initial set place = (register_at set.registers place ≡ empty_register) ⊎ HoldsUnusedNode requests initial set place
 
--- no register holds the key of a used number or of an ancestor of one, the root among these
+-- none of the 21 registers holds the key of a used number or of an ancestor of one, the root among these
 pub record HoldNoUsedKey (keys : HsmKeys) (requests : List Frame) (set : RegisterSet) : Type 0 where
   pub initial : List ℕ
   pub initial_is : IsInitialKeyOf keys set.iksn initial
+  pub are_21 : length set.registers ≡ 21
   pub registers : (place : ℕ) → place < 21 → HoldsNoUsedNode requests initial set place
 
 -- this holds of the registers of a running terminal

@@ -82,8 +82,7 @@ impl<const N: usize, C: Cell, L: UsedLog, I: Issuer> System<N, C, L, I> {
     {
         match self.host.restart() {
             Ok(used) => Ok(Outcome::HostUsed(used)),
-            Err(HostFault::NoMemory) => Err(AllocError),
-            Err(fault) => Ok(Outcome::HostFaulted(fault)),
+            Err(fault) => refused(fault),
         }
     }
 

@@ -62,15 +62,6 @@ fn owner_of(owners: &[Owner], iksn: Iksn) -> Option<u32>
 {
     owners
         .iter()
-        .find(|owner| is_same(owner.iksn, iksn))
+        .find(|owner| owner.iksn == iksn)
         .map(|owner| owner.t)
-}
-
-/// Whether two initial key serial numbers are one.
-#[tactic(auto, using(crate::proofs::OwnerLemmas::same_iksn))]
-fn is_same(one: Iksn, other: Iksn) -> bool
-    ensures { IsTrue result ↔ (one ≡ other) }
-{
-    duk_tree::laws::serials();
-    one.bytes() == other.bytes()
 }

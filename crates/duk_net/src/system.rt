@@ -68,7 +68,7 @@ impl<const N: usize, C: Cell, L: UsedLog, I: Issuer> System<N, C, L, I> {
         }
         self.owners.reserve(1)?;
         duk_block::laws::one_reading();
-        duk_block::laws::tdes_key(&self.loading);
+        duk_tdes::laws::tdes_key(&self.loading);
         let Ok(block) = self.host.hsm().issue(iksn, &self.loading, &PADDING) else {
             return Ok(Outcome::NoKeySet { t });
         };

@@ -3,7 +3,7 @@
 ghost use Rattle.std.specs.Prelude.{◌≡◌, All};
 ghost use Rattle.duk_host.specs.Host.{words_of};
 ghost use Rattle.duk_net.specs.Accepted.{KeepsAccepted};
-ghost use Rattle.duk_net.specs.First.{IsFirst, first_world};
+ghost use Rattle.duk_net.specs.First.{IsNewHost, IsNewTerminal, first_world};
 ghost use Rattle.duk_net.specs.UsedNumbers.{NoneTwice};
 ghost use Rattle.duk_net.specs.OwnKey.{IsOwnReply, IsOwnRequest};
 ghost use Rattle.duk_net.specs.UnusedKeys.{HoldNoUsedKey, HoldsOfTerminal, StandsAboveUsed};
@@ -51,9 +51,11 @@ impl<const N: usize, C: Cell, L: UsedLog, I: Issuer> World<N, C, L, I> {
         loading: Key<16>,
         terminals: Vec<Terminal<C>>,
     ) -> Self
-        requires first { IsFirst
-            (meanings_of C.meaning C.worn C.arms (words_of L.meaning L.count L.capacity I.decides) L.arms)
-            (first_world host loading terminals.items) }
+        requires host { IsNewHost
+            (meanings_of C.meaning C.worn C.arms (words_of L.meaning L.count L.capacity I.decides) L.arms) host }
+        requires terminals { All (IsNewTerminal
+            (meanings_of C.meaning C.worn C.arms (words_of L.meaning L.count L.capacity I.decides) L.arms))
+            terminals.items }
         ensures first { result ≡ first_world host loading terminals.items }
         ensures none_twice { NoneTwice result.requests }
         ensures accepted_is_kept { KeepsAccepted

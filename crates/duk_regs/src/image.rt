@@ -1,13 +1,13 @@
 //! The bytes that a terminal stores.
 
 ghost use Rattle.std.specs.Prelude.{◌≡◌, ◌↔◌, ◌<◌, ◌^◌, ℕ, length, IsSome, IfSome};
-ghost use Rattle.duk_tree.specs.Serial.{IsIksn, IsSerial, serial_bytes, serial_of_bytes};
+ghost use Rattle.duk_tree.specs.Serial.{IsIksn};
 ghost use Rattle.duk_regs.specs.Registers.{IsRegisterSet, register_at};
 ghost use Rattle.duk_regs.specs.Image.{image_bytes, registers_in, set_in, IsImage};
 
 use crate::frontier::{PLACES, SPENT, leaves_empty, no_key};
 use byteorder::{BigEndian, ByteOrder};
-use duk_tdes::Key;
+use duk_tdes::{Key, array_of};
 use duk_tree::{Iksn, Ksn, usable};
 
 /// The bytes of an image.
@@ -58,7 +58,7 @@ pub(crate) fn read_image(image: &[u8]) -> Option<(Iksn, u32, [Key<16>; PLACES])>
     if image.len() != IMAGE_LENGTH || image[0] != VERSION {
         return None;
     }
-    let serial = read_serial(&image[1..11]);
+    let serial = Ksn::from_bytes(array_of(&image[1..11]));
     let counter = BigEndian::read_u24(&image[11..REGISTERS]);
     if serial.counter() != 0 || !(counter == SPENT || usable(counter)) {
         return None;
@@ -71,18 +71,6 @@ pub(crate) fn read_image(image: &[u8]) -> Option<(Iksn, u32, [Key<16>; PLACES])>
     }
 }
 
-/// The key serial number in ten bytes.
-fn read_serial(bytes: &[u8]) -> Ksn
-    requires { length bytes.now ≡ 10 }
-    ensures value { result ≡ serial_of_bytes bytes.now }
-    ensures bytes { serial_bytes result ≡ bytes.now }
-    ensures serial { IsSerial result }
-{
-    let mut array = [0; 10];
-    array.copy_from_slice(bytes);
-    Ksn::from_bytes(array)
-}
-
 /// The registers of an image.
 fn read_registers(image: &[u8]) -> [Key<16>; PLACES]
     requires { length image.now ≡ 350 }
@@ -91,9 +79,7 @@ fn read_registers(image: &[u8]) -> [Key<16>; PLACES]
     let mut registers = [no_key(); PLACES];
     for place in 0..PLACES {
         let start = REGISTERS + REGISTER_LENGTH * place;
-        let mut register = [0; REGISTER_LENGTH];
-        register.copy_from_slice(&image[start..start + REGISTER_LENGTH]);
-        registers[place] = Key::new(register);
+        registers[place] = Key::new(array_of(&image[start..start + REGISTER_LENGTH]));
     }
     registers
 }

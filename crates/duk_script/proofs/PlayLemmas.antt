@@ -1,6 +1,6 @@
 -- What a script does, from what its parts do.
 use Rattle.std.proofs.Common.{◌≡◌, ◌⊎◌, ◌++◌, [], ℕ, List, Result, Ok, Err, OnOk, IfErr, take, inl, inr, sym, ap, subst, ◌∙◌}
-use Rattle.duk_block.specs.KeyBlock.{bytes_of}
+use Rattle.duk_tdes.specs.KeyBytes.{bytes_of}
 use Rattle.duk_net.specs.Run.{IsRun, Run, RunRefused}
 use Rattle.duk_net.specs.declared.event.Event.{Event}
 use Rattle.duk_net.specs.declared.outcome.Outcome.{Outcome}

@@ -39,20 +39,10 @@ IsConfigFault bytes (fault.UnknownKey name) = HasTableFault bytes (fault.Unknown
 IsConfigFault bytes (fault.BadKey key) = HasTableFault bytes (fault.BadKey key)
 IsConfigFault bytes (fault.BadEntry key place) = HasTableFault bytes (fault.BadEntry key place)
 IsConfigFault bytes fault.NoMemory = length bytes ≤ longest
-IsConfigFault bytes fault.CannotRead = ⊥
-IsConfigFault bytes fault.TooLong = ⊥
-IsConfigFault bytes (fault.NotAnEvent line) = ⊥
-IsConfigFault bytes fault.WriteFailed = ⊥
+IsConfigFault bytes _ = ⊥
 
 -- why the bytes give no table, as a private function of `read_config` answers
 abbrev pub NoTable : List ℕ → ScriptFault → Type 0
 NoTable bytes fault.NotToml = (document : Members) → ¬ IsToml bytes document
 NoTable bytes fault.NoMemory = Unit {0}
-NoTable bytes fault.ConfigTooLong = ⊥
-NoTable bytes (fault.UnknownKey name) = ⊥
-NoTable bytes (fault.BadKey key) = ⊥
-NoTable bytes (fault.BadEntry key place) = ⊥
-NoTable bytes fault.CannotRead = ⊥
-NoTable bytes fault.TooLong = ⊥
-NoTable bytes (fault.NotAnEvent line) = ⊥
-NoTable bytes fault.WriteFailed = ⊥
+NoTable bytes _ = ⊥

@@ -10,11 +10,4 @@ use Rattle.duk_script.specs.Entries.{IsFirstBadEntry}
 abbrev pub IsEntriesFault : {Entry : Type 0} → (Data → Entry → Type 0) → (Entry → Entry → Type 0) → ConfigKey → List Data → ScriptFault → Type 0
 IsEntriesFault States Repeats key values (fault.BadEntry told place) = (told ≡ key) × IsFirstBadEntry States Repeats values place
 IsEntriesFault States Repeats key values fault.NoMemory = Unit {0}
-IsEntriesFault States Repeats key values fault.ConfigTooLong = ⊥
-IsEntriesFault States Repeats key values fault.NotToml = ⊥
-IsEntriesFault States Repeats key values (fault.UnknownKey name) = ⊥
-IsEntriesFault States Repeats key values (fault.BadKey told) = ⊥
-IsEntriesFault States Repeats key values fault.CannotRead = ⊥
-IsEntriesFault States Repeats key values fault.TooLong = ⊥
-IsEntriesFault States Repeats key values (fault.NotAnEvent line) = ⊥
-IsEntriesFault States Repeats key values fault.WriteFailed = ⊥
+IsEntriesFault States Repeats key values _ = ⊥

@@ -1,7 +1,8 @@
 -- The keys that a host security module holds for a configuration: this project's own.
 use Rattle.std.specs.Prelude.{◌≡◌, ℕ, List, Some, map}
 use Rattle.duk_block.specs.Faults.{IsFirstFault}
-use Rattle.duk_block.specs.KeyBlock.{Wraps, bytes_of}
+use Rattle.duk_block.specs.KeyBlock.{Wraps}
+use Rattle.duk_tdes.specs.KeyBytes.{bytes_of}
 use Rattle.duk_block.specs.declared.fault.BlockFault.{BlockFault}
 use Rattle.duk_block.specs.declared.header.Header.{Header}
 use Rattle.duk_hsm.specs.Keys.{HsmKeys}

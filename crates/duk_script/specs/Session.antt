@@ -1,6 +1,6 @@
 -- What a script does over stores in memory, and what is written of it: this project's own.
 use Rattle.std.specs.Prelude.{Some, slice_get, ◌≡◌, ◌⊎◌, ◌+◌, ◌++◌, ◌∷◌, zero, suc, ℕ, List, [], None, length, replicate, take}
-use Rattle.duk_block.specs.KeyBlock.{bytes_of}
+use Rattle.duk_tdes.specs.KeyBytes.{bytes_of}
 use Rattle.duk_host.specs.Host.{HostOf, words_of}
 use Rattle.duk_host.specs.Table.{CardTable, table_decision}
 use Rattle.duk_net.specs.First.{first_world}
@@ -87,14 +87,7 @@ pub record IsPlayedAndCut (config : Settings) (events : List Event) (old new : T
 abbrev pub PlayRefused : Settings → List Event → Told → Told → ScriptFault → Type 0
 PlayRefused config events old new fault.WriteFailed = IsPlayedAndCut config events old new
 PlayRefused config events old new fault.NoMemory = IsUntouched old new ⊎ IsPlayedUpTo config events old new
-PlayRefused config events old new fault.ConfigTooLong = ⊥
-PlayRefused config events old new fault.NotToml = ⊥
-PlayRefused config events old new (fault.UnknownKey name) = ⊥
-PlayRefused config events old new (fault.BadKey key) = ⊥
-PlayRefused config events old new (fault.BadEntry key place) = ⊥
-PlayRefused config events old new fault.CannotRead = ⊥
-PlayRefused config events old new fault.TooLong = ⊥
-PlayRefused config events old new (fault.NotAnEvent line) = ⊥
+PlayRefused config events old new _ = ⊥
 
 -- the files' bytes, and what reader and writer tell before and after
 pub record Session : Type 0 where

@@ -38,13 +38,7 @@ abbrev pub ReadRefused : Told → Told → ScriptFault → Type 0
 ReadRefused old new fault.CannotRead = IsBroken old new
 ReadRefused old new fault.TooLong = IsReadTooFar old new
 ReadRefused old new fault.NoMemory = Unit {0}
-ReadRefused old new fault.ConfigTooLong = ⊥
-ReadRefused old new fault.NotToml = ⊥
-ReadRefused old new (fault.UnknownKey name) = ⊥
-ReadRefused old new (fault.BadKey key) = ⊥
-ReadRefused old new (fault.BadEntry key place) = ⊥
-ReadRefused old new (fault.NotAnEvent line) = ⊥
-ReadRefused old new fault.WriteFailed = ⊥
+ReadRefused old new _ = ⊥
 
 -- a piece is read to the end of a text: what a private function of the reading answers
 pub record IsPiece (old new : Told) (before after : List ℕ) (at_end : Bool) : Type 0 where
@@ -70,10 +64,4 @@ abbrev pub PieceRefused : Told → Told → List ℕ → ScriptFault → Type 0
 PieceRefused old new before fault.CannotRead = IsPieceBroken old new
 PieceRefused old new before fault.TooLong = IsPieceTooLong old new before
 PieceRefused old new before fault.NoMemory = Unit {0}
-PieceRefused old new before fault.ConfigTooLong = ⊥
-PieceRefused old new before fault.NotToml = ⊥
-PieceRefused old new before (fault.UnknownKey name) = ⊥
-PieceRefused old new before (fault.BadKey key) = ⊥
-PieceRefused old new before (fault.BadEntry key place) = ⊥
-PieceRefused old new before (fault.NotAnEvent line) = ⊥
-PieceRefused old new before fault.WriteFailed = ⊥
+PieceRefused old new before _ = ⊥

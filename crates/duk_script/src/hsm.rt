@@ -3,7 +3,7 @@
 ghost use Rattle.std.specs.Prelude.{◌≡◌, ◌<◌, Some, None, IfOk, IsOk, length};
 ghost use Rattle.duk_tdes.specs.Tdes.{IsTdesLength};
 ghost use Rattle.duk_block.specs.HeaderText.{IsHeader};
-ghost use Rattle.duk_block.specs.KeyBlock.{bytes_of};
+ghost use Rattle.duk_tdes.specs.KeyBytes.{bytes_of};
 ghost use Rattle.duk_hsm.specs.Keys.{key_set_of};
 ghost use Rattle.duk_hsm.specs.Load.{with_key_set};
 ghost use Rattle.duk_script.specs.Opened.{WrapsAlone, WrapsZone, keys_for};
@@ -109,8 +109,8 @@ fn wrapped<const N: usize, const M: usize>(
     ensures size { length key.now ≡ M }
     ensures wraps { WrapsAlone lmk.now result.items header.now key.now }
 {
-    duk_block::laws::tdes_key(lmk);
-    duk_block::laws::tdes_key(key);
+    duk_tdes::laws::tdes_key(lmk);
+    duk_tdes::laws::tdes_key(key);
     duk_block::laws::one_reading();
     match wrap(lmk, header, key, &PADDING) {
         Ok(block) => {

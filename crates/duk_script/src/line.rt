@@ -123,13 +123,7 @@ impl Line {
         ensures text { result.text.items ≡ self.text.items ++ 32 ∷ code_text code }
         ensures len { length result.text.items ≡ length self.text.items + 3 }
     {
-        match code {
-            Code::Approved => self.word(b"00"),
-            Code::NoCard => self.word(b"14"),
-            Code::WrongPin => self.word(b"55"),
-            Code::OverLimit => self.word(b"51"),
-            Code::Unreadable => self.word(b"30"),
-        }
+        self.word(&code.text())
     }
 
     /// The bytes of the line, with its end.

@@ -1,7 +1,7 @@
 //! The world of a configuration, over stores in memory.
 
 ghost use Rattle.std.specs.Prelude.{◌≡◌, ◌++◌, ◌∷◌, [], IfOk, IfErr, OnOk, replicate};
-ghost use Rattle.duk_block.specs.KeyBlock.{bytes_of};
+ghost use Rattle.duk_tdes.specs.KeyBytes.{bytes_of};
 ghost use Rattle.duk_net.specs.InMemory.{new_terminal};
 ghost use Rattle.duk_script.specs.Session.{IsOpened, new_world_of, opening};
 ghost use Rattle.duk_tdes.specs.Tdes.{IsTdesLength};

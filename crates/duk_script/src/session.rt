@@ -1,7 +1,7 @@
 //! A script, from its bytes to the lines of its outcomes.
 
 ghost use Rattle.std.specs.Prelude.{◌≡◌, ◌⊎◌, OnOk, IfErr};
-ghost use Rattle.duk_block.specs.KeyBlock.{bytes_of};
+ghost use Rattle.duk_tdes.specs.KeyBytes.{bytes_of};
 ghost use Rattle.duk_script.specs.OutcomeText.{lines_of};
 ghost use Rattle.duk_script.specs.Session.{IsDone, IsPlayed, IsRefused, PlayRefused, session};
 ghost use Rattle.duk_script.specs.Sink.{IsCut, IsWritten};

@@ -1,8 +1,8 @@
 -- What the calls of a cell do to its meaning: this project's own.
 use Rattle.std.specs.Prelude.{◌≡◌, ◌≢◌, ◌⊎◌, true, false, ℕ, List, Option, Some}
-use Rattle.duk_store.specs.Meaning.{Meaning, Settles, Stops, Stays}
+use Rattle.duk_store.specs.Meaning.{Meaning, IsAlreadyStopped, Settles, Stops, Stays}
 use Rattle.duk_store.specs.declared.fault.StoreFault.{StoreFault}
-use Rattle.duk_store.specs.declared.fault.StoreFault.TheVariants.{Device, Stopped, Damaged, Worn, NoMemory}
+use Rattle.duk_store.specs.declared.fault.StoreFault.TheVariants.{Device, Stopped, Worn}
 
 -- what a cell keeps: nothing yet, or a body
 abbrev pub Kept : Type 0
@@ -25,11 +25,6 @@ pub record PutStopped (old : Meaning Kept) (worn : Type 0) (new : Meaning Kept) 
   pub stops : Stops old new (OldOrNew old body)
   pub failure : new.failures ≢ old.failures
 
--- a write to a cell that is stopped
-pub record PutRefused (old new : Meaning Kept) : Type 0 where
-  pub was_stopped : old.running ≡ false
-  pub stays : Stays old new
-
 -- a write to a cell that can take no more, and runs on
 pub record PutWorn (old : Meaning Kept) (worn : Type 0) (new : Meaning Kept) : Type 0 where
   pub was_running : old.running ≡ true
@@ -39,7 +34,6 @@ pub record PutWorn (old : Meaning Kept) (worn : Type 0) (new : Meaning Kept) : T
 -- why a body is not kept, and what that leaves
 abbrev pub PutFailed : Meaning Kept → Type 0 → Meaning Kept → List ℕ → StoreFault → Type 0
 PutFailed old worn new body Device = PutStopped old worn new body
-PutFailed old worn new body Stopped = PutRefused old new
+PutFailed old worn new body Stopped = IsAlreadyStopped old new
 PutFailed old worn new body Worn = PutWorn old worn new
-PutFailed old worn new body Damaged = ⊥
-PutFailed old worn new body NoMemory = ⊥
+PutFailed old worn new body _ = ⊥

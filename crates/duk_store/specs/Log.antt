@@ -1,10 +1,10 @@
 -- What the calls of a log of used numbers do to its meaning: this project's own.
 use Rattle.std.specs.Prelude.{◌≡◌, ◌≢◌, ◌⊎◌, ◌-◌, Bool, true, false, ℕ, List, [], ◌∷◌, ◌++◌, length, Some, slice_get, if◌then◌else◌}
 use Rattle.duk_tree.specs.Serial.{Serial}
-use Rattle.duk_store.specs.Meaning.{Meaning, FindsOnly, KeepsNature, Stops, Stays}
+use Rattle.duk_store.specs.Meaning.{Meaning, FindsOnly, IsAlreadyStopped, KeepsNature, Stops, Stays}
 use Rattle.duk_store.specs.Restart.{Restarted}
 use Rattle.duk_store.specs.declared.fault.StoreFault.{StoreFault}
-use Rattle.duk_store.specs.declared.fault.StoreFault.TheVariants.{Device, Stopped, Damaged, Worn, NoMemory}
+use Rattle.duk_store.specs.declared.fault.StoreFault.TheVariants.{Device, Stopped}
 
 -- what a log keeps: the used numbers in the order in which they were appended
 abbrev pub Numbers : Type 0
@@ -42,18 +42,11 @@ pub record AppendStopped (old new : Meaning Numbers) (number : Serial) : Type 0 
   pub stops : Stops old new (OldOrAppended old number)
   pub failure : new.failures ≢ old.failures
 
--- a call of a log that is stopped
-pub record LogRefused (old new : Meaning Numbers) : Type 0 where
-  pub was_stopped : old.running ≡ false
-  pub stays : Stays old new
-
 -- why a number is not appended, and what that leaves
 abbrev pub AppendFailed : Meaning Numbers → Meaning Numbers → Serial → StoreFault → Type 0
 AppendFailed old new number Device = AppendStopped old new number
-AppendFailed old new number Stopped = LogRefused old new
-AppendFailed old new number Damaged = ⊥
-AppendFailed old new number Worn = ⊥
-AppendFailed old new number NoMemory = ⊥
+AppendFailed old new number Stopped = IsAlreadyStopped old new
+AppendFailed old new number _ = ⊥
 
 -- a number that is read: it stands at this place of each list that a restart may find
 pub record IsRead (old new : Meaning Numbers) (place : ℕ) (number : Serial) : Type 0 where
@@ -70,7 +63,5 @@ pub record ReadStopped (old new : Meaning Numbers) : Type 0 where
 -- why a number is not read, and what that leaves
 abbrev pub ReadFailed : Meaning Numbers → Meaning Numbers → StoreFault → Type 0
 ReadFailed old new Device = ReadStopped old new
-ReadFailed old new Stopped = LogRefused old new
-ReadFailed old new Damaged = ⊥
-ReadFailed old new Worn = ⊥
-ReadFailed old new NoMemory = ⊥
+ReadFailed old new Stopped = IsAlreadyStopped old new
+ReadFailed old new _ = ⊥

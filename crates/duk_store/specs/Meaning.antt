@@ -65,6 +65,11 @@ pub record Stays {V : Type 0} (old new : Meaning V) : Type 0 where
   pub running : new.running ≡ old.running
   pub found : (value : V) → new.found value ↔ old.found value
 
+-- a call of a store that is stopped: all stays
+pub record IsAlreadyStopped {V : Type 0} (old new : Meaning V) : Type 0 where
+  pub was_stopped : old.running ≡ false
+  pub stays : Stays old new
+
 -- an armed store is as it was, but for calm
 pub record StaysButCalm {V : Type 0} (old new : Meaning V) : Type 0 where
   pub honest : old.honest ↔ new.honest

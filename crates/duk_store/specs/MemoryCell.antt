@@ -58,6 +58,4 @@ pub record IsSecondStepDue (old new : MemoryCell) (body : List ℕ) : Type 0 whe
 abbrev pub MemoryPutFailed : MemoryCell → MemoryCell → List ℕ → StoreFault → Type 0
 MemoryPutFailed old new body fault.Device = IsFirstStepDue old new ⊎ IsSecondStepDue old new body
 MemoryPutFailed old new body fault.Stopped = IsMemoryStopped old new
-MemoryPutFailed old new body fault.Damaged = ⊥
-MemoryPutFailed old new body fault.Worn = ⊥
-MemoryPutFailed old new body fault.NoMemory = ⊥
+MemoryPutFailed old new body _ = ⊥

@@ -67,6 +67,4 @@ pub record IsSecondAppendStepDue (old new : MemoryLog) (number : Serial) : Type 
 abbrev pub MemoryAppendFailed : MemoryLog → MemoryLog → Serial → StoreFault → Type 0
 MemoryAppendFailed old new number fault.Device = IsFirstAppendStepDue old new ⊎ IsSecondAppendStepDue old new number
 MemoryAppendFailed old new number fault.Stopped = IsLogStopped old new
-MemoryAppendFailed old new number fault.Damaged = ⊥
-MemoryAppendFailed old new number fault.Worn = ⊥
-MemoryAppendFailed old new number fault.NoMemory = ⊥
+MemoryAppendFailed old new number _ = ⊥

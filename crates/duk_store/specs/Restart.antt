@@ -2,7 +2,7 @@
 use Rattle.std.specs.Prelude.{◌≡◌, ◌≢◌}
 use Rattle.duk_store.specs.Meaning.{Meaning, Settles, Stops}
 use Rattle.duk_store.specs.declared.fault.StoreFault.{StoreFault}
-use Rattle.duk_store.specs.declared.fault.StoreFault.TheVariants.{Device, Stopped, Damaged, Worn, NoMemory}
+use Rattle.duk_store.specs.declared.fault.StoreFault.TheVariants.{Device, Damaged}
 
 -- a restart that found this
 pub record Restarted {V : Type 0} (old new : Meaning V) (value : V) : Type 0 where
@@ -18,9 +18,7 @@ pub record IsDamaged {V : Type 0} (old new : Meaning V) : Type 0 where
 abbrev pub IsRestartFault : {V : Type 0} → Meaning V → Meaning V → StoreFault → Type 0
 IsRestartFault old new Device = new.failures ≢ old.failures
 IsRestartFault old new Damaged = IsDamaged old new
-IsRestartFault old new Stopped = ⊥
-IsRestartFault old new Worn = ⊥
-IsRestartFault old new NoMemory = ⊥
+IsRestartFault old new _ = ⊥
 
 -- a restart that failed: what it would find next time was to be found before
 pub record RestartFailed {V : Type 0} (old new : Meaning V) (fault : StoreFault) : Type 0 where

@@ -1,4 +1,5 @@
 pub mod Key
+pub mod KeyBytes
 pub mod Tdes
 pub mod Blocks
 pub mod Cbc

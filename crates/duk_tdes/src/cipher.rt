@@ -1,10 +1,11 @@
 //! The forward and inverse cipher operations of TDES (NIST SP 800-67 section 3).
 
 ghost use Rattle.std.specs.Prelude.{◌≡◌};
+ghost use Rattle.duk_tdes.specs.KeyBytes.{bytes_of};
 ghost use Rattle.duk_tdes.specs.Tdes.{IsTdesLength, first_key, second_key, third_key, tdes_encrypted, tdes_decrypted};
 
 use crate::bytes::array_of;
-use crate::key::Key;
+use crate::key::{Key, KeyBytes};
 use duk_des::{decrypt_block, encrypt_block};
 
 /// The three single keys of a TDES key, in the order in which they encipher.
@@ -60,4 +61,26 @@ pub fn tdes_decrypt<const N: usize>(key: &Key<N>, block: [u8; 8]) -> [u8; 8]
     let block = decrypt_block(&keys.third, block);
     let block = encrypt_block(&keys.second, block);
     decrypt_block(&keys.first, block)
+}
+
+impl KeyBytes {
+    /// The block enciphered under a key of either length.
+    pub fn encrypt(&self, block: [u8; 8]) -> [u8; 8]
+        ensures { result ≡ tdes_encrypted (bytes_of self.now) block }
+    {
+        match self {
+            KeyBytes::Double(key) => tdes_encrypt(key, block),
+            KeyBytes::Triple(key) => tdes_encrypt(key, block),
+        }
+    }
+
+    /// The block that `encrypt` enciphers to this one under the same key.
+    pub fn decrypt(&self, block: [u8; 8]) -> [u8; 8]
+        ensures { result ≡ tdes_decrypted (bytes_of self.now) block }
+    {
+        match self {
+            KeyBytes::Double(key) => tdes_decrypt(key, block),
+            KeyBytes::Triple(key) => tdes_decrypt(key, block),
+        }
+    }
 }

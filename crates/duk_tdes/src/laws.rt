@@ -6,6 +6,8 @@ ghost use Rattle.duk_tdes.specs.Cbc.{AreWholeBlocks, cbc_encrypted, cbc_decrypte
 ghost use Rattle.duk_tdes.specs.Key.{IsKey, left_half, right_half, xor_bytes};
 ghost use Rattle.duk_tdes.specs.Tdes.{IsTdesKey, IsTdesLength, tdes_encrypted, tdes_decrypted};
 
+use crate::key::Key;
+
 /// Under one key of 16 or 24 bytes deciphering undoes enciphering and the reverse, and both make
 /// blocks of blocks.
 pub fn inverse()
@@ -19,6 +21,15 @@ pub fn inverse()
         → IsBlock (tdes_decrypted key block) }
 {
     duk_des::laws::inverse();
+}
+
+/// The bytes of a key of 16 or 24 bytes are those of a TDES key, as many as its type says.
+pub fn tdes_key<const N: usize>(key: &Key<N>)
+    requires { IsTdesLength N }
+    ensures key { IsTdesKey key.now }
+    ensures size { length key.now ≡ N }
+{
+    key.bytes();
 }
 
 /// A masked key is a key of the same length. The halves of a double-length key are single keys, and

@@ -1,2 +1,1 @@
 pub mod BodyLemmas
-pub mod SerialLemmas

@@ -88,24 +88,11 @@ BeginRefused meaning worn old new fault.Stopped = (old.state ≡ Stopped) × (ne
 BeginRefused meaning worn old new fault.NotLoaded = (old.state ≡ Empty) × (new ≡ old)
 BeginRefused meaning worn old new fault.Spent = IsSpent old.state × (new ≡ old)
 BeginRefused meaning worn old new (fault.Store why) = BeginStopped meaning worn old new why
-BeginRefused meaning worn old new fault.AlreadyLoaded = ⊥
-BeginRefused meaning worn old new (fault.Block why) = ⊥
-BeginRefused meaning worn old new fault.WrongUse = ⊥
-BeginRefused meaning worn old new fault.Malformed = ⊥
-BeginRefused meaning worn old new fault.NotPending = ⊥
-BeginRefused meaning worn old new fault.NotMine = ⊥
-BeginRefused meaning worn old new fault.BadMac = ⊥
+BeginRefused meaning worn old new _ = ⊥
 
 -- why no number is taken from a state
 abbrev pub IsNotTaken : State → TermFault → Type 0
 IsNotTaken state fault.Stopped = state ≡ Stopped
 IsNotTaken state fault.NotLoaded = state ≡ Empty
 IsNotTaken state fault.Spent = IsSpent state
-IsNotTaken state fault.AlreadyLoaded = ⊥
-IsNotTaken state (fault.Block why) = ⊥
-IsNotTaken state fault.WrongUse = ⊥
-IsNotTaken state (fault.Store why) = ⊥
-IsNotTaken state fault.Malformed = ⊥
-IsNotTaken state fault.NotPending = ⊥
-IsNotTaken state fault.NotMine = ⊥
-IsNotTaken state fault.BadMac = ⊥
+IsNotTaken state _ = ⊥

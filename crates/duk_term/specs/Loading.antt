@@ -30,12 +30,4 @@ WrapsOtherKey loading text = WrapsOther IsInitialKey loading text
 abbrev pub IsLoadingFault : List ℕ → List ℕ → TermFault → Type 0
 IsLoadingFault loading text (fault.Block why) = IsFirstFault text loading why
 IsLoadingFault loading text fault.WrongUse = WrapsOtherKey loading text
-IsLoadingFault loading text fault.NotLoaded = ⊥
-IsLoadingFault loading text fault.AlreadyLoaded = ⊥
-IsLoadingFault loading text fault.Spent = ⊥
-IsLoadingFault loading text fault.Stopped = ⊥
-IsLoadingFault loading text (fault.Store why) = ⊥
-IsLoadingFault loading text fault.Malformed = ⊥
-IsLoadingFault loading text fault.NotPending = ⊥
-IsLoadingFault loading text fault.NotMine = ⊥
-IsLoadingFault loading text fault.BadMac = ⊥
+IsLoadingFault loading text _ = ⊥

@@ -69,9 +69,4 @@ ReplyRefused state bytes fault.NotPending = (state ≢ Stopped) × ((answer : An
 ReplyRefused state bytes fault.NotMine =
     (answer : AnswerFrame) × (pending : Pending) × IsAnswer bytes answer × IsPending state pending × (ksn_in answer ≢ pending.ksn)
 ReplyRefused state bytes fault.BadMac = (pending : Pending) × IsPending state pending × HasBadMac bytes pending
-ReplyRefused state bytes fault.NotLoaded = ⊥
-ReplyRefused state bytes fault.AlreadyLoaded = ⊥
-ReplyRefused state bytes (fault.Block why) = ⊥
-ReplyRefused state bytes fault.WrongUse = ⊥
-ReplyRefused state bytes fault.Spent = ⊥
-ReplyRefused state bytes (fault.Store why) = ⊥
+ReplyRefused state bytes _ = ⊥

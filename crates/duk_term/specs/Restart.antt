@@ -38,13 +38,4 @@ pub record RestartStopped {C : Type 0} (meaning : C → Meaning Kept) (old new :
 -- why a restart is refused
 abbrev pub RestartRefused : {C : Type 0} → (C → Meaning Kept) → Term C → Term C → TermFault → Type 0
 RestartRefused meaning old new (fault.Store why) = RestartStopped meaning old new why
-RestartRefused meaning old new fault.NotLoaded = ⊥
-RestartRefused meaning old new fault.AlreadyLoaded = ⊥
-RestartRefused meaning old new (fault.Block why) = ⊥
-RestartRefused meaning old new fault.WrongUse = ⊥
-RestartRefused meaning old new fault.Spent = ⊥
-RestartRefused meaning old new fault.Stopped = ⊥
-RestartRefused meaning old new fault.Malformed = ⊥
-RestartRefused meaning old new fault.NotPending = ⊥
-RestartRefused meaning old new fault.NotMine = ⊥
-RestartRefused meaning old new fault.BadMac = ⊥
+RestartRefused meaning old new _ = ⊥

@@ -47,13 +47,4 @@ HasRegisters state = (set : RegisterSet) × (pending : _) × (state ≡ Loaded s
 -- an image that was not kept: the terminal is stopped
 abbrev pub IsNotKept : {C : Type 0} → (C → Meaning Kept) → (C → Type 0) → List ℕ → Term C → Term C → TermFault → Type 0
 IsNotKept meaning worn body old new (fault.Store why) = (new.state ≡ Stopped) × PutFailed (meaning old.cell) (worn old.cell) (meaning new.cell) body why
-IsNotKept meaning worn body old new fault.NotLoaded = ⊥
-IsNotKept meaning worn body old new fault.AlreadyLoaded = ⊥
-IsNotKept meaning worn body old new (fault.Block why) = ⊥
-IsNotKept meaning worn body old new fault.WrongUse = ⊥
-IsNotKept meaning worn body old new fault.Spent = ⊥
-IsNotKept meaning worn body old new fault.Stopped = ⊥
-IsNotKept meaning worn body old new fault.Malformed = ⊥
-IsNotKept meaning worn body old new fault.NotPending = ⊥
-IsNotKept meaning worn body old new fault.NotMine = ⊥
-IsNotKept meaning worn body old new fault.BadMac = ⊥
+IsNotKept meaning worn body old new _ = ⊥

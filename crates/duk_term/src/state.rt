@@ -119,7 +119,7 @@ impl Pending {
         match answer {
             AnswerFrame::Reply { ksn, code, .. } => self.judge_reply(bytes, ksn, code),
             AnswerFrame::Refusal { ksn, reason } => {
-                if is_same(ksn, self.ksn) {
+                if ksn == self.ksn {
                     Ok(Answer::Refused(reason))
                 } else {
                     Err(TermFault::NotMine)
@@ -134,7 +134,7 @@ impl Pending {
         ensures told { IfOk result (λ told. (state : State) → IsPending state self.now → IsTold state bytes.now told) }
         ensures refused { IfErr result (λ why. (state : State) → IsPending state self.now → ReplyRefused state bytes.now why) }
     {
-        if !is_same(ksn, self.ksn) {
+        if ksn != self.ksn {
             return Err(TermFault::NotMine);
         }
         if self.is_answered_by(bytes, code) {
@@ -150,13 +150,4 @@ impl Pending {
     {
         bytes == reply_frame(&self.response_key, self.ksn, code).as_slice()
     }
-}
-
-/// Whether two key serial numbers are one.
-#[tactic(auto, using(crate::proofs::SerialLemmas::same_serial))]
-fn is_same(one: Ksn, other: Ksn) -> bool
-    ensures { IsTrue result ↔ (one ≡ other) }
-{
-    duk_tree::laws::serials();
-    one.bytes() == other.bytes()
 }

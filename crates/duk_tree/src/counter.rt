@@ -3,6 +3,8 @@
 ghost use Rattle.std.specs.Prelude.{◌<◌, ◌^◌, ◌↔◌, IsTrue};
 ghost use Rattle.duk_tree.specs.Path.{IsUsable};
 
+use crate::next::MOST_ONES;
+
 /// The greatest counter of 21 bits.
 const LAST_COUNTER: u32 = 0x1F_FFFF;
 
@@ -12,5 +14,5 @@ pub fn usable(counter: u32) -> bool
     ensures usable { IsTrue result ↔ IsUsable counter }
     ensures fits { IsTrue result → counter < 2 ^ 21 }
 {
-    counter <= LAST_COUNTER && (1..=10).contains(&counter.count_ones())
+    counter <= LAST_COUNTER && (1..=MOST_ONES).contains(&counter.count_ones())
 }

@@ -1,6 +1,10 @@
 //! Key serial numbers: 80 bits, written as ten bytes or twenty hexadecimal digits.
 
-ghost use Rattle.std.specs.Prelude.{◌≡◌, ◌*◌, ◌^◌, ◌<◌, ◌≤◌, ◌↔◌, length, IsSome, IfSome};
+ghost use Rattle.std.proofs.Common.{rules};
+ghost use Rattle.std.specs.Cmp.{nat_eq_equiv, partial_equiv_from_equiv};
+ghost use Rattle.std.specs.Cmp.Rules.{comparing};
+ghost use Rattle.std.specs.Ordering.{eq_of_both, on};
+ghost use Rattle.std.specs.Prelude.{◌≡◌, ◌*◌, ◌^◌, ◌<◌, ◌≤◌, ◌↔◌, nat_eq, length, IsSome, IfSome};
 ghost use Rattle.std.specs.List.{AllPass};
 ghost use Rattle.byteorder.specs.Endian.{big_bytes};
 ghost use Rattle.hex.specs.Hex.{is_hex_digit};
@@ -14,7 +18,7 @@ use std::marker::Model;
 pub(crate) const COUNTER_BITS: u32 = 21;
 
 /// An initial key serial number: the 59 bits above the counter.
-#[derive(Clone, Copy, Debug, PartialEq, Eq)]
+#[derive(Clone, Copy, Debug)]
 pub struct Iksn {
     number: u64,
 }
@@ -55,8 +59,23 @@ impl Iksn {
     }
 }
 
+// Compares what the model shows, which a derive would not.
+impl PartialEq for Iksn {
+    ghost eq = { nat_eq };
+
+    ghost laws = { partial_equiv_from_equiv nat_eq_equiv };
+
+    fn eq(&self, other: &Self) -> bool {
+        self.number == other.number
+    }
+}
+
+impl Eq for Iksn {
+    ghost laws = { nat_eq_equiv };
+}
+
 /// A key serial number: an initial key serial number and a counter of 21 bits.
-#[derive(Clone, Copy, Debug, PartialEq, Eq)]
+#[derive(Clone, Copy, Debug)]
 pub struct Ksn {
     iksn: Iksn,
     counter: u32,
@@ -129,6 +148,20 @@ impl Ksn {
     {
         Ksn { counter, ..self }
     }
+}
+
+impl PartialEq for Ksn {
+    ghost eq = { eq_of_both (on (λ serial. serial.iksn) nat_eq) (on (λ serial. serial.counter) nat_eq) };
+
+    ghost laws = { Prim.search (comparing, rules) };
+
+    fn eq(&self, other: &Self) -> bool {
+        (self.iksn, self.counter) == (other.iksn, other.counter)
+    }
+}
+
+impl Eq for Ksn {
+    ghost laws = { Prim.search (comparing, rules) };
 }
 
 /// The ten bytes of a number, the highest first.

@@ -2,7 +2,7 @@
 
 ghost use Rattle.std.specs.Prelude.{◌≡◌, ◌↔◌, length, IsSome, MatchOption};
 ghost use Rattle.std.specs.List.{AllPass};
-ghost use Rattle.duk_block.specs.KeyBlock.{bytes_of};
+ghost use Rattle.duk_tdes.specs.KeyBytes.{bytes_of};
 ghost use Rattle.hex.specs.Hex.{is_hex_digit};
 ghost use Rattle.dukpt.specs.Derive.{key_of_text};
 ghost use Rattle.dukpt.specs.KeyText.{long_key_of_text, IsTdesKeyText, IsNoTdesKeyText};

@@ -2,7 +2,8 @@
 
 ghost use Rattle.std.specs.Prelude.{◌≡◌, ◌⊎◌, IfOk, IfErr};
 ghost use Rattle.duk_block.specs.Faults.{IsFirstFault};
-ghost use Rattle.duk_block.specs.KeyBlock.{IsKeyBlock, IsWithinLimits, bytes_of};
+ghost use Rattle.duk_block.specs.KeyBlock.{IsKeyBlock, IsWithinLimits};
+ghost use Rattle.duk_tdes.specs.KeyBytes.{bytes_of};
 ghost use Rattle.dukpt.specs.Unwrap.{Unwrapped, unwrapped, IsUnwrapRead, IsUnwrapRefused, unwrapped_lines, IsUnwrapShown, IsUnwrapNotShown, IsUnwrapShownInPart};
 
 use crate::answer::finish;

@@ -2,7 +2,8 @@
 
 ghost use Rattle.std.specs.Prelude.{◌≡◌, ◌≢◌, ◌⊎◌, ◌++◌, ◌≤◌, ℕ, List, IfOk, IfErr, MatchBool, MatchOption, length};
 ghost use Rattle.duk_block.specs.Hexadecimal.{IsHexadecimal};
-ghost use Rattle.duk_block.specs.KeyBlock.{FitsKeyBlock, bytes_of};
+ghost use Rattle.duk_block.specs.KeyBlock.{FitsKeyBlock};
+ghost use Rattle.duk_tdes.specs.KeyBytes.{bytes_of};
 ghost use Rattle.duk_tdes.specs.Tdes.{IsTdesLength};
 ghost use Rattle.dukpt.specs.Fault.{line_end};
 ghost use Rattle.dukpt.specs.Wrap.{Wrapping, wrapping, wrap_words, IsFieldsText, IsNoPadText, IsWrapRead, IsWrapRefused, IsWrapping, IsWrapFault, IsWrapLine, IsWrapShown, IsWrapNotShown, IsWrapShownInPart};
@@ -12,7 +13,7 @@ use crate::fault::Fault;
 use crate::key_text::read_tdes_key;
 use crate::lines::Lines;
 use arrayvec::ArrayVec;
-use duk_block::{BlockFault, Header, laws, wrap};
+use duk_block::{BlockFault, Header, wrap};
 use duk_script::sink::Sink;
 use duk_tdes::{Key, KeyBytes, array_of};
 
@@ -173,7 +174,7 @@ fn wrapped_key<const N: usize, const M: usize>(
     ensures refused { IfErr result
         (λ fault. IsWrapFault (wrapping kbpk.now header.now key.now pad.now) fault) }
 {
-    laws::tdes_key(key);
+    duk_tdes::laws::tdes_key(key);
     wrap(kbpk, header, key, pad)
 }
 

@@ -1,6 +1,6 @@
 use Rattle.std.proofs.Common.{ℕ, List, length, sym, ap, subst, ◌∙◌, arith}
 use Rattle.std.proofs.lemmas.Result.{err_from_is_err_and}
-use Rattle.duk_block.specs.KeyBlock.{bytes_of}
+use Rattle.duk_tdes.specs.KeyBytes.{bytes_of}
 use Rattle.duk_block.specs.Faults.{Carries}
 use Rattle.duk_block.proofs.FaultOrder.{met_before_optional, met_before_payload}
 use Rattle.duk_block.proofs.Pieces.{block_read}

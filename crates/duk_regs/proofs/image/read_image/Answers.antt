@@ -5,10 +5,11 @@ use Rattle.duk_regs.proofs.image.read_image.Goals as goal
 
 pub returns-then-leaves_empty-clause-image : goal.returns-then-leaves_empty-clause-image
 returns-then-leaves_empty-clause-image c =
-    let serial = c.read_serial-serial.ensures in
+    let serial = c.from_bytes-serial.ensures in
+    let bytes = c.array_of.ensures.bytes in
     image_bytes-set_in c.args.image.now (omega arith) (λ i. omega (arith, c.type_inv.image i)) (omega arith)
-    (ap serial_bytes (sym serial.value) ∙ serial.bytes)
-    (ap (λ (n : Serial). n.counter) (sym serial.value) ∙ sym c.counter.ensures.value ∙ c.if-counter-ne0.false)
+    (rw (← bytes) (ap serial_bytes (sym serial.value) ∙ serial.bytes))
+    (rw (← bytes) (ap (λ (n : Serial). n.counter) (sym serial.value)) ∙ sym c.counter.ensures.value ∙ c.if-counter-ne0.false)
 
 pub returns-else-leaves_empty-clause-found : goal.returns-else-leaves_empty-clause-found
 returns-else-leaves_empty-clause-found c = (

@@ -1,5 +1,5 @@
 use Rattle.std.proofs.Common.{subst}
-use Rattle.duk_block.specs.KeyBlock.{bytes_of}
+use Rattle.duk_tdes.specs.KeyBytes.{bytes_of}
 use Rattle.dukpt.specs.Unwrap.{Says, unwrapped}
 use Rattle.dukpt.proofs.unwrap.shown.Goals as goal
 

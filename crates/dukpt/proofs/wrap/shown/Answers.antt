@@ -1,5 +1,5 @@
 use Rattle.std.proofs.Common.{length, subst}
-use Rattle.duk_block.specs.KeyBlock.{bytes_of}
+use Rattle.duk_tdes.specs.KeyBytes.{bytes_of}
 use Rattle.dukpt.specs.Wrap.{wrapping, IsFieldsText, IsWrapFault}
 use Rattle.dukpt.proofs.wrap.shown.Goals as goal
 
