@@ -2,13 +2,11 @@
 
 ghost use Rattle.std.specs.Prelude.{◌≡◌, ◌<◌, ◌≤◌, ◌+◌, ◌*◌, ◌++◌, ◌%◌, MatchBool, MatchOption, length};
 ghost use Rattle.std.specs.List.{AllPass};
-ghost use Rattle.hex.specs.Hex.{encode_upper, is_hex_digit};
+ghost use Rattle.hex.specs.Hex.{is_hex_digit};
 ghost use Rattle.duk_block.specs.Digits.{four_digits};
 ghost use Rattle.duk_block.specs.Hexadecimal.{IsHexadecimal};
 
 use arrayvec::ArrayVec;
-
-const UPPER_CASE: [u8; 16] = *b"0123456789ABCDEF";
 
 /// The number as four decimal digits.
 pub fn four_digits(number: usize) -> [u8; 4]
@@ -29,17 +27,6 @@ pub fn append(text: &mut ArrayVec<u8, 512>, bytes: &[u8])
     ensures { text.new.items ≡ text.old.items ++ bytes.now }
 {
     text.try_extend_from_slice(bytes).unwrap();
-}
-
-/// Writes bytes in hexadecimal, in upper case, at the end of a text.
-pub fn append_hex(text: &mut ArrayVec<u8, 512>, bytes: &[u8])
-    requires { length text.old.items + 2 * length bytes.now ≤ 512 }
-    ensures { text.new.items ≡ text.old.items ++ encode_upper bytes.now }
-{
-    for byte in bytes {
-        text.push(UPPER_CASE[usize::from(*byte / 16)]);
-        text.push(UPPER_CASE[usize::from(*byte % 16)]);
-    }
 }
 
 /// Reads hexadecimal digits in either case, two for each byte, and says whether they are such digits.

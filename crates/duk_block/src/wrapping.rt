@@ -5,13 +5,13 @@ ghost use Rattle.duk_tdes.specs.Tdes.{IsTdesLength};
 ghost use Rattle.duk_block.specs.HeaderText.{IsHeader};
 ghost use Rattle.duk_block.specs.KeyBlock.{FitsKeyBlock, IsSealed, IsWithinLimits, IsWrittenKeyBlock};
 
-use crate::digits::append_hex;
 use crate::fault::BlockFault;
 use crate::header::Header;
 use crate::payload::payload_with;
 use crate::sealing::{block_mac, enciphered};
 use arrayvec::ArrayVec;
 use duk_tdes::Key;
+use duk_text::append_hex;
 
 /// Wraps a key in a key block with no optional block: the header, and the key with this padding behind it enciphered
 /// under a key derived from the key block protection key. `N` and `M` are 16 or 24.

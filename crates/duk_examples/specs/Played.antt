@@ -7,8 +7,8 @@ use Rattle.duk_script.specs.OutcomeText.{lines_of}
 use Rattle.duk_script.specs.Script.{IsScript}
 use Rattle.duk_script.specs.Session.{ArePlayed, IsRefused, session}
 use Rattle.duk_script.specs.Settings.{Settings}
-use Rattle.duk_script.specs.Sink.{Told}
 use Rattle.duk_script.specs.declared.fault.ScriptFault.{ScriptFault}
+use Rattle.duk_text.specs.Sink.{Told}
 
 -- the files with these bytes are a configuration and a script, and these are the lines of what comes of its events
 pub record Writes (config script lines : List ℕ) : Type 0 where

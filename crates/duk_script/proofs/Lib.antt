@@ -3,7 +3,6 @@ mod CommandLemmas
 mod AsciiLemmas
 mod LineLemmas
 mod ScriptLemmas
-mod HexText
 mod DecimalLemmas
 mod SpacedLemmas
 mod SinkLemmas

@@ -11,7 +11,7 @@ use Rattle.duk_script.specs.OutcomeText.{lines_of}
 use Rattle.duk_script.specs.Script.{IsNoScript}
 use Rattle.duk_script.specs.Session.{ArePlayed, ArePlayedInPart, IsOpened, IsRead, IsRefused, MemoryWorld, PlayRefused, Session, in_memory}
 use Rattle.duk_script.specs.Settings.{Settings}
-use Rattle.duk_script.specs.Sink.{IsCut, IsUntouched, Told}
+use Rattle.duk_text.specs.Sink.{IsCut, IsUntouched, Told}
 use Rattle.duk_script.specs.Source.{IsReadWhole, ReadRefused}
 use Rattle.duk_script.specs.declared.fault.ScriptFault.{ScriptFault}
 use Rattle.duk_script.specs.declared.fault.ScriptFault.TheVariants as fault

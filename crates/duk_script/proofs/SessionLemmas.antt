@@ -7,7 +7,7 @@ use Rattle.duk_net.specs.declared.event.Event.TheVariants.{RestartTerm}
 use Rattle.duk_net.specs.declared.outcome.Outcome.{Outcome}
 use Rattle.duk_script.specs.OutcomeText.{line_of, lines_of}
 use Rattle.duk_script.specs.Session.{opening}
-use Rattle.duk_script.specs.Sink.{IsCut, IsWritten, Told}
+use Rattle.duk_text.specs.Sink.{IsCut, IsWritten, Told}
 use Rattle.duk_script.proofs.SinkLemmas.{cut_later, written_then}
 
 -- a list up to a place, what stands there, and the rest

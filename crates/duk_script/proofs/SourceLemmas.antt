@@ -1,7 +1,7 @@
 -- What several reads give, from what each of them gives.
 use Rattle.std.proofs.Common.{◌++◌, [], ℕ, List, Option, Some, None, refl, sym, ap, ◌∙◌, append_assoc}
 use Rattle.std.specs.Io.KnownBytes.{Consumes}
-use Rattle.duk_script.specs.Sink.{Told}
+use Rattle.duk_text.specs.Sink.{Told}
 use Rattle.duk_script.specs.Source.{IsBroken, IsPieceBroken, IsPieceTooLong, IsRead, IsReadTooFar, PieceRefused, ReadRefused}
 use Rattle.duk_script.specs.declared.fault.ScriptFault.{ScriptFault}
 use Rattle.duk_script.specs.declared.fault.ScriptFault.TheVariants as fault

@@ -2,7 +2,6 @@ pub mod Script
 pub mod Reading
 pub mod FaultText
 pub mod OutcomeText
-pub mod Sink
 pub mod FaultLine
 pub mod ConfigKeys
 pub mod Settings

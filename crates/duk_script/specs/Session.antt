@@ -17,7 +17,7 @@ use Rattle.duk_script.specs.Opened.{keys_for}
 use Rattle.duk_script.specs.OutcomeText.{lines_of}
 use Rattle.duk_script.specs.Script.{IsNoScript, IsScript}
 use Rattle.duk_script.specs.Settings.{Settings}
-use Rattle.duk_script.specs.Sink.{IsCut, IsUntouched, IsWritten, Told}
+use Rattle.duk_text.specs.Sink.{IsCut, IsUntouched, IsWritten, Told}
 use Rattle.duk_script.specs.Source.{IsReadWhole, ReadRefused}
 use Rattle.duk_script.specs.declared.fault.ScriptFault.{ScriptFault}
 use Rattle.duk_script.specs.declared.fault.ScriptFault.TheVariants as fault

@@ -2,7 +2,7 @@
 use Rattle.std.specs.Prelude.{◌≡◌, ◌<◌, ◌≤◌, ◌++◌, ℕ, Bool, List, [], length}
 use Rattle.std.specs.Bool.{MatchBool}
 use Rattle.std.specs.Io.KnownBytes.{Consumes, IsAtEnd}
-use Rattle.duk_script.specs.Sink.{Rose, Stayed, Told}
+use Rattle.duk_text.specs.Sink.{Rose, Stayed, Told}
 use Rattle.duk_script.specs.declared.fault.ScriptFault.{ScriptFault}
 use Rattle.duk_script.specs.declared.fault.ScriptFault.TheVariants as fault
 

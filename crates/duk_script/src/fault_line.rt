@@ -3,11 +3,11 @@
 ghost use Rattle.std.specs.Prelude.{◌≡◌, ◌++◌, ◌≤◌, codes, decimal, length, OnOk, OnErr};
 ghost use Rattle.duk_script.specs.ConfigKeys.{key_name};
 ghost use Rattle.duk_script.specs.FaultLine.{fault_line, unknown_line};
-ghost use Rattle.duk_script.specs.Sink.{IsCut, IsTried, IsWritten};
+ghost use Rattle.duk_text.specs.Sink.{IsCut, IsTried, IsWritten};
 
 use crate::fault::{ConfigKey, ScriptFault};
 use crate::line::{Line, LineText};
-use crate::sink::{Sink, WriteFailed, write_text};
+use duk_text::{Sink, WriteFailed, write_text};
 
 /// Writes the line of a fault, LF at its end. What cannot be written of the line is lost.
 pub fn print_fault<F: Sink>(why: &ScriptFault, fault: &mut F)

@@ -14,7 +14,6 @@ mod opening;
 mod read;
 mod script;
 mod session;
-pub mod sink;
 pub mod source;
 #[cfg(test)]
 mod tests;

@@ -1,7 +1,6 @@
 //! A line of output, written word by word into a fixed buffer.
 
-ghost use Rattle.std.specs.Prelude.{◌≡◌, ◌+◌, ◌*◌, ◌<◌, ◌≤◌, ◌^◌, ◌∷◌, ◌++◌, [], length, decimal};
-ghost use Rattle.hex.specs.Hex.{encode_upper};
+ghost use Rattle.std.specs.Prelude.{◌≡◌, ◌+◌, ◌<◌, ◌≤◌, ◌^◌, ◌∷◌, ◌++◌, [], length, decimal};
 ghost use Rattle.duk_tree.specs.Serial.{iksn_bytes, serial_bytes};
 ghost use Rattle.duk_frame.specs.Code.{code_text};
 ghost use Rattle.duk_script.specs.Script.{end_name, terminal_name};
@@ -10,6 +9,7 @@ ghost use Rattle.duk_script.specs.OutcomeText.{ksn_text, iksn_text};
 use arrayvec::ArrayVec;
 use duk_frame::Code;
 use duk_net::End;
+use duk_text::append_hex;
 use duk_tree::{Iksn, Ksn};
 
 /// The bytes that a line has room for, its end among them. The longest, `answer K accepted KSN CODE` with a K of 20
@@ -18,8 +18,6 @@ pub const LINE_ROOM: usize = 80;
 
 /// The text of a line, as ASCII.
 pub type LineText = ArrayVec<u8, LINE_ROOM>;
-
-const UPPER_CASE: [u8; 16] = *b"0123456789ABCDEF";
 
 /// A line that is not ended yet.
 #[derive(Drop)]
@@ -149,16 +147,4 @@ fn append_decimal(text: &mut LineText, number: u64)
     }
     append_decimal(text, number / 10);
     text.push(b'0' + (number % 10) as u8);
-}
-
-/// Appends bytes in hexadecimal, in upper case.
-fn append_hex(text: &mut LineText, bytes: &[u8])
-    requires { length text.old.items + 2 * length bytes.now ≤ LINE_ROOM }
-    ensures digits { text.new.items ≡ text.old.items ++ encode_upper bytes.now }
-    ensures len { length text.new.items ≡ length text.old.items + 2 * length bytes.now }
-{
-    for byte in bytes {
-        text.push(UPPER_CASE[usize::from(*byte / 16)]);
-        text.push(UPPER_CASE[usize::from(*byte % 16)]);
-    }
 }

@@ -4,7 +4,7 @@ ghost use Rattle.std.specs.Prelude.{◌≡◌, ◌⊎◌, OnOk, IfErr};
 ghost use Rattle.duk_tdes.specs.KeyBytes.{bytes_of};
 ghost use Rattle.duk_script.specs.OutcomeText.{lines_of};
 ghost use Rattle.duk_script.specs.Session.{IsDone, IsPlayed, IsRefused, PlayRefused, session};
-ghost use Rattle.duk_script.specs.Sink.{IsCut, IsWritten};
+ghost use Rattle.duk_text.specs.Sink.{IsCut, IsWritten};
 ghost use Rattle.duk_tdes.specs.Tdes.{IsTdesLength};
 
 use crate::config::Config;
@@ -12,11 +12,11 @@ use crate::fault::ScriptFault;
 use crate::opening::open_world;
 use crate::read::read_config;
 use crate::script::parse_script;
-use crate::sink::{Sink, write_text};
 use crate::source::{Source, read_text};
 use crate::text::outcome_line;
 use duk_net::{Event, Outcome, run};
 use duk_tdes::{Key, KeyBytes};
+use duk_text::{Sink, write_text};
 use std::alloc::Global;
 
 /// Runs a script over stores in memory, and writes a line for what comes of each event.

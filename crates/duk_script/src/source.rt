@@ -3,7 +3,7 @@
 ghost use Rattle.std.specs.Prelude.{◌≡◌, ◌<◌, ◌≤◌, length, None, MatchResult, IfOk, IfErr};
 ghost use Rattle.std.specs.Io.{ReadsAtMost};
 ghost use Rattle.std.specs.Io.KnownBytes.{ReadConsumes};
-ghost use Rattle.duk_script.specs.Sink.{Told, Rose, Stayed};
+ghost use Rattle.duk_text.specs.Sink.{Told, Rose, Stayed};
 ghost use Rattle.duk_script.specs.Source.{IsPiece, IsReadWhole, PieceRefused, ReadRefused, longest_script};
 
 use crate::fault::ScriptFault;

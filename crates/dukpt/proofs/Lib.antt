@@ -4,6 +4,5 @@ pub mod PadLemmas
 pub mod PinLemmas
 pub mod SinkLemmas
 pub mod UnwrapLemmas
-pub mod UpperHex
 pub mod WalkLemmas
 pub mod WrapLemmas

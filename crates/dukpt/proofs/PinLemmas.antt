@@ -2,7 +2,7 @@
 use Rattle.std.proofs.Common.{◌≡◌, ℕ, List, Option, Result, Ok, Err, IfOk, IfErr, MatchResult, ◌⊎◌, inl, inr, subst}
 use Rattle.dukpt.specs.Answer.{IsRefusal, IsCutShort}
 use Rattle.dukpt.specs.Pin.{IsPinRead, IsPinWordRefused, pin_lines, IsPinNotShown, IsPinShownInPart}
-use Rattle.duk_script.specs.Sink.{Told}
+use Rattle.duk_text.specs.Sink.{Told}
 use Rattle.dukpt.specs.declared.fault.Fault.{Fault}
 
 pub pin_told : {L : Type 0} (items : L → List ℕ) (pin pan : List ℕ) (word : Option (List ℕ)) (shown : Result L Fault) (output output' fault fault' : Told)

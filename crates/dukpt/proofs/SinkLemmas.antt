@@ -3,7 +3,7 @@ use Rattle.std.proofs.Common.{ℕ, ◌+◌, List, [], ◌++◌, length, take, Op
 use Rattle.std.proofs.Math.Seq.{take-append-add}
 use Rattle.std.proofs.KnownBytes.{Appends-nil, Appends-trans}
 use Rattle.std.specs.Io.KnownBytes.{Appends, Keeps}
-use Rattle.duk_script.specs.Sink.{Told, Stayed, Rose, IsUntouched, IsWritten, IsCut, IsTried}
+use Rattle.duk_text.specs.Sink.{Told, Stayed, Rose, IsUntouched, IsWritten, IsCut, IsTried}
 
 -- a count that stayed twice stayed
 pub stayed_twice : (a b c : Option ℕ) → Stayed a b → Stayed b c → Stayed a c

@@ -1,7 +1,7 @@
 -- How `unwrap` ends with status 1.
 use Rattle.std.proofs.Common.{◌≡◌, ℕ, List, Result, Ok, Err, IfOk, IfErr, MatchResult, ◌⊎◌, inl, inr, subst}
 use Rattle.dukpt.specs.Answer.{IsRefusal, IsCutShort}
-use Rattle.duk_script.specs.Sink.{Told}
+use Rattle.duk_text.specs.Sink.{Told}
 use Rattle.dukpt.specs.Unwrap.{Unwrapped, IsUnwrapRead, IsUnwrapRefused, unwrapped_lines, IsUnwrapNotShown, IsUnwrapShownInPart}
 use Rattle.dukpt.specs.declared.fault.Fault.{Fault}
 

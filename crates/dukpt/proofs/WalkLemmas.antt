@@ -1,6 +1,6 @@
 -- The text of a walk, piece by piece.
 use Rattle.std.proofs.Common.{◌≡◌, ◌+◌, ◌-◌, ◌<◌, ℕ, suc, inl, refl, arith, Bool, List, [], ◌++◌, Result, Ok, Err, OnOk, OnErr, append_assoc, append-nil, sym, ap, subst, ◌∙◌}
-use Rattle.duk_script.specs.Sink.{Told, IsWritten}
+use Rattle.duk_text.specs.Sink.{Told, IsWritten}
 use Rattle.duk_tree.specs.Next.{spent_counter}
 use Rattle.duk_tree.specs.Serial.{Serial}
 use Rattle.duk_regs.specs.Registers.{RegisterSet}

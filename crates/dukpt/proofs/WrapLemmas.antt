@@ -1,7 +1,7 @@
 -- How `wrap` ends.
 use Rattle.std.proofs.Common.{ℕ, List, Result, Ok, Err, IfOk, IfErr, IsOkAnd, MatchResult, ◌⊎◌, inl, inr}
 use Rattle.dukpt.specs.Answer.{IsDone, IsRefusal, IsCutShort}
-use Rattle.duk_script.specs.Sink.{Told}
+use Rattle.duk_text.specs.Sink.{Told}
 use Rattle.dukpt.specs.Wrap.{WrapWords, Wrapping, IsWrapRead, IsWrapRefused, IsWrapLine, IsWrapShown, IsWrapNotShown, IsWrapShownInPart}
 use Rattle.dukpt.specs.declared.fault.Fault.{Fault}
 

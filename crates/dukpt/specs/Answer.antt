@@ -2,7 +2,7 @@
 use Rattle.std.specs.Prelude.{ℕ, List, codes, ◌++◌}
 use Rattle.hex.specs.Hex.{encode_upper}
 use Rattle.dukpt.specs.Fault.{line_end, line_of}
-use Rattle.duk_script.specs.Sink.{Told, IsUntouched, IsWritten, IsCut, IsTried}
+use Rattle.duk_text.specs.Sink.{Told, IsUntouched, IsWritten, IsCut, IsTried}
 use Rattle.dukpt.specs.declared.fault.Fault.{Fault}
 use Rattle.dukpt.specs.declared.fault.Fault.TheVariants.{WriteFailed}
 

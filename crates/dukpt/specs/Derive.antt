@@ -6,7 +6,7 @@ use Rattle.duk_tree.specs.Serial.{Serial, ksn_of_text}
 use Rattle.duk_tree.specs.Path.{IsUsable}
 use Rattle.duk_tree.specs.Derivation.{initial_key_of, derived_key_of, pin_key_of}
 use Rattle.dukpt.specs.Answer.{named_line, IsDone, IsRefusal, IsCutShort}
-use Rattle.duk_script.specs.Sink.{Told}
+use Rattle.duk_text.specs.Sink.{Told}
 use Rattle.dukpt.specs.declared.fault.Fault.{Fault}
 use Rattle.dukpt.specs.declared.fault.Fault.TheVariants.{BdkRefused, KsnRefused, IksnRefused, CountRefused, CounterRefused, KbpkRefused, FieldsRefused, KeyRefused, PadRefused, PinRefused, BlockRefused, OutOfMemory, WriteFailed}
 

@@ -1,7 +1,7 @@
 -- The lines that tell why a command ends with status 1 (this project's own).
 use Rattle.std.specs.Prelude.{ℕ, List, [], ◌∷◌, ◌++◌, codes}
 use Rattle.dukpt.specs.declared.fault.Fault.{Fault}
-use Rattle.duk_script.specs.Sink.{Told, IsTried}
+use Rattle.duk_text.specs.Sink.{Told, IsTried}
 use Rattle.dukpt.specs.declared.fault.Fault.TheVariants.{BdkRefused, KsnRefused, IksnRefused, CountRefused, CounterRefused, KbpkRefused, FieldsRefused, KeyRefused, PadRefused, PinRefused, BlockRefused, OutOfMemory, WriteFailed}
 use Rattle.duk_block.specs.declared.fault.BlockFault.{BlockFault}
 use Rattle.duk_block.specs.declared.fault.BlockFault.TheVariants.{Length, Version, HeaderField, OptionalBlock, Hex, Mac, Payload, PadLength}

@@ -8,7 +8,7 @@ use Rattle.duk_pin.specs.declared.fault.PinFault.TheVariants.{PinLength, PinDigi
 use Rattle.duk_tdes.specs.Tdes.{tdes_encrypted}
 use Rattle.dukpt.specs.Answer.{named_line, IsDone, IsRefusal, IsCutShort}
 use Rattle.dukpt.specs.Derive.{key_of_text}
-use Rattle.duk_script.specs.Sink.{Told}
+use Rattle.duk_text.specs.Sink.{Told}
 use Rattle.dukpt.specs.declared.fault.Fault.{Fault}
 use Rattle.dukpt.specs.declared.fault.Fault.TheVariants.{BdkRefused, KsnRefused, IksnRefused, CountRefused, CounterRefused, KbpkRefused, FieldsRefused, KeyRefused, PadRefused, PinRefused, BlockRefused, OutOfMemory, WriteFailed}
 

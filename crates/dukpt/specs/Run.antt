@@ -3,7 +3,7 @@ use Rattle.std.specs.Prelude.{◌⊎◌, ℕ, List, codes}
 use Rattle.std.specs.Io.KnownBytes.{Keeps}
 use Rattle.duk_script.specs.FaultLine.{fault_line}
 use Rattle.duk_script.specs.Session.{IsDone, IsRefused, Session, session}
-use Rattle.duk_script.specs.Sink.{IsTried, IsUntouched, Rose, Told}
+use Rattle.duk_text.specs.Sink.{IsTried, IsUntouched, Rose, Told}
 use Rattle.duk_script.specs.declared.fault.ScriptFault.{ScriptFault}
 use Rattle.duk_script.specs.declared.fault.ScriptFault.TheVariants.{WriteFailed}
 

@@ -7,7 +7,7 @@ use Rattle.duk_block.specs.declared.fault.BlockFault.{BlockFault}
 use Rattle.duk_block.specs.declared.header.Header.{Header}
 use Rattle.dukpt.specs.Answer.{named_line, text_line, IsDone, IsRefusal, IsCutShort}
 use Rattle.dukpt.specs.KeyText.{IsTdesKeyText, IsNoTdesKeyText}
-use Rattle.duk_script.specs.Sink.{Told}
+use Rattle.duk_text.specs.Sink.{Told}
 use Rattle.dukpt.specs.declared.fault.Fault.{Fault}
 use Rattle.dukpt.specs.declared.fault.Fault.TheVariants.{BdkRefused, KsnRefused, IksnRefused, CountRefused, CounterRefused, KbpkRefused, FieldsRefused, KeyRefused, PadRefused, PinRefused, BlockRefused, OutOfMemory, WriteFailed}
 

@@ -10,7 +10,7 @@ use Rattle.duk_regs.specs.Registers.{RegisterSet, StandsFor}
 use Rattle.dukpt.specs.Answer.{IsDone, IsRefusal, IsCutShort}
 use Rattle.dukpt.specs.Derive.{key_of_text}
 use Rattle.dukpt.specs.Fault.{line_end}
-use Rattle.duk_script.specs.Sink.{Told, IsWritten, IsCut}
+use Rattle.duk_text.specs.Sink.{Told, IsWritten, IsCut}
 use Rattle.dukpt.specs.declared.fault.Fault.{Fault}
 use Rattle.dukpt.specs.declared.fault.Fault.TheVariants.{BdkRefused, KsnRefused, IksnRefused, CountRefused, CounterRefused, KbpkRefused, FieldsRefused, KeyRefused, PadRefused, PinRefused, BlockRefused, OutOfMemory, WriteFailed}
 

@@ -5,7 +5,7 @@ ghost use Rattle.dukpt.specs.Answer.{IsDone, IsRefusal, IsCutShort};
 
 use crate::fault::{Fault, tell};
 use crate::lines::Lines;
-use duk_script::sink::{Sink, write_text};
+use duk_text::{Sink, write_text};
 
 /// Writes the lines to `output`, or else the line of the fault to `fault`, and gives the status: 0,
 /// or 1 where there is a fault, if only that the output cannot be written.

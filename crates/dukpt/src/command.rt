@@ -4,7 +4,7 @@ ghost use Rattle.std.specs.Prelude.{◌≡◌, ◌⊎◌};
 ghost use Rattle.std.specs.Io.KnownBytes.{Keeps};
 ghost use Rattle.dukpt.specs.Fault.{line_of, IsFaultTold};
 ghost use Rattle.dukpt.specs.declared.fault.Fault.{Fault};
-ghost use Rattle.duk_script.specs.Sink.{IsUntouched, IsTried};
+ghost use Rattle.duk_text.specs.Sink.{IsUntouched, IsTried};
 ghost use Rattle.dukpt.specs.Status.{EndsWith, IsLawful, IsStatus, IsToRun};
 
 use crate::derive::derive_command;
@@ -16,7 +16,7 @@ use crate::words::{Request, read_request};
 use crate::wrap::wrap_command;
 use clap::Error;
 use clap::error::ErrorKind;
-use duk_script::sink::{Sink, write_text};
+use duk_text::{Sink, write_text};
 use std::alloc::{AllocError, Global};
 
 /// What is left to do when the words are dealt with.

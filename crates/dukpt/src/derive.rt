@@ -8,8 +8,8 @@ use crate::answer::finish;
 use crate::fault::Fault;
 use crate::key_text::read_key;
 use crate::lines::{Lines, push_line};
-use duk_script::sink::Sink;
 use duk_tdes::Key;
+use duk_text::Sink;
 use duk_tree::{Ksn, derive, initial_key, pin_key, usable};
 
 /// Writes the initial key, the transaction key and the PIN key of a key serial number, a line each

@@ -1,12 +1,12 @@
 //! Why a command ends with status 1, and the line that tells it.
 
 ghost use Rattle.std.specs.Prelude.{◌≡◌};
-ghost use Rattle.duk_script.specs.Sink.{IsTried};
+ghost use Rattle.duk_text.specs.Sink.{IsTried};
 ghost use Rattle.dukpt.specs.Fault.{line_of};
 
 use duk_block::BlockFault;
 use duk_pin::PinFault;
-use duk_script::sink::{Sink, write_text};
+use duk_text::{Sink, write_text};
 
 /// Why a command ends with status 1.
 #[derive(Clone, Copy, Debug, PartialEq, Eq)]

@@ -1,12 +1,12 @@
 //! The files of `run`.
 
 ghost use Rattle.std.specs.Prelude.{◌≡◌, ◌⊎◌};
-ghost use Rattle.duk_script.specs.Sink.{IsTried};
+ghost use Rattle.duk_text.specs.Sink.{IsTried};
 ghost use Rattle.dukpt.specs.Run.{HasRunFiles, HasToldFault, unread_line};
 
 use crate::run::{refuse, run_status};
-use duk_script::sink::{Sink, write_text};
 use duk_script::{ScriptFault, read_config};
+use duk_text::{Sink, write_text};
 use std::io::{ErrorKind, Read};
 use std::rt::Files;
 use std::{fs, io};

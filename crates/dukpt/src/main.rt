@@ -17,7 +17,7 @@ mod words;
 pub mod wrap;
 
 use command::Todo;
-use duk_script::sink::{Sink, write_text};
+use duk_text::{Sink, write_text};
 use fault::{Fault, tell};
 use files::run_files;
 use std::process::ExitCode;

@@ -9,8 +9,8 @@ use crate::fault::Fault;
 use crate::key_text::read_key;
 use crate::lines::{Lines, push_line};
 use duk_pin::{Pan, Pin, encode};
-use duk_script::sink::Sink;
 use duk_tdes::{Key, tdes_encrypt};
+use duk_text::Sink;
 
 /// Writes the PIN block of a PIN and a PAN (ISO 9564-1 format 0) and, where a key is given, the block
 /// enciphered under it, a line each, and gives the status: 0, or 1 with a line on `fault`.

@@ -4,12 +4,12 @@ ghost use Rattle.std.specs.Prelude.{◌≡◌, ◌⊎◌};
 ghost use Rattle.duk_script.specs.declared.fault.ScriptFault.{ScriptFault};
 ghost use Rattle.duk_script.specs.FaultLine.{fault_line};
 ghost use Rattle.duk_script.specs.Session.{session};
-ghost use Rattle.duk_script.specs.Sink.{IsTried, IsUntouched};
+ghost use Rattle.duk_text.specs.Sink.{IsTried, IsUntouched};
 ghost use Rattle.dukpt.specs.Run.{HasLostOutput, HasRefused, HasRun, IsFlushLost};
 
-use duk_script::sink::Sink;
 use duk_script::source::Source;
 use duk_script::{ScriptFault, print_fault, run_script};
+use duk_text::Sink;
 use std::alloc::Global;
 
 /// Runs the script that a reader gives, under the configuration with these bytes, and writes a line to `output` for what

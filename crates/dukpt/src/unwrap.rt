@@ -11,8 +11,8 @@ use crate::fault::Fault;
 use crate::key_text::read_tdes_key;
 use crate::lines::{Lines, push_line, push_text_line};
 use duk_block::{BlockFault, Header, unwrap};
-use duk_script::sink::Sink;
 use duk_tdes::KeyBytes;
+use duk_text::Sink;
 
 /// Writes the header fields and the key of a key block (ANSI X9.143), a line each, and gives the
 /// status: 0, or 1 with a line on `fault`.

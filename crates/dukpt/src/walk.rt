@@ -4,17 +4,16 @@ ghost use Rattle.std.specs.Prelude.{◌≡◌, ◌⊎◌, ◌+◌, ◌≤◌, �
 ghost use Rattle.std.specs.Option.{option_copied};
 ghost use Rattle.arrayvec.specs.ArrayVec.{array_vec_len};
 ghost use Rattle.duk_regs.specs.Registers.{StandsFor};
-ghost use Rattle.duk_script.specs.Sink.{IsCut};
+ghost use Rattle.duk_text.specs.Sink.{IsCut};
 ghost use Rattle.dukpt.specs.Walk.{Asked, IsWalkRead, IsWalkRefused, IsLoaded, Passes, IsSpentWithin, HasPrinted, HasPrintedInPart, HasWalked, HasWalkedInPart, IsWalked, IsNotWalked, IsWalkedInPart, number_text, spent_line, Drains};
 
 use crate::count::{read_count, read_skip};
 use crate::fault::{Fault, tell};
 use crate::key_text::read_key;
-use crate::lines::push_hex;
 use arrayvec::ArrayVec;
 use duk_regs::Registers;
-use duk_script::sink::{Sink, WriteFailed, write_text};
 use duk_tdes::Key;
+use duk_text::{Sink, WriteFailed, append_hex, write_text};
 use duk_tree::{Iksn, Ksn, initial_key};
 
 /// How many bytes of lines are held before they are written.
@@ -180,10 +179,10 @@ fn push_number(held: &mut Held, ksn: Ksn, key: &Key<16>, alone: bool)
     ensures line { held.new.items ≡ held.old.items ++ number_text ksn key.now alone }
     ensures len { array_vec_len held.new ≤ array_vec_len held.old + LONGEST_LINE }
 {
-    push_hex(held, &ksn.bytes());
+    append_hex(held, &ksn.bytes());
     if !alone {
         held.push(b' ');
-        push_hex(held, &key.bytes());
+        append_hex(held, &key.bytes());
     }
     held.push(b'\n');
 }

@@ -14,8 +14,8 @@ use crate::key_text::read_tdes_key;
 use crate::lines::Lines;
 use arrayvec::ArrayVec;
 use duk_block::{BlockFault, Header, wrap};
-use duk_script::sink::Sink;
 use duk_tdes::{Key, KeyBytes, array_of};
+use duk_text::Sink;
 
 /// The most bytes that the payload of a key block of 512 characters has: longer padding fits none.
 const MOST_PADDING: usize = 240;

@@ -6,7 +6,7 @@ ghost use Rattle.dukpt.specs.Derive.{IsDerivable};
 
 use super::{BDK, Full, KSN, Pipe, run};
 use crate::derive::derive_command;
-use duk_script::sink::Sink;
+use duk_text::Sink;
 use std::io;
 use std::test::Fail;
 

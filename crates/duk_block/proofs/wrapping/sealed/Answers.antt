@@ -1,30 +1,19 @@
-use Rattle.std.proofs.Common.{◌++◌, length, ap, ◌∙◌, arith, length-append}
-use Rattle.hex.specs.Hex.{encode_upper, upper_digits}
-use Rattle.hex.proofs.HexLemmas.{length-encode_with}
+use Rattle.std.proofs.Common.{◌++◌, length, ap, ◌∙◌, arith}
+use Rattle.hex.specs.Hex.{encode_upper}
 use Rattle.duk_block.specs.KeyBlock.{mac_of}
 use Rattle.duk_block.proofs.wrapping.sealed.Goals as goal
 
 pub append_hex-requires-2 : goal.append_hex-requires-2
 append_hex-requires-2 g c =
-    let front = c.args.front.items in
-    let ciphertext = c.as_slice-2.result.now in
-    omega (
-      arith,
-      ap length c.append_hex.ensures,
-      length-append front (encode_upper ciphertext),
-      length-encode_with upper_digits ciphertext,
-      ap length c.as_slice-2.ensures.value,
-      c.enciphered-ciphertext.ensures.width,
-      c.block_mac-mac.ensures.block.eight,
-    )
+    omega (arith, c.append_hex.ensures.len, ap length c.as_slice-2.ensures.value, c.enciphered-ciphertext.ensures.width, c.block_mac-mac.ensures.block.eight)
 
 pub returns : goal.returns
 returns g c = record {
   mac = c.block_mac-mac.result;
   ciphertext = c.enciphered-ciphertext.result.items;
   laid_out =
-      c.append_hex-2.ensures
-      ∙ ap (λ text. text ++ encode_upper c.block_mac-mac.result) (c.append_hex.ensures ∙ ap (λ bytes. c.args.front.items ++ encode_upper bytes) c.as_slice-2.ensures.value);
+      c.append_hex-2.ensures.digits
+      ∙ ap (λ text. text ++ encode_upper c.block_mac-mac.result) (c.append_hex.ensures.digits ∙ ap (λ bytes. c.args.front.items ++ encode_upper bytes) c.as_slice-2.ensures.value);
   mac_width = c.block_mac-mac.ensures.block.eight;
   mac_bytes = c.block_mac-mac.ensures.block.bytes_fit;
   ciphertext_width = c.enciphered-ciphertext.ensures.width;

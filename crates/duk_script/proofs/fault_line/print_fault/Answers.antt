@@ -1,6 +1,6 @@
 use Rattle.std.proofs.Common.{[], ◌∷◌, ◌++◌, ap, ◌∙◌, subst}
 use Rattle.duk_script.specs.FaultLine.{unknown_line}
-use Rattle.duk_script.specs.Sink.{IsTried}
+use Rattle.duk_text.specs.Sink.{IsTried}
 use Rattle.duk_script.proofs.fault_line.print_fault.Goals as goal
 
 pub returns-in-ConfigTooLong : goal.returns-in-ConfigTooLong

@@ -1,6 +1,6 @@
 use Rattle.std.proofs.Common.{inl, inr, subst}
 use Rattle.duk_script.specs.OutcomeText.{lines_of}
-use Rattle.duk_script.specs.Sink.{IsCut}
+use Rattle.duk_text.specs.Sink.{IsCut}
 use Rattle.duk_script.proofs.PlayLemmas.{cut_off, if_err, on_ok, played, played_up_to}
 use Rattle.duk_script.proofs.session.play_under.Goals as goal
 

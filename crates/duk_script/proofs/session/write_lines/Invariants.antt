@@ -1,6 +1,6 @@
 use Rattle.std.proofs.Common.{take}
 use Rattle.duk_script.specs.OutcomeText.{lines_of}
-use Rattle.duk_script.specs.Sink.{IsWritten}
+use Rattle.duk_text.specs.Sink.{IsWritten}
 use Rattle.duk_script.proofs.session.write_lines.Given as goal
 
 abbrev pub invariant-loop-outcome : goal.invariant-loop-outcome

@@ -1,6 +1,6 @@
 use Rattle.std.proofs.Common.{◌≡◌, ◌+◌, ◌++◌, ℕ, List}
 use Rattle.duk_regs.specs.Registers.{StandsFor}
-use Rattle.duk_script.specs.Sink.{IsWritten}
+use Rattle.duk_text.specs.Sink.{IsWritten}
 use Rattle.dukpt.specs.Walk.{IsPrinted, number_line}
 use Rattle.dukpt.proofs.walk.print.Given as goal
 

@@ -1,7 +1,7 @@
 use Rattle.std.proofs.Common.{rules}
 use Rattle.std.proofs.lemmas.List.{take_rest}
-use Rattle.duk_script.proofs.SinkLemmas.{written_more}
-use Rattle.duk_script.proofs.sink.write_text.Goals as goal
+use Rattle.duk_text.proofs.SinkLemmas.{written_more}
+use Rattle.duk_text.proofs.sink.write_text.Goals as goal
 
 pub loop-done-preserved : goal.loop-done-preserved
 loop-done-preserved g c =

@@ -3,7 +3,7 @@
 ghost use Rattle.std.specs.Prelude.{◌≡◌, ◌<◌, length, None, MatchResult, OnOk, OnErr};
 ghost use Rattle.std.specs.Io.{WritesAtMost};
 ghost use Rattle.std.specs.Io.KnownBytes.{Keeps, WriteAppends};
-ghost use Rattle.duk_script.specs.Sink.{Told, Rose, Stayed, CountsFailure, IsWritten, IsCut};
+ghost use Rattle.duk_text.specs.Sink.{Told, Rose, Stayed, CountsFailure, IsWritten, IsCut};
 
 use std::io;
 use std::io::Write;

@@ -1,6 +1,6 @@
 use Rattle.std.proofs.Common.{◌-◌, ◌≤◌, length, take}
-use Rattle.duk_script.specs.Sink.{IsWritten}
-use Rattle.duk_script.proofs.sink.write_text.Given as goal
+use Rattle.duk_text.specs.Sink.{IsWritten}
+use Rattle.duk_text.proofs.sink.write_text.Given as goal
 
 abbrev pub invariant-loop-done : goal.invariant-loop-done
 invariant-loop-done g l =

@@ -1,28 +1,28 @@
-use Rattle.std.proofs.Common.{lit<, ℕ, List, get_or, ◌/◌, ◌≡◌, ◌*◌, ◌++◌, ◌∷◌, [], length, take, sym, ap, ◌∙◌, arith, length-append, append-nil}
+use Rattle.std.proofs.Common.{rules, ℕ, List, get_or, ◌/◌, ◌≡◌, ◌*◌, ◌++◌, ◌∷◌, [], length, take, sym, ap, ◌∙◌, arith, length-append, append-nil}
 use Rattle.std.proofs.lemmas.List.{append_assoc}
 use Rattle.hex.specs.Hex.{encode_upper, upper_digits}
-use Rattle.duk_block.proofs.HexText.{encode_upper-none, encode_upper-more, length-encode_upper-take}
-use Rattle.duk_block.proofs.digits.append_hex.Goals as goal
+use Rattle.duk_text.proofs.HexText.{encode_upper-none, encode_upper-more, length-encode_upper-take}
+use Rattle.duk_text.proofs.hexadecimal.append_hex.Goals as goal
 
 pub loop-byte-init : goal.loop-byte-init
-loop-byte-init c = sym (ap (λ digits. c.args.text.now.items ++ digits) encode_upper-none ∙ append-nil c.args.text.now.items)
+loop-byte-init g c = sym (ap (λ digits. c.args.text.now.items ++ digits) encode_upper-none ∙ append-nil c.args.text.now.items)
 
 pub push-requires : goal.push-requires
-push-requires c =
+push-requires g c =
     let bytes = c.args.bytes.now in
     let i = c.loop-byte.byte-index in
     let width : length (encode_upper (take i bytes)) ≡ 2 * i = length-encode_upper-take bytes i (omega arith) in
-    (lit< tt, omega (arith, ap length c.loop-byte.invariant, length-append c.args.text.now.items (encode_upper (take i bytes))))
+    (search rules, omega (arith, ap length c.loop-byte.invariant, length-append c.args.text.now.items (encode_upper (take i bytes))))
 
 pub push-requires-in-loop-byte : goal.push-requires-in-loop-byte
-push-requires-in-loop-byte c =
+push-requires-in-loop-byte g c =
     let bytes = c.args.bytes.now in
     let i = c.loop-byte.byte-index in
     let width : length (encode_upper (take i bytes)) ≡ 2 * i = length-encode_upper-take bytes i (omega arith) in
-    (lit< tt, omega (arith, ap length c.loop-byte.invariant, length-append c.args.text.now.items (encode_upper (take i bytes)), c.push.ensures.len))
+    (search rules, omega (arith, ap length c.loop-byte.invariant, length-append c.args.text.now.items (encode_upper (take i bytes)), c.push.ensures.len))
 
 pub loop-byte-preserved : goal.loop-byte-preserved
-loop-byte-preserved c =
+loop-byte-preserved g c =
     let bytes = c.args.bytes.now in
     let i = c.loop-byte.byte-index in
     let start = c.args.text.now.items in
@@ -34,3 +34,10 @@ loop-byte-preserved c =
     ∙ ap (λ high. start ++ (done ++ get_or upper_digits high 0 ∷ get_or upper_digits c.from-in-loop-byte.result 0 ∷ [])) c.from.ensures
     ∙ ap (λ low. start ++ (done ++ get_or upper_digits (get_or bytes i 0 / 16) 0 ∷ get_or upper_digits low 0 ∷ [])) c.from-in-loop-byte.ensures
     ∙ ap (λ digits. start ++ digits) (sym (encode_upper-more bytes i (omega arith)))
+
+pub returns-clause-len : goal.returns-clause-len
+returns-clause-len g c =
+    let bytes = c.args.bytes.now in
+    let i = c.loop-byte.byte-index in
+    let whole : i ≡ length bytes = omega arith in
+    omega (arith, whole, ap length c.loop-byte.invariant, length-append c.args.text.now.items (encode_upper (take i bytes)), length-encode_upper-take bytes i (omega arith))

@@ -1,0 +1,8 @@
+//! Text that programs write: bytes in hexadecimal, and the writers that take them.
+#![tactic(auto)]
+
+mod hexadecimal;
+mod sink;
+
+pub use hexadecimal::append_hex;
+pub use sink::{Sink, WriteFailed, write_text};
