@@ -5,7 +5,6 @@ mod LineLemmas
 mod ScriptLemmas
 mod DecimalLemmas
 mod SpacedLemmas
-mod SinkLemmas
 mod NameLemmas
 mod ValueLemmas
 mod EntryLemmas

@@ -8,7 +8,6 @@ use Rattle.duk_net.specs.declared.outcome.Outcome.{Outcome}
 use Rattle.duk_script.specs.OutcomeText.{line_of, lines_of}
 use Rattle.duk_script.specs.Session.{opening}
 use Rattle.duk_text.specs.Sink.{IsCut, IsWritten, Told}
-use Rattle.duk_script.proofs.SinkLemmas.{cut_later, written_then}
 
 -- a list up to a place, what stands there, and the rest
 split_at : {A : Type 0} (things : List A) (place : ℕ) (thing : A) → place < length things → thing ≡ get_or things place thing
@@ -24,13 +23,18 @@ lines_next outcomes place outcome within is =
     ∙ flat_map-append line_of (take place outcomes) (outcome ∷ [])
     ∙ ap (λ line. lines_of (take place outcomes) ++ line) (append-nil (line_of outcome))
 
+-- the lines up to an outcome, and its line
+lines_with : (outcomes : List Outcome) (place : ℕ) (outcome : Outcome) (line : List ℕ) → place < length outcomes → outcome ≡ get_or outcomes place outcome → line ≡ line_of outcome
+    → lines_of (take place outcomes) ++ line ≡ lines_of (take (place + 1) outcomes)
+lines_with outcomes place outcome line within is line_is =
+    ap (λ line. lines_of (take place outcomes) ++ line) line_is ∙ sym (lines_next outcomes place outcome within is)
+
 -- one line more is written
-pub written_next : (a b c : Told) (outcomes : List Outcome) (place : ℕ) (outcome : Outcome) (line : List ℕ)
+pub written_next : (a b : Told) (outcomes : List Outcome) (place : ℕ) (outcome : Outcome) (line : List ℕ)
     → place < length outcomes → outcome ≡ get_or outcomes place outcome → line ≡ line_of outcome
-    → IsWritten a b (lines_of (take place outcomes)) → IsWritten b c line → IsWritten a c (lines_of (take (place + 1) outcomes))
-written_next a b c outcomes place outcome line within is line_is before written =
-    subst (λ text. IsWritten a c text) (sym (lines_next outcomes place outcome within is))
-    (written_then a b c (lines_of (take place outcomes)) (line_of outcome) before (subst (λ text. IsWritten b c text) line_is written))
+    → IsWritten a b (lines_of (take place outcomes) ++ line) → IsWritten a b (lines_of (take (place + 1) outcomes))
+written_next a b outcomes place outcome line within is line_is written =
+    subst (λ text. IsWritten a b text) (lines_with outcomes place outcome line within is line_is) written
 
 pub cut_longer : (a c : Told) (text rest : List ℕ) → IsCut a c text → IsCut a c (text ++ rest)
 cut_longer a c text rest (count, cut) = (
@@ -43,16 +47,15 @@ cut_longer a c text rest (count, cut) = (
 )
 
 -- the writing is cut off in a line among others
-pub cut_among : (a b c : Told) (outcomes : List Outcome) (place : ℕ) (outcome : Outcome) (line : List ℕ)
+pub cut_among : (a b : Told) (outcomes : List Outcome) (place : ℕ) (outcome : Outcome) (line : List ℕ)
     → place < length outcomes → outcome ≡ get_or outcomes place outcome → line ≡ line_of outcome
-    → IsWritten a b (lines_of (take place outcomes)) → IsCut b c line → IsCut a c (lines_of outcomes)
-cut_among a b c outcomes place outcome line within is line_is before cut =
-    let first : IsCut a c (lines_of (take (place + 1) outcomes)) =
-    subst (λ text. IsCut a c text) (sym (lines_next outcomes place outcome within is))
-    (cut_later a b c (lines_of (take place outcomes)) (line_of outcome) before (subst (λ text. IsCut b c text) line_is cut)) in
-    subst (λ all. IsCut a c (lines_of all)) (take-append-drop (place + 1) outcomes)
-    (subst (λ text. IsCut a c text) (sym (flat_map-append line_of (take (place + 1) outcomes) (drop (place + 1) outcomes)))
-    (cut_longer a c (lines_of (take (place + 1) outcomes)) (lines_of (drop (place + 1) outcomes)) first))
+    → IsCut a b (lines_of (take place outcomes) ++ line) → IsCut a b (lines_of outcomes)
+cut_among a b outcomes place outcome line within is line_is cut =
+    let first : IsCut a b (lines_of (take (place + 1) outcomes)) =
+    subst (λ text. IsCut a b text) (lines_with outcomes place outcome line within is line_is) cut in
+    subst (λ all. IsCut a b (lines_of all)) (take-append-drop (place + 1) outcomes)
+    (subst (λ text. IsCut a b text) (sym (flat_map-append line_of (take (place + 1) outcomes) (drop (place + 1) outcomes)))
+    (cut_longer a b (lines_of (take (place + 1) outcomes)) (lines_of (drop (place + 1) outcomes)) first))
 
 take_all : {A : Type 0} (things : List A) (place : ℕ) → length things ≤ place → take place things ≡ things
 take_all [] zero within = refl

@@ -46,6 +46,7 @@ fn write_unknown<F: Sink>(fault: &mut F, name: &[u8]) -> Result<(), WriteFailed>
     ensures written { OnOk result (IsWritten (F.told fault.old) (F.told fault.new) (unknown_line name.now)) }
     ensures cut { OnErr result (IsCut (F.told fault.old) (F.told fault.new) (unknown_line name.now)) }
 {
+    duk_text::laws::writes();
     write_text(fault, b"config: unknown ")?;
     write_text(fault, name)?;
     write_text(fault, b"\n")

@@ -36,6 +36,7 @@ pub fn run_script<R: Source, W: Sink>(
     ensures refused { IfErr result
         (IsRefused (session config.now (R.told reader.old) (R.told reader.new) (W.told writer.old) (W.told writer.new))) }
 {
+    duk_text::laws::writes();
     let config = read_config(alloc, config)?;
     let text = read_text(alloc, reader)?;
     let events = parse_script(alloc, text.as_slice())?;
@@ -100,6 +101,7 @@ fn write_lines<W: Sink>(writer: &mut W, outcomes: &[Outcome]) -> Result<(), Scri
     ensures cut { IfErr result (λ why. (why ≡ ScriptFault.WriteFailed)
         × IsCut (W.told writer.old) (W.told writer.new) (lines_of outcomes.now)) }
 {
+    duk_text::laws::writes();
     for outcome in outcomes {
         match write_text(writer, outcome_line(*outcome).as_slice()) {
             Ok(()) => {}

@@ -55,6 +55,7 @@ pub(crate) fn read_text<R: Source>(alloc: Global, reader: &mut R) -> Result<Vec<
     ensures read { IfOk result (λ text. IsReadWhole (R.told reader.old) (R.told reader.new) text.items) }
     ensures refused { IfErr result (ReadRefused (R.told reader.old) (R.told reader.new)) }
 {
+    duk_text::laws::failures();
     let mut text = Vec::new(alloc);
     for _ in 0..READS {
         if read_piece(reader, &mut text)? {

@@ -2,6 +2,7 @@
 #![tactic(auto)]
 
 mod hexadecimal;
+pub mod laws;
 mod sink;
 
 pub use hexadecimal::append_hex;

@@ -5,6 +5,6 @@ use Rattle.duk_script.proofs.source.read_text.Goals as goal
 pub returns-in_err-read_piece-clause-refused : goal.returns-in_err-read_piece-clause-refused
 returns-in_err-read_piece-clause-refused g c =
     let told = g.R.Source.told in
-    let refused = read_refused (told c.args.reader.now) (told c.loop.reader) (told c.read_piece.new.reader) c.loop.text.items _ c.loop.invariant.read c.in_err-read_piece.ensures.refused in
+    let refused = read_refused c.failures.ensures.stayed c.failures.ensures.rose (told c.args.reader.now) (told c.loop.reader) (told c.read_piece.new.reader) c.loop.text.items _ c.loop.invariant.read c.in_err-read_piece.ensures.refused in
     let p = err_from_is_err_and c.from_residual.result c.from_residual.ensures.1 in
     rw (p.1, p.2) refused
