@@ -2,9 +2,9 @@
 use Rattle.std.proofs.Common.{◌≡◌, ℕ, List, subst}
 use Rattle.duk_tree.specs.Serial.{Serial}
 use Rattle.duk_tree.specs.Path.{IsUsable}
-use Rattle.dukpt.specs.Derive.{IsDerivable, IsRefused}
-use Rattle.dukpt.specs.declared.fault.Fault.{Fault}
-use Rattle.dukpt.specs.declared.fault.Fault.TheVariants.{BdkRefused, KsnRefused, IksnRefused, CountRefused, CounterRefused, KbpkRefused, FieldsRefused, KeyRefused, PadRefused, PinRefused, BlockRefused, OutOfMemory, WriteFailed}
+use Rattle.duk_commands.specs.Derive.{IsDerivable, IsRefused}
+use Rattle.duk_commands.specs.declared.fault.Fault.{Fault}
+use Rattle.duk_commands.specs.declared.fault.Fault.TheVariants.{BdkRefused, KsnRefused, IksnRefused, CountRefused, CounterRefused, KbpkRefused, FieldsRefused, KeyRefused, PadRefused, PinRefused, BlockRefused, OutOfMemory, WriteFailed}
 
 pub derivable_not_refused : (bdk ksn key : List ℕ) (serial : Serial) (why : Fault)
     → IsDerivable bdk ksn key serial → IsRefused bdk ksn why → ⊥

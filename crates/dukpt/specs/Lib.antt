@@ -1,10 +1,2 @@
-pub mod Answer
-pub mod Derive
-pub mod Fault
-pub mod KeyText
-pub mod Pin
 pub mod Run
 pub mod Status
-pub mod Unwrap
-pub mod Walk
-pub mod Wrap

@@ -2,20 +2,17 @@
 
 ghost use Rattle.std.specs.Prelude.{◌≡◌, ◌⊎◌};
 ghost use Rattle.std.specs.Io.KnownBytes.{Keeps};
-ghost use Rattle.dukpt.specs.Fault.{line_of, IsFaultTold};
-ghost use Rattle.dukpt.specs.declared.fault.Fault.{Fault};
+ghost use Rattle.duk_commands.specs.Fault.{line_of, IsFaultTold};
+ghost use Rattle.duk_commands.specs.declared.fault.Fault.{Fault};
 ghost use Rattle.duk_text.specs.Sink.{IsUntouched, IsTried};
 ghost use Rattle.dukpt.specs.Status.{EndsWith, IsLawful, IsStatus, IsToRun};
 
-use crate::derive::derive_command;
-use crate::fault::{Fault, tell};
-use crate::pin::pin_command;
-use crate::unwrap::unwrap_command;
-use crate::walk::walk_command;
 use crate::words::{Request, read_request};
-use crate::wrap::wrap_command;
 use clap::Error;
 use clap::error::ErrorKind;
+use duk_commands::{
+    Fault, derive_command, pin_command, tell, unwrap_command, walk_command, wrap_command,
+};
 use duk_text::{Sink, write_text};
 use std::alloc::{AllocError, Global};
 
@@ -53,6 +50,7 @@ pub fn command<'a, W: Sink, F: Sink>(
     ensures quiet { IsToRun result → IsUntouched (W.told output.old) (W.told output.new) }
     ensures silent { IsToRun result → IsUntouched (F.told fault.old) (F.told fault.new) }
 {
+    duk_text::laws::writes();
     match answer(alloc, words, output, fault) {
         Todo::Exit(0) => Todo::Exit(flush(output, fault)),
         todo => todo,

@@ -1,24 +1,14 @@
 //! The program `dukpt`: one command a run, over the words that it is started with.
 #![tactic(auto)]
 
-mod answer;
 pub mod command;
-mod count;
-pub mod derive;
-pub mod fault;
 pub mod files;
-mod key_text;
-mod lines;
-pub mod pin;
 pub mod run;
-pub mod unwrap;
-pub mod walk;
 mod words;
-pub mod wrap;
 
 use command::Todo;
+use duk_commands::{Fault, tell};
 use duk_text::{Sink, write_text};
-use fault::{Fault, tell};
 use files::run_files;
 use std::process::ExitCode;
 use std::rt::Env;

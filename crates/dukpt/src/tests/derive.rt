@@ -2,10 +2,10 @@
 
 ghost use Rattle.std.specs.Prelude.{◌≡◌, ℕ, List, Some, None};
 ghost use Rattle.duk_tree.specs.Serial.{Serial};
-ghost use Rattle.dukpt.specs.Derive.{IsDerivable};
+ghost use Rattle.duk_commands.specs.Derive.{IsDerivable};
 
 use super::{BDK, Full, KSN, Pipe, run};
-use crate::derive::derive_command;
+use duk_commands::derive_command;
 use duk_text::Sink;
 use std::io;
 use std::test::Fail;

@@ -1,7 +1,7 @@
 //! The command `pin`.
 
 use super::{Full, Pipe, run};
-use crate::pin::pin_command;
+use duk_commands::pin_command;
 use std::test::Fail;
 
 #[test]

@@ -1,7 +1,7 @@
 //! The command `walk`.
 
 use super::{BDK, Full, KSN, Pipe, run};
-use crate::walk::walk_command;
+use duk_commands::walk_command;
 use duk_tdes::Key;
 use duk_tree::{Ksn, derive};
 use hex::FromHex;

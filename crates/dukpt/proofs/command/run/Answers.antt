@@ -1,5 +1,5 @@
 use Rattle.std.proofs.Common.{inl, inr}
-use Rattle.dukpt.specs.declared.fault.Fault.TheVariants.{WriteFailed}
+use Rattle.duk_commands.specs.declared.fault.Fault.TheVariants.{WriteFailed}
 use Rattle.dukpt.proofs.command.run.Goals as goal
 
 pub returns-in-Derive-clause-fault : goal.returns-in-Derive-clause-fault

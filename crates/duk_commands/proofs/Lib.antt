@@ -1,0 +1,6 @@
+mod CountLemmas
+mod PadLemmas
+mod PinLemmas
+mod UnwrapLemmas
+mod WalkLemmas
+mod WrapLemmas

@@ -1,0 +1,169 @@
+-- What `walk` is asked and what it answers (this project's own, over the standard's keys).
+use Rattle.std.specs.Prelude.{◌≡◌, ◌⊎◌, ◌+◌, ◌*◌, ◌-◌, ◌<◌, ◌≤◌, ℕ, zero, suc, Bool, List, [], ◌++◌, length, fold, codes, Option, Some, None, IsSome, if◌then◌else◌, All}
+use Rattle.std.specs.Char.{IsAsciiDigit}
+use Rattle.hex.specs.Hex.{encode_upper}
+use Rattle.duk_tree.specs.Derivation.{initial_key_of, transaction_key_of}
+use Rattle.duk_tree.specs.Next.{spent_counter, ComesAfter}
+use Rattle.duk_tree.specs.Path.{IsUsable}
+use Rattle.duk_tree.specs.Serial.{Serial, serial_bytes, iksn_of_text}
+use Rattle.duk_regs.specs.Registers.{RegisterSet, StandsFor}
+use Rattle.duk_commands.specs.Answer.{IsDone, IsRefusal, IsCutShort}
+use Rattle.duk_commands.specs.Derive.{key_of_text}
+use Rattle.duk_commands.specs.Fault.{line_end}
+use Rattle.duk_text.specs.Sink.{Told, IsWritten, IsCut}
+use Rattle.duk_commands.specs.declared.fault.Fault.{Fault}
+use Rattle.duk_commands.specs.declared.fault.Fault.TheVariants.{BdkRefused, KsnRefused, IksnRefused, CountRefused, CounterRefused, KbpkRefused, FieldsRefused, KeyRefused, PadRefused, PinRefused, BlockRefused, OutOfMemory, WriteFailed}
+
+-- the greatest number of numbers that may be asked for: one more than a terminal has
+abbrev pub most_numbers : ℕ
+most_numbers = 1048576
+
+-- the number that decimal digits write
+abbrev pub decimal : List ℕ → ℕ
+decimal text = fold (λ number digit. 10 * number + (digit - 48)) 0 text
+
+-- a text of one or more decimal digits with this value, which is not too great
+pub record IsCount (text : List ℕ) (count : ℕ) : Type 0 where
+  pub some : 0 < length text
+  pub digits : All IsAsciiDigit text
+  pub value : decimal text ≡ count
+  pub fits : count ≤ most_numbers
+
+-- a text that writes no such number
+abbrev pub IsNoCount : List ℕ → Type 0
+IsNoCount text = (count : ℕ) → IsCount text count → ⊥
+
+-- the number of an optional word, which is zero where it is not given
+abbrev pub IsSkip : Option (List ℕ) → ℕ → Type 0
+IsSkip None skip = skip ≡ 0
+IsSkip (Some text) skip = IsCount text skip
+
+-- an optional word is given and writes no such number
+abbrev pub IsNoSkip : Option (List ℕ) → Type 0
+IsNoSkip None = ⊥
+IsNoSkip (Some text) = IsNoCount text
+
+-- what the words ask for: the terminal's initial key and number, and how many numbers it passes and prints
+pub record Asked : Type 0 where
+  pub initial : List ℕ
+  pub iksn : ℕ
+  pub skip : ℕ
+  pub count : ℕ
+
+-- the words are read
+pub record IsWalkRead (bdk iksn count : List ℕ) (skip : Option (List ℕ)) (asked : Asked) : Type 0 where
+  pub key : List ℕ
+  pub key_read : key_of_text bdk ≡ Some key
+  pub iksn_read : iksn_of_text iksn ≡ Some asked.iksn
+  pub initial : asked.initial ≡ initial_key_of key asked.iksn
+  pub count_read : IsCount count asked.count
+  pub skip_read : IsSkip skip asked.skip
+
+-- why the words are refused: the first that holds of these three
+abbrev pub IsWalkRefused : List ℕ → List ℕ → List ℕ → Option (List ℕ) → Fault → Type 0
+IsWalkRefused bdk iksn count skip BdkRefused = key_of_text bdk ≡ None
+IsWalkRefused bdk iksn count skip IksnRefused = IsSome (key_of_text bdk) × (iksn_of_text iksn ≡ None)
+IsWalkRefused bdk iksn count skip CountRefused = IsSome (key_of_text bdk) × IsSome (iksn_of_text iksn) × (IsNoCount count ⊎ IsNoSkip skip)
+IsWalkRefused bdk iksn count skip KsnRefused = ⊥
+IsWalkRefused bdk iksn count skip CounterRefused = ⊥
+IsWalkRefused bdk iksn count skip KeyRefused = ⊥
+IsWalkRefused bdk iksn count skip (PinRefused fault) = ⊥
+IsWalkRefused bdk iksn count skip KbpkRefused = ⊥
+IsWalkRefused bdk iksn count skip FieldsRefused = ⊥
+IsWalkRefused bdk iksn count skip PadRefused = ⊥
+IsWalkRefused bdk iksn count skip (BlockRefused fault) = ⊥
+IsWalkRefused bdk iksn count skip OutOfMemory = ⊥
+IsWalkRefused bdk iksn count skip WriteFailed = ⊥
+
+-- the line of a number: its key serial number and, unless that alone is asked for, its key
+abbrev pub number_text : Serial → List ℕ → Bool → List ℕ
+number_text serial key alone =
+    encode_upper (serial_bytes serial) ++ (if alone then [] else codes " " ++ encode_upper key) ++ line_end
+
+-- the line of a counter, of the terminal with this initial key and initial key serial number
+abbrev pub number_line : List ℕ → ℕ → Bool → ℕ → List ℕ
+number_line initial iksn alone counter =
+    number_text (record { iksn = iksn; counter = counter }) (transaction_key_of initial iksn counter) alone
+
+-- the line where a number is to be taken and none is left
+abbrev pub spent_line : List ℕ
+spent_line = codes "spent" ++ line_end
+
+-- the lines of so many numbers from a counter on: that of a usable counter, then the rest; or `spent` where the terminal is spent
+abbrev pub IsPrinted : (ℕ → List ℕ) → ℕ → ℕ → List ℕ → Type 0
+IsPrinted line counter zero text = text ≡ []
+IsPrinted line counter (suc count) text =
+    ((counter ≡ spent_counter) × (text ≡ spent_line))
+    ⊎ ((next : ℕ) × (rest : List ℕ) × IsUsable counter × ComesAfter counter next × IsPrinted line next count rest × (text ≡ line counter ++ rest))
+
+-- the same after so many numbers that are passed and not printed: a usable counter, then the rest; or `spent` where the terminal is spent
+abbrev pub IsPassed : (ℕ → List ℕ) → ℕ → ℕ → ℕ → List ℕ → Type 0
+IsPassed line counter zero count text = IsPrinted line counter count text
+IsPassed line counter (suc skip) count text =
+    ((counter ≡ spent_counter) × (text ≡ spent_line))
+    ⊎ ((next : ℕ) × IsUsable counter × ComesAfter counter next × IsPassed line next skip count text)
+
+-- a terminal that has passed so many numbers: it is the same terminal, and its lines go on where they were
+pub record Passes (old : RegisterSet) (skip : ℕ) (new : RegisterSet) : Type 0 where
+  pub same_iksn : new.iksn ≡ old.iksn
+  pub stands : (initial : List ℕ) → StandsFor initial old → StandsFor initial new
+  pub lines : (line : ℕ → List ℕ) (count : ℕ) (text : List ℕ) → IsPrinted line new.counter count text → IsPassed line old.counter skip count text
+
+-- a terminal that is spent before it has passed so many numbers
+abbrev pub IsSpentWithin : RegisterSet → ℕ → Type 0
+IsSpentWithin old skip = (line : ℕ → List ℕ) (count : ℕ) → IsPassed line old.counter skip count spent_line
+
+-- the lines of so many numbers of a terminal were written
+abbrev pub HasPrinted : List ℕ → Bool → RegisterSet → ℕ → Told → Told → Type 0
+HasPrinted initial alone old count output output' =
+    (text : List ℕ) × IsPrinted (number_line initial old.iksn alone) old.counter count text × IsWritten output output' text
+
+-- a prefix of such lines was written
+abbrev pub HasPrintedInPart : List ℕ → Bool → RegisterSet → ℕ → Told → Told → Type 0
+HasPrintedInPart initial alone old count output output' =
+    (reached : ℕ) × (text : List ℕ) × (reached ≤ count) × IsPrinted (number_line initial old.iksn alone) old.counter reached text × IsCut output output' text
+
+-- the same behind numbers that are passed
+abbrev pub HasWalked : List ℕ → Bool → RegisterSet → ℕ → ℕ → Told → Told → Type 0
+HasWalked initial alone old skip count output output' =
+    (text : List ℕ) × IsPassed (number_line initial old.iksn alone) old.counter skip count text × IsWritten output output' text
+
+abbrev pub HasWalkedInPart : List ℕ → Bool → RegisterSet → ℕ → ℕ → Told → Told → Type 0
+HasWalkedInPart initial alone old skip count output output' =
+    (reached : ℕ) × (text : List ℕ) × (reached ≤ count) × IsPassed (number_line initial old.iksn alone) old.counter skip reached text × IsCut output output' text
+
+-- a terminal that was loaded as the words ask
+pub record IsLoaded (asked : Asked) (registers : RegisterSet) (skip count : ℕ) : Type 0 where
+  pub stands : StandsFor asked.initial registers
+  pub same_iksn : registers.iksn ≡ asked.iksn
+  pub first : registers.counter ≡ 1
+  pub same_skip : skip ≡ asked.skip
+  pub same_count : count ≡ asked.count
+
+-- status 0: the words are read, and exactly the lines were written
+pub record IsWalked (bdk iksn count : List ℕ) (skip : Option (List ℕ)) (alone : Bool) (output output' fault fault' : Told) : Type 0 where
+  pub asked : Asked
+  pub read : IsWalkRead bdk iksn count skip asked
+  pub text : List ℕ
+  pub lines : IsPassed (number_line asked.initial asked.iksn alone) 1 asked.skip asked.count text
+  pub answer : IsDone text output output' fault fault'
+
+-- status 1 where the words are refused
+pub record IsNotWalked (bdk iksn count : List ℕ) (skip : Option (List ℕ)) (output output' fault fault' : Told) : Type 0 where
+  pub why : Fault
+  pub refused : IsWalkRefused bdk iksn count skip why
+  pub answer : IsRefusal why output output' fault fault'
+
+-- status 1 where the output failed: a prefix of the lines of so many numbers as were reached
+pub record IsWalkedInPart (bdk iksn count : List ℕ) (skip : Option (List ℕ)) (alone : Bool) (output output' fault fault' : Told) : Type 0 where
+  pub asked : Asked
+  pub read : IsWalkRead bdk iksn count skip asked
+  pub reached : ℕ
+  pub not_more : reached ≤ asked.count
+  pub text : List ℕ
+  pub lines : IsPassed (number_line asked.initial asked.iksn alone) 1 asked.skip reached text
+  pub answer : IsCutShort text output output' fault fault'
+
+-- the front of what was held was written, and the rest is held
+abbrev pub Drains : List ℕ → List ℕ → Told → Told → Type 0
+Drains held held' output output' = (part : List ℕ) × (held ≡ part ++ held') × IsWritten output output' part

@@ -1,0 +1,40 @@
+//! COUNT and K, how many numbers to print and to skip, written in decimal.
+
+ghost use Rattle.std.specs.Prelude.{◌≡◌, IfSome, IfNone};
+ghost use Rattle.std.specs.Option.{option_copied};
+ghost use Rattle.duk_commands.specs.Walk.{IsCount, IsNoCount, IsSkip, IsNoSkip};
+
+/// The greatest number that may be asked for: one more than a terminal has.
+const MOST_NUMBERS: u32 = 1_048_576;
+
+/// Reads one or more decimal digits with a value of at most 1,048,576; leading zeros are allowed.
+pub fn read_count(text: &str) -> Option<u32>
+    ensures found { IfSome result (IsCount text.now) }
+    ensures none { IfNone result (IsNoCount text.now) }
+{
+    if text.is_empty() {
+        return None;
+    }
+    let mut count = 0;
+    for digit in text.as_bytes() {
+        match *digit {
+            b'0'..=b'9' => count = 10 * count + u32::from(*digit - b'0'),
+            _ => return None,
+        }
+        if count > MOST_NUMBERS {
+            return None;
+        }
+    }
+    Some(count)
+}
+
+/// Reads such a number, which is zero where it is not given.
+pub fn read_skip(text: Option<&str>) -> Option<u32>
+    ensures found { IfSome result (IsSkip (option_copied text.entry)) }
+    ensures none { IfNone result (IsNoSkip (option_copied text.entry)) }
+{
+    match text {
+        None => Some(0),
+        Some(text) => read_count(text),
+    }
+}

@@ -1,0 +1,21 @@
+//! The commands over keys, PINs and key blocks, each over the words that it is given: what it reads of them, the lines
+//! that it writes, and the faults that it tells.
+#![tactic(auto)]
+
+mod answer;
+mod count;
+mod derive;
+mod fault;
+mod key_text;
+mod lines;
+mod pin;
+mod unwrap;
+mod walk;
+mod wrap;
+
+pub use derive::derive_command;
+pub use fault::{Fault, tell};
+pub use pin::pin_command;
+pub use unwrap::unwrap_command;
+pub use walk::walk_command;
+pub use wrap::wrap_command;

@@ -1,6 +1,0 @@
-use Rattle.dukpt.proofs.PinLemmas.{pin_told}
-use Rattle.dukpt.proofs.pin.pin_command.Goals as goal
-
-pub returns-clause-told : goal.returns-clause-told
-returns-clause-told g c one =
-    pin_told (λ lines. lines.items) _ _ _ _ _ _ _ _ c.shown.ensures.lines c.shown.ensures.refused (c.finish.ensures.told one)

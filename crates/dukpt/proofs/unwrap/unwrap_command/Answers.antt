@@ -1,6 +1,0 @@
-use Rattle.dukpt.proofs.UnwrapLemmas.{unwrap_told}
-use Rattle.dukpt.proofs.unwrap.unwrap_command.Goals as goal
-
-pub returns-clause-told : goal.returns-clause-told
-returns-clause-told g c one =
-    unwrap_told (λ lines. lines.items) _ _ _ _ _ _ _ c.shown.ensures.lines c.shown.ensures.refused (c.finish.ensures.told one)
