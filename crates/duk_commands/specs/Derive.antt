@@ -30,16 +30,7 @@ IsRefused bdk ksn BdkRefused = key_of_text bdk ≡ None
 IsRefused bdk ksn KsnRefused = IsSome (key_of_text bdk) × (ksn_of_text ksn ≡ None)
 IsRefused bdk ksn CounterRefused =
     (key : List ℕ) × (serial : Serial) × IsRead bdk ksn key serial × (IsUsable serial.counter → ⊥)
-IsRefused bdk ksn IksnRefused = ⊥
-IsRefused bdk ksn CountRefused = ⊥
-IsRefused bdk ksn KeyRefused = ⊥
-IsRefused bdk ksn (PinRefused fault) = ⊥
-IsRefused bdk ksn KbpkRefused = ⊥
-IsRefused bdk ksn FieldsRefused = ⊥
-IsRefused bdk ksn PadRefused = ⊥
-IsRefused bdk ksn (BlockRefused fault) = ⊥
-IsRefused bdk ksn OutOfMemory = ⊥
-IsRefused bdk ksn WriteFailed = ⊥
+IsRefused bdk ksn _ = ⊥
 
 -- the three lines: the initial key, the transaction key and its PIN variant
 abbrev pub derived_lines : List ℕ → Serial → List ℕ

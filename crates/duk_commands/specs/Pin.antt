@@ -37,17 +37,7 @@ IsPinWordRefused pin pan word (PinRefused PinDigit) = HasPinLength pin × Any Is
 IsPinWordRefused pin pan word (PinRefused PanLength) = IsPin pin × ((length pan < 12) ⊎ (19 < length pan))
 IsPinWordRefused pin pan word (PinRefused PanDigit) = IsPin pin × HasPanLength pan × Any IsNotAsciiDigit pan
 IsPinWordRefused pin pan word KeyRefused = IsPin pin × IsPan pan × IsKeyWordRefused word
-IsPinWordRefused pin pan word BdkRefused = ⊥
-IsPinWordRefused pin pan word KsnRefused = ⊥
-IsPinWordRefused pin pan word IksnRefused = ⊥
-IsPinWordRefused pin pan word CountRefused = ⊥
-IsPinWordRefused pin pan word CounterRefused = ⊥
-IsPinWordRefused pin pan word KbpkRefused = ⊥
-IsPinWordRefused pin pan word FieldsRefused = ⊥
-IsPinWordRefused pin pan word PadRefused = ⊥
-IsPinWordRefused pin pan word (BlockRefused fault) = ⊥
-IsPinWordRefused pin pan word OutOfMemory = ⊥
-IsPinWordRefused pin pan word WriteFailed = ⊥
+IsPinWordRefused pin pan word _ = ⊥
 
 -- the second line, where a key is given: the block enciphered under it
 abbrev pub enciphered_line : Option (List ℕ) → List ℕ → List ℕ

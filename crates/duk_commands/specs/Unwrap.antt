@@ -41,17 +41,7 @@ pub record IsBlockRefused (kbpk block : List ℕ) (fault : BlockFault) : Type 0 
 abbrev pub IsUnwrapRefused : List ℕ → List ℕ → Fault → Type 0
 IsUnwrapRefused kbpk block KbpkRefused = IsNoTdesKeyText kbpk
 IsUnwrapRefused kbpk block (BlockRefused fault) = IsBlockRefused kbpk block fault
-IsUnwrapRefused kbpk block BdkRefused = ⊥
-IsUnwrapRefused kbpk block KsnRefused = ⊥
-IsUnwrapRefused kbpk block IksnRefused = ⊥
-IsUnwrapRefused kbpk block CountRefused = ⊥
-IsUnwrapRefused kbpk block CounterRefused = ⊥
-IsUnwrapRefused kbpk block FieldsRefused = ⊥
-IsUnwrapRefused kbpk block KeyRefused = ⊥
-IsUnwrapRefused kbpk block PadRefused = ⊥
-IsUnwrapRefused kbpk block (PinRefused fault) = ⊥
-IsUnwrapRefused kbpk block OutOfMemory = ⊥
-IsUnwrapRefused kbpk block WriteFailed = ⊥
+IsUnwrapRefused kbpk block _ = ⊥
 
 -- the lines: the fields of the header, and the key
 abbrev pub unwrapped_lines : Unwrapped → List ℕ

@@ -64,16 +64,7 @@ abbrev pub IsWalkRefused : List ℕ → List ℕ → List ℕ → Option (List �
 IsWalkRefused bdk iksn count skip BdkRefused = key_of_text bdk ≡ None
 IsWalkRefused bdk iksn count skip IksnRefused = IsSome (key_of_text bdk) × (iksn_of_text iksn ≡ None)
 IsWalkRefused bdk iksn count skip CountRefused = IsSome (key_of_text bdk) × IsSome (iksn_of_text iksn) × (IsNoCount count ⊎ IsNoSkip skip)
-IsWalkRefused bdk iksn count skip KsnRefused = ⊥
-IsWalkRefused bdk iksn count skip CounterRefused = ⊥
-IsWalkRefused bdk iksn count skip KeyRefused = ⊥
-IsWalkRefused bdk iksn count skip (PinRefused fault) = ⊥
-IsWalkRefused bdk iksn count skip KbpkRefused = ⊥
-IsWalkRefused bdk iksn count skip FieldsRefused = ⊥
-IsWalkRefused bdk iksn count skip PadRefused = ⊥
-IsWalkRefused bdk iksn count skip (BlockRefused fault) = ⊥
-IsWalkRefused bdk iksn count skip OutOfMemory = ⊥
-IsWalkRefused bdk iksn count skip WriteFailed = ⊥
+IsWalkRefused bdk iksn count skip _ = ⊥
 
 -- the line of a number: its key serial number and, unless that alone is asked for, its key
 abbrev pub number_text : Serial → List ℕ → Bool → List ℕ

@@ -64,12 +64,7 @@ pub record IsWrapping (asked : Wrapping) (text : List ℕ) : Type 0 where
 abbrev pub IsWrapFault : Wrapping → BlockFault → Type 0
 IsWrapFault asked HeaderField = ¬ IsHeader asked.header
 IsWrapFault asked PadLength = IsHeader asked.header × ¬ FitsKeyBlock (length asked.key) (length asked.padding)
-IsWrapFault asked Length = ⊥
-IsWrapFault asked Version = ⊥
-IsWrapFault asked OptionalBlock = ⊥
-IsWrapFault asked Hex = ⊥
-IsWrapFault asked Mac = ⊥
-IsWrapFault asked Payload = ⊥
+IsWrapFault asked _ = ⊥
 
 -- why the words are refused: the first that holds of these
 abbrev pub IsWrapRefused : WrapWords → Fault → Type 0
@@ -78,14 +73,7 @@ IsWrapRefused words FieldsRefused = IsSomeKeyText words.kbpk × (length words.fi
 IsWrapRefused words KeyRefused = IsSomeKeyText words.kbpk × (length words.fields ≡ 7) × IsNoTdesKeyText words.key
 IsWrapRefused words PadRefused = IsSomeKeyText words.kbpk × (length words.fields ≡ 7) × IsSomeKeyText words.key × IsNoPadText words.pad
 IsWrapRefused words (BlockRefused fault) = (asked : Wrapping) × IsWrapRead words asked × IsWrapFault asked fault
-IsWrapRefused words BdkRefused = ⊥
-IsWrapRefused words KsnRefused = ⊥
-IsWrapRefused words IksnRefused = ⊥
-IsWrapRefused words CountRefused = ⊥
-IsWrapRefused words CounterRefused = ⊥
-IsWrapRefused words (PinRefused fault) = ⊥
-IsWrapRefused words OutOfMemory = ⊥
-IsWrapRefused words WriteFailed = ⊥
+IsWrapRefused words _ = ⊥
 
 -- the line: the text of the key block
 abbrev pub IsWrapLine : Wrapping → List ℕ → Type 0

@@ -26,7 +26,7 @@ pub use fault::{ConfigKey, ScriptFault};
 pub use fault_line::print_fault;
 pub use hsm::open_hsm;
 pub use line::{LINE_ROOM, LineText};
-pub use read::read_config;
+pub use read::{LONGEST_CONFIG, read_config};
 pub use script::parse_script;
 pub use session::run_script;
 pub use text::outcome_line;

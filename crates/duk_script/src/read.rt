@@ -19,7 +19,7 @@ use table::read_table;
 use toml::Table;
 
 /// The bytes of the longest configuration that is read.
-const LONGEST: usize = 1_048_576;
+pub const LONGEST_CONFIG: usize = 1_048_576;
 
 /// Reads a configuration.
 ///
@@ -32,7 +32,7 @@ pub fn read_config(alloc: Global, bytes: &[u8]) -> Result<Config, ScriptFault>
     ensures read { IfOk result (IsConfigFile bytes.now) }
     ensures refused { IfErr result (IsConfigFault bytes.now) }
 {
-    if bytes.len() > LONGEST {
+    if bytes.len() > LONGEST_CONFIG {
         return Err(ScriptFault::ConfigTooLong);
     }
     let table = parsed(alloc, bytes)?;

@@ -5,20 +5,21 @@ ghost use Rattle.duk_text.specs.Sink.{IsTried};
 ghost use Rattle.dukpt.specs.Run.{HasRunFiles, HasToldFault, unread_line};
 
 use crate::run::{refuse, run_status};
-use duk_script::{ScriptFault, read_config};
+use duk_script::{LONGEST_CONFIG, ScriptFault, read_config};
 use duk_text::{Sink, write_text};
 use std::io::{ErrorKind, Read};
 use std::rt::Files;
 use std::{fs, io};
 
 /// How many bytes of a configuration are read at most: one more than it may have, so that a longer one is known.
-const MOST_READ: u64 = 1_048_577;
+const MOST_READ: u64 = LONGEST_CONFIG as u64 + 1;
 
 /// Runs the script of one file under the configuration of another, and gives the status: 0, or 1 with a line on `fault`.
 ///
 /// The configuration is read and tested before the script is opened. The faults, in this order: `config: cannot read`,
 /// where the file cannot be opened or a read fails; those of the configuration; `script: cannot read`, where the file
-/// cannot be opened; those of `run_status`. A folder cannot be read.
+/// cannot be opened; those of `run_status`. A folder cannot be read. Where the cause is want of memory, `out of memory`
+/// stands in place of either.
 pub fn run_files<R: Files + AllocGlobal, W: Sink, F: Sink>(
     rt: &R,
     config: &str,
@@ -40,7 +41,16 @@ pub fn run_files<R: Files + AllocGlobal, W: Sink, F: Sink>(
     }
     match fs::open(rt, script) {
         Ok(mut script) => run_status(rt.alloc(), config.as_slice(), &mut script, output, fault),
-        Err(_) => refuse(&ScriptFault::CannotRead, fault),
+        Err(error) => refuse(&unopened(&error), fault),
+    }
+}
+
+/// Why a script could not be opened.
+fn unopened(error: &io::Error) -> ScriptFault {
+    if error.kind() == ErrorKind::OutOfMemory {
+        ScriptFault::NoMemory
+    } else {
+        ScriptFault::CannotRead
     }
 }
 

@@ -182,7 +182,7 @@ fn pin_words<'a>(alloc: Global) -> Result<Command<'a>, AllocError> {
 
 fn wrap_words<'a>(alloc: Global) -> Result<Command<'a>, AllocError> {
     let fields = Arg::new(alloc, "FIELDS").required(true).help(
-        "The header fields, 7 characters: usage, algorithm, mode, version and exportability",
+        "The header fields, 7 bytes: usage, algorithm, mode, version and exportability",
     );
     let key = Arg::new(alloc, "KEY")
         .required(true)

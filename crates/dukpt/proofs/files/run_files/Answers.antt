@@ -1,5 +1,5 @@
 use Rattle.std.proofs.Common.{inl, inr}
-use Rattle.duk_script.specs.declared.fault.ScriptFault.TheVariants.{CannotRead, WriteFailed}
+use Rattle.duk_script.specs.declared.fault.ScriptFault.TheVariants.{WriteFailed}
 use Rattle.dukpt.proofs.files.run_files.Goals as goal
 
 pub returns-in-Ok-open-clause-told : goal.returns-in-Ok-open-clause-told
@@ -10,4 +10,4 @@ returns-in-Ok-open-clause-told g c one =
     ]
 
 pub returns-clause-told : goal.returns-clause-told
-returns-clause-told g c one = inr (CannotRead, c.refuse-in-Err-open.ensures.line)
+returns-clause-told g c one = inr (_, c.refuse-in-Err-open.ensures.line)
