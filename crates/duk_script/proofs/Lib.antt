@@ -11,6 +11,7 @@ mod EntryLemmas
 mod OrderLemmas
 mod OpenLemmas
 mod OnceLemmas
+mod OneFaultLemmas
 mod SessionLemmas
 mod SourceLemmas
 mod PlayLemmas

@@ -19,10 +19,10 @@ use Rattle.duk_script.specs.Entries.{AreEntries, HaveOnePan, HaveOnePrefix, IsFi
 use Rattle.duk_script.specs.Names.{IsFirstUnknown, has_only, names}
 use Rattle.duk_script.specs.Settings.{Settings, settings}
 
-one_value : {A : Type 0} (o : Option A) (x y : A) → o ≡ Some x → o ≡ Some y → x ≡ y
+pub one_value : {A : Type 0} (o : Option A) (x y : A) → o ≡ Some x → o ≡ Some y → x ≡ y
 one_value o x y first second = same_Some x y (sym first ∙ second)
 
-no_value : {A : Type 0} (o : Option A) (x : A) → o ≡ Some x → o ≢ None
+pub no_value : {A : Type 0} (o : Option A) (x : A) → o ≡ Some x → o ≢ None
 no_value o x some none = let both : Some x ≡ None = sym some ∙ none in cc
 
 one_table : (value : Data) (a b : Members) → value ≡ table a → value ≡ table b → a ≡ b
@@ -32,7 +32,7 @@ base_key_same : (x y : BaseKey) → x.prefix ≡ y.prefix → x.key ≡ y.key �
 base_key_same x y prefix key = ap (λ p. let k : BaseKey = record { prefix = p; key = x.key } in k) prefix ∙ ap (λ p. let k : BaseKey = record { prefix = y.prefix; key = p } in k) key
 
 -- a value states one base derivation key
-one_base_key : (value : Data) (x y : BaseKey) → StatesBaseKey value x → StatesBaseKey value y → x ≡ y
+pub one_base_key : (value : Data) (x y : BaseKey) → StatesBaseKey value x → StatesBaseKey value y → x ≡ y
 one_base_key value x y first second =
     let same : first.members ≡ second.members = one_table value _ _ first.is_table second.is_table in
     let prefix = rw same at first.prefix in
@@ -46,7 +46,7 @@ card_same x y pan pin limit =
     ∙ ap (λ p. let c : Card = record { pan = y.pan; pin = y.pin; limit = p } in c) limit)
 
 -- a value states one card
-one_card : (value : Data) (x y : Card) → StatesCard value x → StatesCard value y → x ≡ y
+pub one_card : (value : Data) (x y : Card) → StatesCard value x → StatesCard value y → x ≡ y
 one_card value x y first second =
     let same : first.members ≡ second.members = one_table value _ _ first.is_table second.is_table in
     let pan = rw same at first.pan in
@@ -115,7 +115,7 @@ all_known is_known [] x k all within = absurd (omega arith)
 all_known is_known (y ∷ xs) x zero all within = (and_parts _ _ all).0
 all_known is_known (y ∷ xs) x (suc k) all within = all_known is_known xs x k (and_parts _ _ all).1 (omega arith)
 
-none_unknown : (is_known : List ℕ → Bool) (members : Members) (name : List ℕ) → has_only is_known members ≡ true → ¬ IsFirstUnknown is_known members name
+pub none_unknown : (is_known : List ℕ → Bool) (members : Members) (name : List ℕ) → has_only is_known members ≡ true → ¬ IsFirstUnknown is_known members name
 none_unknown is_known members name all first =
     let known = all_known is_known (names members) name first.there.0 all first.there.1 in
     let known_name = rw first.there.2 at known in

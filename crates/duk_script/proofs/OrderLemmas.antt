@@ -29,7 +29,7 @@ key_at_rank key.Bdk = refl
 key_at_rank key.Card = refl
 
 -- two keys have not one rank
-rank_once : (a b : ConfigKey) → rank a ≡ rank b → a ≡ b
+pub rank_once : (a b : ConfigKey) → rank a ≡ rank b → a ≡ b
 rank_once a b same = sym (key_at_rank a) ∙ (ap key_at same ∙ key_at_rank b)
 
 below_or_at : (m n : ℕ) → m < suc n → (m < n) ⊎ (n ≡ m)

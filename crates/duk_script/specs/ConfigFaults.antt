@@ -64,3 +64,8 @@ IsFirstFault document (fault.BadKey key) = IsRightBefore document key × IsWrong
 IsFirstFault document (fault.BadEntry key place) = IsRightBefore document key × HasBadEntry document key place
 IsFirstFault document fault.NoMemory = Unit {0}
 IsFirstFault document _ = ⊥
+
+-- the two are one fault; of the name of an unknown key only its bytes count
+abbrev pub AreOneFault : ScriptFault → ScriptFault → Type 0
+AreOneFault (fault.UnknownKey a) (fault.UnknownKey b) = string_bytes a ≡ string_bytes b
+AreOneFault a b = a ≡ b
