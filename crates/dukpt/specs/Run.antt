@@ -34,13 +34,29 @@ pub record HasLostOutput (s : Session) (fault fault' : Told) : Type 0 where
 abbrev pub unread_line : List ℕ
 unread_line = codes "config: cannot read\n"
 
--- status 0: the files were read, and all was done
+-- status 0: a script was played to its end under a configuration, and nothing was told as a fault. Nothing is said of what a file holds
 pub record HasRunFiles (output output' fault fault' : Told) : Type 0 where
   pub config : List ℕ
   pub reader : Told
   pub reader' : Told
   pub run : HasRun (session config reader reader' output output') fault fault'
 
--- status 1: the line of some fault was written, but for what a failed write cut off
-abbrev pub HasToldFault : Told → Told → Type 0
-HasToldFault fault fault' = IsTried fault fault' unread_line ⊎ ((why : ScriptFault) × IsTried fault fault' (fault_line why))
+-- a line was told, but for what a failed write cut off, and nothing was written to the output
+pub record HasToldAlone (line : List ℕ) (output output' fault fault' : Told) : Type 0 where
+  pub quiet : IsUntouched output output'
+  pub told : IsTried fault fault' line
+
+-- a script was refused under a configuration, or what it wrote could not be handed on, and that was told
+pub record HasFailedRun (output output' fault fault' : Told) : Type 0 where
+  pub config : List ℕ
+  pub reader : Told
+  pub reader' : Told
+  pub run : HasRefused (session config reader reader' output output') fault fault'
+      ⊎ HasLostOutput (session config reader reader' output output') fault fault'
+
+-- status 1: a file could not be read, or a fault was told before the script was, or else a run failed
+abbrev pub HasToldFault : Told → Told → Told → Told → Type 0
+HasToldFault output output' fault fault' =
+    HasToldAlone unread_line output output' fault fault'
+    ⊎ ((why : ScriptFault) × HasToldAlone (fault_line why) output output' fault fault')
+    ⊎ HasFailedRun output output' fault fault'

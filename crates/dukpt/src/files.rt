@@ -1,6 +1,8 @@
 //! The files of `run`.
 
 ghost use Rattle.std.specs.Prelude.{◌≡◌, ◌⊎◌};
+ghost use Rattle.duk_script.specs.declared.fault.ScriptFault.{ScriptFault};
+ghost use Rattle.duk_script.specs.FaultLine.{fault_line};
 ghost use Rattle.duk_text.specs.Sink.{IsTried};
 ghost use Rattle.dukpt.specs.Run.{HasRunFiles, HasToldFault, unread_line};
 
@@ -30,8 +32,10 @@ pub fn run_files<R: Files + AllocGlobal, W: Sink, F: Sink>(
     ensures status { (result ≡ 0) ⊎ (result ≡ 1) }
     ensures done { result ≡ 0
         → HasRunFiles (W.told output.old) (W.told output.new) (F.told fault.old) (F.told fault.new) }
-    ensures told { result ≡ 1 → HasToldFault (F.told fault.old) (F.told fault.new) }
+    ensures told { result ≡ 1
+        → HasToldFault (W.told output.old) (W.told output.new) (F.told fault.old) (F.told fault.new) }
 {
+    duk_text::laws::writes();
     let config = match read_file(rt, config) {
         Ok(config) => config,
         Err(error) => return refuse_file(&error, fault),
@@ -65,7 +69,8 @@ fn read_file<R: Files + AllocGlobal>(rt: &R, path: &str) -> io::Result<Vec<u8>> 
 /// Tells why a configuration could not be read, and gives the status 1.
 fn refuse_file<F: Sink>(error: &io::Error, fault: &mut F) -> u8
     ensures status { result ≡ 1 }
-    ensures told { HasToldFault (F.told fault.old) (F.told fault.new) }
+    ensures told { IsTried (F.told fault.old) (F.told fault.new) unread_line
+        ⊎ IsTried (F.told fault.old) (F.told fault.new) (fault_line ScriptFault.NoMemory) }
 {
     if error.kind() == ErrorKind::OutOfMemory {
         return refuse(&ScriptFault::NoMemory, fault);
