@@ -32,7 +32,7 @@ digit_of_below_two (suc zero) h = refl
 digit_of_below_two (suc (suc n)) h = absurd (omega arith)
 
 -- bits above the lowest `count` do not matter
-bits_of-high : (count high low : ℕ) → bits_of count (high * 2 ^ count + low) ≡ bits_of count low
+pub bits_of-high : (count high low : ℕ) → bits_of count (high * 2 ^ count + low) ≡ bits_of count low
 bits_of-high zero high low = refl
 bits_of-high (suc count) high low =
     let doubled : high * 2 ^ suc count + low ≡ low + (high * 2) * 2 ^ count = ap (λ p. high * p + low) (two-pow-succ count) ∙ omega arith in

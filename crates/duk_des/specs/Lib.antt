@@ -1,4 +1,5 @@
 pub mod Bits
 pub mod Tables
 pub mod Des
+pub mod Words
 pub mod Block

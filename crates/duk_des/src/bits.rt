@@ -1,7 +1,7 @@
 //! Bits of bytes, the most significant first.
 
-ghost use Rattle.std.specs.Prelude.{◌≡◌, length};
-ghost use Rattle.duk_des.specs.Bits.{xor_bits, bits_of, bits_of_bytes, bytes_of_bits, number_of};
+ghost use Rattle.std.specs.Prelude.{◌≡◌, ◌+◌, ◌++◌, IsTrue, length};
+ghost use Rattle.duk_des.specs.Bits.{xor_bits, permute, are_places, bits_of, bits_of_bytes, bytes_of_bits, number_of};
 
 // The eight bits of each byte, one byte after another.
 macro_rules! eights {
@@ -29,16 +29,11 @@ pub fn bits_of_bytes(bytes: &[u8; 8]) -> [bool; 64]
 pub fn bytes_of_bits(bits: &[bool; 64]) -> [u8; 8]
     ensures { result ≡ bytes_of_bits 8 bits.now }
 {
-    [
-        byte_of_bits(&choose!(bits: 1 2 3 4 5 6 7 8)),
-        byte_of_bits(&choose!(bits: 9 10 11 12 13 14 15 16)),
-        byte_of_bits(&choose!(bits: 17 18 19 20 21 22 23 24)),
-        byte_of_bits(&choose!(bits: 25 26 27 28 29 30 31 32)),
-        byte_of_bits(&choose!(bits: 33 34 35 36 37 38 39 40)),
-        byte_of_bits(&choose!(bits: 41 42 43 44 45 46 47 48)),
-        byte_of_bits(&choose!(bits: 49 50 51 52 53 54 55 56)),
-        byte_of_bits(&choose!(bits: 57 58 59 60 61 62 63 64)),
-    ]
+    let mut bytes = [0; 8];
+    for i in 0..8 {
+        bytes[i] = byte_of_bits(&bits[8 * i..8 * i + 8]);
+    }
+    bytes
 }
 
 fn bits_of_byte(byte: u8) -> [bool; 8]
@@ -56,7 +51,8 @@ fn bits_of_byte(byte: u8) -> [bool; 8]
     ]
 }
 
-fn byte_of_bits(bits: &[bool; 8]) -> u8
+fn byte_of_bits(bits: &[bool]) -> u8
+    requires { length bits.now ≡ 8 }
     ensures { result ≡ number_of bits.now }
 {
     128 * bits[0] as u8
@@ -78,4 +74,29 @@ pub fn xor<const N: usize>(left: &[bool; N], right: &[bool; N]) -> [bool; N]
         sum[i] = left[i] ^ right[i];
     }
     sum
+}
+
+/// The bits with the numbers of a table, counted from 1, in its order.
+pub fn permuted<const N: usize, const M: usize>(places: &[u8; M], bits: &[bool; N]) -> [bool; M]
+    requires { IsTrue (are_places N places.now) }
+    ensures { result ≡ permute places.now bits.now }
+{
+    let mut chosen = [false; M];
+    for i in 0..M {
+        chosen[i] = bits[places[i] as usize - 1];
+    }
+    chosen
+}
+
+/// Two halves, one after the other.
+pub fn joined<const N: usize, const M: usize>(first: &[bool; N], second: &[bool; N]) -> [bool; M]
+    requires { M ≡ N + N }
+    ensures { result ≡ first.now ++ second.now }
+{
+    let mut both = [false; M];
+    for i in 0..N {
+        both[i] = first[i];
+        both[N + i] = second[i];
+    }
+    both
 }

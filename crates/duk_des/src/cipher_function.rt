@@ -1,10 +1,10 @@
 //! The cipher function f of a round (NIST SP 800-67 section 2 and appendix A).
 
-ghost use Rattle.std.specs.Prelude.{◌≡◌};
+ghost use Rattle.std.specs.Prelude.{◌≡◌, length};
 ghost use Rattle.duk_des.specs.Des.{substitute, substitute_all, cipher_function};
 ghost use Rattle.duk_des.specs.Tables.{boxes};
 
-use crate::bits::xor;
+use crate::bits::{permuted, xor};
 
 // The selection functions, four rows of 16 entries each.
 #[rattlefmt::skip]
@@ -71,6 +71,28 @@ const S8: [u8; 64] = [
     2, 1, 14, 7, 4, 10, 8, 13, 15, 12, 9, 0, 3, 5, 6, 11,
 ];
 
+// The expansion E of 32 bits to 48.
+#[rattlefmt::skip]
+const EXPANSION_PLACES: [u8; 48] = [
+    32, 1, 2, 3, 4, 5,
+    4, 5, 6, 7, 8, 9,
+    8, 9, 10, 11, 12, 13,
+    12, 13, 14, 15, 16, 17,
+    16, 17, 18, 19, 20, 21,
+    20, 21, 22, 23, 24, 25,
+    24, 25, 26, 27, 28, 29,
+    28, 29, 30, 31, 32, 1,
+];
+
+// The permutation P of the bits that the selection functions give.
+#[rattlefmt::skip]
+const OUTPUT_PLACES: [u8; 32] = [
+    16, 7, 20, 21, 29, 12, 28, 17,
+    1, 15, 23, 26, 5, 18, 31, 10,
+    2, 8, 24, 14, 32, 27, 3, 9,
+    19, 13, 30, 6, 22, 11, 4, 25,
+];
+
 // The four bits that each selection function gives, one after another.
 macro_rules! fours {
     ($($four:ident)*) => {
@@ -82,41 +104,28 @@ macro_rules! fours {
 pub fn cipher_function(right: &[bool; 32], key: &[bool; 48]) -> [bool; 32]
     ensures { result ≡ cipher_function right.now key.now }
 {
-    let expanded = choose!(right:
-        32 1 2 3 4 5
-        4 5 6 7 8 9
-        8 9 10 11 12 13
-        12 13 14 15 16 17
-        16 17 18 19 20 21
-        20 21 22 23 24 25
-        24 25 26 27 28 29
-        28 29 30 31 32 1
-    );
+    let expanded: [bool; 48] = permuted(&EXPANSION_PLACES, right);
     let chosen = substitute_all(&xor(&expanded, key));
-    choose!(chosen:
-        16 7 20 21 29 12 28 17
-        1 15 23 26 5 18 31 10
-        2 8 24 14 32 27 3 9
-        19 13 30 6 22 11 4 25
-    )
+    permuted(&OUTPUT_PLACES, &chosen)
 }
 
 // Each selection function on its six bits.
 fn substitute_all(bits: &[bool; 48]) -> [bool; 32]
     ensures { result ≡ substitute_all boxes bits.now }
 {
-    let from_s1 = substitute(&S1, &choose!(bits: 1 2 3 4 5 6));
-    let from_s2 = substitute(&S2, &choose!(bits: 7 8 9 10 11 12));
-    let from_s3 = substitute(&S3, &choose!(bits: 13 14 15 16 17 18));
-    let from_s4 = substitute(&S4, &choose!(bits: 19 20 21 22 23 24));
-    let from_s5 = substitute(&S5, &choose!(bits: 25 26 27 28 29 30));
-    let from_s6 = substitute(&S6, &choose!(bits: 31 32 33 34 35 36));
-    let from_s7 = substitute(&S7, &choose!(bits: 37 38 39 40 41 42));
-    let from_s8 = substitute(&S8, &choose!(bits: 43 44 45 46 47 48));
+    let from_s1 = substitute(&S1, &bits[0..6]);
+    let from_s2 = substitute(&S2, &bits[6..12]);
+    let from_s3 = substitute(&S3, &bits[12..18]);
+    let from_s4 = substitute(&S4, &bits[18..24]);
+    let from_s5 = substitute(&S5, &bits[24..30]);
+    let from_s6 = substitute(&S6, &bits[30..36]);
+    let from_s7 = substitute(&S7, &bits[36..42]);
+    let from_s8 = substitute(&S8, &bits[42..48]);
     fours!(from_s1 from_s2 from_s3 from_s4 from_s5 from_s6 from_s7 from_s8)
 }
 
-fn substitute(table: &[u8; 64], bits: &[bool; 6]) -> [bool; 4]
+fn substitute(table: &[u8; 64], bits: &[bool]) -> [bool; 4]
+    requires { length bits.now ≡ 6 }
     ensures { result ≡ substitute table.now bits.now }
 {
     let row = 2 * bits[0] as usize + bits[5] as usize;

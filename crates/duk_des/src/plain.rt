@@ -5,20 +5,39 @@ ghost use Rattle.duk_des.specs.Bits.{bits_of_bytes, permute};
 ghost use Rattle.duk_des.specs.Des.{rounds, crypted, encipher, decipher, encrypted, decrypted};
 ghost use Rattle.duk_des.specs.Tables.{final_places};
 
-use crate::bits::{bits_of_bytes, bytes_of_bits, xor};
+use crate::bits::{bits_of_bytes, bytes_of_bits, joined, permuted, xor};
 use crate::cipher_function::cipher_function;
 use crate::schedule::round_keys;
 
-// A round for each of the keys with these numbers: L' = R, and R' = L xor f(R, K).
-macro_rules! rounds {
-    ($left:ident $right:ident $keys:ident: $($number:literal)*) => {
-        $(
-            let next = xor(&$left, &cipher_function(&$right, &$keys[$number - 1]));
-            $left = $right;
-            $right = next;
-        )*
-    };
-}
+// The initial permutation, the places of L and those of R.
+#[rattlefmt::skip]
+const LEFT_PLACES: [u8; 32] = [
+    58, 50, 42, 34, 26, 18, 10, 2,
+    60, 52, 44, 36, 28, 20, 12, 4,
+    62, 54, 46, 38, 30, 22, 14, 6,
+    64, 56, 48, 40, 32, 24, 16, 8,
+];
+
+#[rattlefmt::skip]
+const RIGHT_PLACES: [u8; 32] = [
+    57, 49, 41, 33, 25, 17, 9, 1,
+    59, 51, 43, 35, 27, 19, 11, 3,
+    61, 53, 45, 37, 29, 21, 13, 5,
+    63, 55, 47, 39, 31, 23, 15, 7,
+];
+
+// The inverse of the initial permutation.
+#[rattlefmt::skip]
+const FINAL_PLACES: [u8; 64] = [
+    40, 8, 48, 16, 56, 24, 64, 32,
+    39, 7, 47, 15, 55, 23, 63, 31,
+    38, 6, 46, 14, 54, 22, 62, 30,
+    37, 5, 45, 13, 53, 21, 61, 29,
+    36, 4, 44, 12, 52, 20, 60, 28,
+    35, 3, 43, 11, 51, 19, 59, 27,
+    34, 2, 42, 10, 50, 18, 58, 26,
+    33, 1, 41, 9, 49, 17, 57, 25,
+];
 
 /// Enciphers a block of 8 bytes under a key of 8 bytes (NIST SP 800-67 section 2).
 pub fn encrypt_block(key: &[u8; 8], block: [u8; 8]) -> [u8; 8]
@@ -43,23 +62,13 @@ pub fn decrypt_block(key: &[u8; 8], block: [u8; 8]) -> [u8; 8]
 fn crypted(keys: &[[bool; 48]; 16], block: &[bool; 64]) -> [bool; 64]
     ensures { result ≡ crypted keys.now block.now }
 {
-    let left = choose!(block:
-        58 50 42 34 26 18 10 2
-        60 52 44 36 28 20 12 4
-        62 54 46 38 30 22 14 6
-        64 56 48 40 32 24 16 8
-    );
-    let right = choose!(block:
-        57 49 41 33 25 17 9 1
-        59 51 43 35 27 19 11 3
-        61 53 45 37 29 21 13 5
-        63 55 47 39 31 23 15 7
-    );
+    let left: [bool; 32] = permuted(&LEFT_PLACES, block);
+    let right: [bool; 32] = permuted(&RIGHT_PLACES, block);
     let (left, right) = rounds(&left, &right, keys);
     final_permutation(&right, &left)
 }
 
-// Sixteen rounds on the halves L and R.
+// A round for each of the keys on the halves L and R: L' = R, and R' = L xor f(R, K).
 fn rounds(
     left: &[bool; 32],
     right: &[bool; 32],
@@ -70,7 +79,11 @@ fn rounds(
 {
     let mut left = *left;
     let mut right = *right;
-    rounds!(left right keys: 1 2 3 4 5 6 7 8 9 10 11 12 13 14 15 16);
+    for key in keys {
+        let next = xor(&left, &cipher_function(&right, key));
+        left = right;
+        right = next;
+    }
     (left, right)
 }
 
@@ -78,18 +91,6 @@ fn rounds(
 fn final_permutation(first: &[bool; 32], second: &[bool; 32]) -> [bool; 64]
     ensures { result ≡ permute final_places (first.now ++ second.now) }
 {
-    let halves = joined!(first second:
-        0 1 2 3 4 5 6 7 8 9 10 11 12 13 14 15
-        16 17 18 19 20 21 22 23 24 25 26 27 28 29 30 31
-    );
-    choose!(halves:
-        40 8 48 16 56 24 64 32
-        39 7 47 15 55 23 63 31
-        38 6 46 14 54 22 62 30
-        37 5 45 13 53 21 61 29
-        36 4 44 12 52 20 60 28
-        35 3 43 11 51 19 59 27
-        34 2 42 10 50 18 58 26
-        33 1 41 9 49 17 57 25
-    )
+    let halves: [bool; 64] = joined(first, second);
+    permuted(&FINAL_PLACES, &halves)
 }

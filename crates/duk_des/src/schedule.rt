@@ -2,67 +2,63 @@
 
 ghost use Rattle.std.specs.Prelude.{◌≡◌, ◌++◌};
 ghost use Rattle.duk_des.specs.Bits.{permute};
-ghost use Rattle.duk_des.specs.Des.{rotate, round_keys};
+ghost use Rattle.duk_des.specs.Des.{round_keys};
 ghost use Rattle.duk_des.specs.Tables.{round_key_places};
 
-// A round key for each rotation, from the halves C and D.
-macro_rules! schedule {
-    ($c:ident $d:ident: $($rotate:ident)*) => {
-        [$({
-            $c = $rotate(&$c);
-            $d = $rotate(&$d);
-            round_key(&$c, &$d)
-        }),*]
-    };
-}
+use crate::bits::{joined, permuted};
+
+// Permuted choice 1, the places of C and those of D.
+#[rattlefmt::skip]
+const LEFT_KEY_PLACES: [u8; 28] = [
+    57, 49, 41, 33, 25, 17, 9,
+    1, 58, 50, 42, 34, 26, 18,
+    10, 2, 59, 51, 43, 35, 27,
+    19, 11, 3, 60, 52, 44, 36,
+];
+
+#[rattlefmt::skip]
+const RIGHT_KEY_PLACES: [u8; 28] = [
+    63, 55, 47, 39, 31, 23, 15,
+    7, 62, 54, 46, 38, 30, 22,
+    14, 6, 61, 53, 45, 37, 29,
+    21, 13, 5, 28, 20, 12, 4,
+];
+
+// Permuted choice 2, from C followed by D.
+#[rattlefmt::skip]
+const ROUND_KEY_PLACES: [u8; 48] = [
+    14, 17, 11, 24, 1, 5,
+    3, 28, 15, 6, 21, 10,
+    23, 19, 12, 4, 26, 8,
+    16, 7, 27, 20, 13, 2,
+    41, 52, 31, 37, 47, 55,
+    30, 40, 51, 45, 33, 48,
+    44, 49, 39, 56, 34, 53,
+    46, 42, 50, 36, 29, 32,
+];
+
+// How far C and D are rotated left in each round.
+const ROTATIONS: [u8; 16] = [1, 1, 2, 2, 2, 2, 2, 2, 1, 2, 2, 2, 2, 2, 2, 1];
 
 /// The sixteen round keys of a key.
 pub fn round_keys(key: &[bool; 64]) -> [[bool; 48]; 16]
     ensures { result ≡ round_keys key.now }
 {
-    let mut c = choose!(key:
-        57 49 41 33 25 17 9
-        1 58 50 42 34 26 18
-        10 2 59 51 43 35 27
-        19 11 3 60 52 44 36
-    );
-    let mut d = choose!(key:
-        63 55 47 39 31 23 15
-        7 62 54 46 38 30 22
-        14 6 61 53 45 37 29
-        21 13 5 28 20 12 4
-    );
-    schedule!(c d: once once twice twice twice twice twice twice once twice twice twice twice twice twice once)
+    let mut c: [bool; 28] = permuted(&LEFT_KEY_PLACES, key);
+    let mut d: [bool; 28] = permuted(&RIGHT_KEY_PLACES, key);
+    let mut keys = [[false; 48]; 16];
+    for i in 0..16 {
+        c.rotate_left(ROTATIONS[i] as usize);
+        d.rotate_left(ROTATIONS[i] as usize);
+        keys[i] = round_key(&c, &d);
+    }
+    keys
 }
 
 // Permuted choice 2 of C followed by D.
 fn round_key(c: &[bool; 28], d: &[bool; 28]) -> [bool; 48]
     ensures { result ≡ permute round_key_places (c.now ++ d.now) }
 {
-    let halves = joined!(c d:
-        0 1 2 3 4 5 6 7 8 9 10 11 12 13
-        14 15 16 17 18 19 20 21 22 23 24 25 26 27
-    );
-    choose!(halves:
-        14 17 11 24 1 5
-        3 28 15 6 21 10
-        23 19 12 4 26 8
-        16 7 27 20 13 2
-        41 52 31 37 47 55
-        30 40 51 45 33 48
-        44 49 39 56 34 53
-        46 42 50 36 29 32
-    )
-}
-
-fn once(half: &[bool; 28]) -> [bool; 28]
-    ensures { result ≡ rotate 1 half.now }
-{
-    choose!(half: 2 3 4 5 6 7 8 9 10 11 12 13 14 15 16 17 18 19 20 21 22 23 24 25 26 27 28 1)
-}
-
-fn twice(half: &[bool; 28]) -> [bool; 28]
-    ensures { result ≡ rotate 2 half.now }
-{
-    choose!(half: 3 4 5 6 7 8 9 10 11 12 13 14 15 16 17 18 19 20 21 22 23 24 25 26 27 28 1 2)
+    let halves: [bool; 56] = joined(c, d);
+    permuted(&ROUND_KEY_PLACES, &halves)
 }

@@ -1,0 +1,91 @@
+//! DES in words of 32 bits.
+
+ghost use Rattle.std.specs.Prelude.{◌≡◌, map};
+ghost use Rattle.duk_des.specs.Bits.{xor_bits, bits_of_bytes, bytes_of_bits};
+ghost use Rattle.duk_des.specs.Des.{cipher_function, rounds, crypted, encipher, decipher, encrypted, decrypted};
+ghost use Rattle.duk_des.specs.Words.{word_bits, key_bits};
+
+mod entries;
+mod key_tables;
+mod permutations;
+mod round_keys;
+
+pub use entries::entry;
+use entries::group_of;
+use permutations::{final_permutation, initial_permutation};
+use round_keys::{RoundKey, round_keys};
+
+// A round for each of the keys with these indexes: L' = R, and R' = L xor f(R, K).
+macro_rules! rounds {
+    ($left:ident $right:ident $keys:ident: $($index:literal)*) => {
+        $(
+            let next = next_half($left, $right, &$keys[$index]);
+            $left = $right;
+            $right = next;
+        )*
+    };
+}
+
+/// Enciphers a block of 8 bytes under a key of 8 bytes (NIST SP 800-67 section 2).
+pub fn encrypt_block(key: &[u8; 8], block: [u8; 8]) -> [u8; 8]
+    ensures bytes { result ≡ encrypted key.now block }
+    ensures bits { bits_of_bytes result ≡ encipher (bits_of_bytes key.now) (bits_of_bytes block) }
+{
+    crypted(&round_keys(key), &block)
+}
+
+/// Deciphers a block of 8 bytes under a key of 8 bytes: the round keys are used in reverse order.
+pub fn decrypt_block(key: &[u8; 8], block: [u8; 8]) -> [u8; 8]
+    ensures bytes { result ≡ decrypted key.now block }
+    ensures bits { bits_of_bytes result ≡ decipher (bits_of_bytes key.now) (bits_of_bytes block) }
+{
+    let mut keys = round_keys(key);
+    keys.reverse();
+    crypted(&keys, &block)
+}
+
+// The initial permutation, the rounds, and the final permutation of the halves, exchanged.
+fn crypted(keys: &[RoundKey; 16], block: &[u8; 8]) -> [u8; 8]
+    ensures { result ≡ bytes_of_bits 8 (crypted (map key_bits keys.now) (bits_of_bytes block.now)) }
+{
+    let (left, right) = initial_permutation(block);
+    let (left, right) = rounds(left, right, keys);
+    final_permutation(right, left)
+}
+
+// Sixteen rounds on the halves L and R.
+fn rounds(left: u32, right: u32, keys: &[RoundKey; 16]) -> (u32, u32)
+    ensures left { word_bits result.0 ≡ (rounds (map key_bits keys.now) (record { left = word_bits left; right = word_bits right })).left }
+    ensures right { word_bits result.1 ≡ (rounds (map key_bits keys.now) (record { left = word_bits left; right = word_bits right })).right }
+{
+    let mut left = left;
+    let mut right = right;
+    rounds!(left right keys: 0 1 2 3 4 5 6 7 8 9 10 11 12 13 14 15);
+    (left, right)
+}
+
+// L xor f(R, K).
+#[inline(always)]
+fn next_half(left: u32, right: u32, key: &RoundKey) -> u32
+    ensures { word_bits result ≡ xor_bits (word_bits left) (cipher_function (word_bits right) (key_bits key.now)) }
+{
+    left ^ cipher_word(right, key)
+}
+
+// f(R, K). The six bits of the expansion E of R that a box takes are those in the lower part of a byte of R, rotated by
+// 29 places to the left for the odd boxes and by one for the even ones.
+#[inline(always)]
+fn cipher_word(right: u32, key: &RoundKey) -> u32
+    ensures { word_bits result ≡ cipher_function (word_bits right) (key_bits key.now) }
+{
+    let odd = right.rotate_left(29) ^ key.odd;
+    let even = right.rotate_left(1) ^ key.even;
+    entry(1, group_of(odd, 24))
+        ^ entry(2, group_of(even, 24))
+        ^ entry(3, group_of(odd, 16))
+        ^ entry(4, group_of(even, 16))
+        ^ entry(5, group_of(odd, 8))
+        ^ entry(6, group_of(even, 8))
+        ^ entry(7, group_of(odd, 0))
+        ^ entry(8, group_of(even, 0))
+}
