@@ -1,8 +1,8 @@
 -- What the line of a fault is made of.
 use Rattle.std.proofs.Common.{◌≤◌, length, arith}
-use Rattle.duk_script.specs.ConfigKeys.{key_name}
-use Rattle.duk_script.specs.declared.fault.ConfigKey.{ConfigKey}
-use Rattle.duk_script.specs.declared.fault.ConfigKey.TheVariants as key
+use Rattle.duk_config.specs.ConfigKeys.{key_name}
+use Rattle.duk_config.specs.declared.fault.ConfigKey.{ConfigKey}
+use Rattle.duk_config.specs.declared.fault.ConfigKey.TheVariants as key
 
 -- the name of a key is short
 pub short_name : (key : ConfigKey) → length (key_name key) ≤ 9

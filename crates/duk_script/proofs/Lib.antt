@@ -5,13 +5,6 @@ mod LineLemmas
 mod ScriptLemmas
 mod DecimalLemmas
 mod SpacedLemmas
-mod NameLemmas
-mod ValueLemmas
-mod EntryLemmas
-mod OrderLemmas
-mod OpenLemmas
-mod OnceLemmas
-mod OneFaultLemmas
 mod SessionLemmas
 mod SourceLemmas
 mod PlayLemmas

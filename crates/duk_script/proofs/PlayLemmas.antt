@@ -6,15 +6,15 @@ use Rattle.duk_net.specs.declared.event.Event.{Event}
 use Rattle.duk_net.specs.declared.outcome.Outcome.{Outcome}
 use Rattle.duk_net.specs.declared.runs.NetFault.{NetFault}
 use Rattle.duk_net.specs.declared.runs.NetFault.TheVariants as net
-use Rattle.duk_script.specs.ConfigFile.{IsConfigFault, IsConfigFile}
+use Rattle.duk_config.specs.ConfigFile.{IsConfigFault, IsConfigFile}
 use Rattle.duk_script.specs.OutcomeText.{lines_of}
 use Rattle.duk_script.specs.Script.{IsNoScript}
 use Rattle.duk_script.specs.Session.{ArePlayed, ArePlayedInPart, IsOpened, IsRead, IsRefused, MemoryWorld, PlayRefused, Session, in_memory}
-use Rattle.duk_script.specs.Settings.{Settings}
+use Rattle.duk_config.specs.Settings.{Settings}
 use Rattle.duk_text.specs.Sink.{IsCut, IsUntouched, Told}
 use Rattle.duk_script.specs.Source.{IsReadWhole, ReadRefused}
-use Rattle.duk_script.specs.declared.fault.ScriptFault.{ScriptFault}
-use Rattle.duk_script.specs.declared.fault.ScriptFault.TheVariants as fault
+use Rattle.duk_config.specs.declared.fault.ScriptFault.{ScriptFault}
+use Rattle.duk_config.specs.declared.fault.ScriptFault.TheVariants as fault
 
 pub on_ok : {A E : Type 0} (P Q : Type 0) → (P → Q) → (result : Result A E) → OnOk result P → OnOk result Q
 on_ok P Q follows (Ok x) holds = follows holds

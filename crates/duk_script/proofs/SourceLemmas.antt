@@ -3,8 +3,8 @@ use Rattle.std.proofs.Common.{◌++◌, [], ℕ, List, Option, Some, None, sym, 
 use Rattle.std.specs.Io.KnownBytes.{Consumes}
 use Rattle.duk_text.specs.Sink.{Rose, Stayed, Told}
 use Rattle.duk_script.specs.Source.{IsBroken, IsPieceBroken, IsPieceTooLong, IsRead, IsReadTooFar, PieceRefused, ReadRefused}
-use Rattle.duk_script.specs.declared.fault.ScriptFault.{ScriptFault}
-use Rattle.duk_script.specs.declared.fault.ScriptFault.TheVariants as fault
+use Rattle.duk_config.specs.declared.fault.ScriptFault.{ScriptFault}
+use Rattle.duk_config.specs.declared.fault.ScriptFault.TheVariants as fault
 
 -- what two reads leave of a count of failures
 abbrev pub StaysThrough : Type 0

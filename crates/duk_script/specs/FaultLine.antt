@@ -1,8 +1,8 @@
 -- The line that tells a fault of a configuration or a script (this project's own).
 use Rattle.std.specs.Prelude.{ℕ, List, ◌++◌, codes, decimal, string_bytes}
-use Rattle.duk_script.specs.ConfigKeys.{key_name}
-use Rattle.duk_script.specs.declared.fault.ScriptFault.{ScriptFault}
-use Rattle.duk_script.specs.declared.fault.ScriptFault.TheVariants as fault
+use Rattle.duk_config.specs.ConfigKeys.{key_name}
+use Rattle.duk_config.specs.declared.fault.ScriptFault.{ScriptFault}
+use Rattle.duk_config.specs.declared.fault.ScriptFault.TheVariants as fault
 
 -- a key that is none of a configuration's
 abbrev pub unknown_line : List ℕ → List ℕ

@@ -3,15 +3,5 @@ pub mod Reading
 pub mod FaultText
 pub mod OutcomeText
 pub mod FaultLine
-pub mod ConfigKeys
-pub mod Settings
-pub mod Values
-pub mod Names
-pub mod Entries
-pub mod EntryFaults
-pub mod ConfigTable
-pub mod ConfigFaults
-pub mod ConfigFile
-pub mod Opened
 pub mod Source
 pub mod Session

@@ -12,15 +12,15 @@ use Rattle.duk_net.specs.declared.event.Event.TheVariants.{RestartHost, RestartT
 use Rattle.duk_net.specs.declared.outcome.Outcome.{Outcome}
 use Rattle.duk_store.specs.MemoryCell.{MemoryCell, armed_cell, memory_meaning}
 use Rattle.duk_store.specs.MemoryLog.{MemoryLog, armed_log, log_meaning, new_log}
-use Rattle.duk_script.specs.ConfigFile.{IsConfigFault, IsConfigFile}
-use Rattle.duk_script.specs.Opened.{keys_for}
+use Rattle.duk_config.specs.ConfigFile.{IsConfigFault, IsConfigFile}
+use Rattle.duk_config.specs.Opened.{keys_for}
 use Rattle.duk_script.specs.OutcomeText.{lines_of}
 use Rattle.duk_script.specs.Script.{IsNoScript, IsScript}
-use Rattle.duk_script.specs.Settings.{Settings}
+use Rattle.duk_config.specs.Settings.{Settings}
 use Rattle.duk_text.specs.Sink.{IsCut, IsUntouched, IsWritten, Told}
 use Rattle.duk_script.specs.Source.{IsReadWhole, ReadRefused}
-use Rattle.duk_script.specs.declared.fault.ScriptFault.{ScriptFault}
-use Rattle.duk_script.specs.declared.fault.ScriptFault.TheVariants as fault
+use Rattle.duk_config.specs.declared.fault.ScriptFault.{ScriptFault}
+use Rattle.duk_config.specs.declared.fault.ScriptFault.TheVariants as fault
 
 -- a world over stores in memory, with a table of cards
 abbrev pub MemoryWorld : Type 0

@@ -3,8 +3,8 @@ use Rattle.std.specs.Prelude.{◌≡◌, ◌<◌, ◌≤◌, ◌++◌, ℕ, Bool
 use Rattle.std.specs.Bool.{MatchBool}
 use Rattle.std.specs.Io.KnownBytes.{Consumes, IsAtEnd}
 use Rattle.duk_text.specs.Sink.{Rose, Stayed, Told}
-use Rattle.duk_script.specs.declared.fault.ScriptFault.{ScriptFault}
-use Rattle.duk_script.specs.declared.fault.ScriptFault.TheVariants as fault
+use Rattle.duk_config.specs.declared.fault.ScriptFault.{ScriptFault}
+use Rattle.duk_config.specs.declared.fault.ScriptFault.TheVariants as fault
 
 -- a script is at most so many bytes long
 abbrev pub longest_script : ℕ

@@ -1,12 +1,12 @@
 //! The line that tells a fault of a configuration or a script.
 
 ghost use Rattle.std.specs.Prelude.{◌≡◌, ◌++◌, ◌≤◌, codes, decimal, length, OnOk, OnErr};
-ghost use Rattle.duk_script.specs.ConfigKeys.{key_name};
+ghost use Rattle.duk_config.specs.ConfigKeys.{key_name};
 ghost use Rattle.duk_script.specs.FaultLine.{fault_line, unknown_line};
 ghost use Rattle.duk_text.specs.Sink.{IsCut, IsTried, IsWritten};
 
-use crate::fault::{ConfigKey, ScriptFault};
 use crate::line::{Line, LineText};
+use duk_config::{ConfigKey, ScriptFault};
 use duk_text::{Sink, WriteFailed, write_text};
 
 /// Writes the line of a fault, LF at its end. What cannot be written of the line is lost.

@@ -6,9 +6,7 @@ ghost use Rattle.duk_net.specs.InMemory.{new_terminal};
 ghost use Rattle.duk_script.specs.Session.{IsOpened, new_world_of, opening};
 ghost use Rattle.duk_tdes.specs.Tdes.{IsTdesLength};
 
-use crate::config::Config;
-use crate::fault::ScriptFault;
-use crate::hsm::open_hsm;
+use duk_config::{Config, ScriptFault, open_hsm};
 use duk_host::{Host, TableIssuer};
 use duk_net::{Event, World, run};
 use duk_store::{MemCell, MemLog};

@@ -7,7 +7,7 @@ ghost use Rattle.duk_script.specs.Script.{IsQuiet, IsLawful, IsEventLine, IsScri
 ghost use Rattle.duk_script.specs.Reading.{AddsLine};
 
 use crate::event_line::read_event;
-use crate::fault::ScriptFault;
+use duk_config::ScriptFault;
 use duk_net::Event;
 use std::alloc::Global;
 

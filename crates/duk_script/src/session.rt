@@ -7,13 +7,11 @@ ghost use Rattle.duk_script.specs.Session.{IsDone, IsPlayed, IsRefused, PlayRefu
 ghost use Rattle.duk_text.specs.Sink.{IsCut, IsWritten};
 ghost use Rattle.duk_tdes.specs.Tdes.{IsTdesLength};
 
-use crate::config::Config;
-use crate::fault::ScriptFault;
 use crate::opening::open_world;
-use crate::read::read_config;
 use crate::script::parse_script;
 use crate::source::{Source, read_text};
 use crate::text::outcome_line;
+use duk_config::{Config, ScriptFault, read_config};
 use duk_net::{Event, Outcome, run};
 use duk_tdes::{Key, KeyBytes};
 use duk_text::{Sink, write_text};

@@ -6,7 +6,7 @@ ghost use Rattle.std.specs.Io.KnownBytes.{ReadConsumes};
 ghost use Rattle.duk_text.specs.Sink.{Told, Rose, Stayed};
 ghost use Rattle.duk_script.specs.Source.{IsPiece, IsReadWhole, PieceRefused, ReadRefused, longest_script};
 
-use crate::fault::ScriptFault;
+use duk_config::ScriptFault;
 use std::alloc::Global;
 use std::io;
 use std::io::Read;

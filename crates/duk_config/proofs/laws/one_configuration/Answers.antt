@@ -1,0 +1,12 @@
+use Rattle.duk_config.proofs.OnceLemmas.{no_file_fault, one_file}
+use Rattle.duk_config.proofs.OneFaultLemmas.{one_fault}
+use Rattle.duk_config.proofs.laws.one_configuration.Goals as goal
+
+pub returns-clause-one : goal.returns-clause-one
+returns-clause-one c = one_file
+
+pub returns-clause-no_fault : goal.returns-clause-no_fault
+returns-clause-no_fault c = no_file_fault
+
+pub returns-clause-one_fault : goal.returns-clause-one_fault
+returns-clause-one_fault c = one_fault

@@ -1,0 +1,71 @@
+-- Why a table of TOML is no configuration: this project's own.
+use Rattle.std.specs.Prelude.{◌≡◌, ◌<◌, ℕ, true, List, Some, None, IsSome, codes, string_bytes}
+use Rattle.duk_host.specs.declared.table.Card.{Card}
+use Rattle.toml.specs.Data.{Data, Members}
+use Rattle.duk_config.specs.declared.base_key.BaseKey.{BaseKey}
+use Rattle.duk_config.specs.declared.fault.ConfigKey.{ConfigKey}
+use Rattle.duk_config.specs.declared.fault.ConfigKey.TheVariants as key
+use Rattle.duk_config.specs.declared.fault.ScriptFault.{ScriptFault}
+use Rattle.duk_config.specs.declared.fault.ScriptFault.TheVariants as fault
+use Rattle.duk_config.specs.ConfigKeys.{is_config_key}
+use Rattle.duk_config.specs.ConfigTable.{HasBaseKeys, HasCards, bdk_values, card_values, disk_in}
+use Rattle.duk_config.specs.Entries.{HaveOnePan, HaveOnePrefix, IsFirstBadEntry, StatesBaseKey, StatesCard}
+use Rattle.duk_config.specs.Names.{IsFirstUnknown, has_only}
+use Rattle.duk_config.specs.Values.{bytes_at, number_at, tdes_key_at}
+
+-- the key has a right value, and right entries
+abbrev pub IsRight : Members → ConfigKey → Type 0
+IsRight document key.Lmk = IsSome (tdes_key_at (codes "lmk") document)
+IsRight document key.Zone = IsSome (tdes_key_at (codes "zone") document)
+IsRight document key.Loading = IsSome (bytes_at 16 (codes "loading") document)
+IsRight document key.Terminals = IsSome (number_at 1 16 (codes "terminals") document)
+IsRight document key.Log = IsSome (number_at 1 100000 (codes "log") document)
+IsRight document key.Stores = IsSome (disk_in document)
+IsRight document key.Bdk = (bdks : List BaseKey) × HasBaseKeys document bdks
+IsRight document key.Card = (cards : List Card) × HasCards document cards
+
+-- the key is missing, or its value is wrong or has a wrong number of entries
+abbrev pub IsWrong : Members → ConfigKey → Type 0
+IsWrong document key.Lmk = tdes_key_at (codes "lmk") document ≡ None
+IsWrong document key.Zone = tdes_key_at (codes "zone") document ≡ None
+IsWrong document key.Loading = bytes_at 16 (codes "loading") document ≡ None
+IsWrong document key.Terminals = number_at 1 16 (codes "terminals") document ≡ None
+IsWrong document key.Log = number_at 1 100000 (codes "log") document ≡ None
+IsWrong document key.Stores = disk_in document ≡ None
+IsWrong document key.Bdk = bdk_values document ≡ None
+IsWrong document key.Card = card_values document ≡ None
+
+-- the key has values, and this one of them, counted from 1, is the first that states no entry or a repeated one
+abbrev pub HasBadEntry : Members → ConfigKey → ℕ → Type 0
+HasBadEntry document key.Bdk place = (values : List Data) × (bdk_values document ≡ Some values) × IsFirstBadEntry StatesBaseKey HaveOnePrefix values place
+HasBadEntry document key.Card place = (values : List Data) × (card_values document ≡ Some values) × IsFirstBadEntry StatesCard HaveOnePan values place
+HasBadEntry document _ place = ⊥
+
+-- the order in which the keys are told
+abbrev pub rank : ConfigKey → ℕ
+rank key.Lmk = 0
+rank key.Zone = 1
+rank key.Loading = 2
+rank key.Terminals = 3
+rank key.Log = 4
+rank key.Stores = 5
+rank key.Bdk = 6
+rank key.Card = 7
+
+-- there is no unknown key, and each key that is told before this one is right
+pub record IsRightBefore (document : Members) (key : ConfigKey) : Type 0 where
+  pub no_other_key : has_only is_config_key document ≡ true
+  pub earlier_right : (earlier : ConfigKey) → rank earlier < rank key → IsRight document earlier
+
+-- the first fault of a table; any may be refused for want of memory
+abbrev pub IsFirstFault : Members → ScriptFault → Type 0
+IsFirstFault document (fault.UnknownKey name) = IsFirstUnknown is_config_key document (string_bytes name)
+IsFirstFault document (fault.BadKey key) = IsRightBefore document key × IsWrong document key
+IsFirstFault document (fault.BadEntry key place) = IsRightBefore document key × HasBadEntry document key place
+IsFirstFault document fault.NoMemory = Unit {0}
+IsFirstFault document _ = ⊥
+
+-- the two are one fault; of the name of an unknown key only its bytes count
+abbrev pub AreOneFault : ScriptFault → ScriptFault → Type 0
+AreOneFault (fault.UnknownKey a) (fault.UnknownKey b) = string_bytes a ≡ string_bytes b
+AreOneFault a b = a ≡ b

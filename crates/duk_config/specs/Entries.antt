@@ -1,0 +1,76 @@
+-- The entries that an array of TOML states, one for each of its values: this project's own.
+use Rattle.std.specs.Prelude.{◌≡◌, ◌⊎◌, ◌+◌, ℕ, List, [], ◌∷◌, ◌++◌, Some, true, codes, length, Any, AllPairs}
+use Rattle.std.specs.List.{All, AllZip}
+use Rattle.duk_pin.specs.Pan.{IsPan}
+use Rattle.duk_pin.specs.Pin.{IsPin}
+use Rattle.duk_host.specs.declared.table.Card.{Card}
+use Rattle.toml.specs.Data.{Data, Members, table, Items, no_items, item}
+use Rattle.duk_config.specs.declared.base_key.BaseKey.{BaseKey}
+use Rattle.duk_config.specs.ConfigKeys.{is_bdk_key, is_card_key}
+use Rattle.duk_config.specs.Names.{has_only}
+use Rattle.duk_config.specs.Values.{bytes_at, number_at, text_at}
+
+-- the values of an array
+abbrev pub values_of : Items → List Data
+values_of no_items = []
+values_of (item value values) = value ∷ values_of values
+
+-- the value is a table that states this base derivation key, and nothing else: a prefix of ten hexadecimal digits, and a
+-- key of 32
+pub record StatesBaseKey (value : Data) (bdk : BaseKey) : Type 0 where
+  pub members : Members
+  pub is_table : value ≡ table members
+  pub nothing_else : has_only is_bdk_key members ≡ true
+  pub prefix : bytes_at 5 (codes "prefix") members ≡ Some bdk.prefix
+  pub key : bytes_at 16 (codes "key") members ≡ Some bdk.key
+
+-- the value is a table that states this card, and nothing else: its account number, its PIN, and a limit
+pub record StatesCard (value : Data) (card : Card) : Type 0 where
+  pub members : Members
+  pub is_table : value ≡ table members
+  pub nothing_else : has_only is_card_key members ≡ true
+  pub pan : text_at (codes "pan") members ≡ Some card.pan
+  pub pan_is : IsPan card.pan
+  pub pin : text_at (codes "pin") members ≡ Some card.pin
+  pub pin_is : IsPin card.pin
+  pub limit : number_at 0 4294967295 (codes "limit") members ≡ Some card.limit
+
+-- two base derivation keys for one prefix
+abbrev pub HaveOnePrefix : BaseKey → BaseKey → Type 0
+HaveOnePrefix a b = a.prefix ≡ b.prefix
+
+-- two cards with one account number
+abbrev pub HaveOnePan : Card → Card → Type 0
+HaveOnePan a b = a.pan ≡ b.pan
+
+module _ {Entry : Type 0} (States : Data → Entry → Type 0) (Repeats : Entry → Entry → Type 0) where
+  -- the values state these entries, place by place, and none repeats another
+  pub record AreEntries (values : List Data) (entries : List Entry) : Type 0 where
+    pub each : AllZip States values entries
+    pub distinct : AllPairs (λ a b. ¬ Repeats a b) entries
+
+  -- the value states this entry, and the entry repeats one of these
+  pub record StatesRepeated (earlier : List Entry) (value : Data) : Type 0 where
+    pub entry : Entry
+    pub stated : States value entry
+    pub repeated : Any (λ other. Repeats other entry) earlier
+
+  -- the value states no entry, or one that repeats one of these
+  abbrev pub IsBadAfter : List Entry → Data → Type 0
+  IsBadAfter earlier value = ((entry : Entry) → ¬ States value entry) ⊎ StatesRepeated earlier value
+
+  -- the value at this place, counted from 1, is the first that is bad behind those before it
+  pub record IsFirstBadEntry (values : List Data) (place : ℕ) : Type 0 where
+    pub before : List Data
+    pub value : Data
+    pub after : List Data
+    pub earlier : List Entry
+    pub values_are : values ≡ before ++ value ∷ after
+    pub place_is : place ≡ length before + 1
+    pub earlier_are : AreEntries before earlier
+    pub bad : IsBadAfter earlier value
+
+  -- the value states this entry, which repeats none of these: what a private function of `read_config` answers
+  pub record IsNextEntry (earlier : List Entry) (value : Data) (entry : Entry) : Type 0 where
+    pub stated : States value entry
+    pub new : All (λ other. ¬ Repeats other entry) earlier

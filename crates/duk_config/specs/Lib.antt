@@ -1,0 +1,10 @@
+pub mod ConfigKeys
+pub mod Settings
+pub mod Values
+pub mod Names
+pub mod Entries
+pub mod EntryFaults
+pub mod ConfigTable
+pub mod ConfigFaults
+pub mod ConfigFile
+pub mod Opened

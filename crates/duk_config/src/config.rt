@@ -1,0 +1,39 @@
+//! What a configuration says.
+
+use crate::base_key::BaseKey;
+use duk_host::Card;
+use duk_tdes::{Key, KeyBytes};
+use std::marker::Model;
+
+/// The configuration of a payment network. It has no `Debug`, so that no key and no PIN is printed by chance.
+#[derive(Drop)]
+pub struct Config {
+    /// The local master key of the security module.
+    pub lmk: KeyBytes,
+    /// The key under which terminals are loaded.
+    pub loading: Key<16>,
+    /// The zone key, under which PIN blocks go to the issuer.
+    pub zone: KeyBytes,
+    /// How many terminals there are: 1 to 16.
+    pub terminals: u32,
+    /// How many numbers the log of used numbers has room for: 1 to 100,000.
+    pub log: u32,
+    /// Whether the stores are disks. They are memory so far, and this is false.
+    pub disk: bool,
+    /// The base derivation keys, 1 to 8, with prefixes that differ.
+    pub bdks: Vec<BaseKey>,
+    /// The cards that the issuer knows, at most 1,000, with account numbers that differ.
+    pub cards: Vec<Card>,
+}
+
+impl Model for Config {
+    ghost use Rattle.duk_config.specs.Settings.{AreSettings, Settings, settings};
+
+    ghost Value = { Settings };
+
+    ghost view = { λ config. settings config.lmk config.loading config.zone config.terminals
+        config.log config.disk config.bdks.items config.cards.items };
+
+    ghost invariant = { λ config. AreSettings (settings config.lmk config.loading config.zone
+        config.terminals config.log config.disk config.bdks.items config.cards.items) };
+}

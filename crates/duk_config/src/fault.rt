@@ -1,0 +1,88 @@
+//! Why a configuration or a script is refused.
+
+ghost use Rattle.std.specs.Prelude.{◌≡◌};
+ghost use Rattle.duk_config.specs.ConfigKeys.{key_name};
+
+use std::fmt;
+use thiserror::Error;
+
+/// A key of a configuration. `Display` writes it as it stands in the file.
+#[derive(Debug, Clone, Copy, PartialEq, Eq)]
+pub enum ConfigKey {
+    /// The local master key of the security module.
+    Lmk,
+    /// The zone key, under which PIN blocks go to the issuer.
+    Zone,
+    /// The key under which terminals are loaded.
+    Loading,
+    /// How many terminals there are.
+    Terminals,
+    /// How many numbers the log of used numbers has room for.
+    Log,
+    /// What the stores are.
+    Stores,
+    /// The base derivation keys.
+    Bdk,
+    /// The cards that the issuer knows.
+    Card,
+}
+
+impl ConfigKey {
+    /// The key as it stands in the file.
+    pub fn name(self) -> &'static str
+        ensures { result.now ≡ key_name self }
+    {
+        match self {
+            ConfigKey::Lmk => "lmk",
+            ConfigKey::Zone => "zone",
+            ConfigKey::Loading => "loading",
+            ConfigKey::Terminals => "terminals",
+            ConfigKey::Log => "log",
+            ConfigKey::Stores => "stores",
+            ConfigKey::Bdk => "bdk",
+            ConfigKey::Card => "card",
+        }
+    }
+}
+
+impl fmt::Display for ConfigKey {
+    fn fmt<W: fmt::Write>(&self, f: &mut fmt::Formatter<W>) -> fmt::Result {
+        f.write_str(self.name())
+    }
+}
+
+/// Why a configuration or a script is refused, or its outcomes are not written. `Display` writes the fault's line, with
+/// no line feed.
+#[derive(Debug, PartialEq, Eq, Drop, Error)]
+pub enum ScriptFault {
+    /// The configuration has more than 1,048,576 bytes.
+    #[error("config: too long")]
+    ConfigTooLong,
+    /// The configuration is no UTF-8 or no TOML.
+    #[error("config: not TOML")]
+    NotToml,
+    /// The configuration has a key that is none of its keys: the first such key in byte order.
+    #[error("config: unknown {0}")]
+    UnknownKey(String),
+    /// The value of a key is missing or wrong, or has a wrong number of entries.
+    #[error("config: bad {0}")]
+    BadKey(ConfigKey),
+    /// An entry of a key has a missing, unknown, wrong or repeated value. Entries are counted from 1.
+    #[error("config: bad {0} {1}")]
+    BadEntry(ConfigKey, u64),
+    /// The script's file cannot be opened, or a read of it failed.
+    #[error("script: cannot read")]
+    CannotRead,
+    /// The script has more than 1,048,576 bytes.
+    #[error("script: too long")]
+    TooLong,
+    /// A line of the script is no event. Lines are counted from 1.
+    #[error("line {0}: not an event")]
+    NotAnEvent(u64),
+    /// An outcome could not be written.
+    #[error("script: write failed")]
+    WriteFailed,
+    /// Memory was refused.
+    #[error("out of memory")]
+    NoMemory,
+}

@@ -1,0 +1,123 @@
+//! The host security module of a configuration.
+
+ghost use Rattle.std.specs.Prelude.{◌≡◌, ◌<◌, Some, None, IfOk, IsOk, length};
+ghost use Rattle.duk_tdes.specs.Tdes.{IsTdesLength};
+ghost use Rattle.duk_block.specs.HeaderText.{IsHeader};
+ghost use Rattle.duk_tdes.specs.KeyBytes.{bytes_of};
+ghost use Rattle.duk_hsm.specs.Keys.{key_set_of};
+ghost use Rattle.duk_hsm.specs.Load.{with_key_set};
+ghost use Rattle.duk_config.specs.Opened.{WrapsAlone, WrapsZone, keys_for};
+
+use crate::base_key::BaseKey;
+use crate::config::Config;
+use arrayvec::ArrayVec;
+use duk_block::{Header, unwrap, wrap};
+use duk_hsm::{Hsm, HsmFault};
+use duk_tdes::{Key, KeyBytes};
+
+/// The header under which base derivation keys are loaded.
+const BASE_KEY: Header = Header {
+    usage: *b"B0",
+    algorithm: b'T',
+    mode: b'X',
+    version: *b"00",
+    exportability: b'N',
+};
+
+/// The header under which the zone key is loaded.
+const ZONE_KEY: Header = Header {
+    usage: *b"P0",
+    algorithm: b'T',
+    mode: b'B',
+    version: *b"00",
+    exportability: b'N',
+};
+
+/// The padding behind a key: with it, the key of 16 or 24 bytes and two bytes for its length fill whole blocks of 8.
+const PADDING: [u8; 6] = [0; 6];
+
+/// A host security module that holds a configuration's base derivation keys, in their order, and its zone key. Each is
+/// wrapped under the local master key of `N` bytes (16 or 24) with zeros as padding, and loaded.
+///
+/// Every configuration is loaded: no key of it is refused.
+pub fn open_hsm<const N: usize>(lmk: &Key<N>, config: &Config) -> Result<Hsm<N>, HsmFault>
+    requires { IsTdesLength N }
+    ensures ok { IsOk result }
+    ensures keys { IfOk result (λ hsm. hsm ≡ keys_for lmk.now config.now) }
+{
+    let mut hsm = Hsm::new(*lmk);
+    for bdk in &config.bdks {
+        load_base_key(&mut hsm, lmk, bdk)?;
+    }
+    load_zone_key(&mut hsm, lmk, &config.zone)?;
+    Ok(hsm)
+}
+
+/// Wraps a base derivation key and loads it, where a slot is free and the prefix is not taken.
+fn load_base_key<const N: usize>(
+    hsm: &mut Hsm<N>,
+    lmk: &Key<N>,
+    bdk: &BaseKey,
+) -> Result<(), HsmFault>
+    requires length { IsTdesLength N }
+    requires lmk { hsm.old.lmk ≡ lmk.now }
+    requires prefix { key_set_of hsm.old bdk.now.prefix ≡ None }
+    requires slot { length hsm.old.key_sets < 8 }
+    ensures ok { IsOk result }
+    ensures keys { hsm.new ≡ with_key_set hsm.old bdk.now.prefix bdk.now.key }
+{
+    let block = wrapped(lmk, &BASE_KEY, &bdk.key);
+    hsm.load_bdk(bdk.prefix, block.as_slice())
+}
+
+/// Wraps a zone key and loads it, where none is held.
+fn load_zone_key<const N: usize>(
+    hsm: &mut Hsm<N>,
+    lmk: &Key<N>,
+    zone: &KeyBytes,
+) -> Result<(), HsmFault>
+    requires length { IsTdesLength N }
+    requires lmk { hsm.old.lmk ≡ lmk.now }
+    requires zone { hsm.old.zone ≡ None }
+    ensures ok { IsOk result }
+    ensures keys { hsm.new ≡ record hsm.old { zone = Some (bytes_of zone.now) } }
+{
+    let block = wrapped_zone(lmk, zone);
+    hsm.load_zone(block.as_slice())
+}
+
+/// Wraps a zone key of either length.
+fn wrapped_zone<const N: usize>(lmk: &Key<N>, zone: &KeyBytes) -> ArrayVec<u8, 512>
+    requires { IsTdesLength N }
+    ensures { WrapsZone lmk.now result.items (bytes_of zone.now) }
+{
+    match zone {
+        KeyBytes::Double(key) => wrapped(lmk, &ZONE_KEY, key),
+        KeyBytes::Triple(key) => wrapped(lmk, &ZONE_KEY, key),
+    }
+}
+
+/// Wraps a key under the local master key with zeros as padding. The block is read, and as this key alone.
+fn wrapped<const N: usize, const M: usize>(
+    lmk: &Key<N>,
+    header: &Header,
+    key: &Key<M>,
+) -> ArrayVec<u8, 512>
+    requires protection_key { IsTdesLength N }
+    requires key { IsTdesLength M }
+    requires header { IsHeader header.now }
+    ensures size { length key.now ≡ M }
+    ensures wraps { WrapsAlone lmk.now result.items header.now key.now }
+{
+    duk_tdes::laws::tdes_key(lmk);
+    duk_tdes::laws::tdes_key(key);
+    duk_block::laws::one_reading();
+    match wrap(lmk, header, key, &PADDING) {
+        Ok(block) => {
+            // Reading it once shows that loading does not refuse it.
+            let _ = unwrap(lmk, block.as_slice());
+            block
+        }
+        Err(_) => unreachable!(),
+    }
+}

@@ -1,0 +1,148 @@
+//! The keys of a configuration in the order in which their faults are told, each read where those before it are right.
+
+ghost use Rattle.std.specs.Prelude.{◌≡◌, ◌≤◌, Some, true, IfOk, IfErr, OnOk, codes, length};
+ghost use Rattle.toml.specs.View.{table_view};
+ghost use Rattle.duk_config.specs.ConfigFaults.{IsFirstFault, IsRightBefore};
+ghost use Rattle.duk_config.specs.ConfigTable.{HasBaseKeys, HasCards, disk_in};
+ghost use Rattle.duk_config.specs.ConfigKeys.{is_config_key};
+ghost use Rattle.duk_config.specs.Names.{has_only};
+ghost use Rattle.duk_config.specs.Values.{bytes_at, number_at, tdes_key_at};
+
+use super::arrays::{disk_in, values_at};
+use super::entries::read_entries;
+use super::names::unknown_key;
+use super::value::{bytes_at, number_at, tdes_key_at};
+use crate::base_key::BaseKey;
+use crate::fault::{ConfigKey, ScriptFault};
+use duk_host::Card;
+use duk_tdes::{Key, KeyBytes};
+use std::alloc::Global;
+use toml::Table;
+
+/// Refuses a table with a key that is no key of a configuration.
+pub(crate) fn refuse_unknown(alloc: Global, table: &Table) -> Result<(), ScriptFault>
+    ensures known { OnOk result (has_only is_config_key (table_view table.now) ≡ true) }
+    ensures right { OnOk result (IsRightBefore (table_view table.now) ConfigKey.Lmk) }
+    ensures refused { IfErr result (IsFirstFault (table_view table.now)) }
+{
+    let Some(name) = unknown_key(table) else {
+        return Ok(());
+    };
+    match String::from_str(alloc, name) {
+        Ok(name) => Err(ScriptFault::UnknownKey(name)),
+        Err(_) => Err(ScriptFault::NoMemory),
+    }
+}
+
+/// The local master key.
+pub(crate) fn read_lmk(table: &Table) -> Result<KeyBytes, ScriptFault>
+    requires { IsRightBefore (table_view table.now) ConfigKey.Lmk }
+    ensures value { IfOk result
+        (λ key. tdes_key_at (codes "lmk") (table_view table.now) ≡ Some key) }
+    ensures right { OnOk result (IsRightBefore (table_view table.now) ConfigKey.Zone) }
+    ensures refused { IfErr result (IsFirstFault (table_view table.now)) }
+{
+    match tdes_key_at(table, "lmk") {
+        Some(key) => Ok(key),
+        None => Err(ScriptFault::BadKey(ConfigKey::Lmk)),
+    }
+}
+
+/// The zone key.
+pub(crate) fn read_zone(table: &Table) -> Result<KeyBytes, ScriptFault>
+    requires { IsRightBefore (table_view table.now) ConfigKey.Zone }
+    ensures value { IfOk result
+        (λ key. tdes_key_at (codes "zone") (table_view table.now) ≡ Some key) }
+    ensures right { OnOk result (IsRightBefore (table_view table.now) ConfigKey.Loading) }
+    ensures refused { IfErr result (IsFirstFault (table_view table.now)) }
+{
+    match tdes_key_at(table, "zone") {
+        Some(key) => Ok(key),
+        None => Err(ScriptFault::BadKey(ConfigKey::Zone)),
+    }
+}
+
+/// The loading key.
+pub(crate) fn read_loading(table: &Table) -> Result<Key<16>, ScriptFault>
+    requires { IsRightBefore (table_view table.now) ConfigKey.Loading }
+    ensures value { IfOk result
+        (λ key. bytes_at 16 (codes "loading") (table_view table.now) ≡ Some key) }
+    ensures right { OnOk result (IsRightBefore (table_view table.now) ConfigKey.Terminals) }
+    ensures refused { IfErr result (IsFirstFault (table_view table.now)) }
+{
+    match bytes_at(table, "loading") {
+        Some(bytes) => Ok(Key::new(bytes)),
+        None => Err(ScriptFault::BadKey(ConfigKey::Loading)),
+    }
+}
+
+/// The number of terminals.
+pub(crate) fn read_terminals(table: &Table) -> Result<u32, ScriptFault>
+    requires { IsRightBefore (table_view table.now) ConfigKey.Terminals }
+    ensures value { IfOk result
+        (λ number. number_at 1 16 (codes "terminals") (table_view table.now) ≡ Some number) }
+    ensures bounds { IfOk result (λ number. (1 ≤ number) × (number ≤ 16)) }
+    ensures right { OnOk result (IsRightBefore (table_view table.now) ConfigKey.Log) }
+    ensures refused { IfErr result (IsFirstFault (table_view table.now)) }
+{
+    match number_at(table, "terminals", 1, 16) {
+        Some(number) => Ok(number),
+        None => Err(ScriptFault::BadKey(ConfigKey::Terminals)),
+    }
+}
+
+/// The room of the log.
+pub(crate) fn read_log(table: &Table) -> Result<u32, ScriptFault>
+    requires { IsRightBefore (table_view table.now) ConfigKey.Log }
+    ensures value { IfOk result
+        (λ number. number_at 1 100000 (codes "log") (table_view table.now) ≡ Some number) }
+    ensures bounds { IfOk result (λ number. (1 ≤ number) × (number ≤ 100000)) }
+    ensures right { OnOk result (IsRightBefore (table_view table.now) ConfigKey.Stores) }
+    ensures refused { IfErr result (IsFirstFault (table_view table.now)) }
+{
+    match number_at(table, "log", 1, 100_000) {
+        Some(number) => Ok(number),
+        None => Err(ScriptFault::BadKey(ConfigKey::Log)),
+    }
+}
+
+/// Whether the stores are disks.
+pub(crate) fn read_stores(table: &Table) -> Result<bool, ScriptFault>
+    requires { IsRightBefore (table_view table.now) ConfigKey.Stores }
+    ensures value { IfOk result
+        (λ disk. disk_in (table_view table.now) ≡ Some disk) }
+    ensures right { OnOk result (IsRightBefore (table_view table.now) ConfigKey.Bdk) }
+    ensures refused { IfErr result (IsFirstFault (table_view table.now)) }
+{
+    match disk_in(table) {
+        Some(disk) => Ok(disk),
+        None => Err(ScriptFault::BadKey(ConfigKey::Stores)),
+    }
+}
+
+/// The base derivation keys.
+pub(crate) fn read_bdk(alloc: Global, table: &Table) -> Result<Vec<BaseKey>, ScriptFault>
+    requires { IsRightBefore (table_view table.now) ConfigKey.Bdk }
+    ensures value { IfOk result (λ bdks. HasBaseKeys (table_view table.now) bdks.items) }
+    ensures count { IfOk result (λ bdks. (1 ≤ length bdks.items) × (length bdks.items ≤ 8)) }
+    ensures right { OnOk result (IsRightBefore (table_view table.now) ConfigKey.Card) }
+    ensures refused { IfErr result (IsFirstFault (table_view table.now)) }
+{
+    match values_at(table, "bdk", 1, 8) {
+        Some(values) => read_entries(alloc, ConfigKey::Bdk, values),
+        None => Err(ScriptFault::BadKey(ConfigKey::Bdk)),
+    }
+}
+
+/// The cards.
+pub(crate) fn read_card(alloc: Global, table: &Table) -> Result<Vec<Card>, ScriptFault>
+    requires { IsRightBefore (table_view table.now) ConfigKey.Card }
+    ensures value { IfOk result (λ cards. HasCards (table_view table.now) cards.items) }
+    ensures count { IfOk result (λ cards. length cards.items ≤ 1000) }
+    ensures refused { IfErr result (IsFirstFault (table_view table.now)) }
+{
+    match values_at(table, "card", 0, 1000) {
+        Some(values) => read_entries(alloc, ConfigKey::Card, values),
+        None => Err(ScriptFault::BadKey(ConfigKey::Card)),
+    }
+}

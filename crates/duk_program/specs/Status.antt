@@ -1,0 +1,23 @@
+-- What is left to do when the words are dealt with (this project's own).
+use Rattle.std.specs.Prelude.{◌≡◌, ◌⊎◌, ℕ}
+use Rattle.duk_program.specs.declared.dispatch.Todo.{Todo}
+use Rattle.duk_program.specs.declared.dispatch.Todo.TheVariants.{Exit, Run}
+
+-- 0 where all is done, 1 behind the line of a fault, 2 where the words were refused
+abbrev pub IsStatus : ℕ → Type 0
+IsStatus status = (status ≡ 0) ⊎ (status ≡ 1) ⊎ (status ≡ 2)
+
+-- nothing is left but to end with a status, or else a script to run
+abbrev pub IsLawful : Todo → Type 0
+IsLawful (Exit status) = IsStatus status
+IsLawful (Run config script) = Unit {0}
+
+-- nothing is left but to end with this status
+abbrev pub EndsWith : Todo → ℕ → Type 0
+EndsWith (Exit status) wanted = status ≡ wanted
+EndsWith (Run config script) wanted = ⊥
+
+-- a script is left to run
+abbrev pub IsToRun : Todo → Type 0
+IsToRun (Exit status) = ⊥
+IsToRun (Run config script) = Unit {0}

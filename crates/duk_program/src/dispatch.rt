@@ -1,0 +1,141 @@
+//! One run of the program over its words.
+
+ghost use Rattle.std.specs.Prelude.{◌≡◌, ◌⊎◌};
+ghost use Rattle.std.specs.Io.KnownBytes.{Keeps};
+ghost use Rattle.duk_commands.specs.Fault.{line_of, IsFaultTold};
+ghost use Rattle.duk_commands.specs.declared.fault.Fault.{Fault};
+ghost use Rattle.duk_text.specs.Sink.{IsUntouched, IsTried};
+ghost use Rattle.duk_program.specs.Status.{EndsWith, IsLawful, IsStatus, IsToRun};
+
+use duk_commands::{
+    Fault, derive_command, pin_command, tell, unwrap_command, walk_command, wrap_command,
+};
+use duk_text::{Sink, write_text};
+use duk_words::{NoRequest, Request, read_request};
+use std::alloc::Global;
+
+/// What is left to do when the words are dealt with.
+#[derive(Clone, Copy, Debug, PartialEq, Eq)]
+pub enum Todo<'a> {
+    /// To end with this status: 0 where all is done, 1 after a line that tells the fault, 2 where
+    /// the words were refused.
+    Exit(u8),
+    /// To run a script under a configuration. Nothing is written yet.
+    Run {
+        /// The path of the configuration.
+        config: &'a str,
+        /// The path of the script.
+        script: &'a str,
+    },
+}
+
+/// Does what the words ask, the first of which is the program's name. What they ask of files is left to do.
+///
+/// What a command prints goes to `output`, and so does help that was asked for; the line of a fault
+/// and the text that refuses the words go to `fault`. Where all is done, `output` is flushed before the
+/// status is given.
+pub fn command<'a, W: Sink, F: Sink>(
+    alloc: Global,
+    words: &'a [String],
+    output: &mut W,
+    fault: &mut F,
+) -> Todo<'a>
+    ensures status { IsLawful result }
+    ensures no_fault { EndsWith result 0 → IsUntouched (F.told fault.old) (F.told fault.new) }
+    ensures fault { EndsWith result 1 → IsFaultTold (F.told fault.old) (F.told fault.new) }
+    ensures refused { EndsWith result 2
+        → Keeps (W.told output.old).contents (W.told output.new).contents }
+    ensures quiet { IsToRun result → IsUntouched (W.told output.old) (W.told output.new) }
+    ensures silent { IsToRun result → IsUntouched (F.told fault.old) (F.told fault.new) }
+{
+    duk_text::laws::writes();
+    match answer(alloc, words, output, fault) {
+        Todo::Exit(0) => Todo::Exit(flush(output, fault)),
+        todo => todo,
+    }
+}
+
+/// Does what the words ask and tells what is left to do; what is printed may still be held back.
+fn answer<'a, W: Sink, F: Sink>(
+    alloc: Global,
+    words: &'a [String],
+    output: &mut W,
+    fault: &mut F,
+) -> Todo<'a>
+    ensures status { IsLawful result }
+    ensures no_fault { EndsWith result 0 → IsUntouched (F.told fault.old) (F.told fault.new) }
+    ensures fault { EndsWith result 1 → IsFaultTold (F.told fault.old) (F.told fault.new) }
+    ensures refused { EndsWith result 2 → Keeps (W.told output.old).contents (W.told output.new).contents }
+    ensures quiet { IsToRun result → IsUntouched (W.told output.old) (W.told output.new) }
+    ensures silent { IsToRun result → IsUntouched (F.told fault.old) (F.told fault.new) }
+{
+    match read_request(alloc, words) {
+        Ok(request) => run(request, output, fault),
+        Err(answer) => Todo::Exit(show(&answer, output, fault)),
+    }
+}
+
+/// Does the command of a request, where that needs no file, and tells what is left to do.
+fn run<'a, W: Sink, F: Sink>(request: Request<'a>, output: &mut W, fault: &mut F) -> Todo<'a>
+    ensures status { IsLawful result }
+    ensures no_fault { EndsWith result 0 → IsUntouched (F.told fault.old) (F.told fault.new) }
+    ensures fault { EndsWith result 1 → IsFaultTold (F.told fault.old) (F.told fault.new) }
+    ensures not_refused { ¬ EndsWith result 2 }
+    ensures quiet { IsToRun result → IsUntouched (W.told output.old) (W.told output.new) }
+    ensures silent { IsToRun result → IsUntouched (F.told fault.old) (F.told fault.new) }
+{
+    match request {
+        Request::Derive { bdk, ksn } => Todo::Exit(derive_command(bdk, ksn, output, fault)),
+        Request::Walk {
+            bdk,
+            iksn,
+            count,
+            skip,
+            alone,
+        } => Todo::Exit(walk_command(bdk, iksn, count, skip, alone, output, fault)),
+        Request::Pin { pin, pan, key } => Todo::Exit(pin_command(pin, pan, key, output, fault)),
+        Request::Wrap {
+            kbpk,
+            fields,
+            key,
+            pad,
+        } => Todo::Exit(wrap_command(kbpk, fields, key, pad, output, fault)),
+        Request::Unwrap { kbpk, block } => Todo::Exit(unwrap_command(kbpk, block, output, fault)),
+        Request::Run { config, script } => Todo::Run { config, script },
+    }
+}
+
+/// Writes what stands in place of a request, and gives the status.
+fn show<W: Sink, F: Sink>(answer: &NoRequest, output: &mut W, fault: &mut F) -> u8
+    ensures status { IsStatus result }
+    ensures no_fault { result ≡ 0 → IsUntouched (F.told fault.old) (F.told fault.new) }
+    ensures fault { result ≡ 1 → IsFaultTold (F.told fault.old) (F.told fault.new) }
+    ensures refused { result ≡ 2 → Keeps (W.told output.old).contents (W.told output.new).contents }
+{
+    match answer {
+        NoRequest::NoMemory => tell(fault, Fault::OutOfMemory),
+        NoRequest::Refused(text) => {
+            let _ = write_text(fault, text.as_bytes());
+            2
+        }
+        NoRequest::Help(text) => match write_text(output, text.as_bytes()) {
+            Ok(()) => 0,
+            Err(_) => tell(fault, Fault::WriteFailed),
+        },
+    }
+}
+
+/// Hands on what `output` still holds back, and gives the status: 0, or 1 where that fails, since
+/// what was printed may be missing then.
+fn flush<W: Sink, F: Sink>(output: &mut W, fault: &mut F) -> u8
+    ensures status { (result ≡ 0) ⊎ (result ≡ 1) }
+    ensures no_fault { result ≡ 0 → IsUntouched (F.told fault.old) (F.told fault.new) }
+    ensures fault { result ≡ 1
+        → IsTried (F.told fault.old) (F.told fault.new) (line_of Fault.WriteFailed) }
+    ensures output { Keeps (W.told output.old).contents (W.told output.new).contents }
+{
+    match output.flush() {
+        Ok(()) => 0,
+        Err(_) => tell(fault, Fault::WriteFailed),
+    }
+}

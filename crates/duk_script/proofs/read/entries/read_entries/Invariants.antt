@@ -1,8 +1,0 @@
-use Rattle.std.proofs.Common.{◌≡◌, length, map, take}
-use Rattle.toml.specs.View.{view}
-use Rattle.duk_script.specs.Entries.{AreEntries}
-use Rattle.duk_script.proofs.read.entries.read_entries.Given as goal
-
-abbrev pub invariant-loop-i : goal.invariant-loop-i
-invariant-loop-i g l =
-    AreEntries g.E.Entry.States g.E.Entry.Repeats (map view (take l.i l.values)) l.entries.items × (length l.entries.items ≡ l.i)

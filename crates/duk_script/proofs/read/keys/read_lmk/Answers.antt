@@ -1,7 +1,0 @@
-use Rattle.std.proofs.Common.{refl}
-use Rattle.duk_script.specs.declared.fault.ConfigKey.TheVariants.{Lmk, Zone}
-use Rattle.duk_script.proofs.OrderLemmas.{is_there, next_right}
-use Rattle.duk_script.proofs.read.keys.read_lmk.Goals as goal
-
-pub returns-in-Some-clause-right : goal.returns-in-Some-clause-right
-returns-in-Some-clause-right c = next_right _ Lmk Zone refl c.requires (is_there _ _ c.in-Some.ensures)

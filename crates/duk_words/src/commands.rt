@@ -1,0 +1,138 @@
+//! The commands and their words, as `clap` reads them.
+
+use clap::{Arg, ArgAction, Command};
+use std::alloc::{AllocError, Global};
+
+/// The program's commands.
+pub fn program<'a>(alloc: Global) -> Result<Command<'a>, AllocError> {
+    key_commands(alloc)?
+        .subcommand(wrap_words(alloc)?)?
+        .subcommand(unwrap_words(alloc)?)?
+        .subcommand(run_words(alloc)?)
+}
+
+/// The commands over keys and PINs.
+fn key_commands<'a>(alloc: Global) -> Result<Command<'a>, AllocError> {
+    Command::new(alloc, "dukpt")
+        .about("A payment host, its HSM and its PIN terminals, keyed by TDES DUKPT")
+        .subcommand_required(true)
+        .subcommand(derive_words(alloc)?)?
+        .subcommand(walk_words(alloc)?)?
+        .subcommand(pin_words(alloc)?)
+}
+
+fn derive_words<'a>(alloc: Global) -> Result<Command<'a>, AllocError> {
+    Command::new(alloc, "derive")
+        .about("Prints the initial key, the transaction key and the PIN key of a key serial number")
+        .arg(bdk_word(alloc))?
+        .arg(word(alloc, "KSN", "The key serial number, 20 hexadecimal digits"))
+}
+
+fn walk_words<'a>(alloc: Global) -> Result<Command<'a>, AllocError> {
+    let skip = "Skips K numbers before printing";
+    counted_words(alloc)?
+        .arg(value(alloc, "skip", "K", skip))?
+        .arg(flag(alloc, "ksn", "Prints the key serial numbers alone"))
+}
+
+/// The words of a walk that have to be there.
+fn counted_words<'a>(alloc: Global) -> Result<Command<'a>, AllocError> {
+    Command::new(alloc, "walk")
+        .about("Walks a terminal through its numbers and prints the key of each")
+        .arg(bdk_word(alloc))?
+        .arg(word(
+            alloc,
+            "IKSN",
+            "The initial key serial number, 20 hexadecimal digits",
+        ))?
+        .arg(word(alloc, "COUNT", "How many numbers to print, at most 1048576"))
+}
+
+fn pin_words<'a>(alloc: Global) -> Result<Command<'a>, AllocError> {
+    Command::new(alloc, "pin")
+        .about("Prints the PIN block of a PIN and a PAN, and the block enciphered")
+        .arg(word(alloc, "PIN", "The PIN, 4 to 12 digits"))?
+        .arg(word(
+            alloc,
+            "PAN",
+            "The PAN, 12 to 19 digits with its check digit",
+        ))?
+        .arg(value(
+            alloc,
+            "key",
+            "KEY",
+            "Enciphers the block under this key, 32 hexadecimal digits",
+        ))
+}
+
+fn wrap_words<'a>(alloc: Global) -> Result<Command<'a>, AllocError> {
+    Command::new(alloc, "wrap")
+        .about("Prints the key block of a key")
+        .arg(kbpk_word(alloc))?
+        .arg(word(
+            alloc,
+            "FIELDS",
+            "The header fields, 7 bytes: usage, algorithm, mode, version and exportability",
+        ))?
+        .arg(word(alloc, "KEY", "The key, 32 or 48 hexadecimal digits"))?
+        .arg(word(
+            alloc,
+            "PAD",
+            "The padding in hexadecimal, which should be random",
+        ))
+}
+
+fn unwrap_words<'a>(alloc: Global) -> Result<Command<'a>, AllocError> {
+    Command::new(alloc, "unwrap")
+        .about("Prints the header fields and the key of a key block")
+        .arg(kbpk_word(alloc))?
+        .arg(word(alloc, "BLOCK", "The key block"))
+}
+
+fn run_words<'a>(alloc: Global) -> Result<Command<'a>, AllocError> {
+    Command::new(alloc, "run")
+        .about("Runs a script of events, and prints what comes of each")
+        .arg(word(alloc, "CONFIG", "The file of the configuration, in TOML"))?
+        .arg(word(
+            alloc,
+            "SCRIPT",
+            "The file of the script, an event on each line",
+        ))
+}
+
+fn bdk_word<'a>(alloc: Global) -> Arg<'a> {
+    word(
+        alloc,
+        "BDK",
+        "The base derivation key, 32 hexadecimal digits",
+    )
+}
+
+fn kbpk_word<'a>(alloc: Global) -> Arg<'a> {
+    word(
+        alloc,
+        "KBPK",
+        "The key block protection key, 32 or 48 hexadecimal digits",
+    )
+}
+
+/// A word that has to be there.
+fn word<'a>(alloc: Global, name: &'a str, help: &'a str) -> Arg<'a> {
+    Arg::new(alloc, name).required(true).help(help)
+}
+
+/// An option that has a value.
+fn value<'a>(alloc: Global, name: &'a str, value: &'a str, help: &'a str) -> Arg<'a> {
+    Arg::new(alloc, name)
+        .long(name)
+        .value_name(value)
+        .help(help)
+}
+
+/// An option that is there or not.
+fn flag<'a>(alloc: Global, name: &'a str, help: &'a str) -> Arg<'a> {
+    Arg::new(alloc, name)
+        .long(name)
+        .action(ArgAction::SetTrue)
+        .help(help)
+}

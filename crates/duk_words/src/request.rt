@@ -1,0 +1,181 @@
+//! What the words of the command line ask for.
+
+use crate::commands::program;
+use clap::error::ErrorKind;
+use clap::{ArgMatches, Error};
+use std::alloc::{AllocError, Global};
+
+/// What the words ask for.
+#[derive(Clone, Copy, Debug, PartialEq, Eq)]
+pub enum Request<'a> {
+    /// The keys of one key serial number.
+    Derive {
+        /// The base derivation key, as written.
+        bdk: &'a str,
+        /// The key serial number, as written.
+        ksn: &'a str,
+    },
+    /// A terminal from its first number on.
+    Walk {
+        /// The base derivation key, as written.
+        bdk: &'a str,
+        /// The initial key serial number, as written.
+        iksn: &'a str,
+        /// How many numbers to print, as written.
+        count: &'a str,
+        /// How many numbers to pass before, as written.
+        skip: Option<&'a str>,
+        /// Whether to print the key serial numbers alone.
+        alone: bool,
+    },
+    /// The PIN block of a PIN and a PAN.
+    Pin {
+        /// The PIN, as written.
+        pin: &'a str,
+        /// The PAN, as written.
+        pan: &'a str,
+        /// The key to encipher the block under, as written.
+        key: Option<&'a str>,
+    },
+    /// The key block of a key.
+    Wrap {
+        /// The key block protection key, as written.
+        kbpk: &'a str,
+        /// The fields of the header, as written.
+        fields: &'a str,
+        /// The key, as written.
+        key: &'a str,
+        /// The padding, as written.
+        pad: &'a str,
+    },
+    /// The header and the key of a key block.
+    Unwrap {
+        /// The key block protection key, as written.
+        kbpk: &'a str,
+        /// The key block.
+        block: &'a str,
+    },
+    /// The outcomes of a script.
+    Run {
+        /// The path of the configuration.
+        config: &'a str,
+        /// The path of the script.
+        script: &'a str,
+    },
+}
+
+/// What stands in place of a request.
+#[derive(Debug, Drop)]
+pub enum NoRequest {
+    /// Help that was asked for: its text, with its last line ended.
+    Help(String),
+    /// The words are refused: the text that says why, with its last line ended.
+    Refused(String),
+    /// Memory was refused.
+    NoMemory,
+}
+
+/// The request that the words make; the first word is the program's name.
+pub fn read_request<'a>(alloc: Global, words: &'a [String]) -> Result<Request<'a>, NoRequest> {
+    match matched(alloc, words) {
+        Ok(request) => Ok(request),
+        Err(error) => Err(no_request(alloc, &error)),
+    }
+}
+
+/// The request that `clap` finds in the words, or its error.
+fn matched<'a>(alloc: Global, words: &'a [String]) -> Result<Request<'a>, Error> {
+    let mut program = program(alloc)?;
+    let matches = program.try_get_matches_from_mut(words)?;
+    match request_of(&matches) {
+        Some(request) => Ok(request),
+        None => Err(program.error(ErrorKind::MissingSubcommand, "a command is required")?),
+    }
+}
+
+fn request_of<'a>(matches: &ArgMatches<'a>) -> Option<Request<'a>> {
+    match matches.subcommand()? {
+        ("derive", found) => derive_request(found),
+        ("walk", found) => walk_request(found),
+        ("pin", found) => pin_request(found),
+        ("wrap", found) => wrap_request(found),
+        ("unwrap", found) => unwrap_request(found),
+        ("run", found) => run_request(found),
+        _ => None,
+    }
+}
+
+fn derive_request<'a>(found: &ArgMatches<'a>) -> Option<Request<'a>> {
+    let bdk = found.get_str("BDK")?;
+    let ksn = found.get_str("KSN")?;
+    Some(Request::Derive { bdk, ksn })
+}
+
+fn walk_request<'a>(found: &ArgMatches<'a>) -> Option<Request<'a>> {
+    let bdk = found.get_str("BDK")?;
+    let iksn = found.get_str("IKSN")?;
+    let count = found.get_str("COUNT")?;
+    Some(Request::Walk {
+        bdk,
+        iksn,
+        count,
+        skip: found.get_str("skip"),
+        alone: found.get_flag("ksn"),
+    })
+}
+
+fn pin_request<'a>(found: &ArgMatches<'a>) -> Option<Request<'a>> {
+    let pin = found.get_str("PIN")?;
+    let pan = found.get_str("PAN")?;
+    Some(Request::Pin {
+        pin,
+        pan,
+        key: found.get_str("key"),
+    })
+}
+
+fn wrap_request<'a>(found: &ArgMatches<'a>) -> Option<Request<'a>> {
+    let kbpk = found.get_str("KBPK")?;
+    let fields = found.get_str("FIELDS")?;
+    let key = found.get_str("KEY")?;
+    let pad = found.get_str("PAD")?;
+    Some(Request::Wrap {
+        kbpk,
+        fields,
+        key,
+        pad,
+    })
+}
+
+fn unwrap_request<'a>(found: &ArgMatches<'a>) -> Option<Request<'a>> {
+    let kbpk = found.get_str("KBPK")?;
+    let block = found.get_str("BLOCK")?;
+    Some(Request::Unwrap { kbpk, block })
+}
+
+fn run_request<'a>(found: &ArgMatches<'a>) -> Option<Request<'a>> {
+    let config = found.get_str("CONFIG")?;
+    let script = found.get_str("SCRIPT")?;
+    Some(Request::Run { config, script })
+}
+
+/// What `clap` tells with an error: that memory was refused, or a text for the user.
+fn no_request(alloc: Global, error: &Error) -> NoRequest {
+    if error.kind() == ErrorKind::OutOfMemory {
+        return NoRequest::NoMemory;
+    }
+    match text_of(alloc, error) {
+        Ok(text) if error.use_stderr() => NoRequest::Refused(text),
+        Ok(text) => NoRequest::Help(text),
+        Err(AllocError) => NoRequest::NoMemory,
+    }
+}
+
+/// The text that `clap` has for the user, its last line ended.
+fn text_of(alloc: Global, error: &Error) -> Result<String, AllocError> {
+    let mut text = format!(in alloc; "{error}")?;
+    if !text.ends_with('\n') {
+        text.push('\n')?;
+    }
+    Ok(text)
+}
