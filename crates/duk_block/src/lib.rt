@@ -17,6 +17,3 @@ pub use fault::BlockFault;
 pub use header::Header;
 pub use unwrapping::unwrap;
 pub use wrapping::wrap;
-
-#[cfg(test)]
-mod tests;

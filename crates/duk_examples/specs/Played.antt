@@ -2,12 +2,12 @@
 use Rattle.std.specs.Prelude.{◌≡◌, ℕ, List, [], Some, None}
 use Rattle.duk_net.specs.declared.event.Event.{Event}
 use Rattle.duk_net.specs.declared.outcome.Outcome.{Outcome}
-use Rattle.duk_script.specs.ConfigFile.{IsConfigFile}
+use Rattle.duk_config.specs.ConfigFile.{IsConfigFile}
 use Rattle.duk_script.specs.OutcomeText.{lines_of}
 use Rattle.duk_script.specs.Script.{IsScript}
 use Rattle.duk_script.specs.Session.{ArePlayed, IsRefused, session}
-use Rattle.duk_script.specs.Settings.{Settings}
-use Rattle.duk_script.specs.declared.fault.ScriptFault.{ScriptFault}
+use Rattle.duk_config.specs.Settings.{Settings}
+use Rattle.duk_config.specs.declared.fault.ScriptFault.{ScriptFault}
 use Rattle.duk_text.specs.Sink.{Told}
 
 -- the files with these bytes are a configuration and a script, and these are the lines of what comes of its events

@@ -10,8 +10,6 @@ mod code;
 mod frame;
 pub mod laws;
 mod request;
-#[cfg(test)]
-mod tests;
 
 pub use answer::{AnswerFrame, read_answer, write_refusal, write_reply};
 pub use code::Code;

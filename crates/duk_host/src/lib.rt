@@ -13,8 +13,6 @@ mod reading;
 mod reason;
 mod reply;
 mod table;
-#[cfg(test)]
-mod tests;
 mod used;
 
 pub use fault::HostFault;

@@ -11,8 +11,6 @@ mod key_set;
 pub mod laws;
 mod loading;
 mod payment;
-#[cfg(test)]
-mod tests;
 
 pub use fault::HsmFault;
 pub use hsm::Hsm;

@@ -10,6 +10,3 @@ mod retail_mac;
 
 pub use cipher_mac::cmac;
 pub use retail_mac::retail;
-
-#[cfg(test)]
-mod tests;

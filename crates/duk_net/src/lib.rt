@@ -13,8 +13,6 @@ mod places;
 mod runs;
 mod system;
 mod terminal_events;
-#[cfg(test)]
-mod tests;
 mod told;
 mod world;
 

@@ -14,8 +14,6 @@ pub mod laws;
 mod nibbles;
 mod pan;
 mod pin;
-#[cfg(test)]
-mod tests;
 
 pub use block::{decode, encode};
 pub use fault::PinFault;

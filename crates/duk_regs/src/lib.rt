@@ -10,8 +10,6 @@ mod frontier;
 mod image;
 pub mod laws;
 mod registers;
-#[cfg(test)]
-mod tests;
 
 pub use image::IMAGE_LENGTH;
 pub use registers::Registers;

@@ -11,8 +11,6 @@ mod fault;
 mod log;
 mod memory_cell;
 mod memory_log;
-#[cfg(test)]
-mod tests;
 
 pub use cell::{BODY_LENGTH, Body, Cell};
 pub use fault::StoreFault;

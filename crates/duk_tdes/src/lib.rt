@@ -9,8 +9,6 @@ mod chaining;
 mod cipher;
 mod key;
 pub mod laws;
-#[cfg(test)]
-mod tests;
 
 pub use bytes::{array_of, xor_bytes};
 pub use chaining::{cbc_decrypt, cbc_encrypt};

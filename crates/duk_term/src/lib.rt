@@ -14,8 +14,6 @@ mod payment;
 mod purchase;
 mod state;
 mod terminal;
-#[cfg(test)]
-mod tests;
 
 pub use answer::{Answer, Next};
 pub use fault::TermFault;

@@ -11,8 +11,6 @@ mod derivation;
 pub mod laws;
 mod next;
 mod serial;
-#[cfg(test)]
-mod tests;
 mod variants;
 
 pub use counter::usable;

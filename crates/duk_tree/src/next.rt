@@ -41,22 +41,3 @@ fn shift_bit(counter: u32) -> u32
 {
     1 << counter.trailing_zeros()
 }
-
-#[cfg(test)]
-mod tests {
-    use super::*;
-
-    #[test]
-    fn numbers_around_ten_ones(rt: HostRuntime) {
-        for (counter, next) in [
-            (0, Some(1)),
-            (0x7FE, Some(0x800)),
-            (0x7FF, Some(0x800)),
-            (0x0F_F800, Some(0x0F_F801)),
-            (0x1F_F7FF, Some(0x1F_F800)),
-            (0x1F_F800, None),
-        ] {
-            assert_eq!(rt; next_usable(counter), next, "after {counter}");
-        }
-    }
-}
