@@ -4,7 +4,9 @@ ghost use Rattle.std.specs.Prelude.{◌≡◌, ℕ, List};
 ghost use Rattle.duk_tdes.specs.Tdes.{IsTdesKey};
 ghost use Rattle.duk_block.specs.declared.header.Header.{Header};
 ghost use Rattle.duk_block.specs.Derived.{derived_key, encryption_usage, mac_usage};
-ghost use Rattle.duk_block.specs.KeyBlock.{IsKeyBlock};
+ghost use Rattle.duk_block.specs.Faults.{IsFirstFault};
+ghost use Rattle.duk_block.specs.KeyBlock.{IsKeyBlock, Wraps};
+ghost use Rattle.duk_block.specs.declared.fault.BlockFault.{BlockFault};
 
 /// The keys derived for enciphering and for MACs are TDES keys.
 pub fn derived_keys()
@@ -24,6 +26,17 @@ pub fn one_reading()
         → IsKeyBlock text protection_key header key
         → IsKeyBlock text protection_key other_header other_key
         → (header ≡ other_header) × (key ≡ other_key) }
+{
+    derived_keys();
+    duk_tdes::laws::cbc_inverse();
+}
+
+/// A text that wraps a key under a protection key has no fault under it. So what was wrapped is not refused.
+pub fn no_fault()
+    ensures { (protection_key text : List ℕ) (header : Header) (key : List ℕ) (fault : BlockFault)
+        → IsTdesKey protection_key
+        → Wraps protection_key text header key
+        → ¬ IsFirstFault text protection_key fault }
 {
     derived_keys();
     duk_tdes::laws::cbc_inverse();

@@ -16,4 +16,4 @@ mod wrapping;
 pub use fault::BlockFault;
 pub use header::Header;
 pub use unwrapping::unwrap;
-pub use wrapping::wrap;
+pub use wrapping::{ZERO_PADDING, wrap};

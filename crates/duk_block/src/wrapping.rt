@@ -10,8 +10,11 @@ use crate::header::Header;
 use crate::payload::payload_with;
 use crate::sealing::{block_mac, enciphered};
 use arrayvec::ArrayVec;
+use duk_io::append_hex;
 use duk_tdes::Key;
-use duk_text::append_hex;
+
+/// Padding of zeros behind a key of 16 or 24 bytes: with it, the key and the two bytes of its length fill whole blocks.
+pub const ZERO_PADDING: [u8; 6] = [0; 6];
 
 /// Wraps a key in a key block with no optional block: the header, and the key with this padding behind it enciphered
 /// under a key derived from the key block protection key. `N` and `M` are 16 or 24.

@@ -1,26 +1,26 @@
--- Numbers written in decimal, from their front.
+-- Numbers written in number_of_digits, from their front.
 use Rattle.std.proofs.Common.{◌≡◌, ℕ, ◌+◌, ◌*◌, ◌-◌, ◌<◌, ◌≤◌, List, [], ◌∷◌, length, take, drop, get_or, sym, ap, ◌∙◌, fold, arith}
 use Rattle.std.specs.Char.{IsAsciiDigit}
 use Rattle.std.specs.List.{All}
 use Rattle.std.proofs.lemmas.List.{take-append-drop, take_more}
 use Rattle.std.proofs.lemmas.List.Elements.{All-push}
 use Rattle.std.proofs.lemmas.List.Sums.{fold-append}
-use Rattle.duk_commands.specs.Walk.{most_numbers, decimal, IsNoCount}
+use Rattle.duk_commands.specs.Walk.{most_numbers, number_of_digits, IsNoCount}
 
 grows : (digits : List ℕ) (start : ℕ) → start ≤ fold (λ number digit. 10 * number + (digit - 48)) start digits
 grows [] start = omega arith
 grows (digit ∷ digits) start = omega (arith, grows digits (10 * start + (digit - 48)))
 
-decimal-front : (text : List ℕ) (i : ℕ) → decimal (take i text) ≤ decimal text
-decimal-front text i =
-    let more = grows (drop i text) (decimal (take i text)) in
-    let whole : fold (λ number digit. 10 * number + (digit - 48)) (decimal (take i text)) (drop i text) ≡ decimal text =
-    sym (fold-append (λ number digit. 10 * number + (digit - 48)) 0 (take i text) (drop i text)) ∙ ap decimal (take-append-drop i text) in
+number_of_digits-front : (text : List ℕ) (i : ℕ) → number_of_digits (take i text) ≤ number_of_digits text
+number_of_digits-front text i =
+    let more = grows (drop i text) (number_of_digits (take i text)) in
+    let whole : fold (λ number digit. 10 * number + (digit - 48)) (number_of_digits (take i text)) (drop i text) ≡ number_of_digits text =
+    sym (fold-append (λ number digit. 10 * number + (digit - 48)) 0 (take i text) (drop i text)) ∙ ap number_of_digits (take-append-drop i text) in
     omega arith
 
 -- a front that is too great already
-pub too_great : (text : List ℕ) (i : ℕ) → most_numbers < decimal (take i text) → IsNoCount text
-too_great text i great count is = absurd (omega (arith, decimal-front text i, is.value, is.fits))
+pub too_great : (text : List ℕ) (i : ℕ) → most_numbers < number_of_digits (take i text) → IsNoCount text
+too_great text i great count is = absurd (omega (arith, number_of_digits-front text i, is.value, is.fits))
 
 -- a byte that is no digit
 pub no_digit : (text : List ℕ) (i : ℕ) → i < length text → (IsAsciiDigit (get_or text i 0) → ⊥) → IsNoCount text

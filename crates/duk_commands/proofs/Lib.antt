@@ -1,6 +1,4 @@
+mod AnswerLemmas
 mod CountLemmas
 mod PadLemmas
-mod PinLemmas
-mod UnwrapLemmas
 mod WalkLemmas
-mod WrapLemmas

@@ -1,10 +1,10 @@
 -- The text of a walk, piece by piece.
-use Rattle.std.proofs.Common.{◌≡◌, ◌+◌, ◌-◌, ◌<◌, ℕ, suc, inl, refl, arith, Bool, List, [], ◌++◌, Result, Ok, Err, OnOk, OnErr, append_assoc, append-nil, sym, ap, subst, ◌∙◌}
-use Rattle.duk_text.specs.Sink.{Told, IsWritten}
+use Rattle.std.proofs.Common.{◌≡◌, ◌+◌, ◌-◌, ◌<◌, ℕ, suc, inl, refl, arith, Bool, List, ◌++◌, Result, Ok, Err, OnOk, OnErr, append_assoc, ap, subst, ◌∙◌}
+use Rattle.duk_io.specs.Known.{Known}
 use Rattle.duk_tree.specs.Next.{spent_counter}
 use Rattle.duk_tree.specs.Serial.{Serial}
 use Rattle.duk_regs.specs.Registers.{RegisterSet}
-use Rattle.duk_commands.specs.Walk.{Asked, IsPrinted, IsPassed, IsLoaded, Passes, IsSpentWithin, Drains, HasPrinted, HasPrintedInPart, HasWalked, HasWalkedInPart, number_text, number_line, spent_line}
+use Rattle.duk_commands.specs.Walk.{Asked, IsPrinted, IsPassed, IsLoaded, Passes, IsSpentWithin, HasPrinted, HasPrintedInPart, HasWalked, HasWalkedInPart, number_text, number_line, spent_line}
 
 -- a line more is held, behind what is left of the lines before
 pub text_more : (written held part left line rest pushed : List ℕ) → held ≡ part ++ left → pushed ≡ left ++ line
@@ -22,17 +22,6 @@ pub line_of_number : (iksn iksn' counter : ℕ) (serial : Serial) (key key' : Li
 line_of_number iksn iksn' counter serial key key' alone same_iksn is_serial same_key =
     ap (λ s. number_text s key alone) (is_serial ∙ ap (λ n. let s : Serial = record { iksn = n; counter = counter } in s) same_iksn)
     ∙ ap (λ k. number_text (record { iksn = iksn'; counter = counter }) k alone) same_key
-
--- all that was held was written
-drained : (held left : List ℕ) (output output' : Told) → Drains held left output output' → left ≡ [] → IsWritten output output' held
-drained held left output output' drains none =
-    subst (λ text. IsWritten output output' text) (sym (drains.1 ∙ ap (λ l. drains.0 ++ l) none ∙ append-nil drains.0)) drains.2
-
--- what follows where all that was held was written
-pub on_drained : {T E : Type 0} (result : Result T E) (held left : List ℕ) (output output' : Told) (P : Type 0)
-    → OnOk result (Drains held left output output') → OnOk result (left ≡ []) → (IsWritten output output' held → P) → OnOk result P
-on_drained (Ok done) held left output output' P drains none then = then (drained held left output output' drains none)
-on_drained (Err failed) held left output output' P drains none then = tt
 
 -- what follows where a write failed
 pub on_failed : {T E : Type 0} (result : Result T E) (Q P : Type 0) → OnErr result Q → (Q → P) → OnErr result P
@@ -59,12 +48,12 @@ spent_within old now passed skip below spent goes_on line count =
     subst (λ n. IsPassed line old.counter n count spent_line) all (goes_on line (suc (skip - passed - 1)) count spent_line (inl (spent, refl)))
 
 -- the lines after the numbers that are passed
-pub walked : (initial : List ℕ) (alone : Bool) (old left : RegisterSet) (skip count : ℕ) (output output' : Told)
+pub walked : (initial : List ℕ) (alone : Bool) (old left : RegisterSet) (skip count : ℕ) (output output' : Known)
     → Passes old skip left → HasPrinted initial alone left count output output' → HasWalked initial alone old skip count output output'
 walked initial alone old left skip count output output' passes (text, printed, written) =
     (text, passes.lines _ count text (subst (λ n. IsPrinted (number_line initial n alone) left.counter count text) passes.same_iksn printed), written)
 
-pub walked_in_part : (initial : List ℕ) (alone : Bool) (old left : RegisterSet) (skip count : ℕ) (output output' : Told)
+pub walked_in_part : (initial : List ℕ) (alone : Bool) (old left : RegisterSet) (skip count : ℕ) (output output' : Known)
     → Passes old skip left → HasPrintedInPart initial alone left count output output' → HasWalkedInPart initial alone old skip count output output'
 walked_in_part initial alone old left skip count output output' passes (reached, text, within, printed, cut) =
     (reached, text, within, passes.lines _ reached text (subst (λ n. IsPrinted (number_line initial n alone) left.counter reached text) passes.same_iksn printed), cut)

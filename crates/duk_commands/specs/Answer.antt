@@ -1,30 +1,70 @@
--- How a command answers, once its lines or its fault are known (this project's own).
-use Rattle.std.specs.Prelude.{ℕ, List, codes, ◌++◌}
-use Rattle.hex.specs.Hex.{encode_upper}
-use Rattle.duk_commands.specs.Fault.{line_end, line_of}
-use Rattle.duk_text.specs.Sink.{Told, IsUntouched, IsWritten, IsCut, IsTried}
+-- How a command answers (this project's own).
+use Rattle.std.specs.Prelude.{◌⊎◌, ℕ, List}
+use Rattle.duk_io.specs.Known.{Known}
+use Rattle.duk_io.specs.Sink.{IsCut, IsTried, IsUntouched, IsWritten}
+use Rattle.duk_commands.specs.Fault.{line_of}
 use Rattle.duk_commands.specs.declared.fault.Fault.{Fault}
 use Rattle.duk_commands.specs.declared.fault.Fault.TheVariants.{WriteFailed}
 
--- a line that names some bytes: the name, a space, the bytes in upper-case hexadecimal
-abbrev pub named_line : List ℕ → List ℕ → List ℕ
-named_line name bytes = name ++ codes " " ++ encode_upper bytes ++ line_end
+-- what a command makes of its words: the texts that they ask it to write, the texts that it may have
+-- begun to write where a write failed, and the faults for which they are refused
+pub record Command : Type 1 where
+  pub writes : List ℕ → Type 0
+  pub begins : List ℕ → Type 0
+  pub refuses : Fault → Type 0
 
--- a line that names a text: the name, a space, the text
-abbrev pub text_line : List ℕ → List ℕ → List ℕ
-text_line name text = name ++ codes " " ++ text ++ line_end
+-- a command whose text is known before any of it is written
+abbrev pub command_of : (List ℕ → Type 0) → (Fault → Type 0) → Command
+command_of writes refuses = record { writes = writes; begins = writes; refuses = refuses }
 
--- status 0: exactly these lines were written
-pub record IsDone (lines : List ℕ) (output output' fault fault' : Told) : Type 0 where
-  pub written : IsWritten output output' lines
-  pub no_fault : IsUntouched fault fault'
+-- what the two writers of a command make known before it and after it
+pub record Streams : Type 0 where
+  pub output_before : Known
+  pub output_after : Known
+  pub fault_before : Known
+  pub fault_after : Known
 
--- status 1 where the words are refused: the line of the fault, and no output
-pub record IsRefusal (why : Fault) (output output' fault fault' : Told) : Type 0 where
-  pub no_lines : IsUntouched output output'
-  pub line : IsTried fault fault' (line_of why)
+abbrev pub streams : Known → Known → Known → Known → Streams
+streams output_before output_after fault_before fault_after = record {
+  output_before = output_before;
+  output_after = output_after;
+  fault_before = fault_before;
+  fault_after = fault_after;
+}
 
--- status 1 where the output failed: a prefix of the lines, and the line that tells it
-pub record IsCutShort (lines : List ℕ) (output output' fault fault' : Told) : Type 0 where
-  pub prefix : IsCut output output' lines
-  pub line : IsTried fault fault' (line_of WriteFailed)
+-- exactly this text was written, and no fault
+pub record HasWritten (text : List ℕ) (s : Streams) : Type 0 where
+  pub written : IsWritten s.output_before s.output_after text
+  pub no_fault : IsUntouched s.fault_before s.fault_after
+
+-- no output was written, and the line of this fault was
+pub record HasTold (why : Fault) (s : Streams) : Type 0 where
+  pub no_output : IsUntouched s.output_before s.output_after
+  pub line : IsTried s.fault_before s.fault_after (line_of why)
+
+-- a write failed, a prefix of this text was written, and the line that tells it
+pub record HasFailed (text : List ℕ) (s : Streams) : Type 0 where
+  pub prefix : IsCut s.output_before s.output_after text
+  pub line : IsTried s.fault_before s.fault_after (line_of WriteFailed)
+
+-- status 0: a text that the words ask for was written
+pub record IsDone (command : Command) (s : Streams) : Type 0 where
+  pub text : List ℕ
+  pub asked : command.writes text
+  pub written : HasWritten text s
+
+-- the words were refused, and that was told
+pub record IsRefused (command : Command) (s : Streams) : Type 0 where
+  pub why : Fault
+  pub cause : command.refuses why
+  pub told : HasTold why s
+
+-- such a text was begun, and a write failed
+pub record IsCutShort (command : Command) (s : Streams) : Type 0 where
+  pub text : List ℕ
+  pub asked : command.begins text
+  pub failed : HasFailed text s
+
+-- status 1: the words were refused, or a write failed
+abbrev pub IsNotDone : Command → Streams → Type 0
+IsNotDone command s = IsRefused command s ⊎ IsCutShort command s

@@ -1,7 +1,7 @@
-pub mod Answer
-pub mod Derive
 pub mod Fault
-pub mod KeyText
+pub mod Answer
+pub mod Lines
+pub mod Derive
 pub mod Pin
 pub mod Unwrap
 pub mod Walk

@@ -1,32 +1,33 @@
--- What `walk` is asked and what it answers (this project's own, over the standard's keys).
+-- What `walk` makes of its words (this project's own, over the standard's keys).
 use Rattle.std.specs.Prelude.{◌≡◌, ◌⊎◌, ◌+◌, ◌*◌, ◌-◌, ◌<◌, ◌≤◌, ℕ, zero, suc, Bool, List, [], ◌++◌, length, fold, codes, Option, Some, None, IsSome, if◌then◌else◌, All}
 use Rattle.std.specs.Char.{IsAsciiDigit}
 use Rattle.hex.specs.Hex.{encode_upper}
+use Rattle.duk_io.specs.Known.{Known}
+use Rattle.duk_io.specs.Sink.{IsCut, IsWritten}
+use Rattle.duk_regs.specs.Registers.{RegisterSet, StandsFor}
+use Rattle.duk_tdes.specs.KeyText.{double_key_of_text}
 use Rattle.duk_tree.specs.Derivation.{initial_key_of, transaction_key_of}
 use Rattle.duk_tree.specs.Next.{spent_counter, ComesAfter}
 use Rattle.duk_tree.specs.Path.{IsUsable}
 use Rattle.duk_tree.specs.Serial.{Serial, serial_bytes, iksn_of_text}
-use Rattle.duk_regs.specs.Registers.{RegisterSet, StandsFor}
-use Rattle.duk_commands.specs.Answer.{IsDone, IsRefusal, IsCutShort}
-use Rattle.duk_commands.specs.Derive.{key_of_text}
+use Rattle.duk_commands.specs.Answer.{Command}
 use Rattle.duk_commands.specs.Fault.{line_end}
-use Rattle.duk_text.specs.Sink.{Told, IsWritten, IsCut}
 use Rattle.duk_commands.specs.declared.fault.Fault.{Fault}
-use Rattle.duk_commands.specs.declared.fault.Fault.TheVariants.{BdkRefused, KsnRefused, IksnRefused, CountRefused, CounterRefused, KbpkRefused, FieldsRefused, KeyRefused, PadRefused, PinRefused, BlockRefused, OutOfMemory, WriteFailed}
+use Rattle.duk_commands.specs.declared.fault.Fault.TheVariants.{BdkRefused, IksnRefused, CountRefused}
 
 -- the greatest number of numbers that may be asked for: one more than a terminal has
 abbrev pub most_numbers : ℕ
 most_numbers = 1048576
 
 -- the number that decimal digits write
-abbrev pub decimal : List ℕ → ℕ
-decimal text = fold (λ number digit. 10 * number + (digit - 48)) 0 text
+abbrev pub number_of_digits : List ℕ → ℕ
+number_of_digits text = fold (λ number digit. 10 * number + (digit - 48)) 0 text
 
 -- a text of one or more decimal digits with this value, which is not too great
 pub record IsCount (text : List ℕ) (count : ℕ) : Type 0 where
   pub some : 0 < length text
   pub digits : All IsAsciiDigit text
-  pub value : decimal text ≡ count
+  pub value : number_of_digits text ≡ count
   pub fits : count ≤ most_numbers
 
 -- a text that writes no such number
@@ -43,7 +44,21 @@ abbrev pub IsNoSkip : Option (List ℕ) → Type 0
 IsNoSkip None = ⊥
 IsNoSkip (Some text) = IsNoCount text
 
--- what the words ask for: the terminal's initial key and number, and how many numbers it passes and prints
+-- the words, as written, and whether the key serial numbers alone are asked for
+pub record WalkWords : Type 0 where
+  pub bdk : List ℕ
+  pub iksn : List ℕ
+  pub count : List ℕ
+  pub skip : Option (List ℕ)
+  pub alone : Bool
+
+-- those words
+abbrev pub walk_words : List ℕ → List ℕ → List ℕ → Option (List ℕ) → Bool → WalkWords
+walk_words bdk iksn count skip alone =
+    record { bdk = bdk; iksn = iksn; count = count; skip = skip; alone = alone }
+
+-- what the words ask for: the terminal's initial key and number, and how many numbers it passes and
+-- prints
 pub record Asked : Type 0 where
   pub initial : List ℕ
   pub iksn : ℕ
@@ -51,9 +66,9 @@ pub record Asked : Type 0 where
   pub count : ℕ
 
 -- the words are read
-pub record IsWalkRead (bdk iksn count : List ℕ) (skip : Option (List ℕ)) (asked : Asked) : Type 0 where
+pub record AreWalkWords (bdk iksn count : List ℕ) (skip : Option (List ℕ)) (asked : Asked) : Type 0 where
   pub key : List ℕ
-  pub key_read : key_of_text bdk ≡ Some key
+  pub key_read : double_key_of_text bdk ≡ Some key
   pub iksn_read : iksn_of_text iksn ≡ Some asked.iksn
   pub initial : asked.initial ≡ initial_key_of key asked.iksn
   pub count_read : IsCount count asked.count
@@ -61,9 +76,11 @@ pub record IsWalkRead (bdk iksn count : List ℕ) (skip : Option (List ℕ)) (as
 
 -- why the words are refused: the first that holds of these three
 abbrev pub IsWalkRefused : List ℕ → List ℕ → List ℕ → Option (List ℕ) → Fault → Type 0
-IsWalkRefused bdk iksn count skip BdkRefused = key_of_text bdk ≡ None
-IsWalkRefused bdk iksn count skip IksnRefused = IsSome (key_of_text bdk) × (iksn_of_text iksn ≡ None)
-IsWalkRefused bdk iksn count skip CountRefused = IsSome (key_of_text bdk) × IsSome (iksn_of_text iksn) × (IsNoCount count ⊎ IsNoSkip skip)
+IsWalkRefused bdk iksn count skip BdkRefused = double_key_of_text bdk ≡ None
+IsWalkRefused bdk iksn count skip IksnRefused =
+    IsSome (double_key_of_text bdk) × (iksn_of_text iksn ≡ None)
+IsWalkRefused bdk iksn count skip CountRefused =
+    IsSome (double_key_of_text bdk) × IsSome (iksn_of_text iksn) × (IsNoCount count ⊎ IsNoSkip skip)
 IsWalkRefused bdk iksn count skip _ = ⊥
 
 -- the line of a number: its key serial number and, unless that alone is asked for, its key
@@ -80,48 +97,59 @@ number_line initial iksn alone counter =
 abbrev pub spent_line : List ℕ
 spent_line = codes "spent" ++ line_end
 
--- the lines of so many numbers from a counter on: that of a usable counter, then the rest; or `spent` where the terminal is spent
+-- the lines of so many numbers from a counter on: that of a usable counter, then the rest; or `spent`
+-- where the terminal is spent
 abbrev pub IsPrinted : (ℕ → List ℕ) → ℕ → ℕ → List ℕ → Type 0
 IsPrinted line counter zero text = text ≡ []
 IsPrinted line counter (suc count) text =
     ((counter ≡ spent_counter) × (text ≡ spent_line))
-    ⊎ ((next : ℕ) × (rest : List ℕ) × IsUsable counter × ComesAfter counter next × IsPrinted line next count rest × (text ≡ line counter ++ rest))
+    ⊎ ((next : ℕ) × (rest : List ℕ) × IsUsable counter × ComesAfter counter next
+    × IsPrinted line next count rest × (text ≡ line counter ++ rest))
 
--- the same after so many numbers that are passed and not printed: a usable counter, then the rest; or `spent` where the terminal is spent
+-- the same after so many numbers that are passed and not printed: a usable counter, then the rest; or
+-- `spent` where the terminal is spent
 abbrev pub IsPassed : (ℕ → List ℕ) → ℕ → ℕ → ℕ → List ℕ → Type 0
 IsPassed line counter zero count text = IsPrinted line counter count text
 IsPassed line counter (suc skip) count text =
     ((counter ≡ spent_counter) × (text ≡ spent_line))
     ⊎ ((next : ℕ) × IsUsable counter × ComesAfter counter next × IsPassed line next skip count text)
 
--- a terminal that has passed so many numbers: it is the same terminal, and its lines go on where they were
+-- a terminal that has passed so many numbers: it is the same terminal, and its lines go on where they
+-- were
 pub record Passes (old : RegisterSet) (skip : ℕ) (new : RegisterSet) : Type 0 where
   pub same_iksn : new.iksn ≡ old.iksn
   pub stands : (initial : List ℕ) → StandsFor initial old → StandsFor initial new
-  pub lines : (line : ℕ → List ℕ) (count : ℕ) (text : List ℕ) → IsPrinted line new.counter count text → IsPassed line old.counter skip count text
+  pub lines : (line : ℕ → List ℕ) (count : ℕ) (text : List ℕ) → IsPrinted line new.counter count text
+      → IsPassed line old.counter skip count text
 
 -- a terminal that is spent before it has passed so many numbers
 abbrev pub IsSpentWithin : RegisterSet → ℕ → Type 0
-IsSpentWithin old skip = (line : ℕ → List ℕ) (count : ℕ) → IsPassed line old.counter skip count spent_line
+IsSpentWithin old skip =
+    (line : ℕ → List ℕ) (count : ℕ) → IsPassed line old.counter skip count spent_line
 
 -- the lines of so many numbers of a terminal were written
-abbrev pub HasPrinted : List ℕ → Bool → RegisterSet → ℕ → Told → Told → Type 0
+abbrev pub HasPrinted : List ℕ → Bool → RegisterSet → ℕ → Known → Known → Type 0
 HasPrinted initial alone old count output output' =
-    (text : List ℕ) × IsPrinted (number_line initial old.iksn alone) old.counter count text × IsWritten output output' text
+    (text : List ℕ) × IsPrinted (number_line initial old.iksn alone) old.counter count text
+    × IsWritten output output' text
 
 -- a prefix of such lines was written
-abbrev pub HasPrintedInPart : List ℕ → Bool → RegisterSet → ℕ → Told → Told → Type 0
+abbrev pub HasPrintedInPart : List ℕ → Bool → RegisterSet → ℕ → Known → Known → Type 0
 HasPrintedInPart initial alone old count output output' =
-    (reached : ℕ) × (text : List ℕ) × (reached ≤ count) × IsPrinted (number_line initial old.iksn alone) old.counter reached text × IsCut output output' text
+    (reached : ℕ) × (text : List ℕ) × (reached ≤ count)
+    × IsPrinted (number_line initial old.iksn alone) old.counter reached text × IsCut output output' text
 
 -- the same behind numbers that are passed
-abbrev pub HasWalked : List ℕ → Bool → RegisterSet → ℕ → ℕ → Told → Told → Type 0
+abbrev pub HasWalked : List ℕ → Bool → RegisterSet → ℕ → ℕ → Known → Known → Type 0
 HasWalked initial alone old skip count output output' =
-    (text : List ℕ) × IsPassed (number_line initial old.iksn alone) old.counter skip count text × IsWritten output output' text
+    (text : List ℕ) × IsPassed (number_line initial old.iksn alone) old.counter skip count text
+    × IsWritten output output' text
 
-abbrev pub HasWalkedInPart : List ℕ → Bool → RegisterSet → ℕ → ℕ → Told → Told → Type 0
+abbrev pub HasWalkedInPart : List ℕ → Bool → RegisterSet → ℕ → ℕ → Known → Known → Type 0
 HasWalkedInPart initial alone old skip count output output' =
-    (reached : ℕ) × (text : List ℕ) × (reached ≤ count) × IsPassed (number_line initial old.iksn alone) old.counter skip reached text × IsCut output output' text
+    (reached : ℕ) × (text : List ℕ) × (reached ≤ count)
+    × IsPassed (number_line initial old.iksn alone) old.counter skip reached text
+    × IsCut output output' text
 
 -- a terminal that was loaded as the words ask
 pub record IsLoaded (asked : Asked) (registers : RegisterSet) (skip count : ℕ) : Type 0 where
@@ -131,30 +159,24 @@ pub record IsLoaded (asked : Asked) (registers : RegisterSet) (skip count : ℕ)
   pub same_skip : skip ≡ asked.skip
   pub same_count : count ≡ asked.count
 
--- status 0: the words are read, and exactly the lines were written
-pub record IsWalked (bdk iksn count : List ℕ) (skip : Option (List ℕ)) (alone : Bool) (output output' fault fault' : Told) : Type 0 where
+-- the words are read, and this is the text of the lines that they ask for
+pub record IsWalkText (words : WalkWords) (text : List ℕ) : Type 0 where
   pub asked : Asked
-  pub read : IsWalkRead bdk iksn count skip asked
-  pub text : List ℕ
-  pub lines : IsPassed (number_line asked.initial asked.iksn alone) 1 asked.skip asked.count text
-  pub answer : IsDone text output output' fault fault'
+  pub read : AreWalkWords words.bdk words.iksn words.count words.skip asked
+  pub lines : IsPassed (number_line asked.initial asked.iksn words.alone) 1 asked.skip asked.count text
 
--- status 1 where the words are refused
-pub record IsNotWalked (bdk iksn count : List ℕ) (skip : Option (List ℕ)) (output output' fault fault' : Told) : Type 0 where
-  pub why : Fault
-  pub refused : IsWalkRefused bdk iksn count skip why
-  pub answer : IsRefusal why output output' fault fault'
-
--- status 1 where the output failed: a prefix of the lines of so many numbers as were reached
-pub record IsWalkedInPart (bdk iksn count : List ℕ) (skip : Option (List ℕ)) (alone : Bool) (output output' fault fault' : Told) : Type 0 where
+-- the words are read, and this is the text of the lines of so many of those numbers as were reached
+pub record IsWalkStart (words : WalkWords) (text : List ℕ) : Type 0 where
   pub asked : Asked
-  pub read : IsWalkRead bdk iksn count skip asked
   pub reached : ℕ
+  pub read : AreWalkWords words.bdk words.iksn words.count words.skip asked
   pub not_more : reached ≤ asked.count
-  pub text : List ℕ
-  pub lines : IsPassed (number_line asked.initial asked.iksn alone) 1 asked.skip reached text
-  pub answer : IsCutShort text output output' fault fault'
+  pub lines : IsPassed (number_line asked.initial asked.iksn words.alone) 1 asked.skip reached text
 
--- the front of what was held was written, and the rest is held
-abbrev pub Drains : List ℕ → List ℕ → Told → Told → Type 0
-Drains held held' output output' = (part : List ℕ) × (held ≡ part ++ held') × IsWritten output output' part
+-- the command over these words: its lines are written as they are made
+abbrev pub walk_of : WalkWords → Command
+walk_of words = record {
+  writes = IsWalkText words;
+  begins = IsWalkStart words;
+  refuses = IsWalkRefused words.bdk words.iksn words.count words.skip;
+}

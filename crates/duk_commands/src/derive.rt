@@ -1,52 +1,48 @@
 //! The command `derive`: the keys of one key serial number.
 
-ghost use Rattle.std.specs.Prelude.{◌≡◌, ◌⊎◌, ℕ, List, IfOk, IfErr};
-ghost use Rattle.duk_tree.specs.Serial.{Serial};
-ghost use Rattle.duk_commands.specs.Derive.{derived_lines, IsDerivable, IsRefused, IsDerived, IsNotDerived, IsDerivedInPart};
+ghost use Rattle.std.specs.Prelude.{◌≡◌, ◌⊎◌, IfOk, IfErr};
+ghost use Rattle.duk_commands.specs.Answer.{IsDone, IsNotDone, streams};
+ghost use Rattle.duk_commands.specs.Derive.{IsDeriveRefused, IsDeriveText, derive_of, key_lines};
 
 use crate::answer::finish;
 use crate::fault::Fault;
-use crate::key_text::read_key;
 use crate::lines::{Lines, push_line};
+use duk_io::Sink;
 use duk_tdes::Key;
-use duk_text::Sink;
 use duk_tree::{Ksn, derive, initial_key, pin_key, usable};
 
-/// Writes the initial key, the transaction key and the PIN key of a key serial number, a line each
-/// (ANSI X9.24-1:2009 annex A), and gives the status: 0, or 1 with a line on `fault`.
+/// Writes the initial key, the transaction key and the PIN key of a key serial number, a line each (ANSI X9.24-1:2009 annex
+/// A), and gives the status: 0, or 1 with a line on `fault`.
 ///
-/// `bdk` is to be 32 hexadecimal digits of either case, `ksn` 20. The faults, in this order:
-/// `BDK refused`, `KSN refused`, `counter refused` (zero, or more than ten one bits); then
-/// `write failed`, where a write to `output` failed or took no byte.
+/// `bdk` is to be 32 hexadecimal digits of either case, `ksn` 20. The faults, in this order: `BDK refused`, `KSN refused`,
+/// `counter refused` (zero, or more than ten one bits); then `write failed`, where a write to `output` failed or took no
+/// byte.
 pub fn derive_command<W: Sink, F: Sink>(bdk: &str, ksn: &str, output: &mut W, fault: &mut F) -> u8
     ensures status { (result ≡ 0) ⊎ (result ≡ 1) }
-    ensures done { result ≡ 0 → IsDerived bdk.now ksn.now
-        (W.told output.old) (W.told output.new) (F.told fault.old) (F.told fault.new) }
-    ensures told { result ≡ 1
-        → IsNotDerived bdk.now ksn.now
-        (W.told output.old) (W.told output.new) (F.told fault.old) (F.told fault.new)
-        ⊎ IsDerivedInPart bdk.now ksn.now
-        (W.told output.old) (W.told output.new) (F.told fault.old) (F.told fault.new) }
+    ensures done { result ≡ 0 → IsDone (derive_of bdk.now ksn.now)
+        (streams (W.known output.old) (W.known output.new) (F.known fault.old) (F.known fault.new)) }
+    ensures not_done { result ≡ 1 → IsNotDone (derive_of bdk.now ksn.now)
+        (streams (W.known output.old) (W.known output.new) (F.known fault.old) (F.known fault.new)) }
 {
-    finish(derived(bdk, ksn), output, fault)
+    finish(derive_lines(bdk, ksn), output, fault)
 }
 
 /// The three lines of the two words, or their first fault.
-fn derived(bdk: &str, ksn: &str) -> Result<Lines, Fault>
-    ensures lines { IfOk result (λ lines. (key : List ℕ) × (serial : Serial)
-        × IsDerivable bdk.now ksn.now key serial × (lines.items ≡ derived_lines key serial)) }
-    ensures refused { IfErr result (λ why. IsRefused bdk.now ksn.now why) }
+fn derive_lines(bdk: &str, ksn: &str) -> Result<Lines, Fault>
+    ensures lines { IfOk result (λ lines. IsDeriveText bdk.now ksn.now lines.items) }
+    ensures refused { IfErr result (IsDeriveRefused bdk.now ksn.now) }
 {
-    let bdk = read_key(bdk).ok_or(Fault::BdkRefused)?;
+    let bdk = Key::<16>::parse(bdk).ok_or(Fault::BdkRefused)?;
     let ksn = Ksn::parse(ksn).ok_or(Fault::KsnRefused)?;
     if !usable(ksn.counter()) {
         return Err(Fault::CounterRefused);
     }
-    Ok(lines_of(&bdk, ksn))
+    Ok(key_lines(&bdk, ksn))
 }
 
-fn lines_of(bdk: &Key<16>, ksn: Ksn) -> Lines
-    ensures { result.items ≡ derived_lines bdk.now ksn }
+/// The lines of the initial key, the transaction key and its PIN variant.
+fn key_lines(bdk: &Key<16>, ksn: Ksn) -> Lines
+    ensures { result.items ≡ key_lines bdk.now ksn }
 {
     let initial = initial_key(bdk, ksn.iksn());
     let key = derive(bdk, ksn);

@@ -1,12 +1,13 @@
 //! Why a command ends with status 1, and the line that tells it.
 
-ghost use Rattle.std.specs.Prelude.{◌≡◌};
-ghost use Rattle.duk_text.specs.Sink.{IsTried};
-ghost use Rattle.duk_commands.specs.Fault.{line_of};
+ghost use Rattle.std.specs.Prelude.{◌≡◌, ◌≤◌, length};
+ghost use Rattle.duk_io.specs.Sink.{IsTried};
+ghost use Rattle.duk_commands.specs.Fault.{fault_text, line_of};
 
+use crate::lines::{Lines, push_end, push_text};
 use duk_block::BlockFault;
+use duk_io::{Sink, write_text};
 use duk_pin::PinFault;
-use duk_text::{Sink, write_text};
 
 /// Why a command ends with status 1.
 #[derive(Clone, Copy, Debug, PartialEq, Eq)]
@@ -40,34 +41,25 @@ pub enum Fault {
 }
 
 impl Fault {
-    /// The line on standard error.
-    pub fn line(self) -> &'static [u8]
-        ensures { result.now ≡ line_of self }
+    /// What is told of the fault.
+    pub fn text(self) -> &'static str
+        ensures text { result.now ≡ fault_text self }
+        ensures short { length result.now ≤ 15 }
     {
         match self {
-            Fault::BdkRefused => b"BDK refused\n",
-            Fault::KsnRefused => b"KSN refused\n",
-            Fault::IksnRefused => b"IKSN refused\n",
-            Fault::CountRefused => b"count refused\n",
-            Fault::CounterRefused => b"counter refused\n",
-            Fault::KbpkRefused => b"KBPK refused\n",
-            Fault::FieldsRefused => b"fields refused\n",
-            Fault::KeyRefused => b"key refused\n",
-            Fault::PadRefused => b"pad refused\n",
-            Fault::PinRefused(PinFault::PinLength) => b"PinLength\n",
-            Fault::PinRefused(PinFault::PinDigit) => b"PinDigit\n",
-            Fault::PinRefused(PinFault::PanLength) => b"PanLength\n",
-            Fault::PinRefused(PinFault::PanDigit) => b"PanDigit\n",
-            Fault::BlockRefused(BlockFault::Length) => b"Length\n",
-            Fault::BlockRefused(BlockFault::Version) => b"Version\n",
-            Fault::BlockRefused(BlockFault::HeaderField) => b"HeaderField\n",
-            Fault::BlockRefused(BlockFault::OptionalBlock) => b"OptionalBlock\n",
-            Fault::BlockRefused(BlockFault::Hex) => b"Hex\n",
-            Fault::BlockRefused(BlockFault::Mac) => b"Mac\n",
-            Fault::BlockRefused(BlockFault::Payload) => b"Payload\n",
-            Fault::BlockRefused(BlockFault::PadLength) => b"PadLength\n",
-            Fault::OutOfMemory => b"out of memory\n",
-            Fault::WriteFailed => b"write failed\n",
+            Fault::BdkRefused => "BDK refused",
+            Fault::KsnRefused => "KSN refused",
+            Fault::IksnRefused => "IKSN refused",
+            Fault::CountRefused => "count refused",
+            Fault::CounterRefused => "counter refused",
+            Fault::KbpkRefused => "KBPK refused",
+            Fault::FieldsRefused => "fields refused",
+            Fault::KeyRefused => "key refused",
+            Fault::PadRefused => "pad refused",
+            Fault::PinRefused(fault) => fault.name(),
+            Fault::BlockRefused(fault) => fault.name(),
+            Fault::OutOfMemory => "out of memory",
+            Fault::WriteFailed => "write failed",
         }
     }
 }
@@ -75,8 +67,11 @@ impl Fault {
 /// Writes the line of the fault and gives the status 1. What cannot be written of the line is lost.
 pub fn tell<F: Sink>(fault: &mut F, why: Fault) -> u8
     ensures status { result ≡ 1 }
-    ensures line { IsTried (F.told fault.old) (F.told fault.new) (line_of why) }
+    ensures line { IsTried (F.known fault.old) (F.known fault.new) (line_of why) }
 {
-    let _ = write_text(fault, why.line());
+    let mut line = Lines::new();
+    push_text(&mut line, why.text().as_bytes());
+    push_end(&mut line);
+    let _ = write_text(fault, line.as_slice());
     1
 }

@@ -6,7 +6,6 @@ mod answer;
 mod count;
 mod derive;
 mod fault;
-mod key_text;
 mod lines;
 mod pin;
 mod unwrap;

@@ -1,17 +1,36 @@
-//! Lines that name some bytes, in upper-case hexadecimal.
+//! Lines of output: those that name some bytes, in upper-case hexadecimal, and those that name a text.
 
-ghost use Rattle.std.specs.Prelude.{◌≡◌, ◌+◌, ◌*◌, ◌++◌, ◌≤◌, length};
+ghost use Rattle.std.specs.Prelude.{◌≡◌, ◌+◌, ◌*◌, ◌++◌, ◌≤◌, ◌<◌, length};
 ghost use Rattle.arrayvec.specs.ArrayVec.{array_vec_len};
-ghost use Rattle.duk_commands.specs.Answer.{named_line, text_line};
+ghost use Rattle.duk_commands.specs.Fault.{line_end};
+ghost use Rattle.duk_commands.specs.Lines.{named_line, text_line};
 
 use arrayvec::ArrayVec;
-use duk_text::append_hex;
+use duk_io::append_hex;
 
 /// How many bytes the lines of a command may have: those of a key block, and its line's end.
 pub const LINES_ROOM: usize = 513;
 
 /// The lines of a command.
 pub type Lines = ArrayVec<u8, LINES_ROOM>;
+
+/// Appends a text.
+pub fn push_text(lines: &mut Lines, text: &[u8])
+    requires { array_vec_len lines.old + length text.now ≤ LINES_ROOM }
+    ensures text { lines.new.items ≡ lines.old.items ++ text.now }
+    ensures len { array_vec_len lines.new ≡ array_vec_len lines.old + length text.now }
+{
+    lines.try_extend_from_slice(text).unwrap();
+}
+
+/// Appends the end of a line.
+pub fn push_end(lines: &mut Lines)
+    requires { array_vec_len lines.old < LINES_ROOM }
+    ensures end { lines.new.items ≡ lines.old.items ++ line_end }
+    ensures len { array_vec_len lines.new ≡ array_vec_len lines.old + 1 }
+{
+    lines.push(b'\n');
+}
 
 /// Appends the line that names some bytes: the name, a space, two digits for each byte and LF.
 pub fn push_line(lines: &mut Lines, name: &[u8], bytes: &[u8])
@@ -20,10 +39,10 @@ pub fn push_line(lines: &mut Lines, name: &[u8], bytes: &[u8])
     ensures len { array_vec_len lines.new
         ≡ array_vec_len lines.old + length name.now + 2 * length bytes.now + 2 }
 {
-    lines.try_extend_from_slice(name).unwrap();
+    push_text(lines, name);
     lines.push(b' ');
     append_hex(lines, bytes);
-    lines.push(b'\n');
+    push_end(lines);
 }
 
 /// Appends the line that names a text: the name, a space, the text and LF.
@@ -33,8 +52,8 @@ pub fn push_text_line(lines: &mut Lines, name: &[u8], text: &[u8])
     ensures len { array_vec_len lines.new
         ≡ array_vec_len lines.old + length name.now + length text.now + 2 }
 {
-    lines.try_extend_from_slice(name).unwrap();
+    push_text(lines, name);
     lines.push(b' ');
-    lines.try_extend_from_slice(text).unwrap();
-    lines.push(b'\n');
+    push_text(lines, text);
+    push_end(lines);
 }

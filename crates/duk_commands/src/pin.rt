@@ -1,23 +1,23 @@
 //! The command `pin`: the PIN block of a PIN and a PAN.
 
-ghost use Rattle.std.specs.Prelude.{◌≡◌, ◌⊎◌, ℕ, List, Option, IfOk, IfErr, MatchResult};
+ghost use Rattle.std.specs.Prelude.{◌≡◌, ◌⊎◌, IfOk, IfErr, MatchResult};
 ghost use Rattle.std.specs.Option.{option_copied};
-ghost use Rattle.duk_commands.specs.Pin.{IsKeyWord, IsKeyWordRefused, IsPinRead, IsPinWordRefused, pin_lines, IsPinShown, IsPinNotShown, IsPinShownInPart};
+ghost use Rattle.duk_commands.specs.Answer.{IsDone, IsNotDone, streams};
+ghost use Rattle.duk_commands.specs.Pin.{IsKeyWord, IsKeyWordRefused, IsPinRefused, IsPinText, block_lines, pin_of};
 
 use crate::answer::finish;
 use crate::fault::Fault;
-use crate::key_text::read_key;
 use crate::lines::{Lines, push_line};
+use duk_io::Sink;
 use duk_pin::{Pan, Pin, encode};
 use duk_tdes::{Key, tdes_encrypt};
-use duk_text::Sink;
 
-/// Writes the PIN block of a PIN and a PAN (ISO 9564-1 format 0) and, where a key is given, the block
-/// enciphered under it, a line each, and gives the status: 0, or 1 with a line on `fault`.
+/// Writes the PIN block of a PIN and a PAN (ISO 9564-1 format 0) and, where a key is given, the block enciphered under it, a
+/// line each, and gives the status: 0, or 1 with a line on `fault`.
 ///
-/// `key` is to be 32 hexadecimal digits of either case. The faults, in this order: that of the PIN
-/// (`PinLength`, `PinDigit`), that of the PAN (`PanLength`, `PanDigit`), `key refused`; then
-/// `write failed`, where a write to `output` failed or took no byte.
+/// `key` is to be 32 hexadecimal digits of either case. The faults, in this order: that of the PIN (`PinLength`,
+/// `PinDigit`), that of the PAN (`PanLength`, `PanDigit`), `key refused`; then `write failed`, where a write to `output`
+/// failed or took no byte.
 pub fn pin_command<W: Sink, F: Sink>(
     pin: &str,
     pan: &str,
@@ -26,27 +26,24 @@ pub fn pin_command<W: Sink, F: Sink>(
     fault: &mut F,
 ) -> u8
     ensures status { (result ≡ 0) ⊎ (result ≡ 1) }
-    ensures done { result ≡ 0 → IsPinShown pin.now pan.now (option_copied key.entry)
-        (W.told output.old) (W.told output.new) (F.told fault.old) (F.told fault.new) }
-    ensures told { result ≡ 1
-        → IsPinNotShown pin.now pan.now (option_copied key.entry)
-        (W.told output.old) (W.told output.new) (F.told fault.old) (F.told fault.new)
-        ⊎ IsPinShownInPart pin.now pan.now (option_copied key.entry)
-        (W.told output.old) (W.told output.new) (F.told fault.old) (F.told fault.new) }
+    ensures done { result ≡ 0 → IsDone (pin_of pin.now pan.now (option_copied key.entry))
+        (streams (W.known output.old) (W.known output.new) (F.known fault.old) (F.known fault.new)) }
+    ensures not_done { result ≡ 1 → IsNotDone (pin_of pin.now pan.now (option_copied key.entry))
+        (streams (W.known output.old) (W.known output.new) (F.known fault.old) (F.known fault.new)) }
 {
-    finish(shown(pin, pan, key), output, fault)
+    finish(pin_lines(pin, pan, key), output, fault)
 }
 
 /// The lines of the words, or their first fault.
-fn shown(pin: &str, pan: &str, key: Option<&str>) -> Result<Lines, Fault>
-    ensures lines { IfOk result (λ lines. (read : Option (List ℕ))
-        × IsPinRead pin.now pan.now (option_copied key.entry) read × (lines.items ≡ pin_lines pin.now pan.now read)) }
-    ensures refused { IfErr result (λ why. IsPinWordRefused pin.now pan.now (option_copied key.entry) why) }
+fn pin_lines(pin: &str, pan: &str, key: Option<&str>) -> Result<Lines, Fault>
+    ensures lines { IfOk result
+        (λ lines. IsPinText pin.now pan.now (option_copied key.entry) lines.items) }
+    ensures refused { IfErr result (IsPinRefused pin.now pan.now (option_copied key.entry)) }
 {
     let pin = Pin::parse(pin).map_err(Fault::PinRefused)?;
     let pan = Pan::parse(pan).map_err(Fault::PinRefused)?;
     let key = read_key_word(key)?;
-    Ok(lines_of(&pin, &pan, key))
+    Ok(block_lines(&pin, &pan, key))
 }
 
 /// The key of `--key`, where it is given.
@@ -56,15 +53,16 @@ fn read_key_word(word: Option<&str>) -> Result<Option<Key<16>>, Fault>
 {
     match word {
         None => Ok(None),
-        Some(text) => match read_key(text) {
+        Some(text) => match Key::<16>::parse(text) {
             None => Err(Fault::KeyRefused),
             Some(key) => Ok(Some(key)),
         },
     }
 }
 
-fn lines_of(pin: &Pin, pan: &Pan, key: Option<Key<16>>) -> Lines
-    ensures { result.items ≡ pin_lines pin.now pan.now key }
+/// The lines of a PIN block, and of the block enciphered where a key is given.
+fn block_lines(pin: &Pin, pan: &Pan, key: Option<Key<16>>) -> Lines
+    ensures { result.items ≡ block_lines pin.now pan.now key }
 {
     let block = encode(pin, pan);
     let mut lines = Lines::new();

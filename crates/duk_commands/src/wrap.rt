@@ -2,32 +2,30 @@
 
 ghost use Rattle.std.specs.Prelude.{◌≡◌, ◌≢◌, ◌⊎◌, ◌++◌, ◌≤◌, ℕ, List, IfOk, IfErr, MatchBool, MatchOption, length};
 ghost use Rattle.duk_block.specs.Hexadecimal.{IsHexadecimal};
-ghost use Rattle.duk_block.specs.KeyBlock.{FitsKeyBlock};
+ghost use Rattle.duk_block.specs.KeyBlock.{FitsKeyBlock, IsWithinLimits, IsWrittenKeyBlock};
 ghost use Rattle.duk_tdes.specs.KeyBytes.{bytes_of};
 ghost use Rattle.duk_tdes.specs.Tdes.{IsTdesLength};
+ghost use Rattle.duk_commands.specs.Answer.{IsDone, IsNotDone, streams};
 ghost use Rattle.duk_commands.specs.Fault.{line_end};
-ghost use Rattle.duk_commands.specs.Wrap.{Wrapping, wrapping, wrap_words, IsFieldsText, IsNoPadText, IsWrapRead, IsWrapRefused, IsWrapping, IsWrapFault, IsWrapLine, IsWrapShown, IsWrapNotShown, IsWrapShownInPart};
+ghost use Rattle.duk_commands.specs.Wrap.{IsFieldsText, IsNoPadText, IsNotWrapped, IsWrapFault, IsWrapRefused, IsWrapText, IsWrapping, wrap_of, wrap_words, wrapping};
 
 use crate::answer::finish;
 use crate::fault::Fault;
-use crate::key_text::read_tdes_key;
-use crate::lines::Lines;
+use crate::lines::{Lines, push_end, push_text};
 use arrayvec::ArrayVec;
 use duk_block::{BlockFault, Header, wrap};
+use duk_io::Sink;
 use duk_tdes::{Key, KeyBytes, array_of};
-use duk_text::Sink;
 
 /// The most bytes that the payload of a key block of 512 characters has: longer padding fits none.
 const MOST_PADDING: usize = 240;
 
-/// Writes the key block (ANSI X9.143) of a key, a line, and gives the status: 0, or 1 with a line on
-/// `fault`.
+/// Writes the key block (ANSI X9.143) of a key, a line, and gives the status: 0, or 1 with a line on `fault`.
 ///
-/// `kbpk` is to be the key block protection key and `key` the key, each 32 or 48 hexadecimal digits of
-/// either case; `fields` the usage, algorithm, mode, version and exportability; `pad` the padding in
-/// hexadecimal. The faults, in this order: `KBPK refused`, `fields refused` (not 7 bytes), `key
-/// refused`, `pad refused`, then `HeaderField` and `PadLength` of the block; then `write failed`, where
-/// a write to `output` failed or took no byte.
+/// `kbpk` is to be the key block protection key and `key` the key, each 32 or 48 hexadecimal digits of either case; `fields`
+/// the usage, algorithm, mode, version and exportability; `pad` the padding in hexadecimal. The faults, in this order:
+/// `KBPK refused`, `fields refused` (not 7 bytes), `key refused`, `pad refused`, then `HeaderField` and `PadLength` of the
+/// block; then `write failed`, where a write to `output` failed or took no byte.
 pub fn wrap_command<W: Sink, F: Sink>(
     kbpk: &str,
     fields: &str,
@@ -37,40 +35,32 @@ pub fn wrap_command<W: Sink, F: Sink>(
     fault: &mut F,
 ) -> u8
     ensures status { (result ≡ 0) ⊎ (result ≡ 1) }
-    ensures done { result ≡ 0 → IsWrapShown (wrap_words kbpk.now fields.now key.now pad.now)
-        (W.told output.old) (W.told output.new) (F.told fault.old) (F.told fault.new) }
-    ensures told { result ≡ 1
-        → IsWrapNotShown (wrap_words kbpk.now fields.now key.now pad.now)
-        (W.told output.old) (W.told output.new) (F.told fault.old) (F.told fault.new)
-        ⊎ IsWrapShownInPart (wrap_words kbpk.now fields.now key.now pad.now)
-        (W.told output.old) (W.told output.new) (F.told fault.old) (F.told fault.new) }
+    ensures done { result ≡ 0 → IsDone (wrap_of (wrap_words kbpk.now fields.now key.now pad.now))
+        (streams (W.known output.old) (W.known output.new) (F.known fault.old) (F.known fault.new)) }
+    ensures not_done { result ≡ 1
+        → IsNotDone (wrap_of (wrap_words kbpk.now fields.now key.now pad.now))
+        (streams (W.known output.old) (W.known output.new) (F.known fault.old) (F.known fault.new)) }
 {
-    finish(shown(kbpk, fields, key, pad), output, fault)
+    finish(wrap_line(kbpk, fields, key, pad), output, fault)
 }
 
 /// The line of the words, or their first fault.
-fn shown(kbpk: &str, fields: &str, key: &str, pad: &str) -> Result<Lines, Fault>
-    ensures lines { IfOk result (λ lines. (asked : Wrapping)
-        × IsWrapRead (wrap_words kbpk.now fields.now key.now pad.now) asked × IsWrapLine asked lines.items) }
+fn wrap_line(kbpk: &str, fields: &str, key: &str, pad: &str) -> Result<Lines, Fault>
+    ensures line { IfOk result
+        (λ lines. IsWrapText (wrap_words kbpk.now fields.now key.now pad.now) lines.items) }
     ensures refused { IfErr result
-        (λ why. IsWrapRefused (wrap_words kbpk.now fields.now key.now pad.now) why) }
+        (IsWrapRefused (wrap_words kbpk.now fields.now key.now pad.now)) }
 {
-    let Some(kbpk) = read_tdes_key(kbpk) else {
-        return Err(Fault::KbpkRefused);
-    };
-    let Some(header) = read_fields(fields.as_bytes()) else {
-        return Err(Fault::FieldsRefused);
-    };
-    let Some(key) = read_tdes_key(key) else {
-        return Err(Fault::KeyRefused);
-    };
+    let kbpk = KeyBytes::parse(kbpk).ok_or(Fault::KbpkRefused)?;
+    let header = read_fields(fields.as_bytes()).ok_or(Fault::FieldsRefused)?;
+    let key = KeyBytes::parse(key).ok_or(Fault::KeyRefused)?;
     if !is_hexadecimal(pad) {
         return Err(Fault::PadRefused);
     }
     let Some(pad) = read_pad(pad) else {
         return Err(Fault::BlockRefused(long_pad_fault(&header)));
     };
-    match wrapped(kbpk, &header, key, pad.as_slice()) {
+    match wrap_under(kbpk, &header, key, pad.as_slice()) {
         Ok(text) => Ok(line_of(text.as_slice())),
         Err(fault) => Err(Fault::BlockRefused(fault)),
     }
@@ -115,8 +105,8 @@ fn read_pad(text: &str) -> Option<ArrayVec<u8, MOST_PADDING>>
 /// Why a key is not wrapped with padding that fits no key block: a field that cannot be printed is
 /// told first.
 fn long_pad_fault(header: &Header) -> BlockFault
-    ensures { (protection_key key padding : List ℕ) → ¬ FitsKeyBlock (length key) (length padding)
-        → IsWrapFault (wrapping protection_key header.now key padding) result }
+    ensures { (key padding : ℕ) → ¬ FitsKeyBlock key padding
+        → IsWrapFault header.now key padding result }
 {
     if header.is_printable() {
         BlockFault::PadLength
@@ -126,42 +116,44 @@ fn long_pad_fault(header: &Header) -> BlockFault
 }
 
 /// The key block of a key under a protection key, each of either length.
-fn wrapped(
+fn wrap_under(
     kbpk: KeyBytes,
     header: &Header,
     key: KeyBytes,
     pad: &[u8],
 ) -> Result<ArrayVec<u8, 512>, BlockFault>
     ensures block { IfOk result
-        (λ text. IsWrapping (wrapping (bytes_of kbpk) header.now (bytes_of key) pad.now) text.items) }
-    ensures refused { IfErr result
-        (λ fault. IsWrapFault (wrapping (bytes_of kbpk) header.now (bytes_of key) pad.now) fault) }
+        (λ text. IsWrapping (wrapping kbpk header.now key pad.now) text.items) }
+    ensures refused { IfErr result (IsNotWrapped (wrapping kbpk header.now key pad.now)) }
 {
     match kbpk {
-        KeyBytes::Double(kbpk) => wrapped_under(&kbpk, header, key, pad),
-        KeyBytes::Triple(kbpk) => wrapped_under(&kbpk, header, key, pad),
+        KeyBytes::Double(kbpk) => wrap_either(&kbpk, header, key, pad),
+        KeyBytes::Triple(kbpk) => wrap_either(&kbpk, header, key, pad),
     }
 }
 
-fn wrapped_under<const N: usize>(
+/// The key block of a key of either length.
+fn wrap_either<const N: usize>(
     kbpk: &Key<N>,
     header: &Header,
     key: KeyBytes,
     pad: &[u8],
 ) -> Result<ArrayVec<u8, 512>, BlockFault>
     requires { IsTdesLength N }
+    ensures limits { IfOk result (λ text. IsWithinLimits text.items) }
     ensures block { IfOk result
-        (λ text. IsWrapping (wrapping kbpk.now header.now (bytes_of key) pad.now) text.items) }
+        (λ text. IsWrittenKeyBlock text.items kbpk.now header.now (bytes_of key) pad.now) }
     ensures refused { IfErr result
-        (λ fault. IsWrapFault (wrapping kbpk.now header.now (bytes_of key) pad.now) fault) }
+        (IsWrapFault header.now (length (bytes_of key)) (length pad.now)) }
 {
     match key {
-        KeyBytes::Double(key) => wrapped_key(kbpk, header, &key, pad),
-        KeyBytes::Triple(key) => wrapped_key(kbpk, header, &key, pad),
+        KeyBytes::Double(key) => wrap_key(kbpk, header, &key, pad),
+        KeyBytes::Triple(key) => wrap_key(kbpk, header, &key, pad),
     }
 }
 
-fn wrapped_key<const N: usize, const M: usize>(
+/// The key block of a key.
+fn wrap_key<const N: usize, const M: usize>(
     kbpk: &Key<N>,
     header: &Header,
     key: &Key<M>,
@@ -169,21 +161,23 @@ fn wrapped_key<const N: usize, const M: usize>(
 ) -> Result<ArrayVec<u8, 512>, BlockFault>
     requires protection_key { IsTdesLength N }
     requires key { IsTdesLength M }
+    ensures limits { IfOk result (λ text. IsWithinLimits text.items) }
     ensures block { IfOk result
-        (λ text. IsWrapping (wrapping kbpk.now header.now key.now pad.now) text.items) }
+        (λ text. IsWrittenKeyBlock text.items kbpk.now header.now key.now pad.now) }
     ensures refused { IfErr result
-        (λ fault. IsWrapFault (wrapping kbpk.now header.now key.now pad.now) fault) }
+        (IsWrapFault header.now (length key.now) (length pad.now)) }
 {
     duk_tdes::laws::tdes_key(key);
     wrap(kbpk, header, key, pad)
 }
 
+/// The line of a key block.
 fn line_of(text: &[u8]) -> Lines
     requires { length text.now ≤ 512 }
     ensures { result.items ≡ text.now ++ line_end }
 {
     let mut lines = Lines::new();
-    lines.try_extend_from_slice(text).unwrap();
-    lines.push(b'\n');
+    push_text(&mut lines, text);
+    push_end(&mut lines);
     lines
 }

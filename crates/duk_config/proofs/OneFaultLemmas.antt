@@ -12,7 +12,7 @@ use Rattle.duk_config.specs.declared.fault.ConfigKey.TheVariants as key
 use Rattle.duk_config.specs.declared.fault.ScriptFault.{ScriptFault}
 use Rattle.duk_config.specs.declared.fault.ScriptFault.TheVariants as fault
 use Rattle.duk_config.specs.ConfigFaults.{AreOneFault, HasBadEntry, IsFirstFault, IsRight, IsRightBefore, IsWrong, rank}
-use Rattle.duk_config.specs.ConfigFile.{HasTableFault, IsConfigFault, IsToml, longest}
+use Rattle.duk_config.specs.ConfigFile.{HasTableFault, IsConfigFault, IsToml, longest_file}
 use Rattle.duk_config.specs.ConfigKeys.{is_config_key}
 use Rattle.duk_config.specs.Entries.{HaveOnePan, HaveOnePrefix, IsFirstBadEntry, StatesBaseKey, StatesCard}
 use Rattle.duk_config.specs.Names.{IsFirstUnknown}
@@ -207,8 +207,8 @@ one_of_table document why other first second =
 -- the file is too long, or no TOML, or its table has this fault
 abbrev IsOfFile : List ℕ → ScriptFault → Type 0
 IsOfFile bytes why =
-    ((why ≡ fault.ConfigTooLong) × (longest < length bytes))
-    ⊎ ((length bytes ≤ longest) × (((why ≡ fault.NotToml) × ((document : Members) → ¬ IsToml bytes document)) ⊎ ((document : Members) × IsToml bytes document × IsOfTable document why)))
+    ((why ≡ fault.ConfigTooLong) × (longest_file < length bytes))
+    ⊎ ((length bytes ≤ longest_file) × (((why ≡ fault.NotToml) × ((document : Members) → ¬ IsToml bytes document)) ⊎ ((document : Members) × IsToml bytes document × IsOfTable document why)))
 
 table_of_file : (bytes : List ℕ) (why : ScriptFault) → HasTableFault bytes why → why ≢ fault.NoMemory → IsOfFile bytes why
 table_of_file bytes why has other = inr (has.fits, inr (has.document, has.table, of_table has.document why has.first other))

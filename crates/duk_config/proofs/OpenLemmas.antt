@@ -1,10 +1,7 @@
 -- Loading the keys of a configuration.
 use Rattle.std.proofs.Common.{false, ◌≡◌, ◌≢◌, ℕ, suc, ◌+◌, ◌<◌, ◌≤◌, List, [], ◌∷◌, ◌++◌, Some, None, IsOk, IfOk, IfErr, Result, Ok, Err, length, take, get_or, refl, ap, sym, subst, ◌∙◌, arith}
-use Rattle.duk_tdes.specs.declared.key.KeyBytes.{KeyBytes}
 use Rattle.duk_block.specs.Faults.{IsFirstFault}
 use Rattle.duk_block.specs.KeyBlock.{Wraps}
-use Rattle.duk_block.specs.Unwrapped.{ReadsKeyBlocks, RefusesFirstFaults}
-use Rattle.duk_block.specs.declared.fault.BlockFault.{BlockFault}
 use Rattle.duk_block.specs.declared.header.Header.{Header}
 use Rattle.duk_hsm.specs.Keys.{HsmKeys, key_set_of}
 use Rattle.duk_hsm.specs.Load.{IsBdkLoaded, IsZoneLoaded, LoadBdkRefused, LoadZoneRefused, with_key_set}
@@ -19,14 +16,6 @@ use Rattle.duk_hsm.specs.Load.{key_set}
 use Rattle.duk_config.specs.declared.base_key.BaseKey.{BaseKey}
 use Rattle.duk_config.specs.Opened.{WrapsAlone, key_sets_of}
 use Rattle.duk_config.specs.Settings.{HaveDistinctPrefixes}
-
--- a key block is not refused, since it is read
-pub no_first_fault : (text lmk : List ℕ) (answer : Result (Header × KeyBytes) BlockFault) (header : Header) (key : List ℕ)
-    → ReadsKeyBlocks answer text lmk → RefusesFirstFaults answer text lmk → Wraps lmk text header key → (why : BlockFault) → ¬ IsFirstFault text lmk why
-no_first_fault text lmk answer header key reads refuses wraps why first =
-    let read = reads header key wraps.limits wraps.block in
-    let refused = (refuses why).1 first in
-    cc
 
 -- the key of a base derivation key's block is loaded
 pub bdk_loaded : (keys new : HsmKeys) (lmk prefix text : List ℕ) (header : Header) (bdk : List ℕ) (answer : Result (Unit {0}) HsmFault)

@@ -1,5 +1,6 @@
 -- The order of the keys of a configuration, key by key.
 use Rattle.std.proofs.Common.{true, ◌≡◌, ◌⊎◌, inl, inr, ℕ, zero, suc, ◌<◌, Option, Some, IsSome, Result, Ok, Err, IfOk, OnOk, refl, ap, sym, ◌∙◌, subst, arith}
+use Rattle.std.specs.Result.{result_ok}
 use Rattle.toml.specs.Data.{Members}
 use Rattle.duk_config.specs.declared.fault.ConfigKey.{ConfigKey}
 use Rattle.duk_config.specs.declared.fault.ConfigKey.TheVariants as key
@@ -53,6 +54,11 @@ next_right document a b follows before right = record {
 -- what is equal to something is there
 pub is_there : {A : Type 0} (x : A) (o : Option A) → Some x ≡ o → IsSome o
 is_there x o same = rw (← same) refl
+
+-- what follows where something was found
+pub on_found : {A E : Type 0} (found : Option A) (answer : Result A E) (Q : Type 0) → found ≡ result_ok answer → ((x : A) → found ≡ Some x → Q) → OnOk answer Q
+on_found found (Ok x) Q is gives = gives x is
+on_found found (Err e) Q is gives = tt
 
 -- what follows from each value of an answer
 pub on_ok : {A B : Type 0} (answer : Result A B) (P : A → Type 0) (Q : Type 0) → IfOk answer P → ((x : A) → P x → Q) → OnOk answer Q

@@ -11,13 +11,13 @@ use Rattle.duk_config.specs.ConfigKeys.{is_config_key}
 use Rattle.duk_config.specs.ConfigTable.{HasBaseKeys, HasCards, bdk_values, card_values, disk_in}
 use Rattle.duk_config.specs.Entries.{HaveOnePan, HaveOnePrefix, IsFirstBadEntry, StatesBaseKey, StatesCard}
 use Rattle.duk_config.specs.Names.{IsFirstUnknown, has_only}
-use Rattle.duk_config.specs.Values.{bytes_at, number_at, tdes_key_at}
+use Rattle.duk_config.specs.Values.{double_key_at, number_at, tdes_key_at}
 
 -- the key has a right value, and right entries
 abbrev pub IsRight : Members → ConfigKey → Type 0
 IsRight document key.Lmk = IsSome (tdes_key_at (codes "lmk") document)
 IsRight document key.Zone = IsSome (tdes_key_at (codes "zone") document)
-IsRight document key.Loading = IsSome (bytes_at 16 (codes "loading") document)
+IsRight document key.Loading = IsSome (double_key_at (codes "loading") document)
 IsRight document key.Terminals = IsSome (number_at 1 16 (codes "terminals") document)
 IsRight document key.Log = IsSome (number_at 1 100000 (codes "log") document)
 IsRight document key.Stores = IsSome (disk_in document)
@@ -28,7 +28,7 @@ IsRight document key.Card = (cards : List Card) × HasCards document cards
 abbrev pub IsWrong : Members → ConfigKey → Type 0
 IsWrong document key.Lmk = tdes_key_at (codes "lmk") document ≡ None
 IsWrong document key.Zone = tdes_key_at (codes "zone") document ≡ None
-IsWrong document key.Loading = bytes_at 16 (codes "loading") document ≡ None
+IsWrong document key.Loading = double_key_at (codes "loading") document ≡ None
 IsWrong document key.Terminals = number_at 1 16 (codes "terminals") document ≡ None
 IsWrong document key.Log = number_at 1 100000 (codes "log") document ≡ None
 IsWrong document key.Stores = disk_in document ≡ None

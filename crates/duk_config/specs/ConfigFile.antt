@@ -14,31 +14,31 @@ pub record IsToml (bytes : List ℕ) (document : Members) : Type 0 where
   pub table : parse_document bytes ≡ Some document
 
 -- a file is at most so many bytes long
-abbrev pub longest : ℕ
-longest = 1048576
+abbrev pub longest_file : ℕ
+longest_file = 1048576
 
 -- the file states this configuration
 pub record IsConfigFile (bytes : List ℕ) (config : Settings) : Type 0 where
   pub document : Members
-  pub fits : length bytes ≤ longest
+  pub fits : length bytes ≤ longest_file
   pub table : IsToml bytes document
   pub config_is : IsConfigOf document config
 
 -- the file is not too long, and this is the first fault of its table
 pub record HasTableFault (bytes : List ℕ) (why : ScriptFault) : Type 0 where
   pub document : Members
-  pub fits : length bytes ≤ longest
+  pub fits : length bytes ≤ longest_file
   pub table : IsToml bytes document
   pub first : IsFirstFault document why
 
 -- the first fault of a file
 abbrev pub IsConfigFault : List ℕ → ScriptFault → Type 0
-IsConfigFault bytes fault.ConfigTooLong = longest < length bytes
-IsConfigFault bytes fault.NotToml = (length bytes ≤ longest) × ((document : Members) → ¬ IsToml bytes document)
+IsConfigFault bytes fault.ConfigTooLong = longest_file < length bytes
+IsConfigFault bytes fault.NotToml = (length bytes ≤ longest_file) × ((document : Members) → ¬ IsToml bytes document)
 IsConfigFault bytes (fault.UnknownKey name) = HasTableFault bytes (fault.UnknownKey name)
 IsConfigFault bytes (fault.BadKey key) = HasTableFault bytes (fault.BadKey key)
 IsConfigFault bytes (fault.BadEntry key place) = HasTableFault bytes (fault.BadEntry key place)
-IsConfigFault bytes fault.NoMemory = length bytes ≤ longest
+IsConfigFault bytes fault.NoMemory = length bytes ≤ longest_file
 IsConfigFault bytes _ = ⊥
 
 -- why the bytes give no table, as a private function of `read_config` answers

@@ -9,7 +9,7 @@ use Rattle.duk_config.specs.ConfigKeys.{is_config_key}
 use Rattle.duk_config.specs.Entries.{AreEntries, HaveOnePan, HaveOnePrefix, StatesBaseKey, StatesCard, values_of}
 use Rattle.duk_config.specs.Names.{has_only}
 use Rattle.duk_config.specs.Settings.{Settings}
-use Rattle.duk_config.specs.Values.{bytes_at, number_at, tdes_key_at}
+use Rattle.duk_config.specs.Values.{double_key_at, number_at, tdes_key_at}
 
 -- the values of an array, and none where there is nothing
 abbrev pub values_or_none : Option Data → Option (List Data)
@@ -62,7 +62,7 @@ pub record IsConfigOf (document : Members) (config : Settings) : Type 0 where
   pub no_other_key : has_only is_config_key document ≡ true
   pub lmk : tdes_key_at (codes "lmk") document ≡ Some config.lmk
   pub zone : tdes_key_at (codes "zone") document ≡ Some config.zone
-  pub loading : bytes_at 16 (codes "loading") document ≡ Some config.loading
+  pub loading : double_key_at (codes "loading") document ≡ Some config.loading
   pub terminals : number_at 1 16 (codes "terminals") document ≡ Some config.terminals
   pub log : number_at 1 100000 (codes "log") document ≡ Some config.log
   pub stores : disk_in document ≡ Some config.disk

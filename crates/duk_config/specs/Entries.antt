@@ -8,7 +8,7 @@ use Rattle.toml.specs.Data.{Data, Members, table, Items, no_items, item}
 use Rattle.duk_config.specs.declared.base_key.BaseKey.{BaseKey}
 use Rattle.duk_config.specs.ConfigKeys.{is_bdk_key, is_card_key}
 use Rattle.duk_config.specs.Names.{has_only}
-use Rattle.duk_config.specs.Values.{bytes_at, number_at, text_at}
+use Rattle.duk_config.specs.Values.{double_key_at, number_at, prefix_at, text_at}
 
 -- the values of an array
 abbrev pub values_of : Items → List Data
@@ -21,8 +21,8 @@ pub record StatesBaseKey (value : Data) (bdk : BaseKey) : Type 0 where
   pub members : Members
   pub is_table : value ≡ table members
   pub nothing_else : has_only is_bdk_key members ≡ true
-  pub prefix : bytes_at 5 (codes "prefix") members ≡ Some bdk.prefix
-  pub key : bytes_at 16 (codes "key") members ≡ Some bdk.key
+  pub prefix : prefix_at (codes "prefix") members ≡ Some bdk.prefix
+  pub key : double_key_at (codes "key") members ≡ Some bdk.key
 
 -- the value is a table that states this card, and nothing else: its account number, its PIN, and a limit
 pub record StatesCard (value : Data) (card : Card) : Type 0 where

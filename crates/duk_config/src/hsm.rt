@@ -11,7 +11,7 @@ ghost use Rattle.duk_config.specs.Opened.{WrapsAlone, WrapsZone, keys_for};
 use crate::base_key::BaseKey;
 use crate::config::Config;
 use arrayvec::ArrayVec;
-use duk_block::{Header, unwrap, wrap};
+use duk_block::{Header, ZERO_PADDING, wrap};
 use duk_hsm::{Hsm, HsmFault};
 use duk_tdes::{Key, KeyBytes};
 
@@ -32,9 +32,6 @@ const ZONE_KEY: Header = Header {
     version: *b"00",
     exportability: b'N',
 };
-
-/// The padding behind a key: with it, the key of 16 or 24 bytes and two bytes for its length fill whole blocks of 8.
-const PADDING: [u8; 6] = [0; 6];
 
 /// A host security module that holds a configuration's base derivation keys, in their order, and its zone key. Each is
 /// wrapped under the local master key of `N` bytes (16 or 24) with zeros as padding, and loaded.
@@ -66,7 +63,7 @@ fn load_base_key<const N: usize>(
     ensures ok { IsOk result }
     ensures keys { hsm.new ≡ with_key_set hsm.old bdk.now.prefix bdk.now.key }
 {
-    let block = wrapped(lmk, &BASE_KEY, &bdk.key);
+    let block = wrap_key(lmk, &BASE_KEY, &bdk.key);
     hsm.load_bdk(bdk.prefix, block.as_slice())
 }
 
@@ -82,23 +79,23 @@ fn load_zone_key<const N: usize>(
     ensures ok { IsOk result }
     ensures keys { hsm.new ≡ record hsm.old { zone = Some (bytes_of zone.now) } }
 {
-    let block = wrapped_zone(lmk, zone);
+    let block = wrap_zone_key(lmk, zone);
     hsm.load_zone(block.as_slice())
 }
 
 /// Wraps a zone key of either length.
-fn wrapped_zone<const N: usize>(lmk: &Key<N>, zone: &KeyBytes) -> ArrayVec<u8, 512>
+fn wrap_zone_key<const N: usize>(lmk: &Key<N>, zone: &KeyBytes) -> ArrayVec<u8, 512>
     requires { IsTdesLength N }
     ensures { WrapsZone lmk.now result.items (bytes_of zone.now) }
 {
     match zone {
-        KeyBytes::Double(key) => wrapped(lmk, &ZONE_KEY, key),
-        KeyBytes::Triple(key) => wrapped(lmk, &ZONE_KEY, key),
+        KeyBytes::Double(key) => wrap_key(lmk, &ZONE_KEY, key),
+        KeyBytes::Triple(key) => wrap_key(lmk, &ZONE_KEY, key),
     }
 }
 
 /// Wraps a key under the local master key with zeros as padding. The block is read, and as this key alone.
-fn wrapped<const N: usize, const M: usize>(
+fn wrap_key<const N: usize, const M: usize>(
     lmk: &Key<N>,
     header: &Header,
     key: &Key<M>,
@@ -112,12 +109,9 @@ fn wrapped<const N: usize, const M: usize>(
     duk_tdes::laws::tdes_key(lmk);
     duk_tdes::laws::tdes_key(key);
     duk_block::laws::one_reading();
-    match wrap(lmk, header, key, &PADDING) {
-        Ok(block) => {
-            // Reading it once shows that loading does not refuse it.
-            let _ = unwrap(lmk, block.as_slice());
-            block
-        }
+    duk_block::laws::no_fault();
+    match wrap(lmk, header, key, &ZERO_PADDING) {
+        Ok(block) => block,
         Err(_) => unreachable!(),
     }
 }

@@ -12,4 +12,4 @@ pub use base_key::BaseKey;
 pub use config::Config;
 pub use fault::{ConfigKey, ScriptFault};
 pub use hsm::open_hsm;
-pub use read::{LONGEST_CONFIG, read_config};
+pub use read::{LONGEST_FILE, read_config};

@@ -18,8 +18,8 @@ use std::alloc::Global;
 use table::read_table;
 use toml::Table;
 
-/// The bytes of the longest configuration that is read.
-pub const LONGEST_CONFIG: usize = 1_048_576;
+/// The bytes of the longest file that is read, a configuration or a script.
+pub const LONGEST_FILE: usize = 1_048_576;
 
 /// Reads a configuration.
 ///
@@ -32,15 +32,15 @@ pub fn read_config(alloc: Global, bytes: &[u8]) -> Result<Config, ScriptFault>
     ensures read { IfOk result (IsConfigFile bytes.now) }
     ensures refused { IfErr result (IsConfigFault bytes.now) }
 {
-    if bytes.len() > LONGEST_CONFIG {
+    if bytes.len() > LONGEST_FILE {
         return Err(ScriptFault::ConfigTooLong);
     }
-    let table = parsed(alloc, bytes)?;
+    let table = parse_table(alloc, bytes)?;
     read_table(alloc, &table)
 }
 
 /// The table of a text of TOML.
-fn parsed(alloc: Global, bytes: &[u8]) -> Result<Table, ScriptFault>
+fn parse_table(alloc: Global, bytes: &[u8]) -> Result<Table, ScriptFault>
     ensures read { IfOk result (λ table. IsToml bytes.now (table_view table)) }
     ensures refused { IfErr result (NoTable bytes.now) }
 {

@@ -1,16 +1,18 @@
--- What a script writes that is played under a configuration: this project's own, over the sessions of a script.
+-- What a script writes that is played under a configuration: this project's own.
 use Rattle.std.specs.Prelude.{◌≡◌, ℕ, List, [], Some, None}
 use Rattle.duk_net.specs.declared.event.Event.{Event}
 use Rattle.duk_net.specs.declared.outcome.Outcome.{Outcome}
 use Rattle.duk_config.specs.ConfigFile.{IsConfigFile}
 use Rattle.duk_script.specs.OutcomeText.{lines_of}
 use Rattle.duk_script.specs.Script.{IsScript}
-use Rattle.duk_script.specs.Session.{ArePlayed, IsRefused, session}
+use Rattle.duk_script.specs.Play.{ArePlayed}
+use Rattle.duk_script.specs.Session.{IsRunRefused, session}
 use Rattle.duk_config.specs.Settings.{Settings}
 use Rattle.duk_config.specs.declared.fault.ScriptFault.{ScriptFault}
-use Rattle.duk_text.specs.Sink.{Told}
+use Rattle.duk_io.specs.Known.{Known}
 
--- the files with these bytes are a configuration and a script, and these are the lines of what comes of its events
+-- the files with these bytes are a configuration and a script, and these are the lines of what comes of
+-- its events
 pub record Writes (config script lines : List ℕ) : Type 0 where
   pub settings : Settings
   pub events : List Event
@@ -20,12 +22,13 @@ pub record Writes (config script lines : List ℕ) : Type 0 where
   pub played : ArePlayed settings events outcomes
   pub lines_are : lines ≡ lines_of outcomes
 
--- a reader or a writer in memory, which tells its bytes
-abbrev pub held : List ℕ → Told
-held bytes = record { contents = Some bytes; failures = None }
+-- a reader or a writer in memory, whose bytes are known
+abbrev pub in_memory : List ℕ → Known
+in_memory bytes = record { contents = Some bytes; failures = None }
 
 -- the script is refused, whatever was read of it and written for it
 pub record IsRefusedUnder (config script : List ℕ) (why : ScriptFault) : Type 0 where
   pub unread : List ℕ
   pub lines : List ℕ
-  pub refused : IsRefused (session config (held script) (held unread) (held []) (held lines)) why
+  pub refused : IsRunRefused config
+      (session (in_memory script) (in_memory unread) (in_memory []) (in_memory lines)) why

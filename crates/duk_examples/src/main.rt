@@ -1,11 +1,11 @@
 //! Plays the example scripts, prints what each writes, and compares it with what stands beside the script.
 #![tactic(auto)]
 
+pub mod example;
 mod fault;
-pub mod played;
 
+use example::play;
 use fault::Fault;
-use played::played;
 use std::io::Write;
 use std::process::ExitCode;
 use std::rt::Files;
@@ -32,7 +32,7 @@ fn show(rt: &(impl Files + Print + AllocGlobal), name: &str) -> Result<(), Fault
     let config = fs::read(rt, CONFIG)?;
     let script = fs::read(rt, format!(in rt.alloc(); "{name}.script")?)?;
     let expected = fs::read(rt, format!(in rt.alloc(); "{name}.out")?)?;
-    let lines = played(rt.alloc(), config.as_slice(), script.as_slice())?;
+    let lines = play(rt.alloc(), config.as_slice(), script.as_slice())?;
     println!(rt; "{name}")?;
     io::writer(rt).write_all(lines.as_slice())?;
     if lines.as_slice() == expected.as_slice() {

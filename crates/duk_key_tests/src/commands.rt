@@ -2,11 +2,12 @@
 
 ghost use Rattle.std.specs.Prelude.{◌≡◌, ℕ, List, Some, None};
 ghost use Rattle.duk_tree.specs.Serial.{Serial};
-ghost use Rattle.duk_commands.specs.Derive.{IsDerivable};
+ghost use Rattle.duk_commands.specs.Derive.{AreDeriveWords};
+ghost use Rattle.duk_tree.specs.Path.{IsUsable};
 
 use crate::sample::{BDK, IKSN, key, number_of};
 use duk_commands::{derive_command, pin_command, walk_command};
-use duk_text::Sink;
+use duk_io::Sink;
 use duk_tree::{Ksn, derive};
 use std::alloc::Global;
 use std::io;
@@ -233,7 +234,7 @@ fn a_fault_that_cannot_be_written(rt: HostRuntime) {
 struct Drain;
 
 impl Sink for Drain {
-    ghost told = { λ _. record { contents = None; failures = Some 0 } };
+    ghost known = { λ _. record { contents = None; failures = Some 0 } };
 
     fn put(&mut self, bytes: &[u8]) -> io::Result<usize> {
         Ok(bytes.len())
@@ -245,14 +246,14 @@ impl Sink for Drain {
 }
 
 /// Where no write can fail, words that can be used end with status 0.
-fn drained(bdk: &str, ksn: &str) -> u8
+fn derive_into_drains(bdk: &str, ksn: &str) -> u8
     ensures { (key : List ℕ) (serial : Serial)
-        → IsDerivable bdk.now ksn.now key serial → result ≡ 0 }
+        → AreDeriveWords bdk.now ksn.now key serial → IsUsable serial.counter → result ≡ 0 }
 {
     derive_command(bdk, ksn, &mut Drain, &mut Drain)
 }
 
 #[test]
 fn never_tells_a_write_that_did_not_fail(rt: HostRuntime) {
-    assert_eq!(rt; drained(BDK_TEXT, KSN), 0);
+    assert_eq!(rt; derive_into_drains(BDK_TEXT, KSN), 0);
 }

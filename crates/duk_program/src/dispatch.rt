@@ -4,13 +4,13 @@ ghost use Rattle.std.specs.Prelude.{◌≡◌, ◌⊎◌};
 ghost use Rattle.std.specs.Io.KnownBytes.{Keeps};
 ghost use Rattle.duk_commands.specs.Fault.{line_of, IsFaultTold};
 ghost use Rattle.duk_commands.specs.declared.fault.Fault.{Fault};
-ghost use Rattle.duk_text.specs.Sink.{IsUntouched, IsTried};
+ghost use Rattle.duk_io.specs.Sink.{IsUntouched, IsTried};
 ghost use Rattle.duk_program.specs.Status.{EndsWith, IsLawful, IsStatus, IsToRun};
 
 use duk_commands::{
     Fault, derive_command, pin_command, tell, unwrap_command, walk_command, wrap_command,
 };
-use duk_text::{Sink, write_text};
+use duk_io::{Sink, write_text};
 use duk_words::{NoRequest, Request, read_request};
 use std::alloc::Global;
 
@@ -41,48 +41,49 @@ pub fn command<'a, W: Sink, F: Sink>(
     fault: &mut F,
 ) -> Todo<'a>
     ensures status { IsLawful result }
-    ensures no_fault { EndsWith result 0 → IsUntouched (F.told fault.old) (F.told fault.new) }
-    ensures fault { EndsWith result 1 → IsFaultTold (F.told fault.old) (F.told fault.new) }
+    ensures no_fault { EndsWith result 0 → IsUntouched (F.known fault.old) (F.known fault.new) }
+    ensures fault { EndsWith result 1 → IsFaultTold (F.known fault.old) (F.known fault.new) }
     ensures refused { EndsWith result 2
-        → Keeps (W.told output.old).contents (W.told output.new).contents }
-    ensures quiet { IsToRun result → IsUntouched (W.told output.old) (W.told output.new) }
-    ensures silent { IsToRun result → IsUntouched (F.told fault.old) (F.told fault.new) }
+        → Keeps (W.known output.old).contents (W.known output.new).contents }
+    ensures quiet { IsToRun result → IsUntouched (W.known output.old) (W.known output.new) }
+    ensures silent { IsToRun result → IsUntouched (F.known fault.old) (F.known fault.new) }
 {
-    duk_text::laws::writes();
-    match answer(alloc, words, output, fault) {
+    duk_io::laws::writes();
+    match answer_words(alloc, words, output, fault) {
         Todo::Exit(0) => Todo::Exit(flush(output, fault)),
         todo => todo,
     }
 }
 
 /// Does what the words ask and tells what is left to do; what is printed may still be held back.
-fn answer<'a, W: Sink, F: Sink>(
+fn answer_words<'a, W: Sink, F: Sink>(
     alloc: Global,
     words: &'a [String],
     output: &mut W,
     fault: &mut F,
 ) -> Todo<'a>
     ensures status { IsLawful result }
-    ensures no_fault { EndsWith result 0 → IsUntouched (F.told fault.old) (F.told fault.new) }
-    ensures fault { EndsWith result 1 → IsFaultTold (F.told fault.old) (F.told fault.new) }
-    ensures refused { EndsWith result 2 → Keeps (W.told output.old).contents (W.told output.new).contents }
-    ensures quiet { IsToRun result → IsUntouched (W.told output.old) (W.told output.new) }
-    ensures silent { IsToRun result → IsUntouched (F.told fault.old) (F.told fault.new) }
+    ensures no_fault { EndsWith result 0 → IsUntouched (F.known fault.old) (F.known fault.new) }
+    ensures fault { EndsWith result 1 → IsFaultTold (F.known fault.old) (F.known fault.new) }
+    ensures refused { EndsWith result 2
+        → Keeps (W.known output.old).contents (W.known output.new).contents }
+    ensures quiet { IsToRun result → IsUntouched (W.known output.old) (W.known output.new) }
+    ensures silent { IsToRun result → IsUntouched (F.known fault.old) (F.known fault.new) }
 {
     match read_request(alloc, words) {
-        Ok(request) => run(request, output, fault),
+        Ok(request) => do_request(request, output, fault),
         Err(answer) => Todo::Exit(show(&answer, output, fault)),
     }
 }
 
 /// Does the command of a request, where that needs no file, and tells what is left to do.
-fn run<'a, W: Sink, F: Sink>(request: Request<'a>, output: &mut W, fault: &mut F) -> Todo<'a>
+fn do_request<'a, W: Sink, F: Sink>(request: Request<'a>, output: &mut W, fault: &mut F) -> Todo<'a>
     ensures status { IsLawful result }
-    ensures no_fault { EndsWith result 0 → IsUntouched (F.told fault.old) (F.told fault.new) }
-    ensures fault { EndsWith result 1 → IsFaultTold (F.told fault.old) (F.told fault.new) }
+    ensures no_fault { EndsWith result 0 → IsUntouched (F.known fault.old) (F.known fault.new) }
+    ensures fault { EndsWith result 1 → IsFaultTold (F.known fault.old) (F.known fault.new) }
     ensures not_refused { ¬ EndsWith result 2 }
-    ensures quiet { IsToRun result → IsUntouched (W.told output.old) (W.told output.new) }
-    ensures silent { IsToRun result → IsUntouched (F.told fault.old) (F.told fault.new) }
+    ensures quiet { IsToRun result → IsUntouched (W.known output.old) (W.known output.new) }
+    ensures silent { IsToRun result → IsUntouched (F.known fault.old) (F.known fault.new) }
 {
     match request {
         Request::Derive { bdk, ksn } => Todo::Exit(derive_command(bdk, ksn, output, fault)),
@@ -108,9 +109,10 @@ fn run<'a, W: Sink, F: Sink>(request: Request<'a>, output: &mut W, fault: &mut F
 /// Writes what stands in place of a request, and gives the status.
 fn show<W: Sink, F: Sink>(answer: &NoRequest, output: &mut W, fault: &mut F) -> u8
     ensures status { IsStatus result }
-    ensures no_fault { result ≡ 0 → IsUntouched (F.told fault.old) (F.told fault.new) }
-    ensures fault { result ≡ 1 → IsFaultTold (F.told fault.old) (F.told fault.new) }
-    ensures refused { result ≡ 2 → Keeps (W.told output.old).contents (W.told output.new).contents }
+    ensures no_fault { result ≡ 0 → IsUntouched (F.known fault.old) (F.known fault.new) }
+    ensures fault { result ≡ 1 → IsFaultTold (F.known fault.old) (F.known fault.new) }
+    ensures refused { result ≡ 2
+        → Keeps (W.known output.old).contents (W.known output.new).contents }
 {
     match answer {
         NoRequest::NoMemory => tell(fault, Fault::OutOfMemory),
@@ -129,10 +131,10 @@ fn show<W: Sink, F: Sink>(answer: &NoRequest, output: &mut W, fault: &mut F) -> 
 /// what was printed may be missing then.
 fn flush<W: Sink, F: Sink>(output: &mut W, fault: &mut F) -> u8
     ensures status { (result ≡ 0) ⊎ (result ≡ 1) }
-    ensures no_fault { result ≡ 0 → IsUntouched (F.told fault.old) (F.told fault.new) }
+    ensures no_fault { result ≡ 0 → IsUntouched (F.known fault.old) (F.known fault.new) }
     ensures fault { result ≡ 1
-        → IsTried (F.told fault.old) (F.told fault.new) (line_of Fault.WriteFailed) }
-    ensures output { Keeps (W.told output.old).contents (W.told output.new).contents }
+        → IsTried (F.known fault.old) (F.known fault.new) (line_of Fault.WriteFailed) }
+    ensures output { Keeps (W.known output.old).contents (W.known output.new).contents }
 {
     match output.flush() {
         Ok(()) => 0,

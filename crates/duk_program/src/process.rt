@@ -5,7 +5,7 @@ ghost use Rattle.duk_program.specs.Status.{IsStatus};
 use crate::dispatch::{Todo, command};
 use crate::files::run_files;
 use duk_commands::{Fault, tell};
-use duk_text::{Sink, write_text};
+use duk_io::{Sink, write_text};
 use std::rt::{Env, Files};
 use std::{env, io};
 

@@ -5,7 +5,7 @@ mod LineLemmas
 mod ScriptLemmas
 mod DecimalLemmas
 mod SpacedLemmas
-mod SessionLemmas
-mod SourceLemmas
+mod OutcomeLemmas
+mod WholeTextLemmas
 mod PlayLemmas
 mod FaultLemmas

@@ -6,13 +6,15 @@ use Rattle.duk_net.specs.declared.event.Event.{Event}
 use Rattle.duk_net.specs.declared.outcome.Outcome.{Outcome}
 use Rattle.duk_net.specs.declared.runs.NetFault.{NetFault}
 use Rattle.duk_net.specs.declared.runs.NetFault.TheVariants as net
-use Rattle.duk_config.specs.ConfigFile.{IsConfigFault, IsConfigFile}
 use Rattle.duk_script.specs.OutcomeText.{lines_of}
 use Rattle.duk_script.specs.Script.{IsNoScript}
-use Rattle.duk_script.specs.Session.{ArePlayed, ArePlayedInPart, IsOpened, IsRead, IsRefused, MemoryWorld, PlayRefused, Session, in_memory}
+use Rattle.duk_script.specs.Opening.{IsOpened, MemoryWorld, in_memory}
+use Rattle.duk_script.specs.Play.{ArePlayed, ArePlayedInPart, PlayRefused}
+use Rattle.duk_script.specs.Session.{AreEventsRead, IsQuietSession, IsScriptRefused, Session}
 use Rattle.duk_config.specs.Settings.{Settings}
-use Rattle.duk_text.specs.Sink.{IsCut, IsUntouched, Told}
-use Rattle.duk_script.specs.Source.{IsReadWhole, ReadRefused}
+use Rattle.duk_io.specs.Known.{Known}
+use Rattle.duk_io.specs.Sink.{IsCut}
+use Rattle.duk_script.specs.WholeText.{IsReadWhole, ReadRefused}
 use Rattle.duk_config.specs.declared.fault.ScriptFault.{ScriptFault}
 use Rattle.duk_config.specs.declared.fault.ScriptFault.TheVariants as fault
 
@@ -46,56 +48,43 @@ played_up_to config lmk start new events before after (net.NoMemory done) lmk_is
 }
 
 -- the writing of outcomes is cut off
-pub cut_off : (config : Settings) (events : List Event) (old new : Told) (outcomes : List Outcome) (why : ScriptFault)
+pub cut_off : (config : Settings) (events : List Event) (old new : Known) (outcomes : List Outcome) (why : ScriptFault)
     → (ArePlayed config events outcomes ⊎ ArePlayedInPart config events outcomes)
     → (why ≡ fault.WriteFailed) × IsCut old new (lines_of outcomes) → PlayRefused config events old new why
 cut_off config events old new outcomes why played cut =
     subst (λ why. PlayRefused config events old new why) (sym cut.0) (record { outcomes = outcomes; played = played; cut = cut.1 })
 
--- the configuration is refused
-pub config_refused : (s : Session) (why : ScriptFault) → IsConfigFault s.config why → IsUntouched s.writer_before s.writer_after → IsRefused s why
-config_refused s fault.ConfigTooLong cause quiet = record { cause = cause; quiet = quiet }
-config_refused s fault.NotToml cause quiet = record { cause = cause; quiet = quiet }
-config_refused s (fault.UnknownKey name) cause quiet = record { cause = cause; quiet = quiet }
-config_refused s (fault.BadKey key) cause quiet = record { cause = cause; quiet = quiet }
-config_refused s (fault.BadEntry key place) cause quiet = record { cause = cause; quiet = quiet }
-config_refused s fault.CannotRead cause quiet = absurd cause
-config_refused s fault.TooLong cause quiet = absurd cause
-config_refused s (fault.NotAnEvent line) cause quiet = absurd cause
-config_refused s fault.WriteFailed cause quiet = absurd cause
-config_refused s fault.NoMemory cause quiet = inl quiet
-
 -- the script is not read
-pub unread : (s : Session) (config : Settings) (why : ScriptFault) → IsConfigFile s.config config → ReadRefused s.reader_before s.reader_after why → IsUntouched s.writer_before s.writer_after → IsRefused s why
-unread s config fault.ConfigTooLong config_is cause quiet = absurd cause
-unread s config fault.NotToml config_is cause quiet = absurd cause
-unread s config (fault.UnknownKey name) config_is cause quiet = absurd cause
-unread s config (fault.BadKey key) config_is cause quiet = absurd cause
-unread s config (fault.BadEntry key place) config_is cause quiet = absurd cause
-unread s config fault.CannotRead config_is cause quiet = record { config = config; config_is = config_is; cause = cause; quiet = quiet }
-unread s config fault.TooLong config_is cause quiet = record { config = config; config_is = config_is; cause = cause; quiet = quiet }
-unread s config (fault.NotAnEvent line) config_is cause quiet = absurd cause
-unread s config fault.WriteFailed config_is cause quiet = absurd cause
-unread s config fault.NoMemory config_is cause quiet = inl quiet
+pub unread : (config : Settings) (s : Session) (why : ScriptFault) → ReadRefused s.reader_before s.reader_after why → IsQuietSession s → IsScriptRefused config s why
+unread config s fault.ConfigTooLong cause quiet = absurd cause
+unread config s fault.NotToml cause quiet = absurd cause
+unread config s (fault.UnknownKey name) cause quiet = absurd cause
+unread config s (fault.BadKey key) cause quiet = absurd cause
+unread config s (fault.BadEntry key place) cause quiet = absurd cause
+unread config s fault.CannotRead cause quiet = record { cause = cause; quiet = quiet }
+unread config s fault.TooLong cause quiet = record { cause = cause; quiet = quiet }
+unread config s (fault.NotAnEvent line) cause quiet = absurd cause
+unread config s fault.WriteFailed cause quiet = absurd cause
+unread config s fault.NoMemory cause quiet = inl quiet
 
 -- a line is no event
-pub not_a_script : (s : Session) (config : Settings) (text : List ℕ) (why : ScriptFault)
-    → IsConfigFile s.config config → IsReadWhole s.reader_before s.reader_after text
+pub not_a_script : (config : Settings) (s : Session) (text : List ℕ) (why : ScriptFault) → IsReadWhole s.reader_before s.reader_after text
     → (why ≡ fault.NoMemory) ⊎ ((line : ℕ) × (why ≡ fault.NotAnEvent line) × IsNoScript text line)
-    → IsUntouched s.writer_before s.writer_after → IsRefused s why
-not_a_script s config text why config_is text_is (inl same) quiet = subst (λ why. IsRefused s why) (sym same) (inl quiet)
-not_a_script s config text why config_is text_is (inr bad) quiet = subst (λ why. IsRefused s why) (sym bad.1)
-    (record { config = config; text = text; config_is = config_is; text_is = text_is; cause = bad.2; quiet = quiet })
+    → IsQuietSession s → IsScriptRefused config s why
+not_a_script config s text why text_is (inl same) quiet = subst (λ why. IsScriptRefused config s why) (sym same) (inl quiet)
+not_a_script config s text why text_is (inr bad) quiet = subst (λ why. IsScriptRefused config s why) (sym bad.1)
+    (record { text = text; text_is = text_is; cause = bad.2; quiet = quiet })
 
 -- what stops the playing stops the script
-pub stopped : (s : Session) (config : Settings) (events : List Event) (why : ScriptFault) → IsRead s config events → PlayRefused config events s.writer_before s.writer_after why → IsRefused s why
-stopped s config events fault.ConfigTooLong read cause = absurd cause
-stopped s config events fault.NotToml read cause = absurd cause
-stopped s config events (fault.UnknownKey name) read cause = absurd cause
-stopped s config events (fault.BadKey key) read cause = absurd cause
-stopped s config events (fault.BadEntry key place) read cause = absurd cause
-stopped s config events fault.CannotRead read cause = absurd cause
-stopped s config events fault.TooLong read cause = absurd cause
-stopped s config events (fault.NotAnEvent line) read cause = absurd cause
-stopped s config events fault.WriteFailed read cause = record { config = config; events = events; read = read; cause = cause }
-stopped s config events fault.NoMemory read cause = inr (record { config = config; events = events; read = read; cause = cause })
+pub stopped : (config : Settings) (s : Session) (events : List Event) (why : ScriptFault) → AreEventsRead s events
+    → PlayRefused config events s.writer_before s.writer_after why → IsScriptRefused config s why
+stopped config s events fault.ConfigTooLong read cause = absurd cause
+stopped config s events fault.NotToml read cause = absurd cause
+stopped config s events (fault.UnknownKey name) read cause = absurd cause
+stopped config s events (fault.BadKey key) read cause = absurd cause
+stopped config s events (fault.BadEntry key place) read cause = absurd cause
+stopped config s events fault.CannotRead read cause = absurd cause
+stopped config s events fault.TooLong read cause = absurd cause
+stopped config s events (fault.NotAnEvent line) read cause = absurd cause
+stopped config s events fault.WriteFailed read cause = record { events = events; read = read; cause = cause }
+stopped config s events fault.NoMemory read cause = inr (record { events = events; read = read; cause = cause })

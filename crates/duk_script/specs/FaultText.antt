@@ -1,24 +1,12 @@
 -- The names of faults, each followed by that of the fault inside it (this project's own).
 use Rattle.std.specs.Prelude.{ℕ, List, ◌++◌, codes}
-use Rattle.duk_block.specs.declared.fault.BlockFault.{BlockFault}
-use Rattle.duk_block.specs.declared.fault.BlockFault.TheVariants.{Length, Version, HeaderField, OptionalBlock, Hex, Mac, Payload, PadLength}
+use Rattle.duk_block.specs.FaultName.{block_fault_name}
 use Rattle.duk_store.specs.declared.fault.StoreFault.{StoreFault}
 use Rattle.duk_store.specs.declared.fault.StoreFault.TheVariants as store
 use Rattle.duk_term.specs.declared.fault.TermFault.{TermFault}
 use Rattle.duk_term.specs.declared.fault.TermFault.TheVariants as term
 use Rattle.duk_host.specs.declared.fault.HostFault.{HostFault}
 use Rattle.duk_host.specs.declared.fault.HostFault.TheVariants as host
-
--- a fault of a key block
-abbrev pub block_fault_text : BlockFault → List ℕ
-block_fault_text Length = codes "Length"
-block_fault_text Version = codes "Version"
-block_fault_text HeaderField = codes "HeaderField"
-block_fault_text OptionalBlock = codes "OptionalBlock"
-block_fault_text Hex = codes "Hex"
-block_fault_text Mac = codes "Mac"
-block_fault_text Payload = codes "Payload"
-block_fault_text PadLength = codes "PadLength"
 
 -- a fault of a store
 abbrev pub store_fault_text : StoreFault → List ℕ
@@ -32,7 +20,7 @@ store_fault_text store.NoMemory = codes "NoMemory"
 abbrev pub term_fault_text : TermFault → List ℕ
 term_fault_text term.NotLoaded = codes "NotLoaded"
 term_fault_text term.AlreadyLoaded = codes "AlreadyLoaded"
-term_fault_text (term.Block fault) = codes "Block " ++ block_fault_text fault
+term_fault_text (term.Block fault) = codes "Block " ++ block_fault_name fault
 term_fault_text term.WrongUse = codes "WrongUse"
 term_fault_text term.Spent = codes "Spent"
 term_fault_text term.Stopped = codes "Stopped"

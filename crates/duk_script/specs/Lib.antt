@@ -3,5 +3,7 @@ pub mod Reading
 pub mod FaultText
 pub mod OutcomeText
 pub mod FaultLine
-pub mod Source
+pub mod WholeText
+pub mod Opening
+pub mod Play
 pub mod Session

@@ -3,15 +3,15 @@
 ghost use Rattle.std.specs.Prelude.{◌≡◌, ◌++◌, ◌≤◌, codes, decimal, length, OnOk, OnErr};
 ghost use Rattle.duk_config.specs.ConfigKeys.{key_name};
 ghost use Rattle.duk_script.specs.FaultLine.{fault_line, unknown_line};
-ghost use Rattle.duk_text.specs.Sink.{IsCut, IsTried, IsWritten};
+ghost use Rattle.duk_io.specs.Sink.{IsCut, IsTried, IsWritten};
 
 use crate::line::{Line, LineText};
 use duk_config::{ConfigKey, ScriptFault};
-use duk_text::{Sink, WriteFailed, write_text};
+use duk_io::{Sink, WriteFailed, write_text};
 
 /// Writes the line of a fault, LF at its end. What cannot be written of the line is lost.
 pub fn print_fault<F: Sink>(why: &ScriptFault, fault: &mut F)
-    ensures line { IsTried (F.told fault.old) (F.told fault.new) (fault_line why.now) }
+    ensures line { IsTried (F.known fault.old) (F.known fault.new) (fault_line why.now) }
 {
     match why {
         ScriptFault::ConfigTooLong => tell(fault, b"config: too long\n"),
@@ -29,24 +29,24 @@ pub fn print_fault<F: Sink>(why: &ScriptFault, fault: &mut F)
 
 /// Writes a line, as far as that can be done.
 fn tell<F: Sink>(fault: &mut F, line: &[u8])
-    ensures line { IsTried (F.told fault.old) (F.told fault.new) line.now }
+    ensures line { IsTried (F.known fault.old) (F.known fault.new) line.now }
 {
     let _ = write_text(fault, line);
 }
 
 /// Writes the line of an unknown key, as far as that can be done.
 fn tell_unknown<F: Sink>(fault: &mut F, name: &[u8])
-    ensures line { IsTried (F.told fault.old) (F.told fault.new) (unknown_line name.now) }
+    ensures line { IsTried (F.known fault.old) (F.known fault.new) (unknown_line name.now) }
 {
     let _ = write_unknown(fault, name);
 }
 
 /// Writes the line of an unknown key, which may have any length.
 fn write_unknown<F: Sink>(fault: &mut F, name: &[u8]) -> Result<(), WriteFailed>
-    ensures written { OnOk result (IsWritten (F.told fault.old) (F.told fault.new) (unknown_line name.now)) }
-    ensures cut { OnErr result (IsCut (F.told fault.old) (F.told fault.new) (unknown_line name.now)) }
+    ensures written { OnOk result (IsWritten (F.known fault.old) (F.known fault.new) (unknown_line name.now)) }
+    ensures cut { OnErr result (IsCut (F.known fault.old) (F.known fault.new) (unknown_line name.now)) }
 {
-    duk_text::laws::writes();
+    duk_io::laws::writes();
     write_text(fault, b"config: unknown ")?;
     write_text(fault, name)?;
     write_text(fault, b"\n")

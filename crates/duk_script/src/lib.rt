@@ -3,20 +3,21 @@
 
 mod event_line;
 mod fault_line;
+mod fault_name;
 mod line;
-mod names;
 mod opening;
+mod outcome_lines;
+mod outcome_text;
 mod script;
 mod session;
-pub mod source;
-mod text;
+mod whole_text;
 mod words;
 
 pub use duk_config::{
-    BaseKey, Config, ConfigKey, LONGEST_CONFIG, ScriptFault, open_hsm, read_config,
+    BaseKey, Config, ConfigKey, LONGEST_FILE, ScriptFault, open_hsm, read_config,
 };
 pub use fault_line::print_fault;
 pub use line::{LINE_ROOM, LineText};
+pub use outcome_text::outcome_line;
 pub use script::parse_script;
-pub use session::run_script;
-pub use text::outcome_line;
+pub use session::{play_script, run_script};

@@ -8,8 +8,8 @@ ghost use Rattle.duk_script.specs.OutcomeText.{ksn_text, iksn_text};
 
 use arrayvec::ArrayVec;
 use duk_frame::Code;
+use duk_io::append_hex;
 use duk_net::End;
-use duk_text::append_hex;
 use duk_tree::{Iksn, Ksn};
 
 /// The bytes that a line has room for, its end among them. The longest, `answer K accepted KSN CODE` with a K of 20

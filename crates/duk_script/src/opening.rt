@@ -1,9 +1,8 @@
 //! The world of a configuration, over stores in memory.
 
-ghost use Rattle.std.specs.Prelude.{◌≡◌, ◌++◌, ◌∷◌, [], IfOk, IfErr, OnOk, replicate};
+ghost use Rattle.std.specs.Prelude.{◌≡◌, IfOk, IfErr, replicate};
 ghost use Rattle.duk_tdes.specs.KeyBytes.{bytes_of};
-ghost use Rattle.duk_net.specs.InMemory.{new_terminal};
-ghost use Rattle.duk_script.specs.Session.{IsOpened, new_world_of, opening};
+ghost use Rattle.duk_script.specs.Opening.{IsOpened, new_terminal, new_world_of, opening};
 ghost use Rattle.duk_tdes.specs.Tdes.{IsTdesLength};
 
 use duk_config::{Config, ScriptFault, open_hsm};
@@ -27,7 +26,7 @@ pub(crate) fn open_world<const N: usize>(
     ensures opened { IfOk result (IsOpened lmk.now config) }
     ensures refused { IfErr result (λ why. why ≡ ScriptFault.NoMemory) }
 {
-    let events = opening(alloc, config.terminals)?;
+    let events = restarts(alloc, config.terminals)?;
     let mut world = new_world(alloc, lmk, config)?;
     let mut outcomes = Vec::new(alloc);
     match run(&mut world, events.as_slice(), &mut outcomes) {
@@ -37,14 +36,14 @@ pub(crate) fn open_world<const N: usize>(
 }
 
 /// The restarts of the host and of so many terminals.
-fn opening(alloc: Global, terminals: u32) -> Result<Vec<Event>, ScriptFault>
+fn restarts(alloc: Global, terminals: u32) -> Result<Vec<Event>, ScriptFault>
     ensures events { IfOk result (λ events. events.items ≡ opening terminals) }
     ensures refused { IfErr result (λ why. why ≡ ScriptFault.NoMemory) }
 {
     let mut events = Vec::new(alloc);
-    push(&mut events, Event::RestartHost)?;
+    events.push(Event::RestartHost)?;
     for t in 0..terminals {
-        push(&mut events, Event::RestartTerm { t: t + 1 })?;
+        events.push(Event::RestartTerm { t: t + 1 })?;
     }
     Ok(events)
 }
@@ -77,18 +76,7 @@ fn new_terminals(alloc: Global, count: u32) -> Result<Vec<Terminal<MemCell>>, Sc
 {
     let mut terminals = Vec::new(alloc);
     for _ in 0..count {
-        push(&mut terminals, Terminal::new(MemCell::new()))?;
+        terminals.push(Terminal::new(MemCell::new()))?;
     }
     Ok(terminals)
-}
-
-/// Puts a thing at the end of a list. Refused with `NoMemory`.
-fn push<T: Drop>(things: &mut Vec<T>, thing: T) -> Result<(), ScriptFault>
-    ensures pushed { OnOk result (things.new.items ≡ things.old.items ++ thing ∷ []) }
-    ensures refused { IfErr result (λ why. why ≡ ScriptFault.NoMemory) }
-{
-    match things.push(thing) {
-        Ok(()) => Ok(()),
-        Err(_) => Err(ScriptFault::NoMemory),
-    }
 }

@@ -52,10 +52,8 @@ fn add_line(events: &mut Vec<Event>, line: &[u8], number: u64) -> Result<(), Scr
         return Ok(());
     }
     let event = read_event(line).ok_or(ScriptFault::NotAnEvent(number))?;
-    match events.push(event) {
-        Ok(()) => Ok(()),
-        Err(_) => Err(ScriptFault::NoMemory),
-    }
+    events.push(event)?;
+    Ok(())
 }
 
 /// Whether a line says nothing.

@@ -1,41 +1,63 @@
 //! A script, from its bytes to the lines of its outcomes.
 
 ghost use Rattle.std.specs.Prelude.{◌≡◌, ◌⊎◌, OnOk, IfErr};
-ghost use Rattle.duk_tdes.specs.KeyBytes.{bytes_of};
+ghost use Rattle.duk_io.specs.Sink.{IsCut, IsWritten};
 ghost use Rattle.duk_script.specs.OutcomeText.{lines_of};
-ghost use Rattle.duk_script.specs.Session.{IsDone, IsPlayed, IsRefused, PlayRefused, session};
-ghost use Rattle.duk_text.specs.Sink.{IsCut, IsWritten};
+ghost use Rattle.duk_script.specs.Play.{IsPlayed, PlayRefused};
+ghost use Rattle.duk_script.specs.Session.{IsRunDone, IsRunRefused, IsScriptDone, IsScriptRefused, session};
+ghost use Rattle.duk_tdes.specs.KeyBytes.{bytes_of};
 ghost use Rattle.duk_tdes.specs.Tdes.{IsTdesLength};
 
 use crate::opening::open_world;
+use crate::outcome_lines::write_lines;
 use crate::script::parse_script;
-use crate::source::{Source, read_text};
-use crate::text::outcome_line;
+use crate::whole_text::read_text;
 use duk_config::{Config, ScriptFault, read_config};
+use duk_io::{Sink, Source};
 use duk_net::{Event, Outcome, run};
 use duk_tdes::{Key, KeyBytes};
-use duk_text::{Sink, write_text};
 use std::alloc::Global;
 
-/// Runs a script over stores in memory, and writes a line for what comes of each event.
+/// Runs a script under the configuration with these bytes, over stores in memory, and writes a line for what comes of each
+/// event.
 ///
-/// The whole script is read and parsed before the first event. Every end is restarted first, without a line. Refused with
-/// the first of these: what `read_config` refuses; `CannotRead`, where a read of the script failed; `TooLong`, above
-/// 1,048,576 bytes; `NotAnEvent`, of its first bad line; and then nothing is written. After `NoMemory` the lines of the
-/// events done are written. After `WriteFailed` a part of the lines is.
+/// The configuration is tested before anything of the script is read, and the whole script is read and parsed before the
+/// first event. Refused with the first of these: what `read_config` refuses, and then nothing is read or written; what
+/// `play_script` refuses.
 pub fn run_script<R: Source, W: Sink>(
     alloc: Global,
     config: &[u8],
     reader: &mut R,
     writer: &mut W,
 ) -> Result<(), ScriptFault>
-    ensures done { OnOk result
-        (IsDone (session config.now (R.told reader.old) (R.told reader.new) (W.told writer.old) (W.told writer.new))) }
-    ensures refused { IfErr result
-        (IsRefused (session config.now (R.told reader.old) (R.told reader.new) (W.told writer.old) (W.told writer.new))) }
+    ensures done { OnOk result (IsRunDone config.now
+        (session (R.known reader.old) (R.known reader.new) (W.known writer.old) (W.known writer.new))) }
+    ensures refused { IfErr result (IsRunRefused config.now
+        (session (R.known reader.old) (R.known reader.new) (W.known writer.old) (W.known writer.new))) }
 {
-    duk_text::laws::writes();
+    duk_io::laws::writes();
     let config = read_config(alloc, config)?;
+    play_script(alloc, config, reader, writer)
+}
+
+/// Plays a script under a configuration, over stores in memory, and writes a line for what comes of each event. Every end is
+/// restarted first, without a line.
+///
+/// Refused with the first of these: `CannotRead`, where a read of the script failed; `TooLong`, above 1,048,576 bytes;
+/// `NotAnEvent`, of its first bad line; and then nothing is written. After `NoMemory` the lines of the events done are
+/// written. After `WriteFailed` a part of the lines is.
+pub fn play_script<R: Source, W: Sink>(
+    alloc: Global,
+    config: Config,
+    reader: &mut R,
+    writer: &mut W,
+) -> Result<(), ScriptFault>
+    ensures done { OnOk result (IsScriptDone config
+        (session (R.known reader.old) (R.known reader.new) (W.known writer.old) (W.known writer.new))) }
+    ensures refused { IfErr result (IsScriptRefused config
+        (session (R.known reader.old) (R.known reader.new) (W.known writer.old) (W.known writer.new))) }
+{
+    duk_io::laws::writes();
     let text = read_text(alloc, reader)?;
     let events = parse_script(alloc, text.as_slice())?;
     let lmk = config.lmk;
@@ -51,8 +73,10 @@ fn play<W: Sink>(
     writer: &mut W,
 ) -> Result<(), ScriptFault>
     requires { lmk.now ≡ config.lmk }
-    ensures done { OnOk result (IsPlayed config events.now (W.told writer.old) (W.told writer.new)) }
-    ensures refused { IfErr result (PlayRefused config events.now (W.told writer.old) (W.told writer.new)) }
+    ensures done { OnOk result
+        (IsPlayed config events.now (W.known writer.old) (W.known writer.new)) }
+    ensures refused { IfErr result
+        (PlayRefused config events.now (W.known writer.old) (W.known writer.new)) }
 {
     match lmk {
         KeyBytes::Double(lmk) => play_under(alloc, lmk, config, events, writer),
@@ -70,8 +94,10 @@ fn play_under<const N: usize, W: Sink>(
 ) -> Result<(), ScriptFault>
     requires length { IsTdesLength N }
     requires lmk { lmk.now ≡ bytes_of config.lmk }
-    ensures done { OnOk result (IsPlayed config events.now (W.told writer.old) (W.told writer.new)) }
-    ensures refused { IfErr result (PlayRefused config events.now (W.told writer.old) (W.told writer.new)) }
+    ensures done { OnOk result
+        (IsPlayed config events.now (W.known writer.old) (W.known writer.new)) }
+    ensures refused { IfErr result
+        (PlayRefused config events.now (W.known writer.old) (W.known writer.new)) }
 {
     let mut world = open_world(alloc, lmk, config)?;
     let mut outcomes = Vec::new(alloc);
@@ -84,27 +110,13 @@ fn play_under<const N: usize, W: Sink>(
 /// Writes the lines of the events that were done before memory was refused. Gives the fault to tell: that, or that the
 /// lines could not be written.
 fn write_done<W: Sink>(writer: &mut W, outcomes: &[Outcome]) -> ScriptFault
-    ensures { ((result ≡ ScriptFault.NoMemory) × IsWritten (W.told writer.old) (W.told writer.new) (lines_of outcomes.now))
-        ⊎ ((result ≡ ScriptFault.WriteFailed) × IsCut (W.told writer.old) (W.told writer.new) (lines_of outcomes.now)) }
+    ensures { ((result ≡ ScriptFault.NoMemory)
+        × IsWritten (W.known writer.old) (W.known writer.new) (lines_of outcomes.now))
+        ⊎ ((result ≡ ScriptFault.WriteFailed)
+        × IsCut (W.known writer.old) (W.known writer.new) (lines_of outcomes.now)) }
 {
     match write_lines(writer, outcomes) {
         Ok(()) => ScriptFault::NoMemory,
         Err(why) => why,
     }
-}
-
-/// Writes the lines of outcomes.
-fn write_lines<W: Sink>(writer: &mut W, outcomes: &[Outcome]) -> Result<(), ScriptFault>
-    ensures written { OnOk result (IsWritten (W.told writer.old) (W.told writer.new) (lines_of outcomes.now)) }
-    ensures cut { IfErr result (λ why. (why ≡ ScriptFault.WriteFailed)
-        × IsCut (W.told writer.old) (W.told writer.new) (lines_of outcomes.now)) }
-{
-    duk_text::laws::writes();
-    for outcome in outcomes {
-        match write_text(writer, outcome_line(*outcome).as_slice()) {
-            Ok(()) => {}
-            Err(_) => return Err(ScriptFault::WriteFailed),
-        }
-    }
-    Ok(())
 }

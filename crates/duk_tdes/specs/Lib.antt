@@ -1,5 +1,6 @@
 pub mod Key
 pub mod KeyBytes
+pub mod KeyText
 pub mod Tdes
 pub mod Blocks
 pub mod Cbc

@@ -8,6 +8,7 @@ mod bytes;
 mod chaining;
 mod cipher;
 mod key;
+mod key_text;
 pub mod laws;
 
 pub use bytes::{array_of, xor_bytes};

@@ -26,9 +26,7 @@ pub(crate) fn read_entries<E: Entry>(
         let Some(entry) = next_entry(value, entries.as_slice()) else {
             return Err(ScriptFault::BadEntry(key, i as u64 + 1));
         };
-        if entries.push(entry).is_err() {
-            return Err(ScriptFault::NoMemory);
-        }
+        entries.push(entry)?;
     }
     Ok(entries)
 }

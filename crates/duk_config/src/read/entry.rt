@@ -6,11 +6,10 @@ ghost use Rattle.toml.specs.View.{view};
 ghost use Rattle.duk_config.specs.Entries.{HaveOnePan, HaveOnePrefix, StatesBaseKey, StatesCard};
 
 use super::names::{has_only_bdk_keys, has_only_card_keys};
-use super::value::{bytes_at, number_at, text_at};
+use super::value::{double_key_at, number_at, prefix_at, text_at};
 use crate::base_key::BaseKey;
 use duk_host::Card;
 use duk_pin::{Pan, Pin};
-use duk_tdes::Key;
 use toml::Value;
 
 /// What a value of an array states.
@@ -39,12 +38,9 @@ impl Entry for BaseKey {
         if !has_only_bdk_keys(table) {
             return None;
         }
-        let prefix = bytes_at(table, "prefix")?;
-        let key = bytes_at(table, "key")?;
-        Some(BaseKey {
-            prefix,
-            key: Key::new(key),
-        })
+        let prefix = prefix_at(table, "prefix")?;
+        let key = double_key_at(table, "key")?;
+        Some(BaseKey { prefix, key })
     }
 
     fn repeats(&self, other: &BaseKey) -> bool {

@@ -6,12 +6,12 @@ ghost use Rattle.duk_config.specs.ConfigFaults.{IsFirstFault, IsRightBefore};
 ghost use Rattle.duk_config.specs.ConfigTable.{HasBaseKeys, HasCards, disk_in};
 ghost use Rattle.duk_config.specs.ConfigKeys.{is_config_key};
 ghost use Rattle.duk_config.specs.Names.{has_only};
-ghost use Rattle.duk_config.specs.Values.{bytes_at, number_at, tdes_key_at};
+ghost use Rattle.duk_config.specs.Values.{double_key_at, number_at, tdes_key_at};
 
 use super::arrays::{disk_in, values_at};
 use super::entries::read_entries;
 use super::names::unknown_key;
-use super::value::{bytes_at, number_at, tdes_key_at};
+use super::value::{double_key_at, number_at, tdes_key_at};
 use crate::base_key::BaseKey;
 use crate::fault::{ConfigKey, ScriptFault};
 use duk_host::Card;
@@ -28,10 +28,7 @@ pub(crate) fn refuse_unknown(alloc: Global, table: &Table) -> Result<(), ScriptF
     let Some(name) = unknown_key(table) else {
         return Ok(());
     };
-    match String::from_str(alloc, name) {
-        Ok(name) => Err(ScriptFault::UnknownKey(name)),
-        Err(_) => Err(ScriptFault::NoMemory),
-    }
+    Err(ScriptFault::UnknownKey(String::from_str(alloc, name)?))
 }
 
 /// The local master key.
@@ -42,10 +39,7 @@ pub(crate) fn read_lmk(table: &Table) -> Result<KeyBytes, ScriptFault>
     ensures right { OnOk result (IsRightBefore (table_view table.now) ConfigKey.Zone) }
     ensures refused { IfErr result (IsFirstFault (table_view table.now)) }
 {
-    match tdes_key_at(table, "lmk") {
-        Some(key) => Ok(key),
-        None => Err(ScriptFault::BadKey(ConfigKey::Lmk)),
-    }
+    tdes_key_at(table, "lmk").ok_or(ScriptFault::BadKey(ConfigKey::Lmk))
 }
 
 /// The zone key.
@@ -56,24 +50,18 @@ pub(crate) fn read_zone(table: &Table) -> Result<KeyBytes, ScriptFault>
     ensures right { OnOk result (IsRightBefore (table_view table.now) ConfigKey.Loading) }
     ensures refused { IfErr result (IsFirstFault (table_view table.now)) }
 {
-    match tdes_key_at(table, "zone") {
-        Some(key) => Ok(key),
-        None => Err(ScriptFault::BadKey(ConfigKey::Zone)),
-    }
+    tdes_key_at(table, "zone").ok_or(ScriptFault::BadKey(ConfigKey::Zone))
 }
 
 /// The loading key.
 pub(crate) fn read_loading(table: &Table) -> Result<Key<16>, ScriptFault>
     requires { IsRightBefore (table_view table.now) ConfigKey.Loading }
     ensures value { IfOk result
-        (λ key. bytes_at 16 (codes "loading") (table_view table.now) ≡ Some key) }
+        (λ key. double_key_at (codes "loading") (table_view table.now) ≡ Some key) }
     ensures right { OnOk result (IsRightBefore (table_view table.now) ConfigKey.Terminals) }
     ensures refused { IfErr result (IsFirstFault (table_view table.now)) }
 {
-    match bytes_at(table, "loading") {
-        Some(bytes) => Ok(Key::new(bytes)),
-        None => Err(ScriptFault::BadKey(ConfigKey::Loading)),
-    }
+    double_key_at(table, "loading").ok_or(ScriptFault::BadKey(ConfigKey::Loading))
 }
 
 /// The number of terminals.
@@ -85,10 +73,7 @@ pub(crate) fn read_terminals(table: &Table) -> Result<u32, ScriptFault>
     ensures right { OnOk result (IsRightBefore (table_view table.now) ConfigKey.Log) }
     ensures refused { IfErr result (IsFirstFault (table_view table.now)) }
 {
-    match number_at(table, "terminals", 1, 16) {
-        Some(number) => Ok(number),
-        None => Err(ScriptFault::BadKey(ConfigKey::Terminals)),
-    }
+    number_at(table, "terminals", 1, 16).ok_or(ScriptFault::BadKey(ConfigKey::Terminals))
 }
 
 /// The room of the log.
@@ -100,10 +85,7 @@ pub(crate) fn read_log(table: &Table) -> Result<u32, ScriptFault>
     ensures right { OnOk result (IsRightBefore (table_view table.now) ConfigKey.Stores) }
     ensures refused { IfErr result (IsFirstFault (table_view table.now)) }
 {
-    match number_at(table, "log", 1, 100_000) {
-        Some(number) => Ok(number),
-        None => Err(ScriptFault::BadKey(ConfigKey::Log)),
-    }
+    number_at(table, "log", 1, 100_000).ok_or(ScriptFault::BadKey(ConfigKey::Log))
 }
 
 /// Whether the stores are disks.
@@ -114,10 +96,7 @@ pub(crate) fn read_stores(table: &Table) -> Result<bool, ScriptFault>
     ensures right { OnOk result (IsRightBefore (table_view table.now) ConfigKey.Bdk) }
     ensures refused { IfErr result (IsFirstFault (table_view table.now)) }
 {
-    match disk_in(table) {
-        Some(disk) => Ok(disk),
-        None => Err(ScriptFault::BadKey(ConfigKey::Stores)),
-    }
+    disk_in(table).ok_or(ScriptFault::BadKey(ConfigKey::Stores))
 }
 
 /// The base derivation keys.

@@ -4,7 +4,7 @@ ghost use Rattle.std.specs.Prelude.{◌≡◌, ◌≤◌, IfSome};
 ghost use Rattle.std.specs.Option.{option_and_then, option_copied, option_map};
 ghost use Rattle.toml.specs.Data.{as_integer, get_member};
 ghost use Rattle.toml.specs.View.{table_view, view};
-ghost use Rattle.duk_config.specs.Values.{bytes_at, bytes_of_text, number_at, number_within, tdes_key_at, tdes_key_of_text, text_at};
+ghost use Rattle.duk_config.specs.Values.{double_key_at, number_at, number_within, prefix_at, tdes_key_at, text_at};
 
 use duk_tdes::{Key, KeyBytes};
 use hex::FromHex;
@@ -27,44 +27,34 @@ pub(crate) fn text_at<'a>(table: &'a Table, name: &str) -> Option<&'a str>
     }
 }
 
-/// The bytes that the text at a key writes in hexadecimal digits of either case.
-pub(crate) fn bytes_at<const N: usize>(table: &Table, name: &str) -> Option<[u8; N]>
-    ensures { result ≡ bytes_at N name.now (table_view table.now) }
+/// The prefix of key serial numbers that the text at a key writes.
+pub(crate) fn prefix_at(table: &Table, name: &str) -> Option<[u8; 5]>
+    ensures { result ≡ prefix_at name.now (table_view table.now) }
 {
     match text_at(table, name) {
-        Some(text) => bytes_of(text),
+        Some(text) => <[u8; 5] as FromHex>::from_hex(text).ok(),
         None => None,
     }
 }
 
-/// The key of TDES that the text at a key writes.
+/// The double-length key that the text at a key writes.
+pub(crate) fn double_key_at(table: &Table, name: &str) -> Option<Key<16>>
+    ensures { result ≡ double_key_at name.now (table_view table.now) }
+{
+    match text_at(table, name) {
+        Some(text) => Key::<16>::parse(text),
+        None => None,
+    }
+}
+
+/// The key of either length that the text at a key writes.
 pub(crate) fn tdes_key_at(table: &Table, name: &str) -> Option<KeyBytes>
     ensures { result ≡ tdes_key_at name.now (table_view table.now) }
 {
     match text_at(table, name) {
-        Some(text) => tdes_key_of(text),
+        Some(text) => KeyBytes::parse(text),
         None => None,
     }
-}
-
-/// The key that 32 or 48 hexadecimal digits of either case write.
-fn tdes_key_of(text: &str) -> Option<KeyBytes>
-    ensures { result ≡ tdes_key_of_text text.now }
-{
-    match bytes_of(text) {
-        Some(bytes) => Some(KeyBytes::Double(Key::new(bytes))),
-        None => match bytes_of(text) {
-            Some(bytes) => Some(KeyBytes::Triple(Key::new(bytes))),
-            None => None,
-        },
-    }
-}
-
-/// The bytes that hexadecimal digits of either case write, two for each byte.
-fn bytes_of<const N: usize>(text: &str) -> Option<[u8; N]>
-    ensures { result ≡ bytes_of_text N text.now }
-{
-    <[u8; N] as FromHex>::from_hex(text).ok()
 }
 
 /// The whole number at a key, where it is at least `least` and at most `most`.

@@ -1,9 +1,10 @@
-use Rattle.duk_commands.proofs.WrapLemmas.{wrap_done, wrap_told}
+use Rattle.duk_commands.proofs.AnswerLemmas.{done, not_done}
 use Rattle.duk_commands.proofs.wrap.wrap_command.Goals as goal
 
 pub returns-clause-done : goal.returns-clause-done
-returns-clause-done g c zero = wrap_done (λ lines. lines.items) _ _ _ _ _ _ c.shown.ensures.lines (c.finish.ensures.done zero)
+returns-clause-done g c zero =
+    done (λ lines. lines.items) _ _ _ _ c.wrap_line.ensures.line (c.finish.ensures.done zero)
 
-pub returns-clause-told : goal.returns-clause-told
-returns-clause-told g c one =
-    wrap_told (λ lines. lines.items) _ _ _ _ _ _ c.shown.ensures.lines c.shown.ensures.refused (c.finish.ensures.told one)
+pub returns-clause-not_done : goal.returns-clause-not_done
+returns-clause-not_done g c one =
+    not_done (λ lines. lines.items) _ _ _ _ c.wrap_line.ensures.line c.wrap_line.ensures.refused (c.finish.ensures.not_done one)

@@ -1,6 +1,6 @@
 use Rattle.std.proofs.Common.{[], ◌∷◌, ◌++◌, ap, ◌∙◌, subst}
 use Rattle.duk_script.specs.FaultLine.{unknown_line}
-use Rattle.duk_text.specs.Sink.{IsTried}
+use Rattle.duk_io.specs.Sink.{IsTried}
 use Rattle.duk_script.proofs.fault_line.print_fault.Goals as goal
 
 pub returns-in-ConfigTooLong : goal.returns-in-ConfigTooLong
@@ -23,15 +23,15 @@ returns-in-NoMemory g c = record { line = rw c.in-NoMemory.is c.tell-in-NoMemory
 
 pub returns-in-UnknownKey : goal.returns-in-UnknownKey
 returns-in-UnknownKey g c =
-    let told = g.F.Sink.told in
-    record { line = rw c.in-UnknownKey.is (subst (λ text. IsTried (told c.args.fault.now) (told c.tell_unknown.new.fault) (unknown_line text)) c.as_bytes.ensures.value c.tell_unknown.ensures.line) }
+    let known = g.F.Sink.known in
+    record { line = rw c.in-UnknownKey.is (subst (λ text. IsTried (known c.args.fault.now) (known c.tell_unknown.new.fault) (unknown_line text)) c.as_bytes.ensures.value c.tell_unknown.ensures.line) }
 
 pub returns-in-BadKey : goal.returns-in-BadKey
 returns-in-BadKey g c =
-    let told = g.F.Sink.told in
-    record { line = rw c.in-BadKey.is (subst (λ text. IsTried (told c.args.fault.now) (told c.tell-in-BadKey.new.fault) text) (c.as_slice.ensures.value ∙ c.end.ensures ∙ ap (λ line. line ++ 10 ∷ []) c.bad_key.ensures.text) c.tell-in-BadKey.ensures.line) }
+    let known = g.F.Sink.known in
+    record { line = rw c.in-BadKey.is (subst (λ text. IsTried (known c.args.fault.now) (known c.tell-in-BadKey.new.fault) text) (c.as_slice.ensures.value ∙ c.end.ensures ∙ ap (λ line. line ++ 10 ∷ []) c.bad_key.ensures.text) c.tell-in-BadKey.ensures.line) }
 
 pub returns-in-BadEntry : goal.returns-in-BadEntry
 returns-in-BadEntry g c =
-    let told = g.F.Sink.told in
-    record { line = rw c.in-BadEntry.is (subst (λ text. IsTried (told c.args.fault.now) (told c.tell-in-BadEntry.new.fault) text) (c.as_slice-in-BadEntry.ensures.value ∙ c.bad_entry.ensures) c.tell-in-BadEntry.ensures.line) }
+    let known = g.F.Sink.known in
+    record { line = rw c.in-BadEntry.is (subst (λ text. IsTried (known c.args.fault.now) (known c.tell-in-BadEntry.new.fault) text) (c.as_slice-in-BadEntry.ensures.value ∙ c.bad_entry.ensures) c.tell-in-BadEntry.ensures.line) }

@@ -1,7 +1,9 @@
-use Rattle.std.proofs.Common.{refl}
+use Rattle.std.proofs.Common.{refl, sym, ◌∙◌}
 use Rattle.duk_config.specs.declared.fault.ConfigKey.TheVariants.{Stores, Bdk}
-use Rattle.duk_config.proofs.OrderLemmas.{is_there, next_right}
+use Rattle.duk_config.proofs.OrderLemmas.{is_there, next_right, on_found}
 use Rattle.duk_config.proofs.read.keys.read_stores.Goals as goal
 
-pub returns-in-Some-clause-right : goal.returns-in-Some-clause-right
-returns-in-Some-clause-right c = next_right _ Stores Bdk refl c.requires (is_there _ _ c.in-Some.ensures)
+pub returns-clause-right : goal.returns-clause-right
+returns-clause-right c =
+    on_found _ c.ok_or.result _ c.ok_or.ensures.ok_part
+    (λ found is. next_right _ Stores Bdk refl c.requires (is_there _ _ (sym is ∙ c.disk_in.ensures)))

@@ -1,0 +1,14 @@
+-- What reading does to a reader (this project's own).
+use Rattle.std.specs.Prelude.{ℕ, List}
+use Rattle.std.specs.Io.KnownBytes.{Consumes}
+use Rattle.duk_io.specs.Known.{Known, Rose, Stayed}
+
+-- these bytes were read, and no read failed
+pub record AreRead (old new : Known) (bytes : List ℕ) : Type 0 where
+  pub given : Consumes old.contents new.contents bytes
+  pub unfailed : Stayed old.failures new.failures
+
+-- these bytes were read, and then a read failed
+pub record IsBroken (old new : Known) (bytes : List ℕ) : Type 0 where
+  pub given : Consumes old.contents new.contents bytes
+  pub failed : Rose old.failures new.failures

@@ -1,0 +1,18 @@
+use Rattle.std.proofs.Common.{codes, decimal}
+use Rattle.duk_frame.specs.Code.{code_text}
+use Rattle.duk_script.specs.OutcomeText.{ksn_text}
+use Rattle.duk_script.proofs.SpacedLemmas.{three_words, fifth_word}
+use Rattle.duk_script.proofs.outcome_text.words_of.Goals as goal
+
+pub returns-in-Accepted-clause-text : goal.returns-in-Accepted-clause-text
+returns-in-Accepted-clause-text c =
+    rw c.in-Accepted.is
+    (fifth_word (codes "answer") (decimal c.in-Accepted.k) (codes "accepted") (ksn_text c.in-Accepted.ksn) (code_text c.in-Accepted.code)
+    c.answer_words.result.text.items c.code.result.text.items c.answer_words.ensures.text c.code.ensures.text)
+
+pub returns-in-IksnElsewhere-clause-text : goal.returns-in-IksnElsewhere-clause-text
+returns-in-IksnElsewhere-clause-text c =
+    rw c.in-IksnElsewhere.is
+    (three_words _ _ _ c.of_terminal-in-IksnElsewhere.result.text.items c.word-in-IksnElsewhere.result.text.items
+    c.word-in-IksnElsewhere-2.result.text.items c.of_terminal-in-IksnElsewhere.ensures.text
+    c.word-in-IksnElsewhere.ensures.text c.word-in-IksnElsewhere-2.ensures.text)

@@ -1,0 +1,55 @@
+-- The world of a configuration, over stores in memory: this project's own.
+use Rattle.std.specs.Prelude.{◌≡◌, ◌+◌, ◌++◌, ◌∷◌, zero, suc, ℕ, List, [], None, length, replicate}
+use Rattle.duk_config.specs.Opened.{keys_for}
+use Rattle.duk_config.specs.Settings.{Settings}
+use Rattle.duk_host.specs.Host.{HostOf, words_of}
+use Rattle.duk_host.specs.Table.{CardTable, table_decision}
+use Rattle.duk_net.specs.First.{first_world}
+use Rattle.duk_net.specs.Run.{Run}
+use Rattle.duk_net.specs.World.{Meanings, WorldOf, meanings_of}
+use Rattle.duk_net.specs.declared.event.Event.{Event}
+use Rattle.duk_net.specs.declared.event.Event.TheVariants.{RestartHost, RestartTerm}
+use Rattle.duk_net.specs.declared.outcome.Outcome.{Outcome}
+use Rattle.duk_store.specs.MemoryCell.{MemoryCell, armed_cell, memory_meaning, new_cell}
+use Rattle.duk_store.specs.MemoryLog.{MemoryLog, armed_log, log_meaning, new_log}
+use Rattle.duk_tdes.specs.KeyBytes.{bytes_of}
+use Rattle.duk_term.specs.Terminal.{Term}
+use Rattle.duk_term.specs.declared.state.State.TheVariants.{Stopped}
+
+-- a world over stores in memory, with a table of cards
+abbrev pub MemoryWorld : Type 0
+MemoryWorld = WorldOf MemoryCell MemoryLog CardTable
+
+-- what its stores and its issuer mean
+abbrev pub in_memory : Meanings MemoryCell MemoryLog CardTable
+in_memory = meanings_of memory_meaning (λ cell. ⊥) (λ old steps new. new ≡ armed_cell steps old)
+    (words_of log_meaning (λ log. length log.numbers) (λ log. log.capacity) table_decision)
+    (λ old steps new. new ≡ armed_log steps old)
+
+-- a terminal as it is made over a new cell
+abbrev pub new_terminal : Term MemoryCell
+new_terminal = record { cell = new_cell; state = Stopped }
+
+-- the host of a configuration, as it is made
+abbrev pub new_host_of : List ℕ → Settings → HostOf MemoryLog CardTable
+new_host_of lmk config = record {
+  keys = keys_for lmk config;
+  issuer = record { zone = bytes_of config.zone; cards = config.cards };
+  log = new_log config.log;
+  used = None;
+}
+
+-- the world of a configuration, as it is made
+abbrev pub new_world_of : List ℕ → Settings → MemoryWorld
+new_world_of lmk config =
+    first_world (new_host_of lmk config) config.loading (replicate config.terminals new_terminal)
+
+-- the restarts of the host and of so many terminals
+abbrev pub opening : ℕ → List Event
+opening zero = RestartHost ∷ []
+opening (suc count) = opening count ++ RestartTerm (count + 1) ∷ []
+
+-- the world of a configuration, its ends restarted
+abbrev pub IsOpened : List ℕ → Settings → MemoryWorld → Type 0
+IsOpened lmk config world =
+    (opened : List Outcome) × Run in_memory (new_world_of lmk config) (opening config.terminals) opened world

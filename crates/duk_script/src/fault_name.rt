@@ -1,0 +1,77 @@
+//! The names of faults at the end of a line.
+
+ghost use Rattle.std.specs.Prelude.{◌≡◌, ◌+◌, ◌<◌, ◌≤◌, ◌++◌, ◌∷◌, codes, length};
+ghost use Rattle.duk_block.specs.FaultName.{block_fault_name};
+ghost use Rattle.duk_script.specs.FaultText.{host_fault_text, store_fault_text, term_fault_text};
+
+use crate::line::{LINE_ROOM, Line};
+use duk_block::BlockFault;
+use duk_host::HostFault;
+use duk_store::StoreFault;
+use duk_term::TermFault;
+
+impl Line {
+    /// The line and the name of a terminal's fault, followed by that of the fault inside it.
+    pub(crate) fn term_fault(self, fault: TermFault) -> Line
+        requires { length self.text.items + 20 < LINE_ROOM }
+        ensures text { result.text.items ≡ self.text.items ++ 32 ∷ term_fault_text fault }
+        ensures bound { length result.text.items ≤ length self.text.items + 20 }
+    {
+        match fault {
+            TermFault::NotLoaded => self.word(b"NotLoaded"),
+            TermFault::AlreadyLoaded => self.word(b"AlreadyLoaded"),
+            TermFault::Block(fault) => self.block_fault(fault),
+            TermFault::WrongUse => self.word(b"WrongUse"),
+            TermFault::Spent => self.word(b"Spent"),
+            TermFault::Stopped => self.word(b"Stopped"),
+            TermFault::Store(fault) => self.store_fault(fault),
+            TermFault::Malformed => self.word(b"Malformed"),
+            TermFault::NotPending => self.word(b"NotPending"),
+            TermFault::NotMine => self.word(b"NotMine"),
+            TermFault::BadMac => self.word(b"BadMac"),
+        }
+    }
+
+    /// The line and the name of the host's fault, followed by that of the fault inside it.
+    pub(crate) fn host_fault(self, fault: HostFault) -> Line
+        requires { length self.text.items + 20 < LINE_ROOM }
+        ensures text { result.text.items ≡ self.text.items ++ 32 ∷ host_fault_text fault }
+        ensures bound { length result.text.items ≤ length self.text.items + 20 }
+    {
+        match fault {
+            HostFault::NoMemory => self.word(b"NoMemory"),
+            HostFault::Store(fault) => self.store_fault(fault),
+            HostFault::Stopped => self.word(b"Stopped"),
+            HostFault::Read => self.word(b"Read"),
+            HostFault::Write => self.word(b"Write"),
+            HostFault::Truncated => self.word(b"Truncated"),
+            HostFault::TooLong => self.word(b"TooLong"),
+        }
+    }
+
+    /// The line, `Block`, and the name of a key block's fault.
+    #[tactic(auto, using(crate::proofs::FaultLemmas::short_block_name))]
+    fn block_fault(self, fault: BlockFault) -> Line
+        requires { length self.text.items + 20 < LINE_ROOM }
+        ensures text { result.text.items ≡ self.text.items ++ 32 ∷ (codes "Block " ++ block_fault_name fault) }
+        ensures bound { length result.text.items ≤ length self.text.items + 20 }
+    {
+        self.word(b"Block").word(fault.name().as_bytes())
+    }
+
+    /// The line, `Store`, and the name of a store's fault.
+    fn store_fault(self, fault: StoreFault) -> Line
+        requires { length self.text.items + 20 < LINE_ROOM }
+        ensures text { result.text.items ≡ self.text.items ++ 32 ∷ (codes "Store " ++ store_fault_text fault) }
+        ensures bound { length result.text.items ≤ length self.text.items + 20 }
+    {
+        let line = self.word(b"Store");
+        match fault {
+            StoreFault::Device => line.word(b"Device"),
+            StoreFault::Stopped => line.word(b"Stopped"),
+            StoreFault::Damaged => line.word(b"Damaged"),
+            StoreFault::Worn => line.word(b"Worn"),
+            StoreFault::NoMemory => line.word(b"NoMemory"),
+        }
+    }
+}
