@@ -6,3 +6,4 @@ pub mod Derived
 pub mod KeyBlock
 pub mod Faults
 pub mod Unwrapped
+pub mod FaultName

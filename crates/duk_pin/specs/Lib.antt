@@ -5,3 +5,4 @@ pub mod Nibbles
 pub mod PinBlock
 pub mod Padded
 pub mod Reading
+pub mod FaultName
