@@ -2,7 +2,7 @@
 use Rattle.std.specs.Prelude.{◌++◌, ℕ, List, codes}
 use Rattle.duk_block.specs.Faults.{IsFirstFault}
 use Rattle.duk_block.specs.HeaderText.{fields}
-use Rattle.duk_block.specs.KeyBlock.{IsKeyBlock, IsWithinLimits}
+use Rattle.duk_block.specs.KeyBlock.{Wraps}
 use Rattle.duk_block.specs.declared.fault.BlockFault.{BlockFault}
 use Rattle.duk_block.specs.declared.header.Header.{Header}
 use Rattle.duk_commands.specs.Answer.{named_line, text_line, IsDone, IsRefusal, IsCutShort}
@@ -21,9 +21,8 @@ abbrev pub unwrapped : Header → List ℕ → Unwrapped
 unwrapped header key = record { header = header; key = key }
 
 -- the text is a key block under this protection key, within the limits, and says this
-pub record Says (text protection_key : List ℕ) (said : Unwrapped) : Type 0 where
-  pub limits : IsWithinLimits text
-  pub block : IsKeyBlock text protection_key said.header said.key
+abbrev pub Says : List ℕ → List ℕ → Unwrapped → Type 0
+Says text protection_key said = Wraps protection_key text said.header said.key
 
 -- the words are a protection key and a key block under it that says this
 pub record IsUnwrapRead (kbpk block : List ℕ) (said : Unwrapped) : Type 0 where

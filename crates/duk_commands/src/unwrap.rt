@@ -2,7 +2,7 @@
 
 ghost use Rattle.std.specs.Prelude.{◌≡◌, ◌⊎◌, IfOk, IfErr};
 ghost use Rattle.duk_block.specs.Faults.{IsFirstFault};
-ghost use Rattle.duk_block.specs.KeyBlock.{IsKeyBlock, IsWithinLimits};
+ghost use Rattle.duk_block.specs.KeyBlock.{Wraps};
 ghost use Rattle.duk_tdes.specs.KeyBytes.{bytes_of};
 ghost use Rattle.duk_commands.specs.Unwrap.{Unwrapped, unwrapped, IsUnwrapRead, IsUnwrapRefused, unwrapped_lines, IsUnwrapShown, IsUnwrapNotShown, IsUnwrapShownInPart};
 
@@ -56,8 +56,8 @@ fn shown(kbpk: &str, block: &str) -> Result<Lines, Fault>
 
 /// The header and the key of a key block under a protection key of either length.
 fn opened(kbpk: KeyBytes, text: &[u8]) -> Result<(Header, KeyBytes), BlockFault>
-    ensures found { IfOk result (λ found. IsWithinLimits text.now
-        × IsKeyBlock text.now (bytes_of kbpk) found.0 (bytes_of found.1)) }
+    ensures found { IfOk result
+        (λ found. Wraps (bytes_of kbpk) text.now found.0 (bytes_of found.1)) }
     ensures refused { IfErr result (λ fault. IsFirstFault text.now (bytes_of kbpk) fault) }
 {
     match kbpk {

@@ -9,7 +9,6 @@
 mod answer;
 mod body;
 mod fault;
-mod loading;
 mod purchase;
 mod state;
 mod terminal;

@@ -15,9 +15,9 @@ ghost use Rattle.duk_term.specs.declared.state.State.TheVariants as state;
 use crate::answer::{Answer, Next};
 use crate::body::{body_of, registers_in};
 use crate::fault::TermFault;
-use crate::loading::initial_key_in;
 use crate::purchase::Purchase;
 use crate::state::{Pending, State};
+use duk_block::{KeyUse, unwrap_double_for};
 use duk_frame::{Frame, payment_request};
 use duk_regs::Registers;
 use duk_store::{Cell, StoreFault};
@@ -112,7 +112,7 @@ impl<C: Cell> Terminal<C> {
             State::Loaded { .. } => return Err(TermFault::AlreadyLoaded),
             State::Empty => {}
         }
-        let initial = initial_key_in(loading, block)?;
+        let initial = unwrap_double_for(KeyUse::InitialKey, loading, block)?;
         self.keep(Registers::load(initial, iksn), None)
     }
 
