@@ -5,7 +5,7 @@ use Rattle.duk_tdes.specs.declared.key.KeyBytes.{KeyBytes}
 use Rattle.duk_block.specs.declared.header.Header.{Header}
 use Rattle.duk_block.specs.declared.fault.BlockFault.{BlockFault}
 use Rattle.duk_block.specs.Faults.{IsFirstFault, Meets}
-use Rattle.duk_block.specs.KeyBlock.{IsKeyBlock, IsWithinLimits}
+use Rattle.duk_block.specs.KeyBlock.{IsKeyBlock, Wraps}
 use Rattle.duk_tdes.specs.KeyBytes.{bytes_of, key_from}
 use Rattle.duk_block.specs.Unwrapped.{ReadsKeyBlocks, RefusesFirstFaults}
 use Rattle.duk_block.proofs.FaultOrder.{IsFirstFault-same}
@@ -14,10 +14,11 @@ use Rattle.duk_block.proofs.FaultOrder.{IsFirstFault-same}
 pub record Exact (text protection_key : List ℕ) : Type 0 where
   pub one_reading : (header other_header : Header) (key other_key : List ℕ) → IsKeyBlock text protection_key header key → IsKeyBlock text protection_key other_header other_key
       → (header ≡ other_header) × (key ≡ other_key)
-  pub no_fault : (header : Header) (key : List ℕ) → IsWithinLimits text → IsKeyBlock text protection_key header key → (fault : BlockFault) → Meets text protection_key fault
+  pub no_fault : (header : Header) (key : List ℕ) → Wraps protection_key text header key
+      → (fault : BlockFault) → Meets text protection_key fault
 
 pub record Sound (text protection_key : List ℕ) (answer : Result (Header × KeyBytes) BlockFault) : Type 0 where
-  pub found : IfOk answer (λ found. IsWithinLimits text × IsKeyBlock text protection_key found.0 (bytes_of found.1))
+  pub found : IfOk answer (λ found. Wraps protection_key text found.0 (bytes_of found.1))
   pub kind : IfOk answer (λ found. found.1 ≡ key_from (bytes_of found.1))
   pub refused : IfErr answer (IsFirstFault text protection_key)
 
@@ -25,22 +26,23 @@ fault_same : (a b : BlockFault) → (let one : Result (Header × KeyBytes) Block
 fault_same a b same = cc
 
 reads_of : (text protection_key : List ℕ) → Exact text protection_key → (answer : Result (Header × KeyBytes) BlockFault)
-    → IfOk answer (λ found. IsWithinLimits text × IsKeyBlock text protection_key found.0 (bytes_of found.1))
+    → IfOk answer (λ found. Wraps protection_key text found.0 (bytes_of found.1))
     → IfOk answer (λ found. found.1 ≡ key_from (bytes_of found.1))
     → IfErr answer (IsFirstFault text protection_key)
     → ReadsKeyBlocks answer text protection_key
-reads_of text protection_key exact (Ok answer) found kind refused header key limits block =
-    let same = exact.one_reading answer.0 header (bytes_of answer.1) key found.1 block in
+reads_of text protection_key exact (Ok answer) found kind refused header key wraps =
+    let same = exact.one_reading answer.0 header (bytes_of answer.1) key found.block wraps.block in
     let second : answer.1 ≡ key_from key = kind ∙ ap key_from same.1 in
     ap (λ h. Ok (h, answer.1)) same.0 ∙ ap (λ k. Ok (header, k)) second
-reads_of text protection_key exact (Err fault) found kind refused header key limits block = absurd (refused.unmet (exact.no_fault header key limits block fault))
+reads_of text protection_key exact (Err fault) found kind refused header key wraps =
+    absurd (refused.unmet (exact.no_fault header key wraps fault))
 
 refuses_of : (text protection_key : List ℕ) → Exact text protection_key → (answer : Result (Header × KeyBytes) BlockFault)
-    → IfOk answer (λ found. IsWithinLimits text × IsKeyBlock text protection_key found.0 (bytes_of found.1))
+    → IfOk answer (λ found. Wraps protection_key text found.0 (bytes_of found.1))
     → IfErr answer (IsFirstFault text protection_key)
     → RefusesFirstFaults answer text protection_key
 refuses_of text protection_key exact (Ok answer) found refused fault =
-    (λ same. cc, λ first. absurd (first.unmet (exact.no_fault answer.0 (bytes_of answer.1) found.0 found.1 fault)))
+    (λ same. cc, λ first. absurd (first.unmet (exact.no_fault answer.0 (bytes_of answer.1) found fault)))
 refuses_of text protection_key exact (Err told) found refused fault =
     let P : BlockFault → Type 0 = IsFirstFault text protection_key in (
       λ same. subst P (fault_same told fault same) refused,

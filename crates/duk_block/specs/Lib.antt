@@ -7,3 +7,4 @@ pub mod KeyBlock
 pub mod Faults
 pub mod Unwrapped
 pub mod FaultName
+pub mod KeyUse

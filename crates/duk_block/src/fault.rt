@@ -1,4 +1,4 @@
-//! Why a key block is refused.
+//! Why a key block, or the key in it, is refused.
 
 ghost use Rattle.std.specs.Prelude.{◌≡◌};
 ghost use Rattle.duk_block.specs.FaultName.{block_fault_name};
@@ -30,7 +30,7 @@ pub enum BlockFault {
 }
 
 impl BlockFault {
-    /// The name of the fault.
+    /// The fault's name.
     pub fn name(self) -> &'static str
         ensures { result.now ≡ block_fault_name self }
     {
@@ -54,3 +54,12 @@ impl fmt::Display for BlockFault {
 }
 
 impl Error for BlockFault {}
+
+/// Why a key block has no key for a use.
+#[derive(Debug, Clone, Copy, PartialEq, Eq)]
+pub enum KeyFault {
+    /// The key block cannot be read.
+    Block(BlockFault),
+    /// Its key is for another use, or has not the length that was asked for.
+    WrongUse,
+}

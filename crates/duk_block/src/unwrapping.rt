@@ -5,7 +5,7 @@ ghost use Rattle.std.specs.List.{AllPass};
 ghost use Rattle.hex.specs.Hex.{is_hex_digit};
 ghost use Rattle.duk_tdes.specs.Tdes.{IsTdesLength};
 ghost use Rattle.duk_block.specs.Hexadecimal.{IsHexadecimal};
-ghost use Rattle.duk_block.specs.KeyBlock.{IsKeyBlock, IsWithinLimits};
+ghost use Rattle.duk_block.specs.KeyBlock.{Wraps};
 ghost use Rattle.duk_tdes.specs.KeyBytes.{bytes_of, key_from};
 ghost use Rattle.duk_block.specs.Faults.{Carries, HasBody, HasCount, HasHeader, HasPayload, IsFirstFault, MetBefore};
 ghost use Rattle.duk_block.specs.Unwrapped.{ReadsKeyBlocks, RefusesFirstFaults};
@@ -28,8 +28,7 @@ use duk_tdes::{Key, KeyBytes, array_of};
 /// last two characters of the header, the ids and contents of optional blocks and the padding may be anything.
 pub fn unwrap<const N: usize>(kbpk: &Key<N>, text: &[u8]) -> Result<(Header, KeyBytes), BlockFault>
     requires { IsTdesLength N }
-    ensures found { IfOk result
-        (λ found. IsWithinLimits text.now × IsKeyBlock text.now kbpk.now found.0 (bytes_of found.1)) }
+    ensures found { IfOk result (λ found. Wraps kbpk.now text.now found.0 (bytes_of found.1)) }
     ensures only { ReadsKeyBlocks result text.now kbpk.now }
     ensures refused { RefusesFirstFaults result text.now kbpk.now }
 {
@@ -43,8 +42,7 @@ pub fn unwrap<const N: usize>(kbpk: &Key<N>, text: &[u8]) -> Result<(Header, Key
 /// The header and the key of a key block, or its first fault.
 fn read<const N: usize>(kbpk: &Key<N>, text: &[u8]) -> Result<(Header, KeyBytes), BlockFault>
     requires { IsTdesLength N }
-    ensures found { IfOk result
-        (λ found. IsWithinLimits text.now × IsKeyBlock text.now kbpk.now found.0 (bytes_of found.1)) }
+    ensures found { IfOk result (λ found. Wraps kbpk.now text.now found.0 (bytes_of found.1)) }
     ensures length { IfOk result (λ found. found.1 ≡ key_from (bytes_of found.1)) }
     ensures refused { IfErr result (IsFirstFault text.now kbpk.now) }
 {

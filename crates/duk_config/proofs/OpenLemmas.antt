@@ -5,7 +5,8 @@ use Rattle.duk_block.specs.KeyBlock.{Wraps}
 use Rattle.duk_block.specs.declared.header.Header.{Header}
 use Rattle.duk_hsm.specs.Keys.{HsmKeys, key_set_of}
 use Rattle.duk_hsm.specs.Load.{IsBdkLoaded, IsZoneLoaded, LoadBdkRefused, LoadZoneRefused, with_key_set}
-use Rattle.duk_hsm.specs.Loading.{IsBaseKey, IsZoneKey}
+use Rattle.duk_block.specs.KeyUse.{IsDoubleKeyFor, IsKeyFor}
+use Rattle.duk_block.specs.declared.key_use.KeyUse.TheVariants.{BaseDerivationKey, PinEncryption}
 use Rattle.duk_hsm.specs.declared.fault.HsmFault.{HsmFault}
 use Rattle.duk_hsm.specs.declared.fault.HsmFault.TheVariants as fault
 use Rattle.std.specs.Str.{bytes_eq}
@@ -19,7 +20,7 @@ use Rattle.duk_config.specs.Settings.{HaveDistinctPrefixes}
 
 -- the key of a base derivation key's block is loaded
 pub bdk_loaded : (keys new : HsmKeys) (lmk prefix text : List ℕ) (header : Header) (bdk : List ℕ) (answer : Result (Unit {0}) HsmFault)
-    → keys.lmk ≡ lmk → key_set_of keys prefix ≡ None → length keys.key_sets < 8 → WrapsAlone lmk text header bdk → IsBaseKey header bdk
+    → keys.lmk ≡ lmk → key_set_of keys prefix ≡ None → length keys.key_sets < 8 → WrapsAlone lmk text header bdk → IsDoubleKeyFor BaseDerivationKey header bdk
     → IfOk answer (λ _. IsBdkLoaded keys prefix text new) → IfErr answer (LoadBdkRefused keys prefix text)
     → IsOk answer × (new ≡ with_key_set keys prefix bdk)
 bdk_loaded keys new lmk prefix text header bdk (Ok done) same free room wrapped fit loaded refused =
@@ -29,7 +30,7 @@ bdk_loaded keys new lmk prefix text header bdk (Err (fault.Block why)) same free
     absurd (wrapped.has_no_fault why (subst (λ k. IsFirstFault text k why) same refused))
 bdk_loaded keys new lmk prefix text header bdk (Err fault.WrongUse) same free room wrapped fit loaded refused =
     let read = wrapped.alone refused.header refused.key (subst (λ k. Wraps k text refused.header refused.key) same refused.wraps) in
-    absurd (refused.use_is_other (subst (λ h. IsBaseKey h refused.key) read.0 (subst (λ k. IsBaseKey header k) read.1 fit)))
+    absurd (refused.use_is_other (subst (λ h. IsDoubleKeyFor BaseDerivationKey h refused.key) read.0 (subst (λ k. IsDoubleKeyFor BaseDerivationKey header k) read.1 fit)))
 bdk_loaded keys new lmk prefix text header bdk (Err fault.PrefixTaken) same free room wrapped fit loaded refused =
     let taken = rw free at refused.1 in cc
 bdk_loaded keys new lmk prefix text header bdk (Err fault.SlotsFull) same free room wrapped fit loaded refused = absurd (omega arith)
@@ -42,7 +43,7 @@ bdk_loaded keys new lmk prefix text header bdk (Err fault.BadPinBlock) same free
 
 -- the key of a zone key's block is loaded
 pub zone_loaded : (keys new : HsmKeys) (lmk text : List ℕ) (header : Header) (zone : List ℕ) (answer : Result (Unit {0}) HsmFault)
-    → keys.lmk ≡ lmk → keys.zone ≡ None → WrapsAlone lmk text header zone → IsZoneKey header zone
+    → keys.lmk ≡ lmk → keys.zone ≡ None → WrapsAlone lmk text header zone → IsKeyFor PinEncryption header zone
     → IfOk answer (λ _. IsZoneLoaded keys text new) → IfErr answer (LoadZoneRefused keys text)
     → IsOk answer × (new ≡ record keys { zone = Some zone })
 zone_loaded keys new lmk text header zone (Ok done) same free wrapped fit loaded refused =
@@ -52,7 +53,7 @@ zone_loaded keys new lmk text header zone (Err (fault.Block why)) same free wrap
     absurd (wrapped.has_no_fault why (subst (λ k. IsFirstFault text k why) same refused))
 zone_loaded keys new lmk text header zone (Err fault.WrongUse) same free wrapped fit loaded refused =
     let read = wrapped.alone refused.header refused.key (subst (λ k. Wraps k text refused.header refused.key) same refused.wraps) in
-    absurd (refused.use_is_other (subst (λ h. IsZoneKey h refused.key) read.0 (subst (λ k. IsZoneKey header k) read.1 fit)))
+    absurd (refused.use_is_other (subst (λ h. IsKeyFor PinEncryption h refused.key) read.0 (subst (λ k. IsKeyFor PinEncryption header k) read.1 fit)))
 zone_loaded keys new lmk text header zone (Err fault.ZoneTaken) same free wrapped fit loaded refused =
     let taken = rw free at refused.1 in cc
 zone_loaded keys new lmk text header zone (Err fault.PrefixTaken) same free wrapped fit loaded refused = absurd refused

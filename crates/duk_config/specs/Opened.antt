@@ -7,7 +7,8 @@ use Rattle.duk_block.specs.declared.fault.BlockFault.{BlockFault}
 use Rattle.duk_block.specs.declared.header.Header.{Header}
 use Rattle.duk_hsm.specs.Keys.{HsmKeys}
 use Rattle.duk_hsm.specs.Load.{key_set}
-use Rattle.duk_hsm.specs.Loading.{IsZoneHeader}
+use Rattle.duk_block.specs.KeyUse.{IsHeaderFor}
+use Rattle.duk_block.specs.declared.key_use.KeyUse.TheVariants.{PinEncryption}
 use Rattle.duk_hsm.specs.declared.key_set.KeySet.{KeySet}
 use Rattle.duk_config.specs.declared.base_key.BaseKey.{BaseKey}
 use Rattle.duk_config.specs.Settings.{Settings}
@@ -29,5 +30,5 @@ pub record WrapsAlone (lmk text : List ℕ) (header : Header) (key : List ℕ) :
 -- the text wraps this zone key alone, under a header that says so: what a private function of `open_hsm` answers
 pub record WrapsZone (lmk text zone : List ℕ) : Type 0 where
   pub header : Header
-  pub header_is : IsZoneHeader header
+  pub header_is : IsHeaderFor PinEncryption header
   pub wrapped : WrapsAlone lmk text header zone

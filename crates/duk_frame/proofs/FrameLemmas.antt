@@ -1,11 +1,8 @@
 -- Where the fields of a frame stand.
-use Rattle.std.proofs.Common.{◌≡◌, ◌≤◌, ℕ, ◌+◌, ◌-◌, List, ◌∷◌, ◌++◌, length, take, drop, get_or, refl, sym, ap, ◌∙◌, arith, length-append, drop-drop}
-use Rattle.std.proofs.lemmas.List.{take-append-le, take_all, drop-append-le, drop_all, get_or-drop}
-use Rattle.std.proofs.Common.{Bool, true, false, eqb}
-use Rattle.std.proofs.lemmas.Slice.Eq.{slice_eq-Decides}
-use Rattle.std.proofs.lemmas.Bool.Decides.{Decides-eqb}
-use lib.Pointwise.{pointwise}
-use Rattle.duk_frame.specs.Frame.{framed, mac_text_of}
+use Rattle.std.proofs.Common.{◌≡◌, ◌≤◌, ℕ, ◌+◌, ◌-◌, List, [], ◌∷◌, ◌++◌, length, take, drop, get_or, refl, sym, ap, ◌∙◌, arith, length-append, length-drop, drop-drop}
+use Rattle.std.proofs.lemmas.List.{take-append-drop, take-append-le, take_all, drop-append-le, drop_all, get_or-drop}
+use Rattle.byteorder.specs.Endian.{big_bytes}
+use Rattle.duk_frame.specs.Frame.{HasKind, framed, mac_text_of}
 
 -- ---- lists
 
@@ -52,13 +49,24 @@ get_or-next bytes next rest is = sym (get_or-drop 14 bytes 0 0) ∙ ap (λ xs. g
 pub drop-next : (bytes : List ℕ) (next : ℕ) (rest : List ℕ) → drop 14 bytes ≡ next ∷ rest → drop 15 bytes ≡ rest
 drop-next bytes next rest is = sym (drop-drop 1 14 bytes) ∙ ap (drop 1) is
 
--- slices that `==` finds to differ are not the same
-pub differ : (xs ys : List ℕ) (equal : Bool) → equal ≡ pointwise eqb xs ys → equal ≡ false → xs ≡ ys → ⊥
-differ xs ys equal answer is_false same =
-    let yes : equal ≡ true = (slice_eq-Decides Decides-eqb xs ys equal answer).1 same in
-    cc
-
 -- such a frame has its MAC's text, and room for a length and a MAC
 pub text_of_frame : (bytes text mac : List ℕ) → length mac ≡ 8 → bytes ≡ framed (text ++ mac) → (10 ≤ length bytes) × (mac_text_of bytes ≡ text)
 text_of_frame bytes text mac eight laid =
     (omega (arith, ap length laid, length-append text mac, eight), ap mac_text_of laid ∙ mac_text_framed text mac eight)
+
+-- frames of one text with one MAC each are the same where the MACs are
+pub same_mac : (text mac other : List ℕ) → framed (text ++ mac) ≡ framed (text ++ other) → mac ≡ other
+same_mac text mac other same =
+    sym (drop-front (length text) text mac refl)
+    ∙ ap (λ frame. drop (length text) (drop 2 frame)) same
+    ∙ drop-front (length text) text other refl
+
+-- ---- heads
+
+-- a frame of at most 64 bytes has the kind that its body says
+pub kind_of_frame : (bytes rest : List ℕ) (kind : ℕ) → bytes ≡ framed (1 ∷ kind ∷ rest) → length bytes ≤ 64
+    → HasKind bytes kind
+kind_of_frame bytes rest kind laid short = record {
+  short = short;
+  laid_out = laid ∙ ap (λ rest. framed (1 ∷ kind ∷ rest)) (sym (ap (drop 4) laid));
+}

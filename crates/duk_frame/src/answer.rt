@@ -1,12 +1,14 @@
 //! Answers, which the host sends back: an accepted reply or a refusal.
 
 ghost use Rattle.std.specs.Prelude.{◌≡◌, ◌≤◌, ◌++◌, IfSome, Some, List, ℕ, length};
+ghost use Rattle.duk_des.specs.Block.{IsBlock};
 ghost use Rattle.duk_frame.specs.Frame.{framed, mac_text_of};
 ghost use Rattle.duk_frame.specs.Answer.{AreAnswerFields, IsAnswer, IsReason, IsRefusal, IsReply, answer_bytes, refusal_text, reply_text};
 ghost use Rattle.duk_tree.specs.Serial.{IsSerial, Serial, serial_bytes};
 
 use crate::code::Code;
-use crate::frame::{Frame, append, begin_frame};
+use crate::frame::{Frame, append, begin_frame, has_kind};
+use crate::text::MacText;
 use duk_tdes::array_of;
 use duk_tree::Ksn;
 
@@ -43,18 +45,26 @@ pub enum AnswerFrame {
     },
 }
 
-/// The frame of an accepted reply: version 1, kind 2, the key serial number in 10 bytes, the code as two digits, and the
-/// MAC.
+/// The text of an accepted reply's MAC: version 1, kind 2, the key serial number in 10 bytes, and the code as two
+/// digits.
+pub fn reply_text(ksn: Ksn, code: Code) -> MacText
+    ensures text { result ≡ reply_text ksn code }
+    ensures reply { (mac : List ℕ) → IsBlock mac
+        → IsReply (framed (reply_text ksn code ++ mac)) ksn code mac }
+{
+    let mut frame = begin_frame(REPLY_BODY as u16, REPLY);
+    append(&mut frame, &ksn.bytes());
+    append(&mut frame, &code.text());
+    MacText::new(frame)
+}
+
+/// The frame of an accepted reply: its text, and the MAC.
 pub fn write_reply(ksn: Ksn, code: Code, mac: [u8; 8]) -> Frame
     ensures reply { IsReply result.items ksn code mac }
     ensures mac_text { mac_text_of result.items ≡ reply_text ksn code }
     ensures least { 10 ≤ length result.items }
 {
-    let mut frame = begin_frame(REPLY_BODY as u16, REPLY);
-    append(&mut frame, &ksn.bytes());
-    append(&mut frame, &code.text());
-    append(&mut frame, &array_of::<8>(&mac));
-    frame
+    reply_text(ksn, code).with_mac(mac)
 }
 
 /// The frame of a refusal: version 1, kind 3, the key serial number in 10 bytes, and the reason.
@@ -91,14 +101,13 @@ fn read_reply(bytes: &[u8]) -> Option<AnswerFrame>
     if bytes.len() != 2 + REPLY_BODY {
         return None;
     }
+    if !has_kind(bytes, REPLY) {
+        return None;
+    }
     let ksn = Ksn::from_bytes(array_of(&bytes[4..14]));
     let code = Code::from_text(array_of(&bytes[14..16]))?;
     let mac = array_of(&bytes[16..]);
-    if write_reply(ksn, code, mac).as_slice() == bytes {
-        Some(AnswerFrame::Reply { ksn, code, mac })
-    } else {
-        None
-    }
+    Some(AnswerFrame::Reply { ksn, code, mac })
 }
 
 /// The fields of a refusal's frame, or `None` where the bytes are no such frame.
@@ -108,14 +117,16 @@ fn read_refusal(bytes: &[u8]) -> Option<AnswerFrame>
         → result ≡ Some (AnswerFrame.Refusal ksn reason) }
 {
     duk_tree::laws::serials();
-    if bytes.len() != 2 + REFUSAL_BODY || !(1..=6).contains(&bytes[14]) {
+    if bytes.len() != 2 + REFUSAL_BODY {
+        return None;
+    }
+    if !has_kind(bytes, REFUSAL) {
         return None;
     }
     let reason = bytes[14];
-    let ksn = Ksn::from_bytes(array_of(&bytes[4..14]));
-    if write_refusal(ksn.bytes(), reason).as_slice() == bytes {
-        Some(AnswerFrame::Refusal { ksn, reason })
-    } else {
-        None
+    if !(1..=6).contains(&reason) {
+        return None;
     }
+    let ksn = Ksn::from_bytes(array_of(&bytes[4..14]));
+    Some(AnswerFrame::Refusal { ksn, reason })
 }

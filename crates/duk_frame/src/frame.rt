@@ -1,9 +1,9 @@
 //! What all frames have in common.
 
-ghost use Rattle.std.specs.Prelude.{◌≡◌, ◌≤◌, ◌+◌, ◌++◌, [], ◌∷◌, length};
+ghost use Rattle.std.specs.Prelude.{◌≡◌, ◌↔◌, ◌≤◌, ◌+◌, ◌++◌, [], ◌∷◌, IsTrue, length};
 ghost use Rattle.arrayvec.specs.ArrayVec.{array_vec_len};
 ghost use Rattle.byteorder.specs.Endian.{big_bytes};
-ghost use Rattle.duk_frame.specs.Frame.{mac_text_of};
+ghost use Rattle.duk_frame.specs.Frame.{HasKind, mac_text_of};
 
 use arrayvec::ArrayVec;
 use byteorder::{BigEndian, ByteOrder};
@@ -13,6 +13,9 @@ const FRAME_ROOM: usize = 64;
 
 /// A whole frame with its length.
 pub type Frame = ArrayVec<u8, FRAME_ROOM>;
+
+/// The bytes of a frame's head: the length of its body, and the body's version and kind.
+const HEAD: usize = 4;
 
 /// The first byte of every body.
 const VERSION: u8 = 1;
@@ -25,16 +28,31 @@ pub fn mac_text(frame: &[u8]) -> &[u8]
     &frame[2..frame.len() - 8]
 }
 
+/// Whether the bytes are a frame, and no longer than any may be, whose body has version 1 and this kind.
+pub(crate) fn has_kind(bytes: &[u8], kind: u8) -> bool
+    ensures { IsTrue result ↔ HasKind bytes.now kind }
+{
+    (HEAD..=FRAME_ROOM).contains(&bytes.len())
+        && bytes[..HEAD] == head(bytes.len() as u16 - 2, kind)[..]
+}
+
 /// A frame as far as its body's version and kind, where the body is to have this length.
 pub(crate) fn begin_frame(length: u16, kind: u8) -> Frame
     ensures bytes { result.items ≡ big_bytes 2 length ++ 1 ∷ kind ∷ [] }
     ensures len { array_vec_len result ≡ 4 }
 {
+    let mut frame = Frame::new();
+    append(&mut frame, &head(length, kind));
+    frame
+}
+
+/// The head of a frame: the length of its body, and the body's version and kind.
+fn head(length: u16, kind: u8) -> [u8; HEAD]
+    ensures { result ≡ big_bytes 2 length ++ 1 ∷ kind ∷ [] }
+{
     let mut head = [0, 0, VERSION, kind];
     BigEndian::write_u16(&mut head, length);
-    let mut frame = Frame::new();
-    append(&mut frame, &head);
-    frame
+    head
 }
 
 /// Appends bytes to a frame that has room for them.

@@ -2,16 +2,20 @@
 //! own.
 //!
 //! A request goes from a terminal to the host, an accepted reply or a refusal comes back. Request and reply have a MAC,
-//! which the callers make over `mac_text`. Nothing here takes memory.
+//! which is made over `mac_text`. Nothing here takes memory.
 #![tactic(auto)]
 
 mod answer;
 mod code;
 mod frame;
 pub mod laws;
+mod payment;
 mod request;
+mod text;
 
-pub use answer::{AnswerFrame, read_answer, write_refusal, write_reply};
+pub use answer::{AnswerFrame, read_answer, reply_text, write_refusal, write_reply};
 pub use code::Code;
 pub use frame::{Frame, mac_text};
-pub use request::{Request, read_request, write_request};
+pub use payment::{is_payment_reply, payment_request};
+pub use request::{Request, read_request, request_text, write_request};
+pub use text::MacText;

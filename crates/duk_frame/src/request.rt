@@ -1,11 +1,13 @@
 //! Requests, which a terminal sends to the host.
 
-ghost use Rattle.std.specs.Prelude.{◌≡◌, ◌≤◌, IfSome, Some, List, ℕ, length};
-ghost use Rattle.duk_frame.specs.Frame.{mac_text_of};
+ghost use Rattle.std.specs.Prelude.{◌≡◌, ◌≤◌, ◌∷◌, ◌++◌, IfSome, Some, List, ℕ, drop, length};
+ghost use Rattle.duk_des.specs.Block.{IsBlock};
+ghost use Rattle.duk_frame.specs.Frame.{framed, mac_text_of};
 ghost use Rattle.duk_pin.specs.Pan.{IsPan};
 ghost use Rattle.duk_frame.specs.Request.{AreRequestFields, IsRequest, request_bytes, request_text};
 
-use crate::frame::{Frame, append, begin_frame};
+use crate::frame::{Frame, append, begin_frame, has_kind};
+use crate::text::MacText;
 use byteorder::{BigEndian, ByteOrder};
 use duk_pin::Pan;
 use duk_tdes::array_of;
@@ -36,13 +38,13 @@ pub struct Request {
     pub mac: [u8; 8],
 }
 
-/// The frame of a request: version 1, kind 1, the key serial number in 10 bytes, the PAN as a length and ASCII digits,
-/// the amount in 4 bytes, the enciphered PIN block and the MAC.
-pub fn write_request(ksn: Ksn, pan: &Pan, amount: u32, block: [u8; 8], mac: [u8; 8]) -> Frame
-    ensures request { IsRequest result.items
+/// The text of a request's MAC: version 1, kind 1, the key serial number in 10 bytes, the PAN as a length and ASCII
+/// digits, the amount in 4 bytes, and the enciphered PIN block.
+pub fn request_text(ksn: Ksn, pan: &Pan, amount: u32, block: [u8; 8]) -> MacText
+    ensures text { result ≡ request_text ksn pan.now amount block }
+    ensures request { (mac : List ℕ) → IsBlock mac
+        → IsRequest (framed (request_text ksn pan.now amount block ++ mac))
         (record { ksn = ksn; pan = pan.now; amount = amount; block = block; mac = mac }) }
-    ensures mac_text { mac_text_of result.items ≡ request_text ksn pan.now amount block }
-    ensures least { 10 ≤ length result.items }
 {
     let digits = pan.digits().as_bytes();
     let mut amount_bytes = [0; 4];
@@ -53,8 +55,17 @@ pub fn write_request(ksn: Ksn, pan: &Pan, amount: u32, block: [u8; 8], mac: [u8;
     append(&mut frame, digits);
     append(&mut frame, &amount_bytes);
     append(&mut frame, &array_of::<8>(&block));
-    append(&mut frame, &array_of::<8>(&mac));
-    frame
+    MacText::new(frame)
+}
+
+/// The frame of a request: its text, and the MAC.
+pub fn write_request(ksn: Ksn, pan: &Pan, amount: u32, block: [u8; 8], mac: [u8; 8]) -> Frame
+    ensures request { IsRequest result.items
+        (record { ksn = ksn; pan = pan.now; amount = amount; block = block; mac = mac }) }
+    ensures mac_text { mac_text_of result.items ≡ request_text ksn pan.now amount block }
+    ensures least { 10 ≤ length result.items }
+{
+    request_text(ksn, pan, amount, block).with_mac(mac)
 }
 
 /// The fields of a request's frame, or `None` where the bytes are no such frame.
@@ -62,16 +73,9 @@ pub fn read_request(bytes: &[u8]) -> Option<Request>
     ensures found { IfSome result (IsRequest bytes.now) }
     ensures every { (request : Request) → IsRequest bytes.now request → result ≡ Some request }
 {
-    let request = fields_at_their_places(bytes)?;
-    let Request {
-        ksn,
-        pan,
-        amount,
-        block,
-        mac,
-    } = request;
-    if write_request(ksn, &pan, amount, block, mac).as_slice() == bytes {
-        Some(request)
+    duk_tree::laws::serials();
+    if has_kind(bytes, KIND) {
+        fields_at_their_places(bytes)
     } else {
         None
     }
@@ -80,6 +84,8 @@ pub fn read_request(bytes: &[u8]) -> Option<Request>
 /// What stands where a request of this length has its fields.
 fn fields_at_their_places(bytes: &[u8]) -> Option<Request>
     ensures fields { IfSome result AreRequestFields }
+    ensures text { IfSome result (λ request. 1 ∷ 1 ∷ drop 4 bytes.now
+        ≡ request_text request.ksn request.pan request.amount request.block ++ request.mac) }
     ensures every { (request : Request) → IsRequest bytes.now request → result ≡ Some request }
 {
     duk_tree::laws::serials();

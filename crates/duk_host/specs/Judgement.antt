@@ -8,8 +8,8 @@ use Rattle.duk_frame.specs.declared.code.Code.{Code}
 use Rattle.duk_frame.specs.declared.code.Code.TheVariants.{Unreadable}
 use Rattle.duk_frame.specs.declared.request.Request.{Request}
 use Rattle.duk_hsm.specs.Commands.{HasBadCounter, HasNoPin, IsOtherMac, IsRequestMac, IsTransactionKey, IsTranslated}
-use Rattle.duk_hsm.specs.Keys.{HsmKeys, key_set_of, prefix_of}
-use Rattle.duk_tree.specs.Serial.{Serial, serial_bytes}
+use Rattle.duk_hsm.specs.Keys.{HsmKeys, key_set_of}
+use Rattle.duk_tree.specs.Serial.{Serial, serial_bytes, prefix_of}
 use Rattle.duk_host.specs.Used.{IsUsed}
 use Rattle.duk_host.specs.declared.reason.Reason.{Reason}
 use Rattle.duk_host.specs.declared.reason.Reason.TheVariants as reason

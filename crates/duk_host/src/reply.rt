@@ -5,7 +5,7 @@ ghost use Rattle.duk_hsm.specs.Commands.{HasTransactionKey};
 ghost use Rattle.duk_host.specs.Judgement.{IsCodeOf, IsReplyWith};
 
 use crate::issuer::Issuer;
-use duk_frame::{Code, Frame, Request, mac_text, write_reply};
+use duk_frame::{Code, Frame, Request, reply_text};
 use duk_hsm::Hsm;
 use duk_tree::Ksn;
 
@@ -31,7 +31,7 @@ pub(crate) fn reply_frame<const N: usize>(hsm: &Hsm<N>, ksn: Ksn, code: Code) ->
     requires key { HasTransactionKey hsm.now ksn }
     ensures { IsReplyWith hsm.now ksn code result.items }
 {
-    let draft = write_reply(ksn, code, [0; 8]);
-    let mac = hsm.reply_mac(ksn, mac_text(draft.as_slice())).unwrap();
-    write_reply(ksn, code, mac)
+    let text = reply_text(ksn, code);
+    let mac = hsm.reply_mac(ksn, text.bytes()).unwrap();
+    text.with_mac(mac)
 }

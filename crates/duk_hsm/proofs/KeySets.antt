@@ -6,7 +6,8 @@ use Rattle.duk_tdes.specs.Key.{IsKey}
 use Rattle.duk_hsm.specs.Keys.{AreHsmKeys, HsmKeys, bdk_with, key_set_of}
 use Rattle.duk_hsm.specs.Load.{key_set, with_key_set}
 use Rattle.duk_block.specs.KeyBlock.{WrapsFor}
-use Rattle.duk_hsm.specs.Loading.{IsBaseKey}
+use Rattle.duk_block.specs.KeyUse.{IsDoubleKeyFor}
+use Rattle.duk_block.specs.declared.key_use.KeyUse.TheVariants.{BaseDerivationKey}
 use Rattle.duk_hsm.specs.declared.key_set.KeySet.{KeySet}
 
 -- where a prefix has no key set, the first has another prefix, and the prefix has none among the others
@@ -28,7 +29,7 @@ found_before sought prefix bdk [] found h = grind arith
 found_before sought prefix bdk (set ∷ sets) found h = grind (arith, found_before sought prefix bdk sets found)
 
 -- a base derivation key has sixteen bytes
-pub sixteen_bytes : (protection_key text bdk : List ℕ) → WrapsFor IsBaseKey protection_key text bdk → IsKey 16 bdk
+pub sixteen_bytes : (protection_key text bdk : List ℕ) → WrapsFor (IsDoubleKeyFor BaseDerivationKey) protection_key text bdk → IsKey 16 bdk
 sixteen_bytes protection_key text bdk wrapped = record { size_is = wrapped.use_is.length_is; bytes_fit = wrapped.wraps.block.key_is.bytes_fit }
 
 -- the keys stay lawful with one key set more

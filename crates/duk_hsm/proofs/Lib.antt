@@ -1,2 +1,1 @@
 mod KeySets
-mod Prefixes

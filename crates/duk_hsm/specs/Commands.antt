@@ -1,7 +1,8 @@
 -- The commands of a host security module: this project's own, over the keys of ANSI X9.24-1:2009 annex A.
-use Rattle.std.specs.Prelude.{◌≡◌, ◌≢◌, ℕ, List, Some, None, IsSome, length, codes}
+use Rattle.std.specs.Prelude.{◌≡◌, ◌≢◌, ℕ, List, Some, None, IsSome, length}
 use Rattle.duk_block.specs.KeyBlock.{FitsKeyBlock, IsWithinLimits, IsWrittenKeyBlock}
-use Rattle.duk_block.specs.declared.header.Header.{Header}
+use Rattle.duk_block.specs.KeyUse.{header_for}
+use Rattle.duk_block.specs.declared.key_use.KeyUse.TheVariants.{InitialKey}
 use Rattle.duk_block.specs.declared.fault.BlockFault.{BlockFault}
 use Rattle.duk_block.specs.declared.fault.BlockFault.TheVariants as block_fault
 use Rattle.duk_mac.specs.Retail.{retail_of}
@@ -9,15 +10,10 @@ use Rattle.duk_pin.specs.PinBlock.{IsPinBlock, pin_block}
 use Rattle.duk_tdes.specs.Tdes.{tdes_decrypted, tdes_encrypted}
 use Rattle.duk_tree.specs.Derivation.{derived_key_of, initial_key_of, pin_key_of, request_key_of, response_key_of}
 use Rattle.duk_tree.specs.Path.{IsUsable}
-use Rattle.duk_tree.specs.Serial.{Serial}
-use Rattle.duk_hsm.specs.Keys.{HsmKeys, iksn_prefix_of, key_set_of, prefix_of}
+use Rattle.duk_tree.specs.Serial.{Serial, iksn_prefix_of, prefix_of}
+use Rattle.duk_hsm.specs.Keys.{HsmKeys, key_set_of}
 use Rattle.duk_hsm.specs.declared.fault.HsmFault.{HsmFault}
 use Rattle.duk_hsm.specs.declared.fault.HsmFault.TheVariants as fault
-
--- the header of an initial key that is issued: usage B1 (initial DUKPT key), algorithm T (TDES), mode X (derivation), version 00 and
--- exportability N (not)
-abbrev pub initial_key_header : Header
-initial_key_header = record { usage = codes "B1"; algorithm = 0x54; mode = 0x58; version = codes "00"; exportability = 0x4E }
 
 -- the text is a key block, under the loading key, of the initial key that the held base derivation key gives this terminal
 pub record IsIssued (keys : HsmKeys) (iksn : ℕ) (loading padding text : List ℕ) : Type 0 where
@@ -25,7 +21,7 @@ pub record IsIssued (keys : HsmKeys) (iksn : ℕ) (loading padding text : List �
   pub held : key_set_of keys (iksn_prefix_of iksn) ≡ Some bdk
   pub fits : FitsKeyBlock 16 (length padding)
   pub limits : IsWithinLimits text
-  pub written : IsWrittenKeyBlock text loading initial_key_header (initial_key_of bdk iksn) padding
+  pub written : IsWrittenKeyBlock text loading (header_for InitialKey) (initial_key_of bdk iksn) padding
 
 -- the padding does not fit, and that is what is told
 pub record IsPadFault (padding : List ℕ) (why : BlockFault) : Type 0 where

@@ -1,12 +1,11 @@
 -- The keys that a host security module holds: this project's own, over the key serial numbers of ANSI X9.24-1:2009 annex A.
-use Rattle.std.specs.Prelude.{◌≡◌, ◌≢◌, ◌≤◌, ℕ, List, Option, Some, AllPairs, find, length, take}
+use Rattle.std.specs.Prelude.{◌≡◌, ◌≢◌, ◌≤◌, ℕ, List, Option, Some, AllPairs, find, length}
 use Rattle.std.specs.Option.{option_map}
 use Rattle.std.specs.Str.{bytes_eq}
 use Rattle.duk_tdes.specs.KeyBytes.{bytes_of}
 use Rattle.duk_tdes.specs.Key.{IsKey}
 use Rattle.duk_tdes.specs.Tdes.{IsTdesKey}
 use Rattle.duk_tdes.specs.declared.key.KeyBytes.{KeyBytes}
-use Rattle.duk_tree.specs.Serial.{Serial, iksn_bytes, serial_bytes}
 use Rattle.duk_hsm.specs.declared.key_set.KeySet.{KeySet}
 
 -- what a host security module holds: its local master key, perhaps a zone key, and key sets, each of which is a base derivation key and the
@@ -27,14 +26,6 @@ bdk_with prefix key_sets = option_map (λ set. set.bdk) (find (λ set. bytes_eq 
 -- the base derivation key that is held for this prefix, if one is
 abbrev pub key_set_of : HsmKeys → List ℕ → Option (List ℕ)
 key_set_of keys prefix = bdk_with prefix keys.key_sets
-
--- the prefix of a key serial number: the first five of its ten bytes
-abbrev pub prefix_of : Serial → List ℕ
-prefix_of ksn = take 5 (serial_bytes ksn)
-
--- the prefix of an initial key serial number: that of the key serial number with counter zero
-abbrev pub iksn_prefix_of : ℕ → List ℕ
-iksn_prefix_of iksn = take 5 (iksn_bytes iksn)
 
 -- what holds of the keys at all times: there are at most eight key sets, no two of them have one prefix, and each key has its length
 pub record AreHsmKeys (keys : HsmKeys) : Type 0 where

@@ -1,4 +1,3 @@
 pub mod Keys
-pub mod Loading
 pub mod Load
 pub mod Commands

@@ -1,6 +1,9 @@
 //! Why a host security module refuses.
 
-use duk_block::BlockFault;
+ghost use Rattle.std.specs.Prelude.{◌≡◌};
+ghost use Rattle.duk_hsm.specs.Load.{told_fault};
+
+use duk_block::{BlockFault, KeyFault};
 use thiserror::Error;
 
 /// Why a host security module does not do what it was asked. `Display` writes the name, and that of the fault inside
@@ -37,4 +40,15 @@ pub enum HsmFault {
     /// The block is that of no PIN under the PAN.
     #[error("BadPinBlock")]
     BadPinBlock,
+}
+
+impl From<KeyFault> for HsmFault {
+    ghost from_gives = { λ fault told. told ≡ told_fault fault };
+
+    fn from(fault: KeyFault) -> HsmFault {
+        match fault {
+            KeyFault::Block(fault) => HsmFault::Block(fault),
+            KeyFault::WrongUse => HsmFault::WrongUse,
+        }
+    }
 }

@@ -7,25 +7,15 @@ ghost use Rattle.duk_hsm.specs.Load.{IsBdkLoaded, IsZoneLoaded, LoadBdkRefused, 
 ghost use Rattle.duk_hsm.specs.Commands.{IsIssued, IsReplyMac, IsRequestMac, IsTransactionKey, IsTranslated, IssueRefused, NoTransactionKey, TranslateRefused, VerifyRefused};
 
 use crate::fault::HsmFault;
-use crate::key_set::{KeySet, PREFIX_LENGTH, SLOTS, bdk_with};
-use crate::loading::{base_key_in, zone_key_in};
+use crate::key_set::{KeySet, SLOTS, bdk_with};
 use crate::payment::pin_in;
 use arrayvec::ArrayVec;
-use duk_block::{Header, wrap};
+use duk_block::{KeyUse, unwrap_double_for, unwrap_for, wrap};
 use duk_mac::retail;
 use duk_pin::{Pan, encode};
-use duk_tdes::{Key, KeyBytes, array_of};
-use duk_tree::{Iksn, Ksn, derive, initial_key, request_key, response_key, usable};
+use duk_tdes::{Key, KeyBytes};
+use duk_tree::{Iksn, Ksn, PREFIX_LENGTH, derive, initial_key, request_key, response_key, usable};
 use std::marker::Model;
-
-/// The header of an initial key that is issued.
-const INITIAL_KEY: Header = Header {
-    usage: *b"B1",
-    algorithm: b'T',
-    mode: b'X',
-    version: *b"00",
-    exportability: b'N',
-};
 
 /// A host security module: a local master key of `N` bytes (16 or 24), up to eight base derivation keys, each for the
 /// key serial numbers that begin with its five bytes, and perhaps a zone key.
@@ -85,7 +75,7 @@ impl<const N: usize> Hsm<N> {
         ensures refused { IfErr result (LoadBdkRefused self.old prefix block.now) }
         ensures same { IfErr result (λ _. self.new ≡ self.old) }
     {
-        let bdk = base_key_in(&self.lmk, block)?;
+        let bdk = unwrap_double_for(KeyUse::BaseDerivationKey, &self.lmk, block)?;
         if self.has_key_set(&prefix) {
             return Err(HsmFault::PrefixTaken);
         }
@@ -106,7 +96,7 @@ impl<const N: usize> Hsm<N> {
         ensures refused { IfErr result (LoadZoneRefused self.old block.now) }
         ensures same { IfErr result (λ _. self.new ≡ self.old) }
     {
-        let zone = zone_key_in(&self.lmk, block)?;
+        let zone = unwrap_for(KeyUse::PinEncryption, &self.lmk, block)?;
         if self.has_zone() {
             return Err(HsmFault::ZoneTaken);
         }
@@ -128,10 +118,9 @@ impl<const N: usize> Hsm<N> {
         ensures issued { IfOk result (λ text. IsIssued self.now iksn loading.now pad.now text.items) }
         ensures refused { IfErr result (IssueRefused self.now iksn pad.now) }
     {
-        let Some(bdk) = self.key_set(&array_of(&iksn.bytes()[..PREFIX_LENGTH])) else {
-            return Err(HsmFault::NoKeySet);
-        };
-        wrap(loading, &INITIAL_KEY, &initial_key(&bdk, iksn), pad).map_err(HsmFault::Block)
+        let bdk = self.key_set(&iksn.prefix()).ok_or(HsmFault::NoKeySet)?;
+        let header = KeyUse::InitialKey.header();
+        wrap(loading, &header, &initial_key(&bdk, iksn), pad).map_err(HsmFault::Block)
     }
 
     /// Tells whether `mac` is the retail MAC of a text, which is not empty, under the transaction key's variant for
@@ -173,13 +162,9 @@ impl<const N: usize> Hsm<N> {
         ensures refused { IfErr result (TranslateRefused self.now ksn block pan.now) }
     {
         let key = self.transaction_key(ksn)?;
-        let Some(zone) = &self.zone else {
-            return Err(HsmFault::NoZone);
-        };
-        match pin_in(&key, block, pan) {
-            Some(pin) => Ok(zone.encrypt(encode(&pin, pan))),
-            None => Err(HsmFault::BadPinBlock),
-        }
+        let zone = self.zone.as_ref().ok_or(HsmFault::NoZone)?;
+        let pin = pin_in(&key, block, pan).ok_or(HsmFault::BadPinBlock)?;
+        Ok(zone.encrypt(encode(&pin, pan)))
     }
 
     /// The transaction key of a key serial number.
@@ -187,9 +172,7 @@ impl<const N: usize> Hsm<N> {
         ensures found { IfOk result (IsTransactionKey self.now ksn) }
         ensures refused { IfErr result (NoTransactionKey self.now ksn) }
     {
-        let Some(bdk) = self.key_set(&array_of(&ksn.bytes()[..PREFIX_LENGTH])) else {
-            return Err(HsmFault::NoKeySet);
-        };
+        let bdk = self.key_set(&ksn.prefix()).ok_or(HsmFault::NoKeySet)?;
         if usable(ksn.counter()) {
             Ok(derive(&bdk, ksn))
         } else {

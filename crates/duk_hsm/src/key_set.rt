@@ -4,12 +4,10 @@ ghost use Rattle.std.specs.Prelude.{◌≡◌};
 ghost use Rattle.duk_hsm.specs.Keys.{bdk_with};
 
 use duk_tdes::Key;
+use duk_tree::PREFIX_LENGTH;
 
 /// How many key sets are held at most.
 pub const SLOTS: usize = 8;
-
-/// The bytes of a prefix: those with which the key serial numbers of a key set begin.
-pub const PREFIX_LENGTH: usize = 5;
 
 /// A base derivation key, and the first bytes of the key serial numbers that it is for.
 #[derive(Clone, Copy)]

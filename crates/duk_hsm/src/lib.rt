@@ -8,8 +8,6 @@
 mod fault;
 mod hsm;
 mod key_set;
-pub mod laws;
-mod loading;
 mod payment;
 
 pub use fault::HsmFault;

@@ -2,16 +2,16 @@
 use Rattle.std.specs.Prelude.{ℕ, ◌-◌, ◌%◌, List, ◌++◌, length, replicate}
 use Rattle.duk_des.specs.Des.{encrypted, decrypted}
 use Rattle.duk_tdes.specs.Blocks.{blocks_of}
-use Rattle.duk_tdes.specs.Key.{left_half, right_half}
+use Rattle.duk_tdes.specs.Tdes.{first_key, second_key}
 use Rattle.duk_mac.specs.Chain.{zero_block, chained}
 
 -- a message filled with zero bytes to whole blocks (padding method 1)
 abbrev pub zero_filled : List ℕ → List ℕ
 zero_filled message = message ++ replicate ((8 - length message % 8) % 8) 0
 
--- single DES under the left half of the key along the blocks, and the last block deciphered under the right half
--- and enciphered under the left one again
+-- single DES under the first half of the key along the blocks, and the last block deciphered under the second half
+-- and enciphered under the first again
 unfoldable pub retail_of : List ℕ → List ℕ → List ℕ
 retail_of key message =
-    let last = chained (encrypted (left_half key)) zero_block (blocks_of (zero_filled message)) in
-    encrypted (left_half key) (decrypted (right_half key) last)
+    let last = chained (encrypted (first_key key)) zero_block (blocks_of (zero_filled message)) in
+    encrypted (first_key key) (decrypted (second_key key) last)

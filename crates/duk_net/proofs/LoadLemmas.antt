@@ -3,7 +3,8 @@ use Rattle.std.proofs.Common.{◌≡◌, ℕ, List, None, replicate, rules}
 use Rattle.duk_block.specs.KeyBlock.{FitsKeyBlock, IsKeyBlock}
 use Rattle.duk_block.specs.declared.header.Header.{Header}
 use Rattle.duk_hsm.specs.Commands.{IsIssued, IssueRefused}
-use Rattle.duk_hsm.specs.Keys.{HsmKeys, iksn_prefix_of, key_set_of}
+use Rattle.duk_hsm.specs.Keys.{HsmKeys, key_set_of}
+use Rattle.duk_tree.specs.Serial.{iksn_prefix_of}
 use Rattle.duk_hsm.specs.declared.fault.HsmFault.{HsmFault}
 use Rattle.duk_hsm.specs.declared.fault.HsmFault.TheVariants as fault
 use Rattle.duk_tdes.specs.Tdes.{IsTdesKey}

@@ -10,7 +10,7 @@ use Rattle.duk_frame.specs.declared.answer.AnswerFrame.TheVariants.{Refusal, Rep
 use Rattle.duk_frame.specs.declared.request.Request.{Request}
 use Rattle.duk_host.specs.Host.{bench_of}
 use Rattle.duk_host.specs.Judgement.{Bench, IsAuthentic, IsReplyWith, IsReasonAgainst, reason_number}
-use Rattle.duk_hsm.specs.Keys.{HsmKeys, iksn_prefix_of, key_set_of, prefix_of}
+use Rattle.duk_hsm.specs.Keys.{HsmKeys, key_set_of}
 use Rattle.duk_pin.specs.PinBlock.{IsPinBlock, pin_block}
 use Rattle.duk_tdes.specs.Key.{IsKey}
 use Rattle.duk_tdes.specs.Tdes.{tdes_decrypted, tdes_encrypted}
@@ -19,7 +19,7 @@ use Rattle.duk_term.specs.Terminal.{Term, serial_of}
 use Rattle.duk_term.specs.declared.purchase.Purchase.{Purchase}
 use Rattle.duk_tree.specs.Derivation.{node_key, pin_key_of, transaction_key_of}
 use Rattle.duk_tree.specs.Path.{path_of}
-use Rattle.duk_tree.specs.Serial.{IsSerial, Serial}
+use Rattle.duk_tree.specs.Serial.{IsSerial, Serial, iksn_prefix_of, prefix_of}
 use Rattle.duk_net.specs.OwnKey.{IsOwnReply, IsOwnRequest, IsRefusedAsUsedOrFull}
 use Rattle.duk_net.specs.Reached.{CallLeads, Moves, Reached}
 use Rattle.duk_net.specs.UnusedKeys.{HoldsOfState, HoldsOfTerminal, StandsAboveUsed}

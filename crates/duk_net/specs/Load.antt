@@ -1,7 +1,8 @@
 -- A terminal of a world is loaded: this project's own.
 use Rattle.std.specs.Prelude.{◌≡◌, ◌⊎◌, ℕ, List, None, replicate}
 use Rattle.duk_hsm.specs.Commands.{IsIssued}
-use Rattle.duk_hsm.specs.Keys.{iksn_prefix_of, key_set_of}
+use Rattle.duk_hsm.specs.Keys.{key_set_of}
+use Rattle.duk_tree.specs.Serial.{iksn_prefix_of}
 use Rattle.duk_store.specs.Cell.{Kept}
 use Rattle.duk_store.specs.Meaning.{Meaning}
 use Rattle.duk_term.specs.Load.{IsLoaded, LoadRefused, Loading, loading_of}

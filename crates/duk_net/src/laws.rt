@@ -84,7 +84,7 @@ pub fn own_key<C: Cell, L: UsedLog, I: Issuer>()
     no_used_key::<C, L, I>();
     duk_frame::laws::one_reading();
     duk_tree::laws::keys();
-    duk_hsm::laws::prefixes();
+    duk_tree::laws::prefixes();
     duk_pin::laws::eight_bytes();
     duk_tdes::laws::inverse();
 }

@@ -20,7 +20,7 @@ pub enum PinFault {
 }
 
 impl PinFault {
-    /// The name of the fault.
+    /// The fault's name.
     pub fn name(self) -> &'static str
         ensures { result.now ≡ pin_fault_name self }
     {

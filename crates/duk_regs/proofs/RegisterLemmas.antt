@@ -6,7 +6,8 @@ use Rattle.std.specs.Int.{trailing_zeros, w32}
 use Rattle.std.specs.Option.{unwrap_or}
 use Rattle.duk_tree.specs.Path.{path_of, IsUsable}
 use Rattle.duk_tree.specs.Next.{IsNextUsable, IsLast, spent_counter}
-use Rattle.duk_tree.specs.Derivation.{step_of, low_bytes}
+use Rattle.duk_tree.specs.Derivation.{step_of}
+use Rattle.duk_tree.specs.Serial.{low_bytes}
 use Rattle.duk_regs.specs.Registers.{RegisterSet, IsTaken, empty_register, register_at, lowest_place}
 use Rattle.duk_regs.proofs.CounterLemmas.{BitLaws, trailing_place, comes_after}
 

@@ -6,7 +6,8 @@ use Rattle.std.proofs.lemmas.Bool.{cases_lt, cases_order}
 use Rattle.duk_tree.specs.Path.{value_of, path_of, last_place, IsPath, IsUsable}
 use Rattle.duk_tree.specs.Next.{ComesAfter}
 use Rattle.duk_tree.specs.Frontier.{candidate_at, parent_of, IsHeld, IsChild}
-use Rattle.duk_tree.specs.Derivation.{step_of, low_bytes, node_key, transaction_key_of}
+use Rattle.duk_tree.specs.Derivation.{step_of, node_key, transaction_key_of}
+use Rattle.duk_tree.specs.Serial.{low_bytes}
 use Rattle.duk_regs.specs.Registers.{RegisterSet, IsRegisterSet, StandsFor, HoldsNode, IsTaken, IsEmptyAt, LeavesEmpty, lowest_place, empty_register, register_at}
 
 -- what the key tree promises

@@ -1,10 +1,10 @@
 -- The future key registers of a terminal (ANSI X9.24-1:2009 annex A).
 use Rattle.std.specs.Prelude.{◌≡◌, ◌≢◌, ◌⊎◌, ◌<◌, ◌≤◌, ◌+◌, ◌^◌, ℕ, List, length, replicate, slice_index_or}
-use Rattle.duk_tree.specs.Serial.{IsIksn}
+use Rattle.duk_tree.specs.Serial.{IsIksn, low_bytes}
 use Rattle.duk_tree.specs.Path.{IsUsable, path_of, last_place}
 use Rattle.duk_tree.specs.Next.{spent_counter, ComesAfter}
 use Rattle.duk_tree.specs.Frontier.{IsHeld}
-use Rattle.duk_tree.specs.Derivation.{step_of, low_bytes, transaction_key_of}
+use Rattle.duk_tree.specs.Derivation.{step_of, transaction_key_of}
 
 -- what a terminal keeps: its initial key serial number, the counter that it uses next, and its registers
 pub record RegisterSet : Type 0 where

@@ -1,9 +1,9 @@
 //! Which keys the registers hold.
 
 ghost use Rattle.std.specs.Prelude.{◌≡◌, ◌↔◌, ◌<◌, ◌≤◌, ◌+◌, ◌^◌, ℕ, length, IsTrue};
-ghost use Rattle.duk_tree.specs.Serial.{IsIksn, IsSerial};
+ghost use Rattle.duk_tree.specs.Serial.{IsIksn, low_bytes};
 ghost use Rattle.duk_tree.specs.Path.{IsUsable, path_of};
-ghost use Rattle.duk_tree.specs.Derivation.{step_of, low_bytes};
+ghost use Rattle.duk_tree.specs.Derivation.{step_of};
 ghost use Rattle.duk_regs.specs.Registers.{IsEmptyAt, LeavesEmpty, lowest_place, empty_register, register_at};
 
 use duk_tdes::Key;
@@ -22,16 +22,6 @@ pub(crate) fn no_key() -> Key<16>
     Key::new([0; 16])
 }
 
-/// The key serial number of a terminal at a counter.
-pub(crate) fn serial_at(iksn: Iksn, counter: u32) -> Ksn
-    requires { counter < 2 ^ 21 }
-    ensures value { result ≡ record { iksn = iksn; counter = counter } }
-    ensures serial { IsSerial result }
-{
-    duk_tree::laws::serials();
-    Ksn::from_bytes(iksn.bytes()).with_counter(counter)
-}
-
 /// The keys of the powers of two, the children of the root, each in the register of its bit.
 pub(crate) fn first_registers(initial: &Key<16>, iksn: Iksn) -> [Key<16>; PLACES]
     ensures iksn { IsIksn iksn }
@@ -40,7 +30,7 @@ pub(crate) fn first_registers(initial: &Key<16>, iksn: Iksn) -> [Key<16>; PLACES
         → register_at result place
         ≡ step_of initial.now (low_bytes (record { iksn = iksn; counter = 2 ^ place })) }
 {
-    let root = serial_at(iksn, 0);
+    let root = iksn.with_counter(0);
     let mut registers = [no_key(); PLACES];
     for place in 0..PLACES {
         registers[place] = child_key(initial, root.with_counter(1 << place));
@@ -64,7 +54,7 @@ pub(crate) fn fill_below(registers: &mut [Key<16>; PLACES], key: &Key<16>, iksn:
     duk_tree::laws::children();
     if counter.count_ones() < MOST_ONES {
         for place in 0..counter.trailing_zeros() {
-            registers[place as usize] = child_key(key, serial_at(iksn, counter + (1 << place)));
+            registers[place as usize] = child_key(key, iksn.with_counter(counter + (1 << place)));
         }
     }
 }
@@ -73,9 +63,7 @@ pub(crate) fn fill_below(registers: &mut [Key<16>; PLACES], key: &Key<16>, iksn:
 fn child_key(parent: &Key<16>, number: Ksn) -> Key<16>
     ensures { result ≡ step_of parent.now (low_bytes number) }
 {
-    let mut crypto_register = [0; 8];
-    crypto_register.copy_from_slice(&number.bytes()[2..]);
-    step(parent, crypto_register)
+    step(parent, number.low_bytes())
 }
 
 /// Whether each register holds no key where the frontier has no node for it.

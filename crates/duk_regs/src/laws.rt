@@ -2,7 +2,8 @@
 
 ghost use Rattle.std.specs.Prelude.{◌≡◌, ◌<◌, ◌≤◌, ◌⊎◌, ◌^◌, ℕ, List, length};
 ghost use Rattle.duk_tree.specs.Path.{IsUsable};
-ghost use Rattle.duk_tree.specs.Derivation.{step_of, low_bytes, transaction_key_of};
+ghost use Rattle.duk_tree.specs.Derivation.{step_of, transaction_key_of};
+ghost use Rattle.duk_tree.specs.Serial.{low_bytes};
 ghost use Rattle.duk_regs.specs.Registers.{RegisterSet, IsRegisterSet, StandsFor, IsTaken, HoldsNode, register_at, empty_register};
 ghost use Rattle.duk_regs.specs.Image.{image_bytes, set_in, IsImage};
 

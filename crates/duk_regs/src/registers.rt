@@ -7,7 +7,7 @@ ghost use Rattle.duk_tree.specs.Path.{IsUsable};
 ghost use Rattle.duk_regs.specs.Registers.{IsRegisterSet, StandsFor, IsTaken};
 ghost use Rattle.duk_regs.specs.Image.{image_bytes, set_in, IsImage};
 
-use crate::frontier::{PLACES, SPENT, fill_below, first_registers, no_key, serial_at};
+use crate::frontier::{PLACES, SPENT, fill_below, first_registers, no_key};
 use crate::image::{IMAGE_LENGTH, read_image, write_image};
 use crate::laws;
 use duk_tdes::Key;
@@ -59,7 +59,7 @@ impl Registers {
         if self.counter == SPENT {
             return None;
         }
-        Some(serial_at(self.iksn, self.counter))
+        Some(self.iksn.with_counter(self.counter))
     }
 
     /// Uses the next number: its key, its key serial number, and the registers afterwards. The register
@@ -96,7 +96,7 @@ impl Registers {
             counter: next_usable(counter).unwrap_or(SPENT),
             registers,
         };
-        Ok((key, serial_at(iksn, counter), left))
+        Ok((key, iksn.with_counter(counter), left))
     }
 
     /// The image that a terminal stores: version 1, the initial key serial number in 10 bytes, the

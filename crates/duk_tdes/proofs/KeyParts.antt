@@ -5,8 +5,8 @@ use Rattle.std.specs.List.{All}
 use Rattle.std.proofs.lemmas.List.{length-take-le, length-drop, length-append}
 use Rattle.std.proofs.lemmas.List.Elements.{All-take, All-drop, All-cons, All-head, All-tail, All-append}
 use Rattle.duk_des.specs.Block.{IsBlock}
-use Rattle.duk_tdes.specs.Key.{IsKey, left_half, right_half, xor_bytes}
-use Rattle.duk_tdes.specs.Tdes.{IsTdesLength, first_key, second_key, third_key}
+use Rattle.duk_tdes.specs.Key.{IsKey, xor_bytes}
+use Rattle.duk_tdes.specs.Tdes.{IsTdesKey, IsTdesLength, first_key, second_key, third_key}
 
 eight_of : (start : ℕ) (key : List ℕ) → start + 8 ≤ length key → All (λ byte. byte < 2 ^ 8) key → IsBlock (take 8 (drop start key))
 eight_of start key within fit = record {
@@ -14,20 +14,22 @@ eight_of start key within fit = record {
   bytes_fit = All-take (λ byte. byte < 2 ^ 8) 8 (drop start key) (All-drop (λ byte. byte < 2 ^ 8) start key fit);
 }
 
-at_least_16 : (size : ℕ) (key : List ℕ) → IsTdesLength size → IsKey size key → 16 ≤ length key
-at_least_16 size key either is_key = elim either [ inl short ↦ omega (arith, is_key.size_is) | inr long ↦ omega (arith, is_key.size_is) ]
+at_least_16 : (key : List ℕ) → IsTdesKey key → 16 ≤ length key
+at_least_16 key is_key = elim is_key.length_is [ inl short ↦ omega arith | inr long ↦ omega arith ]
 
-pub first_is_key : (size : ℕ) (key : List ℕ) → IsTdesLength size → IsKey size key → IsBlock (first_key key)
-first_is_key size key either is_key = let long : 16 ≤ length key = at_least_16 size key either is_key in eight_of 0 key (omega arith) is_key.bytes_fit
+pub first_is_key : (key : List ℕ) → IsTdesKey key → IsBlock (first_key key)
+first_is_key key is_key =
+    let long : 16 ≤ length key = at_least_16 key is_key in eight_of 0 key (omega arith) is_key.bytes_fit
 
-pub second_is_key : (size : ℕ) (key : List ℕ) → IsTdesLength size → IsKey size key → IsBlock (second_key key)
-second_is_key size key either is_key = let long : 16 ≤ length key = at_least_16 size key either is_key in eight_of 8 key (omega arith) is_key.bytes_fit
+pub second_is_key : (key : List ℕ) → IsTdesKey key → IsBlock (second_key key)
+second_is_key key is_key =
+    let long : 16 ≤ length key = at_least_16 key is_key in eight_of 8 key (omega arith) is_key.bytes_fit
 
-pub third_is_key : (size : ℕ) (key : List ℕ) → IsTdesLength size → IsKey size key → IsBlock (third_key key)
-third_is_key size key either is_key =
-    elim either [
-      | inl short ↦ rw (is_key.size_is, short) (first_is_key size key (inl short) is_key)
-      | inr long ↦ rw (is_key.size_is, long) (eight_of 16 key (omega arith) is_key.bytes_fit)
+pub third_is_key : (key : List ℕ) → IsTdesKey key → IsBlock (third_key key)
+third_is_key key is_key =
+    elim is_key.length_is [
+      | inl short ↦ rw short (first_is_key key is_key)
+      | inr long ↦ rw long (eight_of 16 key (omega arith) is_key.bytes_fit)
     ]
 
 length-xor_bytes : (bytes mask : List ℕ) → length (xor_bytes bytes mask) ≡ length bytes
@@ -49,11 +51,8 @@ IsKey-xor_bytes size key mask is_key is_mask = record {
   bytes_fit = xor_bytes-fit key mask is_key.bytes_fit is_mask.bytes_fit;
 }
 
-pub left_half_is_key : (key : List ℕ) → IsKey 16 key → IsBlock (left_half key)
-left_half_is_key key is_key = eight_of 0 key (omega (arith, is_key.size_is)) is_key.bytes_fit
-
-pub right_half_is_key : (key : List ℕ) → IsKey 16 key → IsBlock (right_half key)
-right_half_is_key key is_key = eight_of 8 key (omega (arith, is_key.size_is)) is_key.bytes_fit
+pub IsTdesKey-double : (key : List ℕ) → IsKey 16 key → IsTdesKey key
+IsTdesKey-double key is_key = record { length_is = inl is_key.size_is; bytes_fit = is_key.bytes_fit }
 
 pub IsKey-append : (left right : List ℕ) → IsBlock left → IsBlock right → IsKey 16 (left ++ right)
 IsKey-append left right is_left is_right = record {

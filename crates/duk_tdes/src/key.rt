@@ -1,7 +1,8 @@
 //! Keys of single DES (8 bytes) and of TDES (16 and 24 bytes).
 
 ghost use Rattle.std.specs.Prelude.{◌≡◌, ℕ, List};
-ghost use Rattle.duk_tdes.specs.Key.{IsKey, xor_bytes, left_half, right_half};
+ghost use Rattle.duk_tdes.specs.Key.{IsKey, xor_bytes};
+ghost use Rattle.duk_tdes.specs.Tdes.{first_key, second_key};
 
 use crate::bytes::{array_of, xor_bytes};
 use std::marker::Model;
@@ -48,10 +49,10 @@ impl<const N: usize> Key<N> {
 }
 
 impl Key<16> {
-    /// The left and the right half, a single key each.
+    /// The left and the right half, a single key each: K1 and K2.
     pub fn halves(&self) -> (Key<8>, Key<8>)
-        ensures left { result.0 ≡ left_half self.now }
-        ensures right { result.1 ≡ right_half self.now }
+        ensures left { result.0 ≡ first_key self.now }
+        ensures right { result.1 ≡ second_key self.now }
     {
         let left = array_of(&self.bytes[..8]);
         let right = array_of(&self.bytes[8..16]);

@@ -1,6 +1,9 @@
 //! Why a terminal refuses.
 
-use duk_block::BlockFault;
+ghost use Rattle.std.specs.Prelude.{◌≡◌};
+ghost use Rattle.duk_term.specs.Loading.{told_fault};
+
+use duk_block::{BlockFault, KeyFault};
 use duk_store::StoreFault;
 use thiserror::Error;
 
@@ -40,4 +43,15 @@ pub enum TermFault {
     /// The MAC of the reply is not that of the host.
     #[error("BadMac")]
     BadMac,
+}
+
+impl From<KeyFault> for TermFault {
+    ghost from_gives = { λ fault told. told ≡ told_fault fault };
+
+    fn from(fault: KeyFault) -> TermFault {
+        match fault {
+            KeyFault::Block(fault) => TermFault::Block(fault),
+            KeyFault::WrongUse => TermFault::WrongUse,
+        }
+    }
 }

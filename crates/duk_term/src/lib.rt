@@ -9,8 +9,6 @@
 mod answer;
 mod body;
 mod fault;
-mod loading;
-mod payment;
 mod purchase;
 mod state;
 mod terminal;

@@ -9,8 +9,7 @@ ghost use Rattle.duk_term.specs.Reply.{IsTold, IsPending, ReplyRefused, complete
 
 use crate::answer::{Answer, Next};
 use crate::fault::TermFault;
-use crate::payment::reply_frame;
-use duk_frame::{AnswerFrame, Code, read_answer};
+use duk_frame::{AnswerFrame, Code, is_payment_reply, read_answer};
 use duk_regs::Registers;
 use duk_tdes::Key;
 use duk_tree::Ksn;
@@ -90,13 +89,9 @@ impl State {
             State::Empty => None,
             State::Loaded { pending, .. } => *pending,
         };
-        let Some(answer) = read_answer(bytes) else {
-            return Err(TermFault::Malformed);
-        };
-        match pending {
-            Some(pending) => pending.judge(bytes, answer),
-            None => Err(TermFault::NotPending),
-        }
+        let answer = read_answer(bytes).ok_or(TermFault::Malformed)?;
+        let pending = pending.ok_or(TermFault::NotPending)?;
+        pending.judge(bytes, answer)
     }
 
     /// Ends what is pending.
@@ -113,11 +108,13 @@ impl Pending {
     /// What an answer tells of this transaction.
     fn judge(&self, bytes: &[u8], answer: AnswerFrame) -> Result<Answer, TermFault>
         requires { IsAnswer bytes.now answer }
-        ensures told { IfOk result (λ told. (state : State) → IsPending state self.now → IsTold state bytes.now told) }
-        ensures refused { IfErr result (λ why. (state : State) → IsPending state self.now → ReplyRefused state bytes.now why) }
+        ensures told { IfOk result
+            (λ told. (state : State) → IsPending state self.now → IsTold state bytes.now told) }
+        ensures refused { IfErr result
+            (λ why. (state : State) → IsPending state self.now → ReplyRefused state bytes.now why) }
     {
         match answer {
-            AnswerFrame::Reply { ksn, code, .. } => self.judge_reply(bytes, ksn, code),
+            AnswerFrame::Reply { ksn, code, mac } => self.judge_reply(bytes, ksn, code, mac),
             AnswerFrame::Refusal { ksn, reason } => {
                 if ksn == self.ksn {
                     Ok(Answer::Refused(reason))
@@ -129,25 +126,26 @@ impl Pending {
     }
 
     /// What a reply tells of this transaction.
-    fn judge_reply(&self, bytes: &[u8], ksn: Ksn, code: Code) -> Result<Answer, TermFault>
-        requires { (mac : List ℕ) × IsReply bytes.now ksn code mac }
-        ensures told { IfOk result (λ told. (state : State) → IsPending state self.now → IsTold state bytes.now told) }
-        ensures refused { IfErr result (λ why. (state : State) → IsPending state self.now → ReplyRefused state bytes.now why) }
+    fn judge_reply(
+        &self,
+        bytes: &[u8],
+        ksn: Ksn,
+        code: Code,
+        mac: [u8; 8],
+    ) -> Result<Answer, TermFault>
+        requires { IsReply bytes.now ksn code mac }
+        ensures told { IfOk result
+            (λ told. (state : State) → IsPending state self.now → IsTold state bytes.now told) }
+        ensures refused { IfErr result
+            (λ why. (state : State) → IsPending state self.now → ReplyRefused state bytes.now why) }
     {
         if ksn != self.ksn {
             return Err(TermFault::NotMine);
         }
-        if self.is_answered_by(bytes, code) {
+        if is_payment_reply(&self.response_key, bytes, mac) {
             Ok(Answer::Done(code))
         } else {
             Err(TermFault::BadMac)
         }
-    }
-
-    /// Whether the bytes are the host's accepted reply to this transaction, with this code.
-    fn is_answered_by(&self, bytes: &[u8], code: Code) -> bool
-        ensures { IsTrue result ↔ (bytes.now ≡ reply_to self.now code) }
-    {
-        bytes == reply_frame(&self.response_key, self.ksn, code).as_slice()
     }
 }

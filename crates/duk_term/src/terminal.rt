@@ -15,11 +15,10 @@ ghost use Rattle.duk_term.specs.declared.state.State.TheVariants as state;
 use crate::answer::{Answer, Next};
 use crate::body::{body_of, registers_in};
 use crate::fault::TermFault;
-use crate::loading::initial_key_in;
-use crate::payment::request_frame;
 use crate::purchase::Purchase;
 use crate::state::{Pending, State};
-use duk_frame::Frame;
+use duk_block::{KeyUse, unwrap_double_for};
+use duk_frame::{Frame, payment_request};
 use duk_regs::Registers;
 use duk_store::{Cell, StoreFault};
 use duk_tdes::Key;
@@ -113,7 +112,7 @@ impl<C: Cell> Terminal<C> {
             State::Loaded { .. } => return Err(TermFault::AlreadyLoaded),
             State::Empty => {}
         }
-        let initial = initial_key_in(loading, block)?;
+        let initial = unwrap_double_for(KeyUse::InitialKey, loading, block)?;
         self.keep(Registers::load(initial, iksn), None)
     }
 
@@ -127,7 +126,8 @@ impl<C: Cell> Terminal<C> {
         ensures refused { IfErr result (BeginRefused C.meaning C.worn self.old self.new) }
     {
         let (key, ksn, left) = self.state.take_number()?;
-        let request = request_frame(&key, ksn, purchase);
+        let Purchase { pan, pin, amount } = purchase;
+        let request = payment_request(&key, ksn, pan, pin, *amount);
         let pending = Pending {
             ksn,
             response_key: response_key(&key),

@@ -4,7 +4,8 @@ use Rattle.std.proofs.lemmas.List.{take-append-le, take_all, drop_all, append-ni
 use Rattle.std.proofs.Math.Nat.{div-mul-le_self, mod-eq_of_lt}
 use borrow.Rule.Slice.PartMut.{put_mid}
 use Rattle.duk_tree.specs.Path.{value_of, path_of}
-use Rattle.duk_tree.specs.Derivation.{step_of, low_bytes, node_key, transaction_key_of}
+use Rattle.duk_tree.specs.Derivation.{step_of, node_key, transaction_key_of}
+use Rattle.duk_tree.specs.Serial.{low_bytes}
 use Rattle.duk_tree.proofs.PathLemmas.{path_from, value_of-path_from}
 
 down : (initial : List ℕ) (iksn counter place count : ℕ) (key : List ℕ) → place + suc count ≡ 21 → counter < 2 ^ 21

@@ -1,5 +1,5 @@
 -- The keys of the tree are keys of sixteen bytes, as far as the ciphers below make blocks of blocks.
-use Rattle.std.proofs.Common.{◌≡◌, ℕ, ◌<◌, ◌≤◌, ◌^◌, true, List, [], ◌∷◌, ◌++◌, length, take, drop, refl, arith, ltb, inl}
+use Rattle.std.proofs.Common.{◌≡◌, ℕ, ◌<◌, ◌≤◌, ◌^◌, true, List, [], ◌∷◌, ◌++◌, length, take, drop, refl, arith, ltb}
 use Rattle.std.specs.List.{All, list_all}
 use Rattle.std.proofs.lemmas.Bool.Decides.{nat_tests}
 use Rattle.std.proofs.lemmas.List.{length-take-le, length-drop}
@@ -7,20 +7,21 @@ use Rattle.std.proofs.lemmas.List.Elements.{All-take, All-drop, All-weaker}
 use Rattle.std.proofs.lemmas.List.Sums.{AllPass-from_list_all}
 use Rattle.duk_des.specs.Block.{IsBlock}
 use Rattle.duk_des.specs.Des.{encrypted}
-use Rattle.duk_tdes.specs.Key.{IsKey, left_half, right_half, xor_bytes}
-use Rattle.duk_tdes.specs.Tdes.{IsTdesLength, tdes_encrypted}
-use Rattle.duk_tree.specs.Serial.{Serial, serial_bytes, iksn_bytes}
+use Rattle.duk_tdes.specs.Key.{IsKey, xor_bytes}
+use Rattle.duk_tdes.specs.Tdes.{IsTdesKey, first_key, second_key, tdes_encrypted}
+use Rattle.duk_tree.specs.Serial.{Serial, serial_bytes, iksn_bytes, low_bytes}
 use Rattle.duk_tree.specs.Path.{value_of}
-use Rattle.duk_tree.specs.Derivation.{derivation_mask, initial_key_of, half_step_of, step_of, low_bytes, node_key}
+use Rattle.duk_tree.specs.Derivation.{derivation_mask, initial_key_of, half_step_of, step_of, node_key}
 use Rattle.duk_tree.proofs.SerialLemmas.{length-serial_bytes, serial_bytes_fit}
 
 -- what the crates below say of keys and blocks
 pub record Below : Type 0 where
   pub cipher_block : (key block : List ℕ) → IsBlock key → IsBlock block → IsBlock (encrypted key block)
-  pub tdes_block : (size : ℕ) (key block : List ℕ) → IsTdesLength size → IsKey size key → IsBlock block → IsBlock (tdes_encrypted key block)
+  pub tdes_block : (key block : List ℕ) → IsTdesKey key → IsBlock block → IsBlock (tdes_encrypted key block)
   pub masked : (size : ℕ) (key mask : List ℕ) → IsKey size key → IsKey size mask → IsKey size (xor_bytes key mask)
-  pub left : (key : List ℕ) → IsKey 16 key → IsBlock (left_half key)
-  pub right : (key : List ℕ) → IsKey 16 key → IsBlock (right_half key)
+  pub double : (key : List ℕ) → IsKey 16 key → IsTdesKey key
+  pub first : (key : List ℕ) → IsTdesKey key → IsBlock (first_key key)
+  pub second : (key : List ℕ) → IsTdesKey key → IsBlock (second_key key)
   pub joined : (left right : List ℕ) → IsBlock left → IsBlock right → IsKey 16 (left ++ right)
 
 as_key : {block : List ℕ} → IsBlock block → IsKey 8 block
@@ -56,16 +57,16 @@ IsKey-initial_key_of below bdk iksn is_key =
     let is_block : IsBlock first_eight = eight_of_serial 0 (record { iksn = iksn; counter = 0 }) (omega arith) in
     let is_masked = below.masked 16 bdk derivation_mask is_key mask_is_key in
     below.joined (tdes_encrypted bdk first_eight) (tdes_encrypted (xor_bytes bdk derivation_mask) first_eight)
-    (below.tdes_block 16 bdk first_eight (inl refl) is_key is_block)
-    (below.tdes_block 16 (xor_bytes bdk derivation_mask) first_eight (inl refl) is_masked is_block)
+    (below.tdes_block bdk first_eight (below.double bdk is_key) is_block)
+    (below.tdes_block (xor_bytes bdk derivation_mask) first_eight (below.double (xor_bytes bdk derivation_mask) is_masked) is_block)
 
 IsBlock-half_step_of : Below → (key crypto_register : List ℕ) → IsKey 16 key → IsBlock crypto_register → IsBlock (half_step_of key crypto_register)
 unfolding half_step_of
 IsBlock-half_step_of below key crypto_register is_key is_block =
-    let right = as_key (below.right key is_key) in
-    let input = as_block (below.masked 8 (right_half key) crypto_register right (as_key is_block)) in
-    let output = below.cipher_block (left_half key) (xor_bytes (right_half key) crypto_register) (below.left key is_key) input in
-    as_block (below.masked 8 (right_half key) (encrypted (left_half key) (xor_bytes (right_half key) crypto_register)) right (as_key output))
+    let right = as_key (below.second key (below.double key is_key)) in
+    let input = as_block (below.masked 8 (second_key key) crypto_register right (as_key is_block)) in
+    let output = below.cipher_block (first_key key) (xor_bytes (second_key key) crypto_register) (below.first key (below.double key is_key)) input in
+    as_block (below.masked 8 (second_key key) (encrypted (first_key key) (xor_bytes (second_key key) crypto_register)) right (as_key output))
 
 pub IsKey-step_of : Below → (key crypto_register : List ℕ) → IsKey 16 key → IsBlock crypto_register → IsKey 16 (step_of key crypto_register)
 unfolding step_of

@@ -1,4 +1,5 @@
 pub mod SerialLemmas
+pub mod Prefixes
 pub mod PathLemmas
 pub mod DerivationLemmas
 pub mod KeyLemmas

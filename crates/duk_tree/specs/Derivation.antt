@@ -1,9 +1,9 @@
 -- The keys of DUKPT with double-length keys (ANSI X9.24-1:2009 annex A).
-use Rattle.std.specs.Prelude.{ℕ, List, [], ◌∷◌, ◌++◌, take, drop}
+use Rattle.std.specs.Prelude.{ℕ, List, [], ◌∷◌, ◌++◌, take}
 use Rattle.duk_des.specs.Des.{encrypted}
-use Rattle.duk_tdes.specs.Key.{left_half, right_half, xor_bytes}
-use Rattle.duk_tdes.specs.Tdes.{tdes_encrypted}
-use Rattle.duk_tree.specs.Serial.{Serial, serial_bytes, iksn_bytes}
+use Rattle.duk_tdes.specs.Key.{xor_bytes}
+use Rattle.duk_tdes.specs.Tdes.{first_key, second_key, tdes_encrypted}
+use Rattle.duk_tree.specs.Serial.{Serial, iksn_bytes, low_bytes}
 use Rattle.duk_tree.specs.Path.{value_of, path_of}
 
 -- a mask of eight bytes over both halves of a key (this project's own word)
@@ -23,15 +23,12 @@ initial_key_of bdk iksn =
 
 -- the crypto_register, masked with the right half of a key before and after its encipherment under the left half
 unfoldable pub half_step_of : List ℕ → List ℕ → List ℕ
-half_step_of key crypto_register = xor_bytes (right_half key) (encrypted (left_half key) (xor_bytes (right_half key) crypto_register))
+half_step_of key crypto_register =
+    xor_bytes (second_key key) (encrypted (first_key key) (xor_bytes (second_key key) crypto_register))
 
 -- the non-reversible key generation process: the right half under the key itself, the left half under the key with the mask
 unfoldable pub step_of : List ℕ → List ℕ → List ℕ
 step_of key crypto_register = half_step_of (xor_bytes key derivation_mask) crypto_register ++ half_step_of key crypto_register
-
--- the low 64 bits of a key serial number
-abbrev pub low_bytes : Serial → List ℕ
-low_bytes serial = take 8 (drop 2 (serial_bytes serial))
 
 -- the key of a node: the initial key at the root, and else a step from the parent's key with the node's own key serial number
 abbrev pub node_key : List ℕ → ℕ → List ℕ → List ℕ

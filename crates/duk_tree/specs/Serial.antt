@@ -1,6 +1,6 @@
 -- Key serial numbers (ANSI X9.24-1:2009 annex A): 80 bits, 59 of them the initial key serial number, and the low 21 a counter.
 -- Their texts are this project's own.
-use Rattle.std.specs.Prelude.{◌≡◌, ◌<◌, ◌+◌, ◌*◌, ◌/◌, ◌%◌, ◌^◌, ◌==◌, ℕ, List, Option, Some, None, if◌then◌else◌}
+use Rattle.std.specs.Prelude.{◌≡◌, ◌<◌, ◌+◌, ◌*◌, ◌/◌, ◌%◌, ◌^◌, ◌==◌, ℕ, List, Option, Some, None, take, drop, if◌then◌else◌}
 use Rattle.std.specs.Option.{option_map, option_and_then}
 use Rattle.std.specs.Result.{result_ok}
 use Rattle.byteorder.specs.Endian.{big_bytes, big_number}
@@ -34,6 +34,18 @@ serial_of_bytes bytes =
 -- an initial key serial number is written as the key serial number with counter zero
 abbrev pub iksn_bytes : ℕ → List ℕ
 iksn_bytes iksn = serial_bytes (record { iksn = iksn; counter = 0 })
+
+-- the low 64 bits of a key serial number, which the key generation process starts from
+abbrev pub low_bytes : Serial → List ℕ
+low_bytes serial = take 8 (drop 2 (serial_bytes serial))
+
+-- the prefix of a key serial number, by which a host finds its base derivation key: the first five of its ten bytes
+abbrev pub prefix_of : Serial → List ℕ
+prefix_of serial = take 5 (serial_bytes serial)
+
+-- the prefix of an initial key serial number: that of the key serial number with counter zero
+abbrev pub iksn_prefix_of : ℕ → List ℕ
+iksn_prefix_of iksn = take 5 (iksn_bytes iksn)
 
 -- the key serial number that a text of twenty hexadecimal digits, of either case, spells
 abbrev pub ksn_of_text : List ℕ → Option Serial

@@ -3,7 +3,8 @@
 
 ghost use Rattle.std.specs.Prelude.{◌≡◌, ◌++◌};
 ghost use Rattle.duk_tdes.specs.Key.{xor_bytes};
-ghost use Rattle.duk_tree.specs.Derivation.{derivation_mask, initial_key_of, half_step_of, step_of, low_bytes, transaction_key_of, derived_key_of};
+ghost use Rattle.duk_tree.specs.Derivation.{derivation_mask, initial_key_of, half_step_of, step_of, transaction_key_of, derived_key_of};
+ghost use Rattle.duk_tree.specs.Serial.{low_bytes};
 
 use crate::serial::{COUNTER_BITS, Iksn, Ksn};
 use duk_des::encrypt_block;
@@ -52,7 +53,7 @@ fn transaction_key(initial: &Key<16>, ksn: Ksn) -> Key<16>
     for place in (0..COUNTER_BITS).rev() {
         let reached = ksn.counter() >> place;
         if reached % 2 == 1 {
-            key = step(&key, low_bytes_of(ksn.with_counter(reached << place)));
+            key = step(&key, ksn.with_counter(reached << place).low_bytes());
         }
     }
     key
@@ -82,11 +83,4 @@ fn joined(left: [u8; 8], right: [u8; 8]) -> Key<16>
     bytes[..8].copy_from_slice(&left);
     bytes[8..].copy_from_slice(&right);
     Key::new(bytes)
-}
-
-/// The low 64 bits of a key serial number.
-fn low_bytes_of(ksn: Ksn) -> [u8; 8]
-    ensures { result ≡ low_bytes ksn }
-{
-    array_of(&ksn.bytes()[2..10])
 }

@@ -7,7 +7,7 @@ ghost use Rattle.duk_des.specs.Block.{IsBlock};
 ghost use Rattle.duk_tdes.specs.Key.{IsKey};
 ghost use Rattle.duk_tree.specs.Derivation.{initial_key_of, step_of, node_key, pin_key_of, request_key_of, response_key_of};
 ghost use Rattle.duk_tree.specs.Path.{IsPath, value_of, path_of, IsUsable, last_place};
-ghost use Rattle.duk_tree.specs.Serial.{Serial, IsSerial, serial_bytes, serial_of_bytes};
+ghost use Rattle.duk_tree.specs.Serial.{Serial, IsSerial, iksn_prefix_of, prefix_of, serial_bytes, serial_of_bytes};
 ghost use Rattle.std.specs.Int.{trailing_zeros, w32};
 ghost use Rattle.duk_tree.specs.Next.{ComesAfter, IsChainAfter};
 ghost use Rattle.duk_tree.specs.Frontier.{IsHeld, HasOneHeld, IsAncestorOrSelf, IsChild, candidate_at};
@@ -29,6 +29,13 @@ pub fn serials()
     ensures written { (bytes : List ℕ) → length bytes ≡ 10 → All (λ byte. byte < 2 ^ 8) bytes
         → serial_bytes (serial_of_bytes bytes) ≡ bytes }
     ensures serial { (bytes : List ℕ) → All (λ byte. byte < 2 ^ 8) bytes → IsSerial (serial_of_bytes bytes) }
+{}
+
+/// A key serial number has the prefix of its initial key serial number. So all the numbers of a terminal have one base
+/// derivation key, that from which its initial key is made.
+#[tactic(auto, using(crate::proofs::Prefixes::one_prefix))]
+pub fn prefixes()
+    ensures { (ksn : Serial) → IsSerial ksn → prefix_of ksn ≡ iksn_prefix_of ksn.iksn }
 {}
 
 /// Every key of the tree and every variant is a key of sixteen bytes.

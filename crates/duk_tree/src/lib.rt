@@ -16,5 +16,5 @@ mod variants;
 pub use counter::usable;
 pub use derivation::{derive, initial_key, step};
 pub use next::{MOST_ONES, next_usable};
-pub use serial::{Iksn, Ksn};
+pub use serial::{Iksn, Ksn, PREFIX_LENGTH};
 pub use variants::{pin_key, request_key, response_key};

@@ -8,14 +8,18 @@ ghost use Rattle.std.specs.Prelude.{◌≡◌, ◌*◌, ◌^◌, ◌<◌, ◌≤
 ghost use Rattle.std.specs.List.{AllPass};
 ghost use Rattle.byteorder.specs.Endian.{big_bytes};
 ghost use Rattle.hex.specs.Hex.{is_hex_digit};
-ghost use Rattle.duk_tree.specs.Serial.{IsIksn, IsSerial, serial_bytes, serial_of_bytes, iksn_bytes, ksn_of_text, iksn_of_text};
+ghost use Rattle.duk_tree.specs.Serial.{IsIksn, IsSerial, serial_bytes, serial_of_bytes, iksn_bytes, iksn_prefix_of, ksn_of_text, iksn_of_text, low_bytes, prefix_of};
 
 use byteorder::{BigEndian, ByteOrder};
+use duk_tdes::array_of;
 use hex::FromHex;
 use std::marker::Model;
 
 /// The bits of a counter.
 pub(crate) const COUNTER_BITS: u32 = 21;
+
+/// The bytes of a prefix: those by which a base derivation key is found.
+pub const PREFIX_LENGTH: usize = 5;
 
 /// An initial key serial number: the 59 bits above the counter.
 #[derive(Clone, Copy, Debug)]
@@ -56,6 +60,25 @@ impl Iksn {
         ensures iksn { IsIksn self }
     {
         number_bytes((self.number as u128) << COUNTER_BITS)
+    }
+
+    /// The first five bytes, which are those of each of its key serial numbers.
+    pub fn prefix(self) -> [u8; PREFIX_LENGTH]
+        ensures { result ≡ iksn_prefix_of self }
+    {
+        self.with_counter(0).prefix()
+    }
+
+    /// The key serial number of this terminal with this counter.
+    pub fn with_counter(self, counter: u32) -> Ksn
+        requires { counter < 2 ^ 21 }
+        ensures value { result ≡ record { iksn = self; counter = counter } }
+        ensures serial { IsSerial result }
+    {
+        Ksn {
+            iksn: self,
+            counter,
+        }
     }
 }
 
@@ -122,6 +145,20 @@ impl Ksn {
     {
         let Ksn { iksn, counter } = self;
         number_bytes(((iksn.number as u128) << COUNTER_BITS) + counter as u128)
+    }
+
+    /// The first five bytes, by which a base derivation key is found.
+    pub fn prefix(self) -> [u8; PREFIX_LENGTH]
+        ensures { result ≡ prefix_of self }
+    {
+        array_of(&self.bytes()[..PREFIX_LENGTH])
+    }
+
+    /// The low 64 bits, which the key generation process starts from.
+    pub fn low_bytes(self) -> [u8; 8]
+        ensures { result ≡ low_bytes self }
+    {
+        array_of(&self.bytes()[2..])
     }
 
     /// The initial key serial number.

@@ -23,11 +23,12 @@ key_in-requires g c = omega (arith, c.in_ok-payload.ensures.length, ap length c.
 pub returns-in-Some-key_in-clause-found : goal.returns-in-Some-key_in-clause-found
 returns-in-Some-key_in-clause-found g c =
     let header = c.in_ok-header.ensures.found in
-    let P : List ℕ → Type 0 = λ bytes. Carries bytes (bytes_of c.in-Some-key_in.key) in (
-      header.length_is.limits,
-      block_read c.args.text.now c.args.kbpk.now c.in_ok-header.header c.in_ok-header.count c.in_ok-payload.payload.items (bytes_of c.in-Some-key_in.key) header c.in_ok-payload.ensures.found
-          (subst P c.as_slice.ensures.value c.in-Some-key_in.ensures.found),
-    )
+    let P : List ℕ → Type 0 = λ bytes. Carries bytes (bytes_of c.in-Some-key_in.key) in
+    record {
+      limits = header.length_is.limits;
+      block = block_read c.args.text.now c.args.kbpk.now c.in_ok-header.header c.in_ok-header.count c.in_ok-payload.payload.items (bytes_of c.in-Some-key_in.key) header c.in_ok-payload.ensures.found
+          (subst P c.as_slice.ensures.value c.in-Some-key_in.ensures.found);
+    }
 
 pub returns-in-None-clause-refused : goal.returns-in-None-clause-refused
 returns-in-None-clause-refused g c =

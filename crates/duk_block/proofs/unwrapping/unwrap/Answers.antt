@@ -12,7 +12,8 @@ returns-clause-only g c =
     reads text key c.read.result
     (record {
       one_reading = λ header other k l one two. c.one_reading.ensures text key header other k l is_key one two;
-      no_fault = λ header k limits block. all_met text key header k limits block (payload_at c.cbc_inverse.ensures.cipher_length text key header k block derived);
+      no_fault = λ header k wraps.
+          all_met text key header k wraps.limits wraps.block (payload_at c.cbc_inverse.ensures.cipher_length text key header k wraps.block derived);
     })
     (record { found = c.read.ensures.found; kind = c.read.ensures.length; refused = c.read.ensures.refused })
 
@@ -25,6 +26,7 @@ returns-clause-refused g c =
     refuses text key c.read.result
     (record {
       one_reading = λ header other k l one two. c.one_reading.ensures text key header other k l is_key one two;
-      no_fault = λ header k limits block. all_met text key header k limits block (payload_at c.cbc_inverse.ensures.cipher_length text key header k block derived);
+      no_fault = λ header k wraps.
+          all_met text key header k wraps.limits wraps.block (payload_at c.cbc_inverse.ensures.cipher_length text key header k wraps.block derived);
     })
     (record { found = c.read.ensures.found; kind = c.read.ensures.length; refused = c.read.ensures.refused })

@@ -1,33 +1,34 @@
-use Rattle.std.proofs.Common.{◌≡◌, Some, ℕ, get_or, ap, sym, ◌∙◌}
+use Rattle.std.proofs.Common.{◌≡◌, ◌∷◌, Some, ℕ, ap, refl, sym, ◌∙◌, arith, rules}
 use Rattle.duk_tree.specs.Serial.{Serial, serial_of_bytes}
-use Rattle.duk_frame.specs.Answer.{answer_bytes, refusal_text, IsRefusal}
+use Rattle.duk_frame.specs.Answer.{IsRefusal}
 use Rattle.duk_frame.specs.Frame.{framed}
 use Rattle.duk_frame.specs.declared.answer.AnswerFrame.TheVariants.{Refusal}
-use Rattle.duk_frame.proofs.AnswerLemmas.{refusal_places}
-use Rattle.duk_frame.proofs.FrameLemmas.{differ}
+use Rattle.duk_frame.proofs.AnswerLemmas.{kind_of_refusal, refusal_places, refusal_text_at}
 use Rattle.duk_frame.proofs.answer.read_refusal.Goals as goal
-use Rattle.duk_frame.proofs.answer.read_refusal.Goals.{After-from_bytes-ksn}
 
--- what was read is the refusal
-read : (c : After-from_bytes-ksn) (ksn : Serial) (reason : ℕ) → IsRefusal c.args.bytes.now ksn reason
-    → Refusal c.from_bytes-ksn.result (get_or c.args.bytes.now 14 0) ≡ Refusal ksn reason
-read c ksn reason is =
-    let places = refusal_places c.args.bytes.now ksn reason c.serials.ensures.ten is in
-    let serial : c.from_bytes-ksn.result ≡ ksn =
-    c.from_bytes-ksn.ensures.value ∙ ap serial_of_bytes (c.array_of.ensures.bytes ∙ places.serial) ∙ c.serials.ensures.found ksn is.fields.0 in
+pub returns-then-not-has_kind-clause-every : goal.returns-then-not-has_kind-clause-every
+returns-then-not-has_kind-clause-every c = λ ksn reason is.
+    let yes = c.has_kind.ensures.1 (kind_of_refusal c.args.bytes.now ksn reason c.serials.ensures.ten is) in
     cc
 
-pub returns-then-eq-clause-every : goal.returns-then-eq-clause-every
-returns-then-eq-clause-every c = λ ksn reason is.
-    ap Some (read (goal.at.returns-then-eq-clause-every c).After-from_bytes-ksn ksn reason is)
+pub returns-clause-found : goal.returns-clause-found
+returns-clause-found c =
+    let bytes = c.args.bytes.now in
+    let has = c.has_kind.ensures.0 c.if-not-has_kind.false in
+    record {
+      fields = (c.from_bytes-ksn.ensures.serial, search rules);
+      laid_out =
+          has.laid_out
+          ∙ ap framed (refusal_text_at bytes c.from_bytes-ksn.result _ (omega arith)
+          (c.from_bytes-ksn.ensures.bytes ∙ c.array_of.ensures.bytes) refl);
+    }
 
-pub returns-else-eq-clause-every : goal.returns-else-eq-clause-every
-returns-else-eq-clause-every c = λ ksn reason is.
-    let fields = read (goal.at.returns-else-eq-clause-every c).After-from_bytes-ksn ksn reason is in
-    absurd (differ _ _ _ c.eq.ensures c.if-eq.false (
-    c.as_slice.ensures.value
-    ∙ c.write_refusal.ensures.frame
-    ∙ ap (λ serial. framed (refusal_text serial (get_or c.args.bytes.now 14 0))) c.bytes.ensures.bytes
-    ∙ ap answer_bytes fields
-    ∙ sym is.laid_out
-    ))
+pub returns-clause-every : goal.returns-clause-every
+returns-clause-every c = λ ksn reason is.
+    let places = refusal_places c.args.bytes.now ksn reason c.serials.ensures.ten is in
+    let serial : c.from_bytes-ksn.result ≡ ksn =
+    c.from_bytes-ksn.ensures.value
+    ∙ ap serial_of_bytes (c.array_of.ensures.bytes ∙ places.serial)
+    ∙ c.serials.ensures.found ksn is.fields.0 in
+    let same = places.reason_is in
+    cc

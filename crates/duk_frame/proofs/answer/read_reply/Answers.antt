@@ -1,24 +1,16 @@
-use Rattle.std.proofs.Common.{◌≡◌, Some, List, ℕ, ap, sym, ◌∙◌}
+use Rattle.std.proofs.Common.{◌≡◌, ◌∷◌, Some, List, ℕ, ap, sym, ◌∙◌}
 use Rattle.std.proofs.lemmas.List.{take_rest}
 use Rattle.duk_tree.specs.Serial.{Serial, serial_of_bytes}
-use Rattle.duk_frame.specs.Answer.{answer_bytes, IsReply}
+use Rattle.duk_frame.specs.Answer.{IsReply}
+use Rattle.duk_frame.specs.Frame.{framed}
 use Rattle.duk_frame.specs.declared.answer.AnswerFrame.TheVariants.{Reply}
 use Rattle.duk_frame.specs.declared.code.Code.{Code}
-use Rattle.duk_frame.proofs.AnswerLemmas.{reply_places}
-use Rattle.duk_frame.proofs.FrameLemmas.{differ}
+use Rattle.duk_frame.proofs.AnswerLemmas.{kind_of_reply, reply_places, reply_text_at}
 use Rattle.duk_frame.proofs.answer.read_reply.Goals as goal
-use Rattle.duk_frame.proofs.answer.read_reply.Goals.{After-array_of-mac}
 
--- what was read is the reply
-read : (c : After-array_of-mac) (ksn : Serial) (code : Code) (mac : List ℕ) → IsReply c.args.bytes.now ksn code mac
-    → Reply c.from_bytes-ksn.result c.in_ok-code.code c.array_of-mac.result ≡ Reply ksn code mac
-read c ksn code mac is =
-    let bytes = c.args.bytes.now in
-    let places = reply_places bytes ksn code mac c.serials.ensures.ten is in
-    let serial : c.from_bytes-ksn.result ≡ ksn =
-    c.from_bytes-ksn.ensures.value ∙ ap serial_of_bytes (c.array_of.ensures.bytes ∙ places.serial) ∙ c.serials.ensures.found ksn is.fields.0 in
-    let digits = c.in_ok-code.ensures.every code (sym (c.array_of-2.ensures.bytes ∙ places.digits)) in
-    let last : c.array_of-mac.result ≡ mac = c.array_of-mac.ensures.bytes ∙ take_rest bytes 16 ∙ places.mac_is in
+pub returns-then-not-has_kind-clause-every : goal.returns-then-not-has_kind-clause-every
+returns-then-not-has_kind-clause-every c = λ ksn code mac is.
+    let yes = c.has_kind.ensures.1 (kind_of_reply c.args.bytes.now ksn code mac c.serials.ensures.ten is) in
     cc
 
 pub returns-in_err-code-clause-every : goal.returns-in_err-code-clause-every
@@ -27,11 +19,28 @@ returns-in_err-code-clause-every c = λ ksn code mac is.
     let wrong = c.in_err-code.ensures.every code (sym (c.array_of-2.ensures.bytes ∙ places.digits)) in
     cc
 
-pub returns-then-eq-clause-every : goal.returns-then-eq-clause-every
-returns-then-eq-clause-every c = λ ksn code mac is.
-    ap Some (read (goal.at.returns-then-eq-clause-every c).After-array_of-mac ksn code mac is)
+pub returns-clause-found : goal.returns-clause-found
+returns-clause-found c =
+    let bytes = c.args.bytes.now in
+    let has = c.has_kind.ensures.0 c.if-not-has_kind.false in
+    record {
+      fields = (c.from_bytes-ksn.ensures.serial, record { eight = c.array_of-mac.ensures.key.size_is; bytes_fit = c.array_of-mac.ensures.key.bytes_fit });
+      laid_out =
+          has.laid_out
+          ∙ ap framed (reply_text_at bytes c.from_bytes-ksn.result c.in_ok-code.code c.array_of-mac.result
+          (c.from_bytes-ksn.ensures.bytes ∙ c.array_of.ensures.bytes)
+          (c.in_ok-code.ensures.found ∙ c.array_of-2.ensures.bytes)
+          (c.array_of-mac.ensures.bytes ∙ take_rest bytes 16));
+    }
 
-pub returns-else-eq-clause-every : goal.returns-else-eq-clause-every
-returns-else-eq-clause-every c = λ ksn code mac is.
-    let fields = read (goal.at.returns-else-eq-clause-every c).After-array_of-mac ksn code mac is in
-    absurd (differ _ _ _ c.eq.ensures c.if-eq.false (c.as_slice.ensures.value ∙ c.write_reply.ensures.reply.laid_out ∙ ap answer_bytes fields ∙ sym is.laid_out))
+pub returns-clause-every : goal.returns-clause-every
+returns-clause-every c = λ ksn code mac is.
+    let bytes = c.args.bytes.now in
+    let places = reply_places bytes ksn code mac c.serials.ensures.ten is in
+    let serial : c.from_bytes-ksn.result ≡ ksn =
+    c.from_bytes-ksn.ensures.value
+    ∙ ap serial_of_bytes (c.array_of.ensures.bytes ∙ places.serial)
+    ∙ c.serials.ensures.found ksn is.fields.0 in
+    let digits = c.in_ok-code.ensures.every code (sym (c.array_of-2.ensures.bytes ∙ places.digits)) in
+    let last : c.array_of-mac.result ≡ mac = c.array_of-mac.ensures.bytes ∙ take_rest bytes 16 ∙ places.mac_is in
+    cc

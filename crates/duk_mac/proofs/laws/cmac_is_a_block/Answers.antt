@@ -1,4 +1,3 @@
-use Rattle.std.proofs.Common.{length, refl}
 use Rattle.duk_mac.proofs.CmacIsBlock.{IsBlock-cmac_of}
 use Rattle.duk_mac.proofs.laws.cmac_is_a_block.Goals as goal
 
@@ -6,7 +5,7 @@ pub returns : goal.returns
 returns c = λ key message is_key fit.
     IsBlock-cmac_of key
     (record {
-      cipher = λ block is. c.inverse.ensures.cipher_block (length key) key block is_key.length_is (record { size_is = refl; bytes_fit = is_key.bytes_fit }) is;
+      cipher = λ block is. c.inverse.ensures.cipher_block key block is_key is;
       sum = c.sum_of_blocks.ensures;
     })
     message fit

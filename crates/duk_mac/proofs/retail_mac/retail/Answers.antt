@@ -1,7 +1,8 @@
 use Rattle.std.proofs.Common.{◌<◌, ◌≤◌, length, take, sym, ap, ◌∙◌, arith}
 use Rattle.duk_des.specs.Des.{encrypted, decrypted}
 use Rattle.duk_tdes.specs.Blocks.{blocks_of}
-use Rattle.duk_tdes.specs.Key.{xor_bytes, right_half}
+use Rattle.duk_tdes.specs.Key.{xor_bytes}
+use Rattle.duk_tdes.specs.Tdes.{second_key}
 use Rattle.duk_mac.specs.Chain.{zero_block, chained}
 use Rattle.duk_mac.specs.Retail.{zero_filled, retail_of}
 use Rattle.duk_mac.proofs.Filled.{filled-more, filled-one}
@@ -35,5 +36,5 @@ returns c =
     let left = c.bytes-left.ensures.bytes ∙ c.halves-left.ensures.left in
     let right = c.bytes.ensures.bytes ∙ c.halves-left.ensures.right in
     c.encrypt_block.ensures.bytes
-    ∙ ap enciphered (c.decrypt_block.ensures.bytes ∙ ap (λ key. decrypted key c.encrypt_block-chain-2.result) right ∙ ap (decrypted (right_half c.args.key.now)) last)
-    ∙ ap (λ key. encrypted key (decrypted (right_half c.args.key.now) (chained (encrypted key) zero_block (blocks_of (zero_filled c.args.message.now))))) left
+    ∙ ap enciphered (c.decrypt_block.ensures.bytes ∙ ap (λ key. decrypted key c.encrypt_block-chain-2.result) right ∙ ap (decrypted (second_key c.args.key.now)) last)
+    ∙ ap (λ key. encrypted key (decrypted (second_key c.args.key.now) (chained (encrypted key) zero_block (blocks_of (zero_filled c.args.message.now))))) left

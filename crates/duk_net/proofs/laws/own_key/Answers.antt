@@ -16,7 +16,7 @@ laws_of g c = record {
   pin_key = c.keys.ensures.pin;
   deciphered = λ key pin pan is_key is.
       let block = c.eight_bytes.ensures pin pan (pin_block pin pan) is in
-      c.inverse.ensures.deciphered 16 key (pin_block pin pan) (inl refl) is_key (record { eight = block.0; bytes_fit = block.1 });
+      c.inverse.ensures.deciphered key (pin_block pin pan) (record { length_is = inl is_key.size_is; bytes_fit = is_key.bytes_fit }) (record { eight = block.0; bytes_fit = block.1 });
 }
 
 pub returns-clause-requests : goal.returns-clause-requests

@@ -1,13 +1,14 @@
 use Rattle.std.proofs.Common.{◌≡◌, ◌<◌, ◌+◌, ◌*◌, ◌%◌, ◌^◌, ℕ, length, arith, ap, ◌∙◌}
 use Rattle.std.proofs.lemmas.List.{length-set}
-use Rattle.duk_tree.specs.Derivation.{step_of, low_bytes}
+use Rattle.duk_tree.specs.Derivation.{step_of}
+use Rattle.duk_tree.specs.Serial.{low_bytes}
 use Rattle.duk_tree.specs.Path.{path_of}
 use Rattle.duk_regs.proofs.CounterLemmas.{BitLaws, place_below, shifted}
 use Rattle.duk_regs.proofs.RegisterLemmas.{filled_more, stays_at}
 use Rattle.duk_regs.proofs.frontier.fill_below.Goals as goal
 
-pub serial_at-requires : goal.serial_at-requires
-serial_at-requires c =
+pub with_counter-requires : goal.with_counter-requires
+with_counter-requires c =
     let laws : BitLaws = record { usable = c.bits.ensures.usable; place = c.bits.ensures.place; ones = c.bits.ensures.ones; lowest = c.bits.ensures.lowest } in
     let counter = c.args.counter in
     let place = c.loop-place.place in
@@ -34,7 +35,7 @@ loop-place-preserved c =
     let key = c.child_key.result in
     let within = (place_below laws c.args.counter at c.requires c.loop-place-test.true).1 in
     let counter : c.args.counter + 1 * 2 ^ at % 2 ^ 32 ≡ c.args.counter + 2 ^ at = omega (arith, (shifted at within).0) in
-    let is_key = c.child_key.ensures ∙ ap (λ n. step_of c.args.key.now (low_bytes n)) (c.serial_at.ensures.value ∙ ap (λ n. record { iksn = c.args.iksn; counter = n }) counter) in
+    let is_key = c.child_key.ensures ∙ ap (λ n. step_of c.args.key.now (low_bytes n)) (c.with_counter.ensures.value ∙ ap (λ n. record { iksn = c.args.iksn; counter = n }) counter) in
     record {
       are_21 = length-set registers at key ∙ c.loop-place.invariant.are_21;
       filled = filled_more registers at key (λ (place : ℕ). step_of c.args.key.now (low_bytes (record { iksn = c.args.iksn; counter = c.args.counter + 2 ^ place }))) (omega (arith, c.loop-place.invariant.are_21)) is_key c.loop-place.invariant.filled;

@@ -1,5 +1,6 @@
 use Rattle.std.proofs.Common.{◌≡◌, ◌<◌, ◌^◌, ℕ, length}
-use Rattle.duk_tree.specs.Derivation.{step_of, low_bytes}
+use Rattle.duk_tree.specs.Derivation.{step_of}
+use Rattle.duk_tree.specs.Serial.{low_bytes}
 use Rattle.duk_regs.specs.Registers.{register_at}
 use Rattle.duk_regs.proofs.frontier.first_registers.Given as goal
 

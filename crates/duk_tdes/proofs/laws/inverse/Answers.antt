@@ -7,14 +7,14 @@ use Rattle.duk_tdes.proofs.laws.inverse.Goals as goal
 
 pub returns-clause-deciphered : goal.returns-clause-deciphered
 unfolding tdes_encrypted tdes_decrypted
-returns-clause-deciphered c size key block either is_key is_block =
+returns-clause-deciphered c key block is_key is_block =
     let des = c.inverse.ensures in
     let k1 = first_key key in
     let k2 = second_key key in
     let k3 = third_key key in
-    let first = first_is_key size key either is_key in
-    let second = second_is_key size key either is_key in
-    let third = third_is_key size key either is_key in
+    let first = first_is_key key is_key in
+    let second = second_is_key key is_key in
+    let third = third_is_key key is_key in
     let once = des.cipher_block k1 block first is_block in
     let twice = des.plain_block k2 (encrypted k1 block) second once in
     ap (λ x. decrypted k1 (encrypted k2 x)) (des.deciphered k3 (decrypted k2 (encrypted k1 block)) third twice)
@@ -23,14 +23,14 @@ returns-clause-deciphered c size key block either is_key is_block =
 
 pub returns-clause-enciphered : goal.returns-clause-enciphered
 unfolding tdes_encrypted tdes_decrypted
-returns-clause-enciphered c size key block either is_key is_block =
+returns-clause-enciphered c key block is_key is_block =
     let des = c.inverse.ensures in
     let k1 = first_key key in
     let k2 = second_key key in
     let k3 = third_key key in
-    let first = first_is_key size key either is_key in
-    let second = second_is_key size key either is_key in
-    let third = third_is_key size key either is_key in
+    let first = first_is_key key is_key in
+    let second = second_is_key key is_key in
+    let third = third_is_key key is_key in
     let once = des.plain_block k3 block third is_block in
     let twice = des.cipher_block k2 (decrypted k3 block) second once in
     ap (λ x. encrypted k3 (decrypted k2 x)) (des.enciphered k1 (encrypted k2 (decrypted k3 block)) first twice)
@@ -39,16 +39,16 @@ returns-clause-enciphered c size key block either is_key is_block =
 
 pub returns-clause-cipher_block : goal.returns-clause-cipher_block
 unfolding tdes_encrypted
-returns-clause-cipher_block c size key block either is_key is_block =
+returns-clause-cipher_block c key block is_key is_block =
     let des = c.inverse.ensures in
-    let once = des.cipher_block (first_key key) block (first_is_key size key either is_key) is_block in
-    let twice = des.plain_block (second_key key) _ (second_is_key size key either is_key) once in
-    des.cipher_block (third_key key) _ (third_is_key size key either is_key) twice
+    let once = des.cipher_block (first_key key) block (first_is_key key is_key) is_block in
+    let twice = des.plain_block (second_key key) _ (second_is_key key is_key) once in
+    des.cipher_block (third_key key) _ (third_is_key key is_key) twice
 
 pub returns-clause-plain_block : goal.returns-clause-plain_block
 unfolding tdes_decrypted
-returns-clause-plain_block c size key block either is_key is_block =
+returns-clause-plain_block c key block is_key is_block =
     let des = c.inverse.ensures in
-    let once = des.plain_block (third_key key) block (third_is_key size key either is_key) is_block in
-    let twice = des.cipher_block (second_key key) _ (second_is_key size key either is_key) once in
-    des.plain_block (first_key key) _ (first_is_key size key either is_key) twice
+    let once = des.plain_block (third_key key) block (third_is_key key is_key) is_block in
+    let twice = des.cipher_block (second_key key) _ (second_is_key key is_key) once in
+    des.plain_block (first_key key) _ (first_is_key key is_key) twice

@@ -1,5 +1,6 @@
 use Rattle.std.proofs.Common.{◌≡◌, ◌<◌, ◌^◌, ◌/◌, ◌*◌, ◌-◌, ◌%◌, ap, ◌∙◌, sym, arith}
-use Rattle.duk_tree.specs.Derivation.{step_of, low_bytes, node_key}
+use Rattle.duk_tree.specs.Derivation.{step_of, node_key}
+use Rattle.duk_tree.specs.Serial.{low_bytes}
 use Rattle.duk_tree.proofs.PathLemmas.{path_from}
 use Rattle.duk_tree.proofs.DerivationLemmas.{node_key-taken, node_key-skipped, transaction_key_of-path_from, shifted_back}
 use Rattle.duk_tree.proofs.derivation.transaction_key.Goals as goal
@@ -18,7 +19,7 @@ loop-place-preserved-then-reached-eq1 c =
     let taken = node_key-taken initial iksn counter place c.loop-place.key c.loop-place-test.true c.loop-place.auto.place fits odd c.loop-place.invariant in
     let number : c.with_counter.result ≡ record { iksn = iksn; counter = counter / 2 ^ (place - 1) * 2 ^ (place - 1) } =
     c.with_counter.ensures.value ∙ ap (λ n. record { iksn = iksn; counter = n }) reached in
-    c.step-key.ensures ∙ ap (step_of c.loop-place.key) (c.low_bytes_of.ensures ∙ ap low_bytes number) ∙ taken
+    c.step-key.ensures ∙ ap (step_of c.loop-place.key) (c.low_bytes.ensures ∙ ap low_bytes number) ∙ taken
 
 pub loop-place-preserved : goal.loop-place-preserved
 loop-place-preserved c =

@@ -8,8 +8,9 @@ below c = record {
   cipher_block = c.inverse.ensures.cipher_block;
   tdes_block = c.inverse-2.ensures.cipher_block;
   masked = c.keys.ensures.masked;
-  left = c.keys.ensures.left;
-  right = c.keys.ensures.right;
+  double = c.keys.ensures.double;
+  first = c.keys.ensures.first;
+  second = c.keys.ensures.second;
   joined = c.keys.ensures.joined;
 }
 

@@ -1,6 +1,7 @@
 use Rattle.std.proofs.Common.{◌≡◌, true, false, None, refl, inl, inr, sym, subst, replicate, ◌∙◌}
 use Rattle.duk_hsm.specs.Commands.{IsIssued}
-use Rattle.duk_hsm.specs.Keys.{iksn_prefix_of, key_set_of}
+use Rattle.duk_hsm.specs.Keys.{key_set_of}
+use Rattle.duk_tree.specs.Serial.{iksn_prefix_of}
 use Rattle.duk_net.specs.Owner.{IsElsewhere}
 use Rattle.duk_net.proofs.LoadLemmas.{no_key_set, own_key}
 use Rattle.duk_net.proofs.PlaceLemmas.{acts_at, has_one}

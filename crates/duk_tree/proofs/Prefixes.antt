@@ -1,7 +1,6 @@
 -- The first five bytes of a key serial number, which stand above its counter.
 use Rattle.std.proofs.Common.{◌≡◌, ◌+◌, ◌/◌, ◌%◌, ◌^◌, ◌<◌, refl, arith}
-use Rattle.duk_tree.specs.Serial.{IsSerial, Serial, serial_bytes}
-use Rattle.duk_hsm.specs.Keys.{iksn_prefix_of, prefix_of}
+use Rattle.duk_tree.specs.Serial.{IsSerial, Serial, serial_bytes, iksn_prefix_of, prefix_of}
 
 pub one_prefix : (ksn : Serial) → IsSerial ksn → prefix_of ksn ≡ iksn_prefix_of ksn.iksn
 unfolding serial_bytes
