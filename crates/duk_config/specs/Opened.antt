@@ -7,8 +7,6 @@ use Rattle.duk_block.specs.declared.fault.BlockFault.{BlockFault}
 use Rattle.duk_block.specs.declared.header.Header.{Header}
 use Rattle.duk_hsm.specs.Keys.{HsmKeys}
 use Rattle.duk_hsm.specs.Load.{key_set}
-use Rattle.duk_block.specs.KeyUse.{IsHeaderFor}
-use Rattle.duk_block.specs.declared.key_use.KeyUse.TheVariants.{PinEncryption}
 use Rattle.duk_hsm.specs.declared.key_set.KeySet.{KeySet}
 use Rattle.duk_config.specs.declared.base_key.BaseKey.{BaseKey}
 use Rattle.duk_config.specs.Settings.{Settings}
@@ -19,16 +17,12 @@ key_sets_of bdks = map (λ bdk. key_set bdk.prefix bdk.key) bdks
 
 -- the local master key, the configuration's zone key, and the key sets of its base derivation keys
 abbrev pub keys_for : List ℕ → Settings → HsmKeys
-keys_for lmk config = record { lmk = lmk; zone = Some (bytes_of config.zone); key_sets = key_sets_of config.bdks }
+keys_for lmk config =
+    record { lmk = lmk; zone = Some (bytes_of config.zone); key_sets = key_sets_of config.bdks }
 
 -- the text wraps this header and this key alone, and has no fault: what a private function of `open_hsm` answers
 pub record WrapsAlone (lmk text : List ℕ) (header : Header) (key : List ℕ) : Type 0 where
   pub wraps : Wraps lmk text header key
-  pub alone : (other_header : Header) (other_key : List ℕ) → Wraps lmk text other_header other_key → (header ≡ other_header) × (key ≡ other_key)
+  pub alone : (other_header : Header) (other_key : List ℕ) → Wraps lmk text other_header other_key
+      → (header ≡ other_header) × (key ≡ other_key)
   pub has_no_fault : (why : BlockFault) → ¬ IsFirstFault text lmk why
-
--- the text wraps this zone key alone, under a header that says so: what a private function of `open_hsm` answers
-pub record WrapsZone (lmk text zone : List ℕ) : Type 0 where
-  pub header : Header
-  pub header_is : IsHeaderFor PinEncryption header
-  pub wrapped : WrapsAlone lmk text header zone

@@ -2,36 +2,19 @@
 
 ghost use Rattle.std.specs.Prelude.{◌≡◌, ◌<◌, Some, None, IfOk, IsOk, length};
 ghost use Rattle.duk_tdes.specs.Tdes.{IsTdesLength};
-ghost use Rattle.duk_block.specs.HeaderText.{IsHeader};
+ghost use Rattle.duk_block.specs.KeyUse.{header_for};
+ghost use Rattle.duk_block.specs.declared.key_use.KeyUse.{KeyUse};
 ghost use Rattle.duk_tdes.specs.KeyBytes.{bytes_of};
 ghost use Rattle.duk_hsm.specs.Keys.{key_set_of};
 ghost use Rattle.duk_hsm.specs.Load.{with_key_set};
-ghost use Rattle.duk_config.specs.Opened.{WrapsAlone, WrapsZone, keys_for};
+ghost use Rattle.duk_config.specs.Opened.{WrapsAlone, keys_for};
 
 use crate::base_key::BaseKey;
 use crate::config::Config;
 use arrayvec::ArrayVec;
-use duk_block::{Header, ZERO_PADDING, wrap};
+use duk_block::{KeyUse, ZERO_PADDING, wrap};
 use duk_hsm::{Hsm, HsmFault};
 use duk_tdes::{Key, KeyBytes};
-
-/// The header under which base derivation keys are loaded.
-const BASE_KEY: Header = Header {
-    usage: *b"B0",
-    algorithm: b'T',
-    mode: b'X',
-    version: *b"00",
-    exportability: b'N',
-};
-
-/// The header under which the zone key is loaded.
-const ZONE_KEY: Header = Header {
-    usage: *b"P0",
-    algorithm: b'T',
-    mode: b'B',
-    version: *b"00",
-    exportability: b'N',
-};
 
 /// A host security module that holds a configuration's base derivation keys, in their order, and its zone key. Each is
 /// wrapped under the local master key of `N` bytes (16 or 24) with zeros as padding, and loaded.
@@ -63,7 +46,7 @@ fn load_base_key<const N: usize>(
     ensures ok { IsOk result }
     ensures keys { hsm.new ≡ with_key_set hsm.old bdk.now.prefix bdk.now.key }
 {
-    let block = wrap_key(lmk, &BASE_KEY, &bdk.key);
+    let block = wrap_key(lmk, KeyUse::BaseDerivationKey, &bdk.key);
     hsm.load_bdk(bdk.prefix, block.as_slice())
 }
 
@@ -86,31 +69,30 @@ fn load_zone_key<const N: usize>(
 /// Wraps a zone key of either length.
 fn wrap_zone_key<const N: usize>(lmk: &Key<N>, zone: &KeyBytes) -> ArrayVec<u8, 512>
     requires { IsTdesLength N }
-    ensures { WrapsZone lmk.now result.items (bytes_of zone.now) }
+    ensures { WrapsAlone lmk.now result.items (header_for KeyUse.PinEncryption) (bytes_of zone.now) }
 {
     match zone {
-        KeyBytes::Double(key) => wrap_key(lmk, &ZONE_KEY, key),
-        KeyBytes::Triple(key) => wrap_key(lmk, &ZONE_KEY, key),
+        KeyBytes::Double(key) => wrap_key(lmk, KeyUse::PinEncryption, key),
+        KeyBytes::Triple(key) => wrap_key(lmk, KeyUse::PinEncryption, key),
     }
 }
 
-/// Wraps a key under the local master key with zeros as padding. The block is read, and as this key alone.
+/// Wraps a key for a use under the local master key with zeros as padding. The block is read, and as this key alone.
 fn wrap_key<const N: usize, const M: usize>(
     lmk: &Key<N>,
-    header: &Header,
+    key_use: KeyUse,
     key: &Key<M>,
 ) -> ArrayVec<u8, 512>
     requires protection_key { IsTdesLength N }
     requires key { IsTdesLength M }
-    requires header { IsHeader header.now }
     ensures size { length key.now ≡ M }
-    ensures wraps { WrapsAlone lmk.now result.items header.now key.now }
+    ensures wraps { WrapsAlone lmk.now result.items (header_for key_use) key.now }
 {
     duk_tdes::laws::tdes_key(lmk);
     duk_tdes::laws::tdes_key(key);
     duk_block::laws::one_reading();
     duk_block::laws::no_fault();
-    match wrap(lmk, header, key, &ZERO_PADDING) {
+    match wrap(lmk, &key_use.header(), key, &ZERO_PADDING) {
         Ok(block) => block,
         Err(_) => unreachable!(),
     }
