@@ -1,4 +1,4 @@
-use Rattle.std.proofs.Common.{refl, inl}
+use Rattle.std.proofs.Common.{refl, arith}
 use Rattle.duk_config.proofs.OpenLemmas.{bdk_loaded}
 use Rattle.duk_config.proofs.hsm.load_base_key.Goals as goal
 
@@ -7,7 +7,7 @@ returns g c =
     let wrapped = rw (← c.as_slice.ensures.value) at c.wrapped-block.ensures.wraps in
     let both =
     bdk_loaded c.args.hsm.now c.load_bdk.new.self c.args.lmk.now c.args.bdk.now.prefix c.as_slice.result.now _ c.args.bdk.now.key c.load_bdk.result c.requires.lmk c.requires.prefix c.requires.slot wrapped
-    (record { header_is = record { usage = refl; algorithm = refl; mode = inl refl }; length_is = c.wrapped-block.ensures.size })
+    (record { header_is = record { usage = refl; algorithm = refl; mode = (0, omega arith, refl) }; length_is = c.wrapped-block.ensures.size })
     c.load_bdk.ensures.loaded
     c.load_bdk.ensures.refused in
     record { ok = both.0; keys = both.1 }
