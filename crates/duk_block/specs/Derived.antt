@@ -1,4 +1,5 @@
--- The keys derived from a key block protection key (ANSI X9.143, key derivation binding method for TDES).
+-- The keys derived from a key block protection key (ANSI X9.143, key derivation binding method for
+-- TDES).
 use Rattle.std.specs.Prelude.{ℕ, List, [], ◌∷◌, ◌++◌, length, ◌==◌, if◌then◌else◌}
 use Rattle.std.specs.List.{flat_map}
 use Rattle.duk_mac.specs.Cmac.{cmac_of}
@@ -27,4 +28,5 @@ counters size = if size == 16 then 1 ∷ 2 ∷ [] else 1 ∷ 2 ∷ 3 ∷ []
 -- the derived key, of the protection key's length: the CMACs of the steps one after the other
 unfoldable pub derived_key : List ℕ → List ℕ → List ℕ
 derived_key usage protection_key =
-    flat_map (λ counter. cmac_of protection_key (derivation_data counter usage (length protection_key))) (counters (length protection_key))
+    let size = length protection_key in
+    flat_map (λ counter. cmac_of protection_key (derivation_data counter usage size)) (counters size)

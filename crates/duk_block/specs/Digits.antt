@@ -7,7 +7,12 @@ digit value = 0x30 + value
 
 -- a number below 10000 as four decimal digits
 abbrev pub four_digits : ℕ → List ℕ
-four_digits number = digit (number / 1000) ∷ digit (number / 100 % 10) ∷ digit (number / 10 % 10) ∷ digit (number % 10) ∷ []
+four_digits number =
+    digit (number / 1000)
+    ∷ digit (number / 100 % 10)
+    ∷ digit (number / 10 % 10)
+    ∷ digit (number % 10)
+    ∷ []
 
 -- a number below 100 as two decimal digits
 abbrev pub two_digits : ℕ → List ℕ

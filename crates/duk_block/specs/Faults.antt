@@ -31,8 +31,8 @@ pub record HasCount (text : List ℕ) (count : ℕ) : Type 0 where
   pub below : count < 100
   pub written : take 2 (drop 12 text) ≡ two_digits count
 
--- as many optional blocks as characters 12 and 13 say stand behind the header, and then the body: hexadecimal digits of
--- a ciphertext of at least 24 bytes, in whole blocks, and of the MAC
+-- as many optional blocks as characters 12 and 13 say stand behind the header, and then the body:
+-- hexadecimal digits of a ciphertext of at least 24 bytes, in whole blocks, and of the MAC
 pub record HasBody (text body : List ℕ) : Type 0 where
   pub count : ℕ
   pub count_is : HasCount text count
@@ -72,7 +72,8 @@ Meets text protection_key HeaderField = HasFields text × ((count : ℕ) × HasC
 Meets text protection_key OptionalBlock = (body : List ℕ) × HasBody text body
 Meets text protection_key Hex = (body : List ℕ) × HasBody text body × AllPass is_hex_digit body
 Meets text protection_key Mac = (payload : List ℕ) × HasPayload text protection_key payload
-Meets text protection_key Payload = (payload key : List ℕ) × HasPayload text protection_key payload × Carries payload key
+Meets text protection_key Payload =
+    (payload key : List ℕ) × HasPayload text protection_key payload × Carries payload key
 Meets text protection_key PadLength = Unit {0}
 
 -- the order of the faults
@@ -88,15 +89,16 @@ rank PadLength = 7
 
 -- the text meets what comes before this fault in the order
 abbrev pub MetBefore : List ℕ → List ℕ → BlockFault → Type 0
-MetBefore text protection_key fault = (earlier : BlockFault) → rank earlier < rank fault → Meets text protection_key earlier
+MetBefore text protection_key fault =
+    (earlier : BlockFault) → rank earlier < rank fault → Meets text protection_key earlier
 
 -- the first of the faults, in their order, whose condition the text does not meet
 pub record IsFirstFault (text protection_key : List ℕ) (fault : BlockFault) : Type 0 where
   pub unmet : ¬ Meets text protection_key fault
   pub earlier_met : MetBefore text protection_key fault
 
--- the header's characters are this header's and this number of optional blocks: what a private function of `unwrap`
--- answers
+-- the header's characters are this header's and this number of optional blocks: what a private
+-- function of `unwrap` answers
 pub record HasHeader (text : List ℕ) (header : Header) (count : ℕ) : Type 0 where
   pub length_is : HasLength text
   pub version_is : HasVersion text

@@ -10,7 +10,11 @@ IsPrintable byte = (0x20 ≤ byte) × (byte ≤ 0x7E)
 
 -- usage, algorithm, mode of use, key version and exportability
 abbrev pub fields : Header → List ℕ
-fields header = header.usage ++ header.algorithm ∷ header.mode ∷ [] ++ header.version ++ header.exportability ∷ []
+fields header =
+    header.usage
+    ++ header.algorithm ∷ header.mode ∷ []
+    ++ header.version
+    ++ header.exportability ∷ []
 
 -- usage and version have two characters
 pub record HasWidths (header : Header) : Type 0 where
@@ -22,8 +26,8 @@ pub record IsHeader (header : Header) : Type 0 where
   pub widths : HasWidths header
   pub printable : All IsPrintable (fields header)
 
--- the 16 characters: the block's version identifier B, the length of the whole block, the fields, the number of
--- optional blocks, and two characters that are reserved
+-- the 16 characters: the block's version identifier B, the length of the whole block, the fields,
+-- the number of optional blocks, and two characters that are reserved
 abbrev pub header_text : ℕ → Header → ℕ → List ℕ → List ℕ
 header_text total header optional_count reserved =
     codes "B" ++ four_digits total ++ fields header ++ two_digits optional_count ++ reserved

@@ -18,16 +18,18 @@ payload_of key padding = to_be_bytes w16 (8 * length key) ++ key ++ padding
 
 -- the MAC: over what stands before the ciphertext, as it stands, and the clear payload
 abbrev pub mac_of : List ℕ → List ℕ → List ℕ → List ℕ
-mac_of protection_key front payload = cmac_of (derived_key mac_usage protection_key) (front ++ payload)
+mac_of protection_key front payload =
+    cmac_of (derived_key mac_usage protection_key) (front ++ payload)
 
 -- the ciphertext: the payload in CBC with the MAC as initial vector
 abbrev pub ciphertext_of : List ℕ → List ℕ → List ℕ → List ℕ
-ciphertext_of protection_key mac payload = cbc_encrypted (derived_key encryption_usage protection_key) mac payload
+ciphertext_of protection_key mac payload =
+    cbc_encrypted (derived_key encryption_usage protection_key) mac payload
 
--- The text is a key block that binds the header to the key under the protection key. In front stand the
--- header's characters and the optional blocks; the body behind them is the ciphertext and the MAC in hexadecimal.
--- This project's own: the reserved characters may be anything, the header's fields can be printed, and the key has 16 or
--- 24 bytes.
+-- The text is a key block that binds the header to the key under the protection key. In front stand
+-- the header's characters and the optional blocks; the body behind them is the ciphertext and the
+-- MAC in hexadecimal. This project's own: the reserved characters may be anything, the header's
+-- fields can be printed, and the key has 16 or 24 bytes.
 pub record IsKeyBlock (text protection_key : List ℕ) (header : Header) (key : List ℕ) : Type 0 where
   pub reserved : List ℕ
   pub optional_blocks : List (List ℕ)
@@ -37,7 +39,8 @@ pub record IsKeyBlock (text protection_key : List ℕ) (header : Header) (key : 
   pub mac : List ℕ
   pub padding : List ℕ
   pub laid_out : text ≡ front ++ body
-  pub front_is : front ≡ header_text (length text) header (length optional_blocks) reserved ++ concat optional_blocks
+  pub front_is : front
+      ≡ header_text (length text) header (length optional_blocks) reserved ++ concat optional_blocks
   pub length_has_four_digits : length text < 10000
   pub header_is : IsHeader header
   pub reserved_width : length reserved ≡ 2
@@ -50,7 +53,8 @@ pub record IsKeyBlock (text protection_key : List ℕ) (header : Header) (key : 
   pub authentic : mac ≡ mac_of protection_key front (payload_of key padding)
   pub enciphered : ciphertext ≡ ciphertext_of protection_key mac (payload_of key padding)
 
--- what this project reads and writes: 80 to 512 characters, a multiple of eight; the limits are this project's own
+-- what this project reads and writes: 80 to 512 characters, a multiple of eight; the limits are
+-- this project's own
 pub record IsWithinLimits (text : List ℕ) : Type 0 where
   pub least : 80 ≤ length text
   pub most : length text ≤ 512
@@ -62,35 +66,38 @@ pub record Wraps (protection_key text : List ℕ) (header : Header) (key : List 
   pub block : IsKeyBlock text protection_key header key
 
 -- the text wraps this key, for this use: what the use asks of header and key is met
-pub record WrapsFor (IsForUse : Header → List ℕ → Type 0) (protection_key text key : List ℕ) : Type 0 where
+pub record WrapsFor (IsForUse : Header → List ℕ → Type 0) (protection_key text key : List ℕ)
+    : Type 0 where
   pub header : Header
   pub wraps : Wraps protection_key text header key
   pub use_is : IsForUse header key
 
 -- the text wraps a key for another use
-pub record WrapsOther (IsForUse : Header → List ℕ → Type 0) (protection_key text : List ℕ) : Type 0 where
+pub record WrapsOther (IsForUse : Header → List ℕ → Type 0) (protection_key text : List ℕ)
+    : Type 0 where
   pub header : Header
   pub key : List ℕ
   pub wraps : Wraps protection_key text header key
   pub use_is_other : ¬ IsForUse header key
 
--- a key block as this project writes it: no optional block, two zeros as reserved characters, this padding, and the
--- hexadecimal digits in upper case
-pub record IsWrittenKeyBlock (text protection_key : List ℕ) (header : Header) (key padding : List ℕ) : Type 0 where
+-- a key block as this project writes it: no optional block, two zeros as reserved characters, this
+-- padding, and the hexadecimal digits in upper case
+pub record IsWrittenKeyBlock (text protection_key : List ℕ) (header : Header) (key padding : List ℕ)
+    : Type 0 where
   pub block : IsKeyBlock text protection_key header key
   pub no_optional : block.optional_blocks ≡ []
   pub reserved_zeros : block.reserved ≡ codes "00"
   pub padding_is : block.padding ≡ padding
   pub upper_case : block.body ≡ encode_upper (block.ciphertext ++ block.mac)
 
--- a key and padding of these lengths fit a key block with no optional block: the payload, with two bytes for the key's
--- length in front, is made of whole blocks, and the text is within the limits
+-- a key and padding of these lengths fit a key block with no optional block: the payload, with two
+-- bytes for the key's length in front, is made of whole blocks, and the text is within the limits
 pub record FitsKeyBlock (key padding : ℕ) : Type 0 where
   pub whole : (2 + key + padding) % 8 ≡ 0
   pub most : 32 + 2 * (2 + key + padding) ≤ 512
 
--- the text has these characters in front, and behind them, in upper case, the ciphertext and the MAC of this payload:
--- what a private function of `wrap` writes
+-- the text has these characters in front, and behind them, in upper case, the ciphertext and the
+-- MAC of this payload: what a private function of `wrap` writes
 pub record IsSealed (protection_key front payload text : List ℕ) : Type 0 where
   pub mac : List ℕ
   pub ciphertext : List ℕ

@@ -1,5 +1,5 @@
--- What keys are for, as the headers of their key blocks say it: the usages and modes of ANSI X9.143, of which this
--- project has three.
+-- What keys are for, as the headers of their key blocks say it: the usages and modes of ANSI
+-- X9.143, of which this project has three.
 use Rattle.std.specs.Prelude.{◌≡◌, ℕ, List, [], ◌∷◌, Contains, length, codes}
 use Rattle.duk_block.specs.declared.fault.KeyFault.{KeyFault}
 use Rattle.duk_block.specs.declared.fault.KeyFault.TheVariants as fault
@@ -15,7 +15,8 @@ usage_of BaseDerivationKey = codes "B0"
 usage_of InitialKey = codes "B1"
 usage_of PinEncryption = codes "P0"
 
--- the modes of use that it may have here: X for derivation, E for encipherment, B for both ways, N for no restriction
+-- the modes of use that it may have here: X for derivation, E for encipherment, B for both ways, N
+-- for no restriction
 abbrev pub modes_of : KeyUse → List ℕ
 modes_of BaseDerivationKey = codes "XN"
 modes_of InitialKey = codes "XN"
@@ -27,14 +28,15 @@ pub record IsHeaderFor (key_use : KeyUse) (header : Header) : Type 0 where
   pub algorithm : header.algorithm ∷ [] ≡ codes "T"
   pub mode : Contains (modes_of key_use) header.mode
 
--- the mode of use in a header that this project writes: X for keys that others are derived from, B for PIN encryption
+-- the mode of use in a header that this project writes: X for keys that others are derived from, B
+-- for PIN encryption
 abbrev pub written_mode : KeyUse → ℕ
 written_mode BaseDerivationKey = 0x58
 written_mode InitialKey = 0x58
 written_mode PinEncryption = 0x42
 
--- the header that this project writes for a key of this use, with version 00 and exportability N (not): B0TX00N,
--- B1TX00N and P0TB00N
+-- the header that this project writes for a key of this use, with version 00 and exportability N
+-- (not): B0TX00N, B1TX00N and P0TB00N
 abbrev pub header_for : KeyUse → Header
 header_for key_use =
     record {
@@ -49,12 +51,14 @@ header_for key_use =
 abbrev pub IsKeyFor : KeyUse → Header → List ℕ → Type 0
 IsKeyFor key_use header key = IsHeaderFor key_use header
 
--- a header and a double-length key for this use: base derivation keys and initial keys have 16 bytes
+-- a header and a double-length key for this use: base derivation keys and initial keys have 16
+-- bytes
 pub record IsDoubleKeyFor (key_use : KeyUse) (header : Header) (key : List ℕ) : Type 0 where
   pub header_is : IsHeaderFor key_use header
   pub length_is : length key ≡ 16
 
--- why a text has no key for a use: it is no key block, and this is its first fault, or it is one of another key
+-- why a text has no key for a use: it is no key block, and this is its first fault, or it is one of
+-- another key
 abbrev pub HasNoKeyFor : (Header → List ℕ → Type 0) → List ℕ → List ℕ → KeyFault → Type 0
 HasNoKeyFor IsForUse protection_key text (fault.Block why) = IsFirstFault text protection_key why
 HasNoKeyFor IsForUse protection_key text fault.WrongUse = WrapsOther IsForUse protection_key text

@@ -3,8 +3,8 @@ use Rattle.std.specs.Prelude.{◌≡◌, ℕ, List, [], ◌∷◌, ◌++◌, len
 use Rattle.std.specs.List.{All, concat}
 use Rattle.duk_block.specs.Hexadecimal.{IsHexadecimal}
 
--- an id of two characters, two hexadecimal digits that give the length of the whole block, and the block's content; that
--- id and content may be anything is this project's own
+-- an id of two characters, two hexadecimal digits that give the length of the whole block, and the
+-- block's content; that id and content may be anything is this project's own
 pub record IsOptionalBlock (block : List ℕ) : Type 0 where
   pub id : List ℕ
   pub digits : List ℕ
@@ -20,7 +20,8 @@ pub record Leaves (count : ℕ) (text rest : List ℕ) : Type 0 where
   pub count_is : length optional_blocks ≡ count
   pub each : All IsOptionalBlock optional_blocks
 
--- the text begins with an optional block, and this is what follows it: what a private function of `unwrap` answers
+-- the text begins with an optional block, and this is what follows it: what a private function of
+-- `unwrap` answers
 pub record LeavesOne (text rest : List ℕ) : Type 0 where
   pub block : List ℕ
   pub is_block : IsOptionalBlock block

@@ -10,7 +10,8 @@ use Rattle.duk_tdes.specs.KeyBytes.{key_from}
 -- where the text is a key block within the limits, its header and key are the answer
 abbrev pub ReadsKeyBlocks : Result (Header × KeyBytes) BlockFault → List ℕ → List ℕ → Type 0
 ReadsKeyBlocks answer text protection_key =
-    (header : Header) (key : List ℕ) → Wraps protection_key text header key → answer ≡ Ok (header, key_from key)
+    (header : Header) (key : List ℕ) → Wraps protection_key text header key
+    → answer ≡ Ok (header, key_from key)
 
 -- a fault is the answer exactly where it is the text's first
 abbrev pub RefusesFirstFaults : Result (Header × KeyBytes) BlockFault → List ℕ → List ℕ → Type 0

@@ -1,12 +1,12 @@
 //! Numbers in decimal and bytes in hexadecimal, as characters.
 
-ghost use Rattle.std.specs.Prelude.{◌≡◌, ◌<◌, ◌≤◌, ◌+◌, ◌*◌, ◌++◌, ◌%◌, MatchBool, MatchOption, length};
+ghost use Rattle.std.specs.Prelude.{◌≡◌, ◌<◌, ◌≤◌, ◌*◌, ◌%◌, MatchBool, MatchOption, length};
 ghost use Rattle.std.specs.List.{AllPass};
 ghost use Rattle.hex.specs.Hex.{is_hex_digit};
 ghost use Rattle.duk_block.specs.Digits.{four_digits};
 ghost use Rattle.duk_block.specs.Hexadecimal.{IsHexadecimal};
 
-use arrayvec::ArrayVec;
+use crate::text::{BlockText, MAX_TEXT, append};
 
 /// The number as four decimal digits.
 pub fn four_digits(number: usize) -> [u8; 4]
@@ -21,15 +21,8 @@ pub fn four_digits(number: usize) -> [u8; 4]
     ]
 }
 
-/// Writes bytes at the end of a text.
-pub fn append(text: &mut ArrayVec<u8, 512>, bytes: &[u8])
-    requires { length text.old.items + length bytes.now ≤ 512 }
-    ensures { text.new.items ≡ text.old.items ++ bytes.now }
-{
-    text.try_extend_from_slice(bytes).unwrap();
-}
-
-/// Reads hexadecimal digits in either case, two for each byte, and says whether they are such digits.
+/// Reads hexadecimal digits in either case, two for each byte, and says whether they are such
+/// digits.
 pub fn read_hex(digits: &[u8], bytes: &mut [u8]) -> bool
     requires { length digits.now ≡ 2 * length bytes.old }
     ensures { MatchBool result (IsHexadecimal digits.now bytes.new)
@@ -39,18 +32,18 @@ pub fn read_hex(digits: &[u8], bytes: &mut [u8]) -> bool
 }
 
 /// The bytes of a text of hexadecimal digits in either case.
-pub fn hex_bytes(digits: &[u8]) -> Option<ArrayVec<u8, 512>>
+pub fn hex_bytes(digits: &[u8]) -> Option<BlockText>
     requires even { length digits.now % 2 ≡ 0 }
-    requires room { length digits.now ≤ 512 }
+    requires room { length digits.now ≤ MAX_TEXT }
     ensures { MatchOption result (AllPass is_hex_digit digits.now → ⊥)
         (λ bytes. IsHexadecimal digits.now bytes.items) }
 {
-    let mut buffer = [0; 256];
+    let mut buffer = [0; MAX_TEXT / 2];
     let size = digits.len() / 2;
     if !read_hex(digits, &mut buffer[..size]) {
         return None;
     }
-    let mut bytes = ArrayVec::new();
+    let mut bytes = BlockText::new();
     append(&mut bytes, &buffer[..size]);
     Some(bytes)
 }

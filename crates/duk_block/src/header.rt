@@ -3,12 +3,12 @@
 ghost use Rattle.std.specs.Prelude.{◌≡◌, ◌≤◌, ◌↔◌, IsTrue, length, take, drop, codes, ◌<◌, ℕ, MatchOption};
 ghost use Rattle.duk_block.specs.Faults.{HasCount, HasLength};
 
-use crate::digits::{append, four_digits};
-use arrayvec::ArrayVec;
+use crate::digits::four_digits;
+use crate::text::{BlockText, MAX_TEXT, MIN_TEXT, append};
 use duk_tdes::array_of;
 
-/// What a key block says of its key, in characters. Each is to be printable ASCII, 20 to 7E hexadecimal, else `wrap`
-/// refuses it.
+/// What a key block says of its key, in characters. Each is to be printable ASCII, 20 to 7E
+/// hexadecimal, else `wrap` refuses it.
 #[derive(Clone, Copy, PartialEq, Eq, Debug)]
 pub struct Header {
     /// What the key is for, as `P0` for PIN encryption.
@@ -26,7 +26,8 @@ pub struct Header {
 impl Header {
     ghost use Rattle.duk_block.specs.HeaderText.{IsHeader, HasWidths, fields, header_text};
 
-    /// The characters of the fields, in the order of the text: usage, algorithm, mode, version and exportability.
+    /// The characters of the fields, in the order of the text: usage, algorithm, mode, version and
+    /// exportability.
     pub fn fields(&self) -> [u8; 7]
         ensures { result ≡ fields self.now }
     {
@@ -75,7 +76,8 @@ impl Header {
         Header::from_fields(array_of(&text[5..12]))
     }
 
-    /// Whether each field can be printed, as a key block wants: its characters are 20 to 7E hexadecimal.
+    /// Whether each field can be printed, as a key block wants: its characters are 20 to 7E
+    /// hexadecimal.
     pub fn is_printable(&self) -> bool
         ensures { IsTrue result ↔ IsHeader self.now }
     {
@@ -85,11 +87,11 @@ impl Header {
     }
 
     /// The text of this header before a whole text of `total` characters, with no optional block.
-    pub(crate) fn text(&self, total: usize) -> ArrayVec<u8, 512>
+    pub(crate) fn text(&self, total: usize) -> BlockText
         requires { total < 10000 }
         ensures { result.items ≡ header_text total self.now 0 (codes "00") }
     {
-        let mut text = ArrayVec::new();
+        let mut text = BlockText::new();
         append(&mut text, b"B");
         append(&mut text, &four_digits(total));
         append(&mut text, &self.fields());
@@ -104,7 +106,9 @@ pub fn has_length(text: &[u8]) -> bool
     ensures { IsTrue result ↔ HasLength text.now }
 {
     let length = text.len();
-    (80..=512).contains(&length) && length % 8 == 0 && text[1..5] == four_digits(length)[..]
+    (MIN_TEXT..=MAX_TEXT).contains(&length)
+        && length % 8 == 0
+        && text[1..5] == four_digits(length)[..]
 }
 
 /// The number of optional blocks, where characters 12 and 13 are decimal digits.

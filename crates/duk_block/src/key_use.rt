@@ -21,7 +21,8 @@ pub enum KeyUse {
 }
 
 impl KeyUse {
-    /// Whether a header says that its key is for this use: its algorithm is `T`, and usage and mode are this use's.
+    /// Whether a header says that its key is for this use: its algorithm is `T`, and usage and mode
+    /// are this use's.
     pub fn allows(self, header: &Header) -> bool
         ensures { IsTrue result ↔ IsHeaderFor self header.now }
     {

@@ -18,8 +18,8 @@ pub fn derived_keys()
     duk_mac::laws::cmac_is_a_block();
 }
 
-/// Under one protection key a text is a key block of at most one header and one key. So what was wrapped is unwrapped
-/// to the same header and key.
+/// Under one protection key a text is a key block of at most one header and one key. So what was
+/// wrapped is unwrapped to the same header and key.
 pub fn one_reading()
     ensures { (text protection_key : List ℕ) (header other_header : Header) (key other_key : List ℕ)
         → IsTdesKey protection_key

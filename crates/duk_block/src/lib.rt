@@ -1,8 +1,8 @@
-//! Key blocks of ANSI X9.143 in version B: a key under a key block protection key, bound to a header that says what the
-//! key is for.
+//! Key blocks of ANSI X9.143 in version B: a key under a key block protection key, bound to a
+//! header that says what the key is for.
 #![tactic(auto)]
 
-mod derived;
+mod derivation;
 mod digits;
 mod fault;
 mod header;
@@ -11,6 +11,7 @@ pub mod laws;
 mod optional;
 mod payload;
 mod sealing;
+mod text;
 mod unwrapping;
 mod unwrapping_for;
 mod wrapping;
@@ -18,6 +19,7 @@ mod wrapping;
 pub use fault::{BlockFault, KeyFault};
 pub use header::Header;
 pub use key_use::KeyUse;
+pub use text::{BlockText, MAX_TEXT};
 pub use unwrapping::unwrap;
 pub use unwrapping_for::{unwrap_double_for, unwrap_for};
 pub use wrapping::{ZERO_PADDING, wrap};

@@ -1,24 +1,23 @@
 //! The payload of a key block, which holds the key.
 
-ghost use Rattle.std.specs.Prelude.{◌≡◌, ◌≤◌, ℕ, List, IfSome, MatchOption, length};
+ghost use Rattle.std.specs.Prelude.{◌≡◌, ◌≤◌, ◌/◌, ℕ, List, IfSome, MatchOption, length};
 ghost use Rattle.duk_tdes.specs.Tdes.{IsTdesKey, IsTdesLength};
 ghost use Rattle.duk_block.specs.Faults.{Carries};
 ghost use Rattle.duk_block.specs.KeyBlock.{payload_of};
 ghost use Rattle.duk_tdes.specs.KeyBytes.{bytes_of, key_from};
 
-use crate::digits::append;
-use arrayvec::ArrayVec;
+use crate::text::{BlockText, MAX_TEXT, append};
 use duk_tdes::{Key, KeyBytes, array_of};
 
 /// The payload that carries a key: its length in bits, the key, and padding.
-pub fn payload_with<const M: usize>(key: &Key<M>, pad: &[u8]) -> ArrayVec<u8, 512>
+pub fn payload_with<const M: usize>(key: &Key<M>, pad: &[u8]) -> BlockText
     requires length { IsTdesLength M }
-    requires room { length pad.now ≤ 256 }
+    requires room { length pad.now ≤ MAX_TEXT / 2 }
     ensures payload { result.items ≡ payload_of key.now pad.now }
     ensures key { IsTdesKey key.now }
     ensures key_length { length key.now ≡ M }
 {
-    let mut payload = ArrayVec::new();
+    let mut payload = BlockText::new();
     append(&mut payload, &((8 * M) as u16).to_be_bytes());
     append(&mut payload, &key.bytes());
     append(&mut payload, pad);

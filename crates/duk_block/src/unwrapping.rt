@@ -16,16 +16,17 @@ use crate::header::{Header, has_length, optional_count};
 use crate::laws;
 use crate::optional::after_optional;
 use crate::payload::key_in;
-use crate::sealing::{block_mac, deciphered};
-use arrayvec::ArrayVec;
+use crate::sealing::{block_mac, decipher};
+use crate::text::{BlockText, MAX_TEXT};
 use duk_tdes::{Key, KeyBytes, array_of};
 
-/// Reads a key block under the key block protection key: its header and the key that it binds to the header. `N` is 16
-/// or 24.
+/// Reads a key block under the key block protection key: its header and the key that it binds to
+/// the header. `N` is 16 or 24.
 ///
-/// The text is of 80 to 512 characters and a multiple of 8. Any other text, and one that is no key block, is refused with
-/// the first of the faults, from `Length` to `Payload`, that it has. Hexadecimal digits are read in either case. The
-/// last two characters of the header, the ids and contents of optional blocks and the padding may be anything.
+/// The text is of 80 to 512 characters and a multiple of 8. Any other text, and one that is no key
+/// block, is refused with the first of the faults, from `Length` to `Payload`, that it has.
+/// Hexadecimal digits are read in either case. The last two characters of the header, the ids and
+/// contents of optional blocks and the padding may be anything.
 pub fn unwrap<const N: usize>(kbpk: &Key<N>, text: &[u8]) -> Result<(Header, KeyBytes), BlockFault>
     requires { IsTdesLength N }
     ensures found { IfOk result (λ found. Wraps kbpk.now text.now found.0 (bytes_of found.1)) }
@@ -50,7 +51,7 @@ fn read<const N: usize>(kbpk: &Key<N>, text: &[u8]) -> Result<(Header, KeyBytes)
     let Some(body) = body_of(text, count) else {
         return Err(BlockFault::OptionalBlock);
     };
-    let payload = opened(kbpk, text, body)?;
+    let payload = open_payload(kbpk, text, body)?;
     match key_in(payload.as_slice()) {
         Some(key) => Ok((header, key)),
         None => Err(BlockFault::Payload),
@@ -95,13 +96,13 @@ fn body_of(text: &[u8], count: u8) -> Option<&[u8]>
 }
 
 /// The payload, where the body is hexadecimal and has the right MAC.
-fn opened<const N: usize>(
+fn open_payload<const N: usize>(
     kbpk: &Key<N>,
     text: &[u8],
     body: &[u8],
-) -> Result<ArrayVec<u8, 512>, BlockFault>
+) -> Result<BlockText, BlockFault>
     requires key { IsTdesLength N }
-    requires most { length text.now ≤ 512 }
+    requires most { length text.now ≤ MAX_TEXT }
     requires body { HasBody text.now body.now }
     requires met { MetBefore text.now kbpk.now BlockFault.Hex }
     ensures found { IfOk result (λ payload. HasPayload text.now kbpk.now payload.items) }
@@ -116,7 +117,7 @@ fn opened<const N: usize>(
     };
     let (ciphertext, mac) = bytes.as_slice().split_at(body.len() / 2 - 8);
     let mac = array_of(mac);
-    let payload = deciphered(kbpk, mac, ciphertext);
+    let payload = decipher(kbpk, mac, ciphertext);
     if block_mac(kbpk, front, payload.as_slice()) == mac {
         Ok(payload)
     } else {

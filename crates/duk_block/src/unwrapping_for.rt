@@ -11,8 +11,8 @@ use crate::key_use::KeyUse;
 use crate::unwrapping::unwrap;
 use duk_tdes::{Key, KeyBytes};
 
-/// The key of 16 or 24 bytes in a key block under the key block protection key, where its header allows this use. `N`
-/// is 16 or 24.
+/// The key of 16 or 24 bytes in a key block under the key block protection key, where its header
+/// allows this use. `N` is 16 or 24.
 ///
 /// Refused with `Block`, where the text is no key block, and then with `WrongUse`.
 pub fn unwrap_for<const N: usize>(
@@ -21,7 +21,8 @@ pub fn unwrap_for<const N: usize>(
     text: &[u8],
 ) -> Result<KeyBytes, KeyFault>
     requires { IsTdesLength N }
-    ensures found { IfOk result (λ key. WrapsFor (IsKeyFor key_use) kbpk.now text.now (bytes_of key)) }
+    ensures found { IfOk result
+        (λ key. WrapsFor (IsKeyFor key_use) kbpk.now text.now (bytes_of key)) }
     ensures refused { IfErr result (HasNoKeyFor (IsKeyFor key_use) kbpk.now text.now) }
 {
     let (header, key) = unwrap(kbpk, text).map_err(KeyFault::Block)?;
@@ -32,10 +33,11 @@ pub fn unwrap_for<const N: usize>(
     }
 }
 
-/// The key of 16 bytes in a key block under the key block protection key, where its header allows this use. `N` is 16
-/// or 24.
+/// The key of 16 bytes in a key block under the key block protection key, where its header allows
+/// this use. `N` is 16 or 24.
 ///
-/// Refused with `Block`, where the text is no key block, and then with `WrongUse`, also where the key has 24 bytes.
+/// Refused with `Block`, where the text is no key block, and then with `WrongUse`, also where the
+/// key has 24 bytes.
 pub fn unwrap_double_for<const N: usize>(
     key_use: KeyUse,
     kbpk: &Key<N>,

@@ -8,26 +8,31 @@ ghost use Rattle.duk_block.specs.KeyBlock.{FitsKeyBlock, IsSealed, IsWithinLimit
 use crate::fault::BlockFault;
 use crate::header::Header;
 use crate::payload::payload_with;
-use crate::sealing::{block_mac, enciphered};
-use arrayvec::ArrayVec;
+use crate::sealing::{block_mac, encipher};
+use crate::text::{BlockText, MAX_TEXT};
 use duk_io::append_hex;
 use duk_tdes::Key;
 
 /// Padding of zeros behind a key of 16 or 24 bytes: with it, the key and the two bytes of its length fill whole blocks.
 pub const ZERO_PADDING: [u8; 6] = [0; 6];
 
-/// Wraps a key in a key block with no optional block: the header, and the key with this padding behind it enciphered
-/// under a key derived from the key block protection key. `N` and `M` are 16 or 24.
+/// The most bytes of a payload: two characters each, with the 16 of a header and the 16 of a MAC.
+const MAX_PAYLOAD: usize = (MAX_TEXT - 32) / 2;
+
+/// Wraps a key in a key block with no optional block: the header, and the key with this padding
+/// behind it enciphered under a key derived from the key block protection key. `N` and `M` are 16
+/// or 24.
 ///
-/// Refuses a header with a character outside 20 to 7E hexadecimal as `HeaderField`; then, as `PadLength`, padding that
-/// does not fill the payload to whole blocks of 8 bytes, where a length of 2 bytes and the key stand before it, or with
-/// which the text would have more than 512 characters. Padding may be longer than needed; it should be random.
+/// Refuses a header with a character outside 20 to 7E hexadecimal as `HeaderField`; then, as
+/// `PadLength`, padding that does not fill the payload to whole blocks of 8 bytes, where a length
+/// of 2 bytes and the key stand before it, or with which the text would have more than 512
+/// characters. Padding may be longer than needed; it should be random.
 pub fn wrap<const N: usize, const M: usize>(
     kbpk: &Key<N>,
     header: &Header,
     key: &Key<M>,
     pad: &[u8],
-) -> Result<ArrayVec<u8, 512>, BlockFault>
+) -> Result<BlockText, BlockFault>
     requires protection_key { IsTdesLength N }
     requires key { IsTdesLength M }
     ensures fields { (result ≡ Err BlockFault.HeaderField) ↔ ¬ IsHeader header.now }
@@ -42,7 +47,7 @@ pub fn wrap<const N: usize, const M: usize>(
         return Err(BlockFault::HeaderField);
     }
     match text_length(M, pad.len()) {
-        Some(total) => Ok(sealed(kbpk, header.text(total), payload_with(key, pad).as_slice())),
+        Some(total) => Ok(seal(kbpk, header.text(total), payload_with(key, pad).as_slice())),
         None => Err(BlockFault::PadLength),
     }
 }
@@ -54,26 +59,23 @@ fn text_length(key: usize, pad: usize) -> Option<usize>
         (λ total. FitsKeyBlock key pad × (total ≡ 32 + 2 * (2 + key + pad))) }
 {
     let payload = pad.checked_add(2 + key)?;
-    if payload % 8 == 0 && payload <= 240 {
+    if payload % 8 == 0 && payload <= MAX_PAYLOAD {
         Some(32 + 2 * payload)
     } else {
         None
     }
 }
 
-/// The text of these characters in front, and the payload, sealed: its ciphertext and the MAC, in hexadecimal.
-fn sealed<const N: usize>(
-    kbpk: &Key<N>,
-    front: ArrayVec<u8, 512>,
-    payload: &[u8],
-) -> ArrayVec<u8, 512>
+/// The text of these characters in front, and the payload, sealed: its ciphertext and the MAC, in
+/// hexadecimal.
+fn seal<const N: usize>(kbpk: &Key<N>, front: BlockText, payload: &[u8]) -> BlockText
     requires protection_key { IsTdesLength N }
     requires room { length front.items + 2 * length payload.now ≤ 496 }
     requires whole { length payload.now % 8 ≡ 0 }
     ensures { IsSealed kbpk.now front.items payload.now result.items }
 {
     let mac = block_mac(kbpk, front.as_slice(), payload);
-    let ciphertext = enciphered(kbpk, mac, payload);
+    let ciphertext = encipher(kbpk, mac, payload);
     let mut text = front;
     append_hex(&mut text, ciphertext.as_slice());
     append_hex(&mut text, &mac);

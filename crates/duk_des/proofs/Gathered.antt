@@ -1,4 +1,5 @@
--- Tables of words over groups of bits: the words of the bits that are set, added modulo 2, are a permutation of the bits.
+-- Tables of words over groups of bits: the words of the bits that are set, added modulo 2, are a
+-- permutation of the bits.
 use Rattle.std.proofs.Common.{◌≡◌, ℕ, zero, suc, ◌+◌, ◌-◌, ◌*◌, ◌/◌, ◌%◌, ◌^◌, ◌<◌, ◌==◌, Bool, true, false, cond, ◌&&◌, List, [], ◌∷◌, ◌++◌, length, map, get_or, slice_index_or, inl, inr, refl, sym, ap, ◌∙◌, length-append, arith}
 use mathlib.Core.Bool.{not, xor}
 use lib.Bits.{bit_xor, xor_assoc}
@@ -94,7 +95,8 @@ bit_of_combined place (word ∷ words) (b ∷ bits) =
     bit-xor (cond b word 0) (combined words bits) place
     ∙ both xor (bit_of_chosen place word b) (bit_of_combined place words bits)
 
--- whether a list has no true, and whether it has true at one place alone, or none where it is shorter
+-- whether a list has no true, and whether it has true at one place alone, or none where it is
+-- shorter
 abbrev none : List Bool → Bool
 none [] = true
 none (c ∷ column) = not c && none column
@@ -121,7 +123,8 @@ only_picked zero (false ∷ column) (b ∷ bits) h k = absurd (false≢true k)
 only_picked (suc place) (false ∷ column) (b ∷ bits) h k = false-xor (picked column bits) ∙ only_picked place column bits (omega arith) k
 only_picked (suc place) (true ∷ column) (b ∷ bits) h k = absurd (false≢true k)
 
--- whether each of the lowest bits that the words have is that of the word that a table of places names, and of no other
+-- whether each of the lowest bits that the words have is that of the word that a table of places
+-- names, and of no other
 abbrev pub gathers : ℕ → List ℕ → List ℕ → Bool
 gathers zero words [] = true
 gathers zero words (place ∷ table) = false

@@ -8,7 +8,8 @@ use Rattle.duk_des.specs.Des.{rotate, schedule}
 use Rattle.duk_des.specs.Tables.{round_key_places, rotations}
 use Rattle.duk_des.proofs.Joined.{consed}
 
--- the schedule of the rotations that are left is the first round key, and the schedule of those after it
+-- the schedule of the rotations that are left is the first round key, and the schedule of those
+-- after it
 scheduled : (count : ℕ) (counts : List ℕ) (c d : List Bool) {next_c next_d key : List Bool}
     → next_c ≡ rotate count c → next_d ≡ rotate count d → key ≡ permute round_key_places (next_c ++ next_d)
     → key ∷ schedule counts next_c next_d ≡ schedule (count ∷ counts) c d
@@ -18,7 +19,8 @@ scheduled count counts c d {next_c} {next_d} {key} by_c by_d by_key =
     ∙ ap (λ half. permute round_key_places (half ++ next_d) ∷ schedule counts half next_d) by_c
     ∙ ap (λ half. permute round_key_places (rotate count c ++ half) ∷ schedule counts (rotate count c) half) by_d
 
--- with one more round key in its place, the round keys are still those in their places and the schedule of what is left
+-- with one more round key in its place, the round keys are still those in their places and the
+-- schedule of what is left
 pub one_more : (counts : List ℕ) (i : ℕ) (keys : List (List Bool)) (c d : List Bool) {next_c next_d key : List Bool} → i < length counts → i < length keys
     → next_c ≡ rotate (get_or counts i 0) c → next_d ≡ rotate (get_or counts i 0) d → key ≡ permute round_key_places (next_c ++ next_d)
     → take (i + 1) (set keys i key) ++ schedule (drop (i + 1) counts) next_c next_d ≡ take i keys ++ schedule (drop i counts) c d

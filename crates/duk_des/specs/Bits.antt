@@ -13,14 +13,16 @@ xor_bits (a ∷ rest) (b ∷ bs) = xor a b ∷ xor_bits rest bs
 abbrev pub bit : List Bool → ℕ → Bool
 bit bits place = slice_index_or bits (place - 1) false
 
--- the bits with the numbers of a table, in its order: entry i is the number of the input bit that becomes output bit i
+-- the bits with the numbers of a table, in its order: entry i is the number of the input bit that
+-- becomes output bit i
 abbrev pub permute : List ℕ → List Bool → List Bool
 permute table bits = map (bit bits) table
 
 -- whether each entry of a table is the number of a bit, where there are `count` bits
 abbrev pub are_places : ℕ → List ℕ → Bool
 are_places count [] = true
-are_places count (place ∷ places) = nat_lt 0 place && (nat_le place count && are_places count places)
+are_places count (place ∷ places) =
+    nat_lt 0 place && (nat_le place count && are_places count places)
 
 -- the lowest `count` bits of a number
 abbrev pub bits_of : ℕ → ℕ → List Bool

@@ -3,11 +3,13 @@ use Rattle.std.specs.Prelude.{ℕ, ◌+◌, ◌*◌, Bool, List, [], ◌∷◌, 
 use Rattle.duk_des.specs.Bits.{xor_bits, bit, permute, bits_of, bits_of_bytes, digit, bytes_of_bits}
 use Rattle.duk_des.specs.Tables.{initial_places, final_places, expansion_places, output_places, left_key_places, right_key_places, round_key_places, rotations, boxes}
 
--- Six bits select a row, by the first and the last, and a column, by the four between. The entry there gives four bits.
+-- Six bits select a row, by the first and the last, and a column, by the four between. The entry
+-- there gives four bits.
 abbrev pub substitute : List ℕ → List Bool → List Bool
 substitute box bits =
     let row = 2 * digit (bit bits 1) + digit (bit bits 6) in
-    let column = 8 * digit (bit bits 2) + 4 * digit (bit bits 3) + 2 * digit (bit bits 4) + digit (bit bits 5) in
+    let column =
+    8 * digit (bit bits 2) + 4 * digit (bit bits 3) + 2 * digit (bit bits 4) + digit (bit bits 5) in
     bits_of 4 (slice_index box (16 * row + column))
 
 -- each box on its six bits
@@ -27,14 +29,16 @@ pub record Halves : Type 0 where
 
 -- one round: L' = R, and R' = L xor f(R, K)
 unfoldable pub round : Halves → List Bool → Halves
-round halves key = record { left = halves.right; right = xor_bits halves.left (cipher_function halves.right key) }
+round halves key =
+    record { left = halves.right; right = xor_bits halves.left (cipher_function halves.right key) }
 
 -- a round for each of the keys, in their order
 unfoldable pub rounds : List (List Bool) → Halves → Halves
 rounds [] halves = halves
 rounds (key ∷ keys) halves = rounds keys (round halves key)
 
--- a block enciphered or deciphered by round keys: IP, the rounds, the halves exchanged, and the inverse of IP
+-- a block enciphered or deciphered by round keys: IP, the rounds, the halves exchanged, and the
+-- inverse of IP
 unfoldable pub crypted : List (List Bool) → List Bool → List Bool
 crypted keys block =
     let permuted = permute initial_places block in
@@ -45,11 +49,13 @@ crypted keys block =
 abbrev pub rotate : ℕ → List Bool → List Bool
 rotate count half = drop count half ++ take count half
 
--- the round keys, for the rotations that are left: C and D are rotated, and permuted choice 2 takes 48 bits of both
+-- the round keys, for the rotations that are left: C and D are rotated, and permuted choice 2 takes
+-- 48 bits of both
 unfoldable pub schedule : List ℕ → List Bool → List Bool → List (List Bool)
 schedule [] c d = []
 schedule (count ∷ counts) c d =
-    permute round_key_places (rotate count c ++ rotate count d) ∷ schedule counts (rotate count c) (rotate count d)
+    permute round_key_places (rotate count c ++ rotate count d)
+    ∷ schedule counts (rotate count c) (rotate count d)
 
 -- the sixteen round keys K1 to K16 of a key; its eight parity bits are in none
 unfoldable pub round_keys : List Bool → List (List Bool)

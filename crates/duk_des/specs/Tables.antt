@@ -1,5 +1,5 @@
--- The tables of DES (NIST SP 800-67 section 2 and appendix A). In each permutation, entry i is the number of the
--- input bit that becomes output bit i.
+-- The tables of DES (NIST SP 800-67 section 2 and appendix A). In each permutation, entry i is the
+-- number of the input bit that becomes output bit i.
 use Rattle.std.specs.Prelude.{ℕ, List, [], ◌∷◌}
 
 -- the initial permutation, IP

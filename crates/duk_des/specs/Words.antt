@@ -23,7 +23,8 @@ box_at number = slice_index_or boxes (number - 1) []
 
 -- 32 bits with those of a box at its four places, and zeros elsewhere
 abbrev pub at_box : ℕ → List Bool → List Bool
-at_box number four = replicate (4 * (number - 1)) false ++ (four ++ replicate (4 * (8 - number)) false)
+at_box number four =
+    replicate (4 * (number - 1)) false ++ (four ++ replicate (4 * (8 - number)) false)
 
 -- P of the 32 bits that hold what a box gives of six bits at its four places, and zeros elsewhere
 unfoldable pub selected : ℕ → List Bool → List Bool
@@ -36,34 +37,39 @@ group_at place word = take 6 (drop (2 + place) word)
 -- the groups of two words in turn
 abbrev pub groups : List Bool → List Bool → List Bool
 groups odd even =
-    group_at 0 odd ++ (group_at 0 even ++ (group_at 8 odd ++ (group_at 8 even ++ (group_at 16 odd ++ (group_at 16 even ++ (group_at 24 odd ++ group_at 24 even))))))
+    group_at 0 odd ++ (group_at 0 even ++ (group_at 8 odd ++ (group_at 8 even
+    ++ (group_at 16 odd ++ (group_at 16 even ++ (group_at 24 odd ++ group_at 24 even))))))
 
 -- the 48 bits of a round key
 unfoldable pub key_bits : RoundKey → List Bool
 key_bits key = groups (bits_of 32 key.odd) (bits_of 32 key.even)
 
--- for each place the bit of the second list where the mask has 1, and that of the first where it has 0
+-- for each place the bit of the second list where the mask has 1, and that of the first where it
+-- has 0
 abbrev pub chosen_by : List Bool → List Bool → List Bool → List Bool
 chosen_by [] firsts seconds = []
 chosen_by (m ∷ mask) [] seconds = []
 chosen_by (m ∷ mask) (a ∷ firsts) [] = []
 chosen_by (m ∷ mask) (a ∷ firsts) (b ∷ seconds) = cond m b a ∷ chosen_by mask firsts seconds
 
--- two words of 32 bits once each bit of the second under the mask is exchanged with the bit of the first that stands
--- `count` places before it
+-- two words of 32 bits once each bit of the second under the mask is exchanged with the bit of the
+-- first that stands `count` places before it
 unfoldable pub second_exchanged : ℕ → List Bool → List Bool → List Bool → List Bool
-second_exchanged count mask first second = chosen_by mask second (replicate count false ++ take (32 - count) first)
+second_exchanged count mask first second =
+    chosen_by mask second (replicate count false ++ take (32 - count) first)
 
 unfoldable pub first_exchanged : ℕ → List Bool → List Bool → List Bool → List Bool
 first_exchanged count mask first second =
-    chosen_by (drop count mask) (take (32 - count) first) (drop count second) ++ drop (32 - count) first
+    chosen_by (drop count mask) (take (32 - count) first) (drop count second)
+    ++ drop (32 - count) first
 
 -- permuted choice 1 in a word of 64 bits: C and D, each after four bits of no place in the key
 abbrev pub halves_places : List ℕ
 halves_places = replicate 4 65 ++ (left_key_places ++ (replicate 4 65 ++ right_key_places))
 
--- permuted choice 2 in a word of 64 bits: a group of six bits in each byte, after two bits of no place in C and D. First
--- come the groups for the boxes 1, 3, 5 and 7, and then those for the boxes 2, 4, 6 and 8
+-- permuted choice 2 in a word of 64 bits: a group of six bits in each byte, after two bits of no
+-- place in C and D. First come the groups for the boxes 1, 3, 5 and 7, and then those for the boxes
+-- 2, 4, 6 and 8
 abbrev pub groups_places : List ℕ
 groups_places =
     57 ∷ 57 ∷ 14 ∷ 17 ∷ 11 ∷ 24 ∷ 1 ∷ 5 ∷

@@ -3,7 +3,7 @@
 ghost use Rattle.std.specs.Prelude.{◌≡◌, ◌+◌, ◌++◌, IsTrue, length};
 ghost use Rattle.duk_des.specs.Bits.{xor_bits, permute, are_places, bits_of, bits_of_bytes, bytes_of_bits, number_of};
 
-// The eight bits of each byte, one byte after another.
+/// The eight bits of each byte, one byte after another.
 macro_rules! eights {
     ($($byte:ident)*) => {
         [$($byte[0], $byte[1], $byte[2], $byte[3], $byte[4], $byte[5], $byte[6], $byte[7]),*]
@@ -77,7 +77,7 @@ pub fn xor<const N: usize>(left: &[bool; N], right: &[bool; N]) -> [bool; N]
 }
 
 /// The bits with the numbers of a table, counted from 1, in its order.
-pub fn permuted<const N: usize, const M: usize>(places: &[u8; M], bits: &[bool; N]) -> [bool; M]
+pub fn permute<const N: usize, const M: usize>(places: &[u8; M], bits: &[bool; N]) -> [bool; M]
     requires { IsTrue (are_places N places.now) }
     ensures { result ≡ permute places.now bits.now }
 {
@@ -89,7 +89,7 @@ pub fn permuted<const N: usize, const M: usize>(places: &[u8; M], bits: &[bool; 
 }
 
 /// Two halves, one after the other.
-pub fn joined<const N: usize, const M: usize>(first: &[bool; N], second: &[bool; N]) -> [bool; M]
+pub fn join<const N: usize, const M: usize>(first: &[bool; N], second: &[bool; N]) -> [bool; M]
     requires { M ≡ N + N }
     ensures { result ≡ first.now ++ second.now }
 {

@@ -4,9 +4,9 @@ ghost use Rattle.std.specs.Prelude.{◌≡◌, length};
 ghost use Rattle.duk_des.specs.Des.{substitute, substitute_all, cipher_function};
 ghost use Rattle.duk_des.specs.Tables.{boxes};
 
-use crate::bits::{permuted, xor};
+use crate::bits::{permute, xor};
 
-// The selection functions, four rows of 16 entries each.
+/// The selection functions, four rows of 16 entries each.
 #[rattlefmt::skip]
 const S1: [u8; 64] = [
     14, 4, 13, 1, 2, 15, 11, 8, 3, 10, 6, 12, 5, 9, 0, 7,
@@ -71,7 +71,7 @@ const S8: [u8; 64] = [
     2, 1, 14, 7, 4, 10, 8, 13, 15, 12, 9, 0, 3, 5, 6, 11,
 ];
 
-// The expansion E of 32 bits to 48.
+/// The expansion E of 32 bits to 48.
 #[rattlefmt::skip]
 const EXPANSION_PLACES: [u8; 48] = [
     32, 1, 2, 3, 4, 5,
@@ -84,7 +84,7 @@ const EXPANSION_PLACES: [u8; 48] = [
     28, 29, 30, 31, 32, 1,
 ];
 
-// The permutation P of the bits that the selection functions give.
+/// The permutation P of the bits that the selection functions give.
 #[rattlefmt::skip]
 const OUTPUT_PLACES: [u8; 32] = [
     16, 7, 20, 21, 29, 12, 28, 17,
@@ -93,7 +93,7 @@ const OUTPUT_PLACES: [u8; 32] = [
     19, 13, 30, 6, 22, 11, 4, 25,
 ];
 
-// The four bits that each selection function gives, one after another.
+/// The four bits that each selection function gives, one after another.
 macro_rules! fours {
     ($($four:ident)*) => {
         [$($four[0], $four[1], $four[2], $four[3]),*]
@@ -104,12 +104,12 @@ macro_rules! fours {
 pub fn cipher_function(right: &[bool; 32], key: &[bool; 48]) -> [bool; 32]
     ensures { result ≡ cipher_function right.now key.now }
 {
-    let expanded: [bool; 48] = permuted(&EXPANSION_PLACES, right);
+    let expanded: [bool; 48] = permute(&EXPANSION_PLACES, right);
     let chosen = substitute_all(&xor(&expanded, key));
-    permuted(&OUTPUT_PLACES, &chosen)
+    permute(&OUTPUT_PLACES, &chosen)
 }
 
-// Each selection function on its six bits.
+/// Each selection function on its six bits.
 fn substitute_all(bits: &[bool; 48]) -> [bool; 32]
     ensures { result ≡ substitute_all boxes bits.now }
 {

@@ -1,7 +1,8 @@
 //! One block of DES, the block cipher of NIST SP 800-67 section 2.
 //!
-//! A key and a block are 8 bytes. The eight parity bits of a key, the lowest of each byte, are neither checked nor used.
-//! The blocks are made in words of 32 bits, and those of [`plain`] bit by bit, as the standard writes it.
+//! A key and a block are 8 bytes. The eight parity bits of a key, the lowest of each byte, are
+//! neither checked nor used. The blocks are made in words of 32 bits, and those of [`plain`] bit by
+//! bit, as the standard writes it.
 #![tactic(auto)]
 
 mod bits;

@@ -5,11 +5,11 @@ ghost use Rattle.duk_des.specs.Bits.{bits_of_bytes, permute};
 ghost use Rattle.duk_des.specs.Des.{rounds, crypted, encipher, decipher, encrypted, decrypted};
 ghost use Rattle.duk_des.specs.Tables.{final_places};
 
-use crate::bits::{bits_of_bytes, bytes_of_bits, joined, permuted, xor};
+use crate::bits::{bits_of_bytes, bytes_of_bits, join, permute, xor};
 use crate::cipher_function::cipher_function;
 use crate::schedule::round_keys;
 
-// The initial permutation, the places of L and those of R.
+/// The initial permutation, the places of L and those of R.
 #[rattlefmt::skip]
 const LEFT_PLACES: [u8; 32] = [
     58, 50, 42, 34, 26, 18, 10, 2,
@@ -26,7 +26,7 @@ const RIGHT_PLACES: [u8; 32] = [
     63, 55, 47, 39, 31, 23, 15, 7,
 ];
 
-// The inverse of the initial permutation.
+/// The inverse of the initial permutation.
 #[rattlefmt::skip]
 const FINAL_PLACES: [u8; 64] = [
     40, 8, 48, 16, 56, 24, 64, 32,
@@ -45,7 +45,7 @@ pub fn encrypt_block(key: &[u8; 8], block: [u8; 8]) -> [u8; 8]
     ensures bits { bits_of_bytes result ≡ encipher (bits_of_bytes key.now) (bits_of_bytes block) }
 {
     let keys = round_keys(&bits_of_bytes(key));
-    bytes_of_bits(&crypted(&keys, &bits_of_bytes(&block)))
+    bytes_of_bits(&crypt_block(&keys, &bits_of_bytes(&block)))
 }
 
 /// Deciphers a block of 8 bytes under a key of 8 bytes: the round keys are used in reverse order.
@@ -55,27 +55,29 @@ pub fn decrypt_block(key: &[u8; 8], block: [u8; 8]) -> [u8; 8]
 {
     let mut keys = round_keys(&bits_of_bytes(key));
     keys.reverse();
-    bytes_of_bits(&crypted(&keys, &bits_of_bytes(&block)))
+    bytes_of_bits(&crypt_block(&keys, &bits_of_bytes(&block)))
 }
 
-// The initial permutation, the rounds, and the final permutation of the halves, exchanged.
-fn crypted(keys: &[[bool; 48]; 16], block: &[bool; 64]) -> [bool; 64]
+/// The initial permutation, the rounds, and the final permutation of the halves, exchanged.
+fn crypt_block(keys: &[[bool; 48]; 16], block: &[bool; 64]) -> [bool; 64]
     ensures { result ≡ crypted keys.now block.now }
 {
-    let left: [bool; 32] = permuted(&LEFT_PLACES, block);
-    let right: [bool; 32] = permuted(&RIGHT_PLACES, block);
+    let left: [bool; 32] = permute(&LEFT_PLACES, block);
+    let right: [bool; 32] = permute(&RIGHT_PLACES, block);
     let (left, right) = rounds(&left, &right, keys);
     final_permutation(&right, &left)
 }
 
-// A round for each of the keys on the halves L and R: L' = R, and R' = L xor f(R, K).
+/// A round for each of the keys on the halves L and R: L' = R, and R' = L xor f(R, K).
 fn rounds(
     left: &[bool; 32],
     right: &[bool; 32],
     keys: &[[bool; 48]; 16],
 ) -> ([bool; 32], [bool; 32])
-    ensures left { result.0 ≡ (rounds keys.now (record { left = left.now; right = right.now })).left }
-    ensures right { result.1 ≡ (rounds keys.now (record { left = left.now; right = right.now })).right }
+    ensures left { result.0
+        ≡ (rounds keys.now (record { left = left.now; right = right.now })).left }
+    ensures right { result.1
+        ≡ (rounds keys.now (record { left = left.now; right = right.now })).right }
 {
     let mut left = *left;
     let mut right = *right;
@@ -87,10 +89,10 @@ fn rounds(
     (left, right)
 }
 
-// The inverse of the initial permutation, of one half followed by the other.
+/// The inverse of the initial permutation, of one half followed by the other.
 fn final_permutation(first: &[bool; 32], second: &[bool; 32]) -> [bool; 64]
     ensures { result ≡ permute final_places (first.now ++ second.now) }
 {
-    let halves: [bool; 64] = joined(first, second);
-    permuted(&FINAL_PLACES, &halves)
+    let halves: [bool; 64] = join(first, second);
+    permute(&FINAL_PLACES, &halves)
 }

@@ -5,9 +5,9 @@ ghost use Rattle.duk_des.specs.Bits.{permute};
 ghost use Rattle.duk_des.specs.Des.{round_keys};
 ghost use Rattle.duk_des.specs.Tables.{round_key_places};
 
-use crate::bits::{joined, permuted};
+use crate::bits::{join, permute};
 
-// Permuted choice 1, the places of C and those of D.
+/// Permuted choice 1, the places of C and those of D.
 #[rattlefmt::skip]
 const LEFT_KEY_PLACES: [u8; 28] = [
     57, 49, 41, 33, 25, 17, 9,
@@ -24,7 +24,7 @@ const RIGHT_KEY_PLACES: [u8; 28] = [
     21, 13, 5, 28, 20, 12, 4,
 ];
 
-// Permuted choice 2, from C followed by D.
+/// Permuted choice 2, from C followed by D.
 #[rattlefmt::skip]
 const ROUND_KEY_PLACES: [u8; 48] = [
     14, 17, 11, 24, 1, 5,
@@ -37,15 +37,15 @@ const ROUND_KEY_PLACES: [u8; 48] = [
     46, 42, 50, 36, 29, 32,
 ];
 
-// How far C and D are rotated left in each round.
+/// How far C and D are rotated left in each round.
 const ROTATIONS: [u8; 16] = [1, 1, 2, 2, 2, 2, 2, 2, 1, 2, 2, 2, 2, 2, 2, 1];
 
 /// The sixteen round keys of a key.
 pub fn round_keys(key: &[bool; 64]) -> [[bool; 48]; 16]
     ensures { result ≡ round_keys key.now }
 {
-    let mut c: [bool; 28] = permuted(&LEFT_KEY_PLACES, key);
-    let mut d: [bool; 28] = permuted(&RIGHT_KEY_PLACES, key);
+    let mut c: [bool; 28] = permute(&LEFT_KEY_PLACES, key);
+    let mut d: [bool; 28] = permute(&RIGHT_KEY_PLACES, key);
     let mut keys = [[false; 48]; 16];
     for i in 0..16 {
         c.rotate_left(ROTATIONS[i] as usize);
@@ -55,10 +55,10 @@ pub fn round_keys(key: &[bool; 64]) -> [[bool; 48]; 16]
     keys
 }
 
-// Permuted choice 2 of C followed by D.
+/// Permuted choice 2 of C followed by D.
 fn round_key(c: &[bool; 28], d: &[bool; 28]) -> [bool; 48]
     ensures { result ≡ permute round_key_places (c.now ++ d.now) }
 {
-    let halves: [bool; 56] = joined(c, d);
-    permuted(&ROUND_KEY_PLACES, &halves)
+    let halves: [bool; 56] = join(c, d);
+    permute(&ROUND_KEY_PLACES, &halves)
 }

@@ -15,7 +15,7 @@ use entries::group_of;
 use permutations::{final_permutation, initial_permutation};
 use round_keys::{RoundKey, round_keys};
 
-// A round for each of the keys with these indexes: L' = R, and R' = L xor f(R, K).
+/// A round for each of the keys with these indexes: L' = R, and R' = L xor f(R, K).
 macro_rules! rounds {
     ($left:ident $right:ident $keys:ident: $($index:literal)*) => {
         $(
@@ -31,7 +31,7 @@ pub fn encrypt_block(key: &[u8; 8], block: [u8; 8]) -> [u8; 8]
     ensures bytes { result ≡ encrypted key.now block }
     ensures bits { bits_of_bytes result ≡ encipher (bits_of_bytes key.now) (bits_of_bytes block) }
 {
-    crypted(&round_keys(key), &block)
+    crypt_block(&round_keys(key), &block)
 }
 
 /// Deciphers a block of 8 bytes under a key of 8 bytes: the round keys are used in reverse order.
@@ -41,11 +41,11 @@ pub fn decrypt_block(key: &[u8; 8], block: [u8; 8]) -> [u8; 8]
 {
     let mut keys = round_keys(key);
     keys.reverse();
-    crypted(&keys, &block)
+    crypt_block(&keys, &block)
 }
 
-// The initial permutation, the rounds, and the final permutation of the halves, exchanged.
-fn crypted(keys: &[RoundKey; 16], block: &[u8; 8]) -> [u8; 8]
+/// The initial permutation, the rounds, and the final permutation of the halves, exchanged.
+fn crypt_block(keys: &[RoundKey; 16], block: &[u8; 8]) -> [u8; 8]
     ensures { result ≡ bytes_of_bits 8 (crypted (map key_bits keys.now) (bits_of_bytes block.now)) }
 {
     let (left, right) = initial_permutation(block);
@@ -53,10 +53,14 @@ fn crypted(keys: &[RoundKey; 16], block: &[u8; 8]) -> [u8; 8]
     final_permutation(right, left)
 }
 
-// Sixteen rounds on the halves L and R.
+/// Sixteen rounds on the halves L and R.
 fn rounds(left: u32, right: u32, keys: &[RoundKey; 16]) -> (u32, u32)
-    ensures left { word_bits result.0 ≡ (rounds (map key_bits keys.now) (record { left = word_bits left; right = word_bits right })).left }
-    ensures right { word_bits result.1 ≡ (rounds (map key_bits keys.now) (record { left = word_bits left; right = word_bits right })).right }
+    ensures left { word_bits result.0
+        ≡ (rounds (map key_bits keys.now)
+        (record { left = word_bits left; right = word_bits right })).left }
+    ensures right { word_bits result.1
+        ≡ (rounds (map key_bits keys.now)
+        (record { left = word_bits left; right = word_bits right })).right }
 {
     let mut left = left;
     let mut right = right;
@@ -64,16 +68,17 @@ fn rounds(left: u32, right: u32, keys: &[RoundKey; 16]) -> (u32, u32)
     (left, right)
 }
 
-// L xor f(R, K).
+/// L xor f(R, K).
 #[inline(always)]
 fn next_half(left: u32, right: u32, key: &RoundKey) -> u32
-    ensures { word_bits result ≡ xor_bits (word_bits left) (cipher_function (word_bits right) (key_bits key.now)) }
+    ensures { word_bits result
+        ≡ xor_bits (word_bits left) (cipher_function (word_bits right) (key_bits key.now)) }
 {
     left ^ cipher_word(right, key)
 }
 
-// f(R, K). The six bits of the expansion E of R that a box takes are those in the lower part of a byte of R, rotated by
-// 29 places to the left for the odd boxes and by one for the even ones.
+/// f(R, K). The six bits of the expansion E of R that a box takes are those in the lower part of a
+/// byte of R, rotated by 29 places to the left for the odd boxes and by one for the even ones.
 #[inline(always)]
 fn cipher_word(right: u32, key: &RoundKey) -> u32
     ensures { word_bits result ≡ cipher_function (word_bits right) (key_bits key.now) }

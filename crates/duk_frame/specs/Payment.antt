@@ -1,5 +1,5 @@
--- The frames of a payment under its transaction key: formats of this project's own over ISO 9564-1, ANSI X9.19 and the
--- variants of ANSI X9.24-1:2009 annex A.
+-- The frames of a payment under its transaction key: formats of this project's own over ISO 9564-1,
+-- ANSI X9.19 and the variants of ANSI X9.24-1:2009 annex A.
 use Rattle.std.specs.Prelude.{ℕ, List, ◌++◌}
 use Rattle.duk_mac.specs.Retail.{retail_of}
 use Rattle.duk_pin.specs.PinBlock.{pin_block}
@@ -20,8 +20,8 @@ authenticated key text = framed (text ++ retail_of key text)
 abbrev pub enciphered_pin : List ℕ → List ℕ → List ℕ → List ℕ
 enciphered_pin key pin pan = tdes_encrypted (pin_key_of key) (pin_block pin pan)
 
--- the request of a payment under its transaction key: PAN, PIN and amount, with a MAC under the key's variant for
--- requests
+-- the request of a payment under its transaction key: PAN, PIN and amount, with a MAC under the
+-- key's variant for requests
 abbrev pub payment_request : List ℕ → Serial → List ℕ → List ℕ → ℕ → List ℕ
 payment_request key ksn pan pin amount =
     authenticated (request_key_of key) (request_text ksn pan amount (enciphered_pin key pin pan))
@@ -38,6 +38,7 @@ request_of key ksn pan pin amount =
       mac = retail_of (request_key_of key) (request_text ksn pan amount block);
     }
 
--- the accepted reply of a payment under its transaction key, with a MAC under the key's variant for responses
+-- the accepted reply of a payment under its transaction key, with a MAC under the key's variant for
+-- responses
 abbrev pub payment_reply : List ℕ → Serial → Code → List ℕ
 payment_reply key ksn code = authenticated (response_key_of key) (reply_text ksn code)

@@ -7,8 +7,8 @@ use Rattle.duk_tree.specs.Serial.{Serial, IsSerial, serial_bytes}
 use Rattle.duk_frame.specs.Frame.{framed}
 use Rattle.duk_frame.specs.declared.request.Request.{Request}
 
--- the body of a request before its MAC: version 1 and kind 1, the key serial number, the PAN's length and its digits,
--- the amount in four bytes, and the enciphered PIN block
+-- the body of a request before its MAC: version 1 and kind 1, the key serial number, the PAN's
+-- length and its digits, the amount in four bytes, and the enciphered PIN block
 abbrev pub request_text : Serial → List ℕ → ℕ → List ℕ → List ℕ
 request_text ksn pan amount block =
     1 ∷ 1 ∷ (serial_bytes ksn ++ (length pan ∷ (pan ++ (big_bytes 4 amount ++ block))))
@@ -23,7 +23,8 @@ pub record AreRequestFields (request : Request) : Type 0 where
 
 -- the frame of a request
 abbrev pub request_bytes : Request → List ℕ
-request_bytes request = framed (request_text request.ksn request.pan request.amount request.block ++ request.mac)
+request_bytes request =
+    framed (request_text request.ksn request.pan request.amount request.block ++ request.mac)
 
 -- the bytes are the frame of this request
 pub record IsRequest (bytes : List ℕ) (request : Request) : Type 0 where

@@ -38,15 +38,16 @@ pub enum AnswerFrame {
     },
     /// The request was refused.
     Refusal {
-        /// The key serial number of the request, or that of ten zero bytes where the bytes were no request.
+        /// The key serial number of the request, or that of ten zero bytes where the bytes were no
+        /// request.
         ksn: Ksn,
         /// Why, from 1 to 6.
         reason: u8,
     },
 }
 
-/// The text of an accepted reply's MAC: version 1, kind 2, the key serial number in 10 bytes, and the code as two
-/// digits.
+/// The text of an accepted reply's MAC: version 1, kind 2, the key serial number in 10 bytes, and
+/// the code as two digits.
 pub fn reply_text(ksn: Ksn, code: Code) -> MacText
     ensures text { result ≡ reply_text ksn code }
     ensures reply { (mac : List ℕ) → IsBlock mac
@@ -71,7 +72,8 @@ pub fn write_reply(ksn: Ksn, code: Code, mac: [u8; 8]) -> Frame
 pub fn write_refusal(ksn: [u8; 10], reason: u8) -> Frame
     requires { IsReason reason }
     ensures frame { result.items ≡ framed (refusal_text ksn reason) }
-    ensures refusal { (serial : Serial) → IsSerial serial → serial_bytes serial ≡ ksn → IsRefusal result.items serial reason }
+    ensures refusal { (serial : Serial) → IsSerial serial → serial_bytes serial ≡ ksn
+        → IsRefusal result.items serial reason }
 {
     let mut frame = begin_frame(REFUSAL_BODY as u16, REFUSAL);
     append(&mut frame, &ksn);

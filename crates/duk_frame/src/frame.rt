@@ -20,7 +20,8 @@ const HEAD: usize = 4;
 /// The first byte of every body.
 const VERSION: u8 = 1;
 
-/// The bytes that the MAC of a frame is made over: those between its length, the first 2, and its MAC, the last 8.
+/// The bytes that the MAC of a frame is made over: those between its length, the first 2, and its
+/// MAC, the last 8.
 pub fn mac_text(frame: &[u8]) -> &[u8]
     requires { 10 ≤ length frame.now }
     ensures { result.now ≡ mac_text_of frame.now }
@@ -28,7 +29,8 @@ pub fn mac_text(frame: &[u8]) -> &[u8]
     &frame[2..frame.len() - 8]
 }
 
-/// Whether the bytes are a frame, and no longer than any may be, whose body has version 1 and this kind.
+/// Whether the bytes are a frame, and no longer than any may be, whose body has version 1 and this
+/// kind.
 pub(crate) fn has_kind(bytes: &[u8], kind: u8) -> bool
     ensures { IsTrue result ↔ HasKind bytes.now kind }
 {

@@ -16,17 +16,20 @@ pub fn one_reading()
         → IsRequest bytes other → request ≡ other }
     ensures answer { (bytes : List ℕ) (answer other : AnswerFrame) → IsAnswer bytes answer
         → IsAnswer bytes other → answer ≡ other }
-    ensures apart { (bytes : List ℕ) (request : Request) (answer : AnswerFrame) → IsRequest bytes request
+    ensures apart { (bytes : List ℕ) (request : Request) (answer : AnswerFrame)
+        → IsRequest bytes request
         → ¬ IsAnswer bytes answer }
 {
     duk_tree::laws::serials();
 }
 
-/// A request and an accepted reply are long enough for `mac_text`, which is the body before the MAC.
+/// A request and an accepted reply are long enough for `mac_text`, which is the body before the
+/// MAC.
 pub fn mac_texts()
     ensures request { (bytes : List ℕ) (request : Request) → IsRequest bytes request
         → (10 ≤ length bytes)
         × (mac_text_of bytes ≡ request_text request.ksn request.pan request.amount request.block) }
-    ensures reply { (bytes : List ℕ) (ksn : Serial) (code : Code) (mac : List ℕ) → IsReply bytes ksn code mac
+    ensures reply { (bytes : List ℕ) (ksn : Serial) (code : Code) (mac : List ℕ)
+        → IsReply bytes ksn code mac
         → (10 ≤ length bytes) × (mac_text_of bytes ≡ reply_text ksn code) }
 {}

@@ -1,8 +1,8 @@
-//! The frames between terminals and host: a length of two bytes, and a body that it counts. A format of this project's
-//! own.
+//! The frames between terminals and host: a length of two bytes, and a body that it counts. A
+//! format of this project's own.
 //!
-//! A request goes from a terminal to the host, an accepted reply or a refusal comes back. Request and reply have a MAC,
-//! which is made over `mac_text`. Nothing here takes memory.
+//! A request goes from a terminal to the host, an accepted reply or a refusal comes back. Request
+//! and reply have a MAC, which is made over `mac_text`. Nothing here takes memory.
 #![tactic(auto)]
 
 mod answer;

@@ -16,8 +16,8 @@ use duk_pin::{Pan, Pin, encode};
 use duk_tdes::{Key, tdes_encrypt};
 use duk_tree::{Ksn, pin_key, request_key};
 
-/// The request of a payment: the PIN block is enciphered under the transaction key's variant for PINs, and the MAC is
-/// the retail MAC under its variant for requests.
+/// The request of a payment: the PIN block is enciphered under the transaction key's variant for
+/// PINs, and the MAC is the retail MAC under its variant for requests.
 pub fn payment_request(key: &Key<16>, ksn: Ksn, pan: &Pan, pin: &Pin, amount: u32) -> Frame
     ensures frame { result.items ≡ payment_request key.now ksn pan.now pin.now amount }
     ensures request { IsRequest result.items (request_of key.now ksn pan.now pin.now amount) }
@@ -29,8 +29,8 @@ pub fn payment_request(key: &Key<16>, ksn: Ksn, pan: &Pan, pin: &Pin, amount: u3
     text.with_mac(mac)
 }
 
-/// Whether an accepted reply with this MAC is the host's: the MAC is the retail MAC of its text under the transaction
-/// key's variant for responses.
+/// Whether an accepted reply with this MAC is the host's: the MAC is the retail MAC of its text
+/// under the transaction key's variant for responses.
 pub fn is_payment_reply(response_key: &Key<16>, reply: &[u8], mac: [u8; 8]) -> bool
     requires { (ksn : Serial) × (code : CodeValue) × IsReply reply.now ksn code mac }
     ensures { (ksn : Serial) (code : CodeValue) → IsReply reply.now ksn code mac

@@ -38,8 +38,8 @@ pub struct Request {
     pub mac: [u8; 8],
 }
 
-/// The text of a request's MAC: version 1, kind 1, the key serial number in 10 bytes, the PAN as a length and ASCII
-/// digits, the amount in 4 bytes, and the enciphered PIN block.
+/// The text of a request's MAC: version 1, kind 1, the key serial number in 10 bytes, the PAN as a
+/// length and ASCII digits, the amount in 4 bytes, and the enciphered PIN block.
 pub fn request_text(ksn: Ksn, pan: &Pan, amount: u32, block: [u8; 8]) -> MacText
     ensures text { result ≡ request_text ksn pan.now amount block }
     ensures request { (mac : List ℕ) → IsBlock mac

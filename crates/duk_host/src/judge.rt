@@ -10,14 +10,16 @@ use crate::used::UsedNumbers;
 use duk_frame::{Frame, Request, mac_text, read_request};
 use duk_hsm::{Hsm, HsmFault};
 
-/// The request in the bytes, where there is no reason against it, or else the refusal of the least reason.
+/// The request in the bytes, where there is no reason against it, or else the refusal of the least
+/// reason.
 pub(crate) fn judge<const N: usize>(
     hsm: &Hsm<N>,
     used: &UsedNumbers,
     room: u64,
     bytes: &[u8],
 ) -> Result<Request, Frame>
-    ensures acceptable { (decides : Decision) → IfOk result (IsAcceptable (bench_with hsm.now used.now room decides)) }
+    ensures acceptable { (decides : Decision)
+        → IfOk result (IsAcceptable (bench_with hsm.now used.now room decides)) }
     ensures request { IfOk result (IsRequest bytes.now) }
     ensures refused { (decides : Decision) → IfErr result
         (λ frame. IsRefused (bench_with hsm.now used.now room decides) bytes.now frame.items) }
@@ -64,7 +66,8 @@ fn reason_against_mac<const N: usize>(
     text: &[u8],
 ) -> Option<Reason>
     requires text { text.now ≡ text_of request.now }
-    ensures { MatchOption result (IsAuthentic hsm.now request.now) (IsReasonAgainstMac hsm.now request.now) }
+    ensures { MatchOption result
+        (IsAuthentic hsm.now request.now) (IsReasonAgainstMac hsm.now request.now) }
 {
     match hsm.verify(request.ksn, text, request.mac) {
         Ok(()) => None,

@@ -9,8 +9,8 @@ use duk_frame::{Code, Frame, Request, reply_text};
 use duk_hsm::Hsm;
 use duk_tree::Ksn;
 
-/// The code for a request: what the issuer says of its PIN block under the zone key. Where the block is that of no PIN,
-/// the issuer is not asked.
+/// The code for a request: what the issuer says of its PIN block under the zone key. Where the
+/// block is that of no PIN, the issuer is not asked.
 pub(crate) fn code_for<const N: usize, I: Issuer>(
     hsm: &Hsm<N>,
     issuer: &I,

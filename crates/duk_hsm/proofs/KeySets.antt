@@ -10,7 +10,8 @@ use Rattle.duk_block.specs.KeyUse.{IsDoubleKeyFor}
 use Rattle.duk_block.specs.declared.key_use.KeyUse.TheVariants.{BaseDerivationKey}
 use Rattle.duk_hsm.specs.declared.key_set.KeySet.{KeySet}
 
--- where a prefix has no key set, the first has another prefix, and the prefix has none among the others
+-- where a prefix has no key set, the first has another prefix, and the prefix has none among the
+-- others
 pub first_differs : (prefix : List ℕ) (set : KeySet) (sets : List KeySet) → bdk_with prefix (set ∷ sets) ≡ None
     → (set.prefix ≢ prefix) × (bdk_with prefix sets ≡ None)
 first_differs prefix set sets none = grind (arith, bytes_eq-Decides set.prefix prefix)

@@ -1,4 +1,5 @@
--- The commands of a host security module: this project's own, over the keys of ANSI X9.24-1:2009 annex A.
+-- The commands of a host security module: this project's own, over the keys of ANSI X9.24-1:2009
+-- annex A.
 use Rattle.std.specs.Prelude.{◌≡◌, ◌≢◌, ℕ, List, Some, None, IsSome, length}
 use Rattle.duk_block.specs.KeyBlock.{FitsKeyBlock, IsWithinLimits, IsWrittenKeyBlock}
 use Rattle.duk_block.specs.KeyUse.{header_for}
@@ -15,13 +16,15 @@ use Rattle.duk_hsm.specs.Keys.{HsmKeys, key_set_of}
 use Rattle.duk_hsm.specs.declared.fault.HsmFault.{HsmFault}
 use Rattle.duk_hsm.specs.declared.fault.HsmFault.TheVariants as fault
 
--- the text is a key block, under the loading key, of the initial key that the held base derivation key gives this terminal
+-- the text is a key block, under the loading key, of the initial key that the held base derivation
+-- key gives this terminal
 pub record IsIssued (keys : HsmKeys) (iksn : ℕ) (loading padding text : List ℕ) : Type 0 where
   pub bdk : List ℕ
   pub held : key_set_of keys (iksn_prefix_of iksn) ≡ Some bdk
   pub fits : FitsKeyBlock 16 (length padding)
   pub limits : IsWithinLimits text
-  pub written : IsWrittenKeyBlock text loading (header_for InitialKey) (initial_key_of bdk iksn) padding
+  pub written :
+      IsWrittenKeyBlock text loading (header_for InitialKey) (initial_key_of bdk iksn) padding
 
 -- the padding does not fit, and that is what is told
 pub record IsPadFault (padding : List ℕ) (why : BlockFault) : Type 0 where
@@ -31,10 +34,12 @@ pub record IsPadFault (padding : List ℕ) (why : BlockFault) : Type 0 where
 -- why no initial key is issued
 abbrev pub IssueRefused : HsmKeys → ℕ → List ℕ → HsmFault → Type 0
 IssueRefused keys iksn padding fault.NoKeySet = key_set_of keys (iksn_prefix_of iksn) ≡ None
-IssueRefused keys iksn padding (fault.Block why) = IsSome (key_set_of keys (iksn_prefix_of iksn)) × IsPadFault padding why
+IssueRefused keys iksn padding (fault.Block why) =
+    IsSome (key_set_of keys (iksn_prefix_of iksn)) × IsPadFault padding why
 IssueRefused keys iksn padding _ = ⊥
 
--- the transaction key of a key serial number under the held keys: its key set is held, and its counter numbers a transaction
+-- the transaction key of a key serial number under the held keys: its key set is held, and its
+-- counter numbers a transaction
 pub record IsTransactionKey (keys : HsmKeys) (ksn : Serial) (key : List ℕ) : Type 0 where
   pub bdk : List ℕ
   pub held : key_set_of keys (prefix_of ksn) ≡ Some bdk
@@ -83,10 +88,12 @@ VerifyRefused keys ksn text mac _ = ⊥
 
 -- the PIN in a block that is enciphered under the transaction key's variant for PINs
 abbrev pub IsPinOf : List ℕ → List ℕ → List ℕ → List ℕ → Type 0
-IsPinOf transaction_key block pan pin = IsPinBlock pin pan (tdes_decrypted (pin_key_of transaction_key) block)
+IsPinOf transaction_key block pan pin =
+    IsPinBlock pin pan (tdes_decrypted (pin_key_of transaction_key) block)
 
 -- the PIN block of the PIN in a block, enciphered under the zone key
-pub record IsTranslated (keys : HsmKeys) (ksn : Serial) (block pan translated : List ℕ) : Type 0 where
+pub record IsTranslated (keys : HsmKeys) (ksn : Serial) (block pan translated : List ℕ)
+    : Type 0 where
   pub key : List ℕ
   pub zone : List ℕ
   pub pin : List ℕ

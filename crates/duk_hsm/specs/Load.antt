@@ -21,7 +21,8 @@ with_key_set keys prefix bdk = record keys { key_sets = keys.key_sets ++ key_set
 
 -- the text is a key block, under the local master key, of a base derivation key
 abbrev pub HasBaseKey : HsmKeys → List ℕ → Type 0
-HasBaseKey keys text = (bdk : List ℕ) × WrapsFor (IsDoubleKeyFor BaseDerivationKey) keys.lmk text bdk
+HasBaseKey keys text =
+    (bdk : List ℕ) × WrapsFor (IsDoubleKeyFor BaseDerivationKey) keys.lmk text bdk
 
 -- the text is a key block, under the local master key, of a zone key
 abbrev pub HasZoneKey : HsmKeys → List ℕ → Type 0
@@ -50,8 +51,10 @@ told_fault key_fault.WrongUse = fault.WrongUse
 -- why no base derivation key is added
 abbrev pub LoadBdkRefused : HsmKeys → List ℕ → List ℕ → HsmFault → Type 0
 LoadBdkRefused keys prefix text (fault.Block why) = IsFirstFault text keys.lmk why
-LoadBdkRefused keys prefix text fault.WrongUse = WrapsOther (IsDoubleKeyFor BaseDerivationKey) keys.lmk text
-LoadBdkRefused keys prefix text fault.PrefixTaken = HasBaseKey keys text × IsSome (key_set_of keys prefix)
+LoadBdkRefused keys prefix text fault.WrongUse =
+    WrapsOther (IsDoubleKeyFor BaseDerivationKey) keys.lmk text
+LoadBdkRefused keys prefix text fault.PrefixTaken =
+    HasBaseKey keys text × IsSome (key_set_of keys prefix)
 LoadBdkRefused keys prefix text fault.SlotsFull =
     HasBaseKey keys text × (key_set_of keys prefix ≡ None) × (length keys.key_sets ≡ 8)
 LoadBdkRefused keys prefix text _ = ⊥

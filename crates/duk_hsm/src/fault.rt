@@ -6,8 +6,8 @@ ghost use Rattle.duk_hsm.specs.Load.{told_fault};
 use duk_block::{BlockFault, KeyFault};
 use thiserror::Error;
 
-/// Why a host security module does not do what it was asked. `Display` writes the name, and that of the fault inside
-/// it.
+/// Why a host security module does not do what it was asked. `Display` writes the name, and that of
+/// the fault inside it.
 #[derive(Debug, Clone, Copy, PartialEq, Eq, Error)]
 pub enum HsmFault {
     /// The key block cannot be read, or cannot be written with this padding.

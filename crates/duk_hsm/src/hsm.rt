@@ -8,17 +8,17 @@ ghost use Rattle.duk_hsm.specs.Commands.{IsIssued, IsReplyMac, IsRequestMac, IsT
 
 use crate::fault::HsmFault;
 use crate::key_set::{KeySet, SLOTS, bdk_with};
-use crate::payment::pin_in;
+use crate::pin_block::pin_in;
 use arrayvec::ArrayVec;
-use duk_block::{KeyUse, unwrap_double_for, unwrap_for, wrap};
+use duk_block::{BlockText, KeyUse, unwrap_double_for, unwrap_for, wrap};
 use duk_mac::retail;
 use duk_pin::{Pan, encode};
 use duk_tdes::{Key, KeyBytes};
 use duk_tree::{Iksn, Ksn, PREFIX_LENGTH, derive, initial_key, request_key, response_key, usable};
 use std::marker::Model;
 
-/// A host security module: a local master key of `N` bytes (16 or 24), up to eight base derivation keys, each for the
-/// key serial numbers that begin with its five bytes, and perhaps a zone key.
+/// A host security module: a local master key of `N` bytes (16 or 24), up to eight base derivation
+/// keys, each for the key serial numbers that begin with its five bytes, and perhaps a zone key.
 #[derive(Drop)]
 pub struct Hsm<const N: usize> {
     lmk: Key<N>,
@@ -64,11 +64,12 @@ impl<const N: usize> Hsm<N> {
         self.key_set(prefix).is_some()
     }
 
-    /// Takes in the base derivation key of a key block under the local master key, for the key serial numbers that
-    /// begin with `prefix`. The block is to have usage `B0`, algorithm `T`, mode `X` or `N`, and a key of 16 bytes.
+    /// Takes in the base derivation key of a key block under the local master key, for the key
+    /// serial numbers that begin with `prefix`. The block is to have usage `B0`, algorithm `T`,
+    /// mode `X` or `N`, and a key of 16 bytes.
     ///
-    /// Refused with, in this order, and nothing changes: `Block`, where the text is no key block; `WrongUse`, where its
-    /// key is for another use; `PrefixTaken`; `SlotsFull`.
+    /// Refused with, in this order, and nothing changes: `Block`, where the text is no key block;
+    /// `WrongUse`, where its key is for another use; `PrefixTaken`; `SlotsFull`.
     pub fn load_bdk(&mut self, prefix: [u8; PREFIX_LENGTH], block: &[u8]) -> Result<(), HsmFault>
         requires { IsTdesLength N }
         ensures loaded { IfOk result (λ _. IsBdkLoaded self.old prefix block.now self.new) }
@@ -85,11 +86,11 @@ impl<const N: usize> Hsm<N> {
         }
     }
 
-    /// Takes in the zone key of a key block under the local master key. The block is to have usage `P0`, algorithm `T`,
-    /// and mode `E`, `B` or `N`.
+    /// Takes in the zone key of a key block under the local master key. The block is to have usage
+    /// `P0`, algorithm `T`, and mode `E`, `B` or `N`.
     ///
-    /// Refused with, in this order, and nothing changes: `Block`, where the text is no key block; `WrongUse`, where its
-    /// key is for another use; `ZoneTaken`.
+    /// Refused with, in this order, and nothing changes: `Block`, where the text is no key block;
+    /// `WrongUse`, where its key is for another use; `ZoneTaken`.
     pub fn load_zone(&mut self, block: &[u8]) -> Result<(), HsmFault>
         requires { IsTdesLength N }
         ensures loaded { IfOk result (λ _. IsZoneLoaded self.old block.now self.new) }
@@ -104,18 +105,21 @@ impl<const N: usize> Hsm<N> {
         Ok(())
     }
 
-    /// Writes the initial key of a terminal as a key block under the loading key of `M` bytes (16 or 24), with usage
-    /// `B1`, algorithm `T`, mode `X`, version `00`, exportability `N` and this padding.
+    /// Writes the initial key of a terminal as a key block under the loading key of `M` bytes (16
+    /// or 24), with usage `B1`, algorithm `T`, mode `X`, version `00`, exportability `N` and this
+    /// padding.
     ///
-    /// Refused with `NoKeySet`, and then with `Block` of `PadLength`, where padding of this length does not fit.
+    /// Refused with `NoKeySet`, and then with `Block` of `PadLength`, where padding of this length
+    /// does not fit.
     pub fn issue<const M: usize>(
         &self,
         iksn: Iksn,
         loading: &Key<M>,
         pad: &[u8],
-    ) -> Result<ArrayVec<u8, 512>, HsmFault>
+    ) -> Result<BlockText, HsmFault>
         requires { IsTdesLength M }
-        ensures issued { IfOk result (λ text. IsIssued self.now iksn loading.now pad.now text.items) }
+        ensures issued { IfOk result
+            (λ text. IsIssued self.now iksn loading.now pad.now text.items) }
         ensures refused { IfErr result (IssueRefused self.now iksn pad.now) }
     {
         let bdk = self.key_set(&iksn.prefix()).ok_or(HsmFault::NoKeySet)?;
@@ -123,10 +127,11 @@ impl<const N: usize> Hsm<N> {
         wrap(loading, &header, &initial_key(&bdk, iksn), pad).map_err(HsmFault::Block)
     }
 
-    /// Tells whether `mac` is the retail MAC of a text, which is not empty, under the transaction key's variant for
-    /// requests.
+    /// Tells whether `mac` is the retail MAC of a text, which is not empty, under the transaction
+    /// key's variant for requests.
     ///
-    /// Refused with, in this order: `NoKeySet`; `BadCounter`, where the counter numbers no transaction; `BadMac`.
+    /// Refused with, in this order: `NoKeySet`; `BadCounter`, where the counter numbers no
+    /// transaction; `BadMac`.
     pub fn verify(&self, ksn: Ksn, text: &[u8], mac: [u8; 8]) -> Result<(), HsmFault>
         requires { 0 < length text.now }
         ensures verified { IsOk result ↔ IsRequestMac self.now ksn text.now mac }
@@ -140,9 +145,11 @@ impl<const N: usize> Hsm<N> {
         }
     }
 
-    /// The retail MAC of a text, which is not empty, under the transaction key's variant for responses.
+    /// The retail MAC of a text, which is not empty, under the transaction key's variant for
+    /// responses.
     ///
-    /// Refused with `NoKeySet`, and then with `BadCounter`, where the counter numbers no transaction.
+    /// Refused with `NoKeySet`, and then with `BadCounter`, where the counter numbers no
+    /// transaction.
     pub fn reply_mac(&self, ksn: Ksn, text: &[u8]) -> Result<[u8; 8], HsmFault>
         requires { 0 < length text.now }
         ensures made { IfOk result (IsReplyMac self.now ksn text.now) }
@@ -152,11 +159,13 @@ impl<const N: usize> Hsm<N> {
         Ok(retail(&response_key(&key), text))
     }
 
-    /// Turns a PIN block that is enciphered under the transaction key's variant for PINs into one that is enciphered
-    /// under the zone key: it is deciphered, its PIN is read with the PAN and encoded again.
+    /// Turns a PIN block that is enciphered under the transaction key's variant for PINs into one
+    /// that is enciphered under the zone key: it is deciphered, its PIN is read with the PAN and
+    /// encoded again.
     ///
-    /// Refused with, in this order: `NoKeySet`; `BadCounter`, where the counter numbers no transaction; `NoZone`;
-    /// `BadPinBlock`, where the deciphered block is that of no PIN under the PAN.
+    /// Refused with, in this order: `NoKeySet`; `BadCounter`, where the counter numbers no
+    /// transaction; `NoZone`; `BadPinBlock`, where the deciphered block is that of no PIN under the
+    /// PAN.
     pub fn translate(&self, ksn: Ksn, block: [u8; 8], pan: &Pan) -> Result<[u8; 8], HsmFault>
         ensures translated { IfOk result (IsTranslated self.now ksn block pan.now) }
         ensures refused { IfErr result (TranslateRefused self.now ksn block pan.now) }

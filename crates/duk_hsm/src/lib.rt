@@ -1,14 +1,15 @@
-//! A host security module for TDES DUKPT (ANSI X9.24-1:2009 annex A): it holds base derivation keys and a zone key, and
-//! answers commands about key serial numbers with them.
+//! A host security module for TDES DUKPT (ANSI X9.24-1:2009 annex A): it holds base derivation keys
+//! and a zone key, and answers commands about key serial numbers with them.
 //!
-//! Keys come in as key blocks under its local master key (ANSI X9.143, version B), and leave it only as an initial key
-//! in a key block under a loading key. Nothing here takes memory of the heap.
+//! Keys come in as key blocks under its local master key (ANSI X9.143, version B), and leave it
+//! only as an initial key in a key block under a loading key. Nothing here takes memory of the
+//! heap.
 #![tactic(auto)]
 
 mod fault;
 mod hsm;
 mod key_set;
-mod payment;
+mod pin_block;
 
 pub use fault::HsmFault;
 pub use hsm::Hsm;

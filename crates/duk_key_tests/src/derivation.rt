@@ -57,7 +57,7 @@ fn first_variants(rt: HostRuntime) {
 
 /// The first number behind an initial key serial number.
 fn first_after(text: &str) -> Option<Ksn> {
-    Some(Ksn::from_bytes(Iksn::parse(text)?.bytes()).with_counter(1))
+    Some(Iksn::parse(text)?.with_counter(1))
 }
 
 fn bytes_of(text: &str) -> Option<[u8; 10]> {

@@ -9,4 +9,5 @@ zero_block = replicate 8 0
 -- the last block of the chain: each block is added to the one before and enciphered
 abbrev pub chained : (List ℕ → List ℕ) → List ℕ → List (List ℕ) → List ℕ
 chained enciphered chain [] = chain
-chained enciphered chain (block ∷ blocks) = chained enciphered (enciphered (xor_bytes chain block)) blocks
+chained enciphered chain (block ∷ blocks) =
+    chained enciphered (enciphered (xor_bytes chain block)) blocks

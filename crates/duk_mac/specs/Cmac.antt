@@ -6,7 +6,8 @@ use Rattle.duk_tdes.specs.Key.{xor_bytes}
 use Rattle.duk_tdes.specs.Tdes.{tdes_encrypted}
 use Rattle.duk_mac.specs.Chain.{zero_block, chained}
 
--- the 64 bits of a block shifted left by one; where the bit that falls out is a one, 1B is added (section 6.1, steps 2 and 3)
+-- the 64 bits of a block shifted left by one; where the bit that falls out is a one, 1B is added
+-- (section 6.1, steps 2 and 3)
 unfoldable pub doubled : List ℕ → List ℕ
 doubled block =
     let number = from_be_bytes w64 block in
@@ -25,10 +26,13 @@ second_subkey key = doubled (first_subkey key)
 abbrev pub padded : List ℕ → List ℕ
 padded part = part ++ 0x80 ∷ replicate (7 - length part) 0
 
--- the last block: a whole one masked with K1, and a part padded and masked with K2 (section 6.2, step 4)
+-- the last block: a whole one masked with K1, and a part padded and masked with K2 (section 6.2,
+-- step 4)
 abbrev pub last_block : List ℕ → List ℕ → List ℕ
 last_block key block =
-    if length block == 8 then xor_bytes block (first_subkey key) else xor_bytes (padded block) (second_subkey key)
+    if length block == 8
+    then xor_bytes block (first_subkey key)
+    else xor_bytes (padded block) (second_subkey key)
 
 -- the blocks with the last one masked; the empty message has one block, which is empty
 unfoldable pub masked : List ℕ → List (List ℕ) → List (List ℕ)

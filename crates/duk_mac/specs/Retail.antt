@@ -9,8 +9,8 @@ use Rattle.duk_mac.specs.Chain.{zero_block, chained}
 abbrev pub zero_filled : List ℕ → List ℕ
 zero_filled message = message ++ replicate ((8 - length message % 8) % 8) 0
 
--- single DES under the first half of the key along the blocks, and the last block deciphered under the second half
--- and enciphered under the first again
+-- single DES under the first half of the key along the blocks, and the last block deciphered under
+-- the second half and enciphered under the first again
 unfoldable pub retail_of : List ℕ → List ℕ → List ℕ
 retail_of key message =
     let last = chained (encrypted (first_key key)) zero_block (blocks_of (zero_filled message)) in

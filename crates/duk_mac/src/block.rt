@@ -4,7 +4,7 @@ ghost use Rattle.std.specs.Prelude.{◌≡◌, ◌<◌, ◌≤◌, ◌-◌, ◌+
 ghost use Rattle.duk_mac.specs.Cmac.{padded};
 
 /// The block with zero bytes behind what is there.
-pub fn filled(part: &[u8]) -> [u8; 8]
+pub fn fill_block(part: &[u8]) -> [u8; 8]
     requires { length part.now ≤ 8 }
     ensures { result ≡ part.now ++ replicate (8 - length part.now) 0 }
 {
@@ -14,11 +14,11 @@ pub fn filled(part: &[u8]) -> [u8; 8]
 }
 
 /// The block with a one bit and zero bits behind what is there, which is less than a block.
-pub fn padded(part: &[u8]) -> [u8; 8]
+pub fn pad_block(part: &[u8]) -> [u8; 8]
     requires { length part.now < 8 }
     ensures { result ≡ padded part.now }
 {
-    let mut block = filled(part);
+    let mut block = fill_block(part);
     block[part.len()] = 0x80;
     block
 }

@@ -5,7 +5,7 @@ ghost use Rattle.duk_des.specs.Block.{IsBlock};
 ghost use Rattle.duk_tdes.specs.Tdes.{IsTdesLength};
 ghost use Rattle.duk_mac.specs.Cmac.{doubled, last_block, cmac_of};
 
-use crate::block::padded;
+use crate::block::pad_block;
 use duk_tdes::{Key, array_of, tdes_encrypt, xor_bytes};
 
 /// Added where doubling drops a one bit: the constant R64 of NIST SP 800-38B section 5.3.
@@ -24,11 +24,11 @@ pub fn cmac<const N: usize>(key: &Key<N>, message: &[u8]) -> [u8; 8]
         chain = tdes_encrypt(key, xor_bytes(&chain, &array_of(block)));
         rest = after;
     }
-    tdes_encrypt(key, xor_bytes(&chain, &last(key, rest)))
+    tdes_encrypt(key, xor_bytes(&chain, &last_block(key, rest)))
 }
 
 /// The last block of a message, masked: `rest` is what the blocks before it leave, 0 to 8 bytes.
-fn last<const N: usize>(key: &Key<N>, rest: &[u8]) -> [u8; 8]
+fn last_block<const N: usize>(key: &Key<N>, rest: &[u8]) -> [u8; 8]
     requires length { IsTdesLength N }
     requires at_most_a_block { length rest.now ≤ 8 }
     ensures { result ≡ last_block key.now rest.now }
@@ -37,7 +37,7 @@ fn last<const N: usize>(key: &Key<N>, rest: &[u8]) -> [u8; 8]
     if rest.len() == 8 {
         xor_bytes(&array_of(rest), &first_subkey)
     } else {
-        xor_bytes(&padded(rest), &double(first_subkey))
+        xor_bytes(&pad_block(rest), &double(first_subkey))
     }
 }
 

@@ -1,4 +1,5 @@
-//! Message authentication codes over TDES keys, with blocks and MACs of 8 bytes: CMAC and the retail MAC.
+//! Message authentication codes over TDES keys, with blocks and MACs of 8 bytes: CMAC and the
+//! retail MAC.
 //!
 //! The functions make MACs. To verify one, make it again and compare all 8 bytes.
 #![tactic(auto)]

@@ -3,12 +3,12 @@
 ghost use Rattle.std.specs.Prelude.{◌≡◌, ◌<◌, length};
 ghost use Rattle.duk_mac.specs.Retail.{retail_of};
 
-use crate::block::filled;
+use crate::block::fill_block;
 use duk_des::{decrypt_block, encrypt_block};
 use duk_tdes::{Key, array_of, xor_bytes};
 
-/// The retail MAC of a message that is not empty. It is filled with zero bytes to whole blocks, so a message and the
-/// same message with zero bytes behind it, within its last block, have one MAC.
+/// The retail MAC of a message that is not empty. It is filled with zero bytes to whole blocks, so
+/// a message and the same message with zero bytes behind it, within its last block, have one MAC.
 pub fn retail(key: &Key<16>, message: &[u8]) -> [u8; 8]
     requires { 0 < length message.now }
     ensures { result ≡ retail_of key.now message.now }
@@ -22,6 +22,6 @@ pub fn retail(key: &Key<16>, message: &[u8]) -> [u8; 8]
         chain = encrypt_block(&left, xor_bytes(&chain, &array_of(block)));
         rest = after;
     }
-    chain = encrypt_block(&left, xor_bytes(&chain, &filled(rest)));
+    chain = encrypt_block(&left, xor_bytes(&chain, &fill_block(rest)));
     encrypt_block(&left, decrypt_block(&right.bytes(), chain))
 }

@@ -47,7 +47,7 @@ pub fn no_used_key<C: Cell, L: UsedLog, I: Issuer>()
     duk_frame::laws::one_reading();
     duk_tree::laws::bits();
     duk_tree::laws::frontier();
-    duk_regs::laws::determined();
+    duk_regs::laws::uniqueness();
 }
 
 /// The host accepts each number at most once, and each number that it accepted stands in every list that a restart may

@@ -18,14 +18,15 @@ without_check_digit pan = take (length pan - 1) pan
 abbrev pub account_digits : List ℕ → List ℕ
 account_digits pan = let digits = without_check_digit pan in drop (length digits - 12) digits
 
--- the account field of a PAN (ISO 9564-1 format 0): 0000, and those digits with zeros on their left up to 12
+-- the account field of a PAN (ISO 9564-1 format 0): 0000, and those digits with zeros on their left
+-- up to 12
 unfoldable pub account_field : List ℕ → List ℕ
 account_field pan =
     let account = account_digits pan in
     replicate 4 0 ++ (replicate (12 - length account) 0 ++ values account)
 
--- the triples of a PIN, a PAN and their block (ISO 9564-1 format 0): each nibble of the block is the exclusive or of
--- the nibbles of the two fields
+-- the triples of a PIN, a PAN and their block (ISO 9564-1 format 0): each nibble of the block is
+-- the exclusive or of the nibbles of the two fields
 pub record IsPinBlock (pin pan block : List ℕ) : Type 0 where
   pub is_pin : IsPin pin
   pub is_pan : IsPan pan
@@ -35,9 +36,12 @@ pub record IsPinBlock (pin pan block : List ℕ) : Type 0 where
 unfoldable pub pin_block : List ℕ → List ℕ → List ℕ
 pin_block pin pan = bytes_of (xor_nibbles (pin_field pin) (account_field pan))
 
--- the nibbles of a PIN field behind the first two: as many decimal digits as the length says, and F up to the end (ISO 9564-1 format 0)
+-- the nibbles of a PIN field behind the first two: as many decimal digits as the length says, and F
+-- up to the end (ISO 9564-1 format 0)
 abbrev pub are_digits_and_fill : ℕ → List ℕ → Bool
-are_digits_and_fill count nibbles = list_all (λ digit. nat_lt digit 10) (take count nibbles) && list_all (λ fill. fill == 0xF) (drop count nibbles)
+are_digits_and_fill count nibbles =
+    list_all (λ digit. nat_lt digit 10) (take count nibbles)
+    && list_all (λ fill. fill == 0xF) (drop count nibbles)
 
 -- nibbles begin as a PIN field does: with 0 and a length from 4 to 12 (ISO 9564-1 format 0)
 abbrev pub is_pin_start : ℕ → ℕ → Bool
@@ -48,7 +52,9 @@ abbrev pub pin_in_field : List ℕ → Option (List ℕ)
 pin_in_field [] = None
 pin_in_field (control ∷ []) = None
 pin_in_field (control ∷ count ∷ nibbles) =
-    if is_pin_start control count && are_digits_and_fill count nibbles then Some (ascii_of (take count nibbles)) else None
+    if is_pin_start control count && are_digits_and_fill count nibbles
+    then Some (ascii_of (take count nibbles))
+    else None
 
 -- the PIN in a block under a PAN, if it is the block of one
 abbrev pub pin_in_block : List ℕ → List ℕ → Option (List ℕ)

@@ -7,7 +7,8 @@ use crate::field::Field;
 use crate::pan::Pan;
 use crate::pin::Pin;
 
-/// The PIN block of a PIN and a PAN: 8 bytes, the exclusive or of the PIN field and the account field.
+/// The PIN block of a PIN and a PAN: 8 bytes, the exclusive or of the PIN field and the account
+/// field.
 #[tactic(auto, using(crate::proofs::BlockLemmas::no_other_block))]
 pub fn encode(pin: &Pin, pan: &Pan) -> [u8; 8]
     ensures block { IsPinBlock pin.now pan.now result }
@@ -16,7 +17,8 @@ pub fn encode(pin: &Pin, pan: &Pan) -> [u8; 8]
     Field::of_pin(pin).xor(Field::of_account(pan)).to_block()
 }
 
-/// The PIN of a block of 8 bytes under a PAN, or `None` where it is the block of no PIN under that PAN.
+/// The PIN of a block of 8 bytes under a PAN, or `None` where it is the block of no PIN under that
+/// PAN.
 #[tactic(auto, using(crate::proofs::BlockLemmas::field_of_block))]
 pub fn decode(block: [u8; 8], pan: &Pan) -> Option<Pin>
     ensures found { IfSome result (λ pin. IsPinBlock pin pan.now block) }

@@ -75,7 +75,7 @@ impl Digits {
         }
     }
 
-    // The ASCII digits.
+    /// The ASCII digits.
     fn as_bytes(&self) -> &[u8]
         ensures text { result.now ≡ self.now }
         ensures digits { All IsAsciiDigit self.now }
@@ -93,7 +93,7 @@ impl Digits {
     }
 }
 
-// Compares the texts. A derive would say that the arrays are equal, fill and all.
+/// Compares the texts. A derive would say that the arrays are equal, fill and all.
 impl PartialEq for Digits {
     ghost eq = { bytes_eq };
 
@@ -108,7 +108,7 @@ impl Eq for Digits {
     ghost laws = { nat_list_eq_equiv };
 }
 
-// The ASCII digits with these values, and zeros behind them.
+/// The ASCII digits with these values, and zeros behind them.
 #[tactic(auto, using(crate::proofs::DigitLemmas::ascii_next))]
 fn ascii_digits(numbers: &[u8]) -> [u8; MAX_DIGITS]
     requires fits { length numbers.now ≤ MAX_DIGITS }

@@ -14,10 +14,10 @@ use crate::pan::Pan;
 use crate::pin::Pin;
 use std::marker::Model;
 
-// The first nibble of a PIN field of format 0.
+/// The first nibble of a PIN field of format 0.
 const FORMAT: u8 = 0;
 
-// What stands behind the digits of a PIN.
+/// What stands behind the digits of a PIN.
 const FILLER: u8 = 0xF;
 
 /// Sixteen nibbles, from the left.
@@ -81,7 +81,7 @@ impl Field {
     {
         let mut block = [0; 8];
         for i in 0..8 {
-            block[i] = nibbles::joined(self.nibbles[2 * i], self.nibbles[2 * i + 1]);
+            block[i] = nibbles::join(self.nibbles[2 * i], self.nibbles[2 * i + 1]);
         }
         block
     }
@@ -111,7 +111,7 @@ impl Field {
         }
     }
 
-    // Whether this is the PIN field of some PIN.
+    /// Whether this is the PIN field of some PIN.
     fn reads_as_pin(&self) -> bool
         ensures { IsTrue result ↔ ReadsAsPin self.now }
     {
@@ -123,7 +123,7 @@ impl Field {
         are_digits(digits) && are_filler(filler)
     }
 
-    // The values of the digits in a PIN field.
+    /// The values of the digits in a PIN field.
     fn digits(&self) -> &[u8]
         requires { ReadsAsPin self.now }
         ensures values { result.now ≡ take (slice_index self.now 1) (drop 2 self.now) }
@@ -132,14 +132,14 @@ impl Field {
         &self.body()[..self.length()]
     }
 
-    // The length in a PIN field.
+    /// The length in a PIN field.
     fn length(&self) -> usize
         ensures { result ≡ slice_index self.now 1 }
     {
         usize::from(self.nibbles[1])
     }
 
-    // What stands behind the length in a PIN field: the digits and the filler.
+    /// What stands behind the length in a PIN field: the digits and the filler.
     fn body(&self) -> &[u8]
         ensures nibbles { result.now ≡ drop 2 self.now }
         ensures field { IsField self.now }
@@ -149,7 +149,7 @@ impl Field {
     }
 }
 
-// The 12 rightmost digits of a PAN without its check digit, or all of them where there are fewer.
+/// The 12 rightmost digits of a PAN without its check digit, or all of them where there are fewer.
 fn account_digits(pan: &[u8]) -> &[u8]
     requires { IsPan pan.now }
     ensures digits { result.now ≡ account_digits pan.now }
@@ -172,12 +172,13 @@ fn are_filler(nibbles: &[u8]) -> bool
     nibbles.iter().all(|nibble| *nibble == FILLER)
 }
 
-// The nibbles with the values of the digits from a place on.
+/// The nibbles with the values of the digits from a place on.
 #[tactic(auto, using(std::proofs::lemmas::Grind::common_steps, crate::proofs::FieldLemmas::placed_next))]
 fn with_values(mut nibbles: [u8; 16], start: usize, digits: &[u8]) -> [u8; 16]
     requires room { start + length digits.now ≤ 16 }
     requires digits { All IsAsciiDigit digits.now }
-    ensures { result ≡ take start nibbles ++ values digits.now ++ drop (start + length digits.now) nibbles }
+    ensures { result
+        ≡ take start nibbles ++ values digits.now ++ drop (start + length digits.now) nibbles }
 {
     for (i, digit) in digits.iter().enumerate() {
         nibbles[start + i] = digit - b'0';

@@ -16,8 +16,10 @@ pub fn one_pin()
 /// A PIN and a PAN have one block and no other.
 #[tactic(auto, using(crate::proofs::BlockLemmas::pin_block_is_block, crate::proofs::BlockLemmas::no_other_block))]
 pub fn one_block()
-    ensures block { (pin pan : List ℕ) → IsPin pin → IsPan pan → IsPinBlock pin pan (pin_block pin pan) }
-    ensures no_other { (pin pan block : List ℕ) → IsPinBlock pin pan block → block ≡ pin_block pin pan }
+    ensures block { (pin pan : List ℕ) → IsPin pin → IsPan pan
+        → IsPinBlock pin pan (pin_block pin pan) }
+    ensures no_other { (pin pan block : List ℕ) → IsPinBlock pin pan block
+        → block ≡ pin_block pin pan }
 {}
 
 /// A block is 8 bytes.

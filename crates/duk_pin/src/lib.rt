@@ -1,7 +1,8 @@
 //! PINs, PANs and the PIN blocks of ISO 9564-1 format 0.
 //!
-//! A PIN block hides a PIN of 4 to 12 digits behind the PAN of its card: 8 bytes, the exclusive or of a PIN field and
-//! an account field. It is no encryption: whoever knows the PAN and the block can read the PIN.
+//! A PIN block hides a PIN of 4 to 12 digits behind the PAN of its card: 8 bytes, the exclusive or
+//! of a PIN field and an account field. It is no encryption: whoever knows the PAN and the block
+//! can read the PIN.
 //!
 //! Nothing here takes memory. The check digit of a PAN, its last digit, is not verified.
 #![tactic(auto)]

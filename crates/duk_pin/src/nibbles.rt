@@ -17,7 +17,7 @@ pub fn split(block: &[u8; 8]) -> [u8; 16]
 }
 
 /// The byte with these two nibbles.
-pub fn joined(left: u8, right: u8) -> u8
+pub fn join(left: u8, right: u8) -> u8
     requires left { left < 16 }
     requires right { right < 16 }
     ensures left { result / 16 ≡ left }

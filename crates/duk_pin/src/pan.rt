@@ -25,7 +25,8 @@ impl Model for Pan {
 }
 
 impl Pan {
-    /// Reads a PAN of 12 to 19 ASCII digits. The length is tested first, and the check digit is not verified.
+    /// Reads a PAN of 12 to 19 ASCII digits. The length is tested first, and the check digit is not
+    /// verified.
     pub fn parse(text: &str) -> Result<Pan, PinFault>
         ensures ok { IsOk result ↔ IsPan text.now }
         ensures value { IfOk result (λ pan. pan ≡ text.now) }

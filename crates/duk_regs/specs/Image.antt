@@ -7,7 +7,8 @@ use Rattle.duk_tree.specs.Path.{IsUsable}
 use Rattle.duk_tree.specs.Next.{spent_counter}
 use Rattle.duk_regs.specs.Registers.{RegisterSet, LeavesEmpty}
 
--- version 1, the initial key serial number in 10 bytes, the next counter in 3, and the 21 registers of 16 bytes, register 0 first
+-- version 1, the initial key serial number in 10 bytes, the next counter in 3, and the 21 registers
+-- of 16 bytes, register 0 first
 abbrev pub image_bytes : RegisterSet → List ℕ
 image_bytes set = 1 ∷ (iksn_bytes set.iksn ++ (big_bytes 3 set.counter ++ concat set.registers))
 
@@ -25,7 +26,12 @@ registers_in image = map (λ place. take 16 (drop (14 + 16 * place) image)) (ran
 
 -- what a terminal with this image keeps
 abbrev pub set_in : List ℕ → RegisterSet
-set_in image = record { iksn = (serial_in image).iksn; counter = counter_in image; registers = registers_in image }
+set_in image =
+    record {
+      iksn = (serial_in image).iksn;
+      counter = counter_in image;
+      registers = registers_in image;
+    }
 
 -- bytes that are the image of a terminal
 pub record IsImage (image : List ℕ) : Type 0 where

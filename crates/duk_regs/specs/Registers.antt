@@ -6,7 +6,8 @@ use Rattle.duk_tree.specs.Next.{spent_counter, ComesAfter}
 use Rattle.duk_tree.specs.Frontier.{IsHeld}
 use Rattle.duk_tree.specs.Derivation.{step_of, transaction_key_of}
 
--- what a terminal keeps: its initial key serial number, the counter that it uses next, and its registers
+-- what a terminal keeps: its initial key serial number, the counter that it uses next, and its
+-- registers
 pub record RegisterSet : Type 0 where
   pub iksn : ℕ
   pub counter : ℕ
@@ -30,7 +31,8 @@ IsEmptyAt counter place = (node : ℕ) → IsHeld counter node → lowest_place 
 
 -- each register that has no node of the frontier holds no key
 abbrev pub LeavesEmpty : ℕ → List (List ℕ) → Type 0
-LeavesEmpty counter registers = (place : ℕ) → place < 21 → IsEmptyAt counter place → register_at registers place ≡ empty_register
+LeavesEmpty counter registers = (place : ℕ) → place < 21 → IsEmptyAt counter place
+    → register_at registers place ≡ empty_register
 
 -- what holds of each terminal
 pub record IsRegisterSet (set : RegisterSet) : Type 0 where
@@ -39,11 +41,12 @@ pub record IsRegisterSet (set : RegisterSet) : Type 0 where
   pub are_21 : length set.registers ≡ 21
   pub leaves_empty : LeavesEmpty set.counter set.registers
 
--- registers stand for an initial key: each node of the frontier has its key in the register of its lowest one bit, and each other
--- register is empty
+-- registers stand for an initial key: each node of the frontier has its key in the register of its
+-- lowest one bit, and each other register is empty
 pub record StandsFor (initial : List ℕ) (set : RegisterSet) : Type 0 where
   pub are_21 : length set.registers ≡ 21
-  pub holds : (node : ℕ) → IsHeld set.counter node → register_at set.registers (lowest_place node) ≡ transaction_key_of initial set.iksn node
+  pub holds : (node : ℕ) → IsHeld set.counter node
+      → register_at set.registers (lowest_place node) ≡ transaction_key_of initial set.iksn node
   pub leaves_empty : LeavesEmpty set.counter set.registers
 
 -- the register of a place holds the key of a node of the frontier
@@ -53,8 +56,9 @@ pub record HoldsNode (initial : List ℕ) (set : RegisterSet) (place : ℕ) : Ty
   pub is_at : lowest_place node ≡ place
   pub holds : register_at set.registers place ≡ transaction_key_of initial set.iksn node
 
--- how a transaction changes what a terminal keeps, whatever its registers stand for: the register of the lowest one bit gives its key
--- and is emptied, and under ten one bits the registers below it get the keys of the children
+-- how a transaction changes what a terminal keeps, whatever its registers stand for: the register
+-- of the lowest one bit gives its key and is emptied, and under ten one bits the registers below it
+-- get the keys of the children
 pub record IsTaken (old : RegisterSet) (key : List ℕ) (new : RegisterSet) : Type 0 where
   pub same_iksn : new.iksn ≡ old.iksn
   pub same_length : length new.registers ≡ length old.registers
@@ -62,7 +66,10 @@ pub record IsTaken (old : RegisterSet) (key : List ℕ) (new : RegisterSet) : Ty
   pub key_is : key ≡ register_at old.registers (lowest_place old.counter)
   pub emptied : register_at new.registers (lowest_place old.counter) ≡ empty_register
   pub filled : length (path_of old.counter) < 10 → (place : ℕ) → place < lowest_place old.counter
-      → register_at new.registers place ≡ step_of key (low_bytes (record { iksn = old.iksn; counter = old.counter + 2 ^ place }))
-  pub not_filled : 10 ≤ length (path_of old.counter) → (place : ℕ) → place < lowest_place old.counter
+      → register_at new.registers place
+      ≡ step_of key (low_bytes (record { iksn = old.iksn; counter = old.counter + 2 ^ place }))
+  pub not_filled : 10 ≤ length (path_of old.counter) → (place : ℕ)
+      → place < lowest_place old.counter
       → register_at new.registers place ≡ register_at old.registers place
-  pub others_stay : (place : ℕ) → lowest_place old.counter < place → register_at new.registers place ≡ register_at old.registers place
+  pub others_stay : (place : ℕ) → lowest_place old.counter < place
+      → register_at new.registers place ≡ register_at old.registers place

@@ -38,8 +38,8 @@ pub(crate) fn first_registers(initial: &Key<16>, iksn: Iksn) -> [Key<16>; PLACES
     registers
 }
 
-/// Where the counter has fewer than ten one bits, gives each register below its lowest one bit the key
-/// of the child at that place.
+/// Where the counter has fewer than ten one bits, gives each register below its lowest one bit the
+/// key of the child at that place.
 pub(crate) fn fill_below(registers: &mut [Key<16>; PLACES], key: &Key<16>, iksn: Iksn, counter: u32)
     requires { IsUsable counter }
     ensures are_21 { length registers.new ≡ 21 }
@@ -81,7 +81,8 @@ pub(crate) fn leaves_empty(counter: u32, registers: &[Key<16>; PLACES]) -> bool
 }
 
 /// Whether the frontier at this counter has no node whose lowest one bit is at this place. It could
-/// only have the one whose parent is the greatest multiple of the next power of two below the counter.
+/// only have the one whose parent is the greatest multiple of the next power of two below the
+/// counter.
 fn is_empty_at(counter: u32, place: u32) -> bool
     requires some { 1 ≤ counter }
     requires fits { counter ≤ 2 ^ 21 }

@@ -49,9 +49,11 @@ pub(crate) fn write_image(
 pub(crate) fn read_image(image: &[u8]) -> Option<(Iksn, u32, [Key<16>; PLACES])>
     ensures found { IsSome result ↔ IsImage image.now }
     ensures parts { IfSome result
-        (λ parts. record { iksn = parts.0; counter = parts.1; registers = parts.2 } ≡ set_in image.now) }
+        (λ parts. record { iksn = parts.0; counter = parts.1; registers = parts.2 }
+        ≡ set_in image.now) }
     ensures set { IfSome result
-        (λ parts. IsRegisterSet (record { iksn = parts.0; counter = parts.1; registers = parts.2 })) }
+        (λ parts. IsRegisterSet
+        (record { iksn = parts.0; counter = parts.1; registers = parts.2 })) }
     ensures image { IfSome result (λ parts. image_bytes (set_in image.now) ≡ image.now) }
 {
     duk_tree::laws::bits();

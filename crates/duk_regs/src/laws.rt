@@ -10,7 +10,8 @@ ghost use Rattle.duk_regs.specs.Image.{image_bytes, set_in, IsImage};
 /// Registers with the keys of the powers of two stand for the initial key at the first number.
 pub fn first()
     ensures usable { IsUsable 1 }
-    ensures stands { (initial : List ℕ) (set : RegisterSet) → set.counter ≡ 1 → length set.registers ≡ 21
+    ensures stands { (initial : List ℕ) (set : RegisterSet) → set.counter ≡ 1
+        → length set.registers ≡ 21
         → ((place : ℕ) → place < 21
         → register_at set.registers place
         ≡ step_of initial (low_bytes (record { iksn = set.iksn; counter = 2 ^ place })))
@@ -21,14 +22,15 @@ pub fn first()
     duk_tree::laws::moves();
 }
 
-/// A transaction takes the key of its number from registers that stand for an initial key, and leaves
-/// registers that stand for it at the next number.
-pub fn taken()
+/// A transaction takes the key of its number from registers that stand for an initial key, and
+/// leaves registers that stand for it at the next number.
+pub fn transactions()
     ensures key { (initial : List ℕ) (old new : RegisterSet) (key : List ℕ) → IsUsable old.counter
         → IsTaken old key new
         → StandsFor initial old
         → key ≡ transaction_key_of initial old.iksn old.counter }
-    ensures stands { (initial : List ℕ) (old new : RegisterSet) (key : List ℕ) → IsUsable old.counter
+    ensures stands { (initial : List ℕ) (old new : RegisterSet) (key : List ℕ)
+        → IsUsable old.counter
         → IsTaken old key new
         → StandsFor initial old
         → StandsFor initial new }
@@ -44,9 +46,9 @@ pub fn taken()
     duk_tree::laws::children();
 }
 
-/// Each register holds no key or that of a node of the frontier. So an initial key, a serial number and
-/// a counter determine what a terminal keeps.
-pub fn determined()
+/// Each register holds no key or that of a node of the frontier. So an initial key, a serial number
+/// and a counter determine what a terminal keeps.
+pub fn uniqueness()
     ensures register { (initial : List ℕ) (set : RegisterSet) (place : ℕ) → 1 ≤ set.counter
         → StandsFor initial set → place < 21
         → (register_at set.registers place ≡ empty_register) ⊎ HoldsNode initial set place }

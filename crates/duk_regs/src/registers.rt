@@ -14,8 +14,8 @@ use duk_tdes::Key;
 use duk_tree::{Iksn, Ksn, next_usable};
 use std::marker::Model;
 
-/// What a terminal keeps: its initial key serial number, the counter that it uses next, and twenty-one
-/// registers. It has no `Debug`, so that no key is printed by chance.
+/// What a terminal keeps: its initial key serial number, the counter that it uses next, and
+/// twenty-one registers. It has no `Debug`, so that no key is printed by chance.
 #[derive(Drop)]
 pub struct Registers {
     iksn: Iksn,
@@ -28,14 +28,19 @@ impl Model for Registers {
 
     ghost Value = { RegisterSet };
 
-    ghost view = { λ set. record { iksn = set.iksn; counter = set.counter; registers = set.registers } };
+    ghost view = { λ set. record {
+      iksn = set.iksn;
+      counter = set.counter;
+      registers = set.registers;
+    } };
 
-    ghost invariant = { λ set. IsRegisterSet (record { iksn = set.iksn; counter = set.counter; registers = set.registers }) };
+    ghost invariant = { λ set. IsRegisterSet
+        (record { iksn = set.iksn; counter = set.counter; registers = set.registers }) };
 }
 
 impl Registers {
-    /// The registers of a terminal that has used no number yet: the keys of the powers of two. None of
-    /// them is that of the root, whose key is the initial key.
+    /// The registers of a terminal that has used no number yet: the keys of the powers of two. None
+    /// of them is that of the root, whose key is the initial key.
     pub fn load(initial: Key<16>, iksn: Iksn) -> Registers
         ensures iksn { result.iksn ≡ iksn }
         ensures counter { result.counter ≡ 1 }
@@ -62,9 +67,10 @@ impl Registers {
         Some(self.iksn.with_counter(self.counter))
     }
 
-    /// Uses the next number: its key, its key serial number, and the registers afterwards. The register
-    /// of its node is emptied; where the registers stood for an initial key, each one afterwards is empty
-    /// or has the key of a node that is not used. A terminal that is spent is handed back.
+    /// Uses the next number: its key, its key serial number, and the registers afterwards. The
+    /// register of its node is emptied; where the registers stood for an initial key, each one
+    /// afterwards is empty or has the key of a node that is not used. A terminal that is spent is
+    /// handed back.
     pub fn take(self) -> Result<(Key<16>, Ksn, Registers), Registers>
         ensures spent { IsErr result ↔ (self.counter ≡ spent_counter) }
         ensures usable { OnOk result (IsUsable self.counter) }
@@ -78,7 +84,7 @@ impl Registers {
             × StandsFor initial taken.2) }
     {
         duk_tree::laws::bits();
-        laws::taken();
+        laws::transactions();
         if self.counter == SPENT {
             return Err(self);
         }
@@ -100,7 +106,8 @@ impl Registers {
     }
 
     /// The image that a terminal stores: version 1, the initial key serial number in 10 bytes, the
-    /// next counter in 3 (200000 where it is spent), and the registers of 16 bytes, register 0 first.
+    /// next counter in 3 (200000 where it is spent), and the registers of 16 bytes, register 0
+    /// first.
     pub fn image(&self) -> [u8; IMAGE_LENGTH]
         ensures image { result ≡ image_bytes self.now }
         ensures is_image { IsImage result }

@@ -5,7 +5,8 @@ use Rattle.duk_tdes.specs.Blocks.{blocks_of}
 use Rattle.duk_tdes.specs.Key.{xor_bytes}
 use Rattle.duk_tdes.specs.Tdes.{tdes_encrypted, tdes_decrypted}
 
--- each plain block is added to the cipher block before it and enciphered; before the first stands the initial vector
+-- each plain block is added to the cipher block before it and enciphered; before the first stands
+-- the initial vector
 abbrev pub chained_ciphers : List ℕ → List ℕ → List (List ℕ) → List ℕ
 chained_ciphers key before [] = []
 chained_ciphers key before (block ∷ blocks) =
@@ -15,7 +16,8 @@ chained_ciphers key before (block ∷ blocks) =
 -- each cipher block is deciphered and the cipher block before it added
 abbrev pub chained_plains : List ℕ → List ℕ → List (List ℕ) → List ℕ
 chained_plains key before [] = []
-chained_plains key before (block ∷ blocks) = xor_bytes (tdes_decrypted key block) before ++ chained_plains key block blocks
+chained_plains key before (block ∷ blocks) =
+    xor_bytes (tdes_decrypted key block) before ++ chained_plains key block blocks
 
 -- CBC encryption of whole blocks from an initial vector
 unfoldable pub cbc_encrypted : List ℕ → List ℕ → List ℕ → List ℕ

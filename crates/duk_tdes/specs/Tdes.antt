@@ -3,8 +3,8 @@ use Rattle.std.specs.Prelude.{◌≡◌, ◌⊎◌, ◌<◌, ◌^◌, ℕ, List,
 use Rattle.std.specs.List.{All}
 use Rattle.duk_des.specs.Des.{encrypted, decrypted}
 
--- a TDES key has 16 bytes, where K3 is K1, or 24, where each of the three single keys has its own (section 3, keying
--- options)
+-- a TDES key has 16 bytes, where K3 is K1, or 24, where each of the three single keys has its own
+-- (section 3, keying options)
 abbrev pub IsTdesLength : ℕ → Type 0
 IsTdesLength size = (size ≡ 16) ⊎ (size ≡ 24)
 
@@ -20,12 +20,14 @@ second_key key = take 8 (drop 8 key)
 abbrev pub third_key : List ℕ → List ℕ
 third_key key = if length key == 16 then first_key key else take 8 (drop 16 key)
 
--- the forward cipher operation (section 3): encryption under K1, decryption under K2, encryption under K3
+-- the forward cipher operation (section 3): encryption under K1, decryption under K2, encryption
+-- under K3
 unfoldable pub tdes_encrypted : List ℕ → List ℕ → List ℕ
 tdes_encrypted key block =
     encrypted (third_key key) (decrypted (second_key key) (encrypted (first_key key) block))
 
--- the inverse cipher operation (section 3): decryption under K3, encryption under K2, decryption under K1
+-- the inverse cipher operation (section 3): decryption under K3, encryption under K2, decryption
+-- under K1
 unfoldable pub tdes_decrypted : List ℕ → List ℕ → List ℕ
 tdes_decrypted key block =
     decrypted (first_key key) (encrypted (second_key key) (decrypted (third_key key) block))

@@ -32,18 +32,20 @@ pub fn tdes_key<const N: usize>(key: &Key<N>)
     key.bytes();
 }
 
-/// A masked key is a key of the same length. A key of 16 bytes is a TDES key, the first two single keys of a TDES key
-/// are keys of single DES, and two of these make a double-length key.
+/// A masked key is a key of the same length. A key of 16 bytes is a TDES key, the first two single
+/// keys of a TDES key are keys of single DES, and two of these make a double-length key.
 pub fn keys()
-    ensures masked { (size : ℕ) (key mask : List ℕ) → IsKey size key → IsKey size mask → IsKey size (xor_bytes key mask) }
+    ensures masked { (size : ℕ) (key mask : List ℕ) → IsKey size key → IsKey size mask
+        → IsKey size (xor_bytes key mask) }
     ensures double { (key : List ℕ) → IsKey 16 key → IsTdesKey key }
     ensures first { (key : List ℕ) → IsTdesKey key → IsBlock (first_key key) }
     ensures second { (key : List ℕ) → IsTdesKey key → IsBlock (second_key key) }
-    ensures joined { (left right : List ℕ) → IsBlock left → IsBlock right → IsKey 16 (left ++ right) }
+    ensures joined { (left right : List ℕ) → IsBlock left → IsBlock right
+        → IsKey 16 (left ++ right) }
 {}
 
-/// Under one key of 16 or 24 bytes, from one initial vector and for whole blocks, CBC decryption undoes CBC encryption
-/// and the reverse, and both make as many whole blocks.
+/// Under one key of 16 or 24 bytes, from one initial vector and for whole blocks, CBC decryption
+/// undoes CBC encryption and the reverse, and both make as many whole blocks.
 pub fn cbc_inverse()
     ensures deciphered { (key initial_vector bytes : List ℕ)
         → IsTdesKey key → IsBlock initial_vector → AreWholeBlocks bytes
@@ -69,5 +71,6 @@ pub fn cbc_inverse()
 
 /// The sum of two blocks is a block.
 pub fn sum_of_blocks()
-    ensures { (block mask : List ℕ) → IsBlock block → IsBlock mask → IsBlock (xor_bytes block mask) }
+    ensures { (block mask : List ℕ) → IsBlock block → IsBlock mask
+        → IsBlock (xor_bytes block mask) }
 {}

@@ -1,4 +1,5 @@
--- The key block that a terminal is loaded from: ANSI X9.143 in version B, with this project's own choice of uses.
+-- The key block that a terminal is loaded from: ANSI X9.143 in version B, with this project's own
+-- choice of uses.
 use Rattle.std.specs.Prelude.{ℕ, List}
 use Rattle.duk_block.specs.KeyBlock.{WrapsFor, WrapsOther}
 use Rattle.duk_block.specs.KeyUse.{IsDoubleKeyFor}

@@ -46,8 +46,10 @@ pub record IsHostReply (bytes : List ℕ) (pending : Pending) (code : Code) : Ty
 
 -- what the bytes tell a terminal in this state
 abbrev pub IsTold : State → List ℕ → Answer → Type 0
-IsTold state bytes (Done code) = (pending : Pending) × IsPending state pending × IsHostReply bytes pending code
-IsTold state bytes (Refused reason) = (pending : Pending) × IsPending state pending × IsRefusal bytes pending.ksn reason
+IsTold state bytes (Done code) =
+    (pending : Pending) × IsPending state pending × IsHostReply bytes pending code
+IsTold state bytes (Refused reason) =
+    (pending : Pending) × IsPending state pending × IsRefusal bytes pending.ksn reason
 
 -- the state after that
 abbrev pub after_answer : State → Answer → State
@@ -64,9 +66,13 @@ pub record HasBadMac (bytes : List ℕ) (pending : Pending) : Type 0 where
 -- why the bytes are refused, the first that holds of these
 abbrev pub ReplyRefused : State → List ℕ → TermFault → Type 0
 ReplyRefused state bytes fault.Stopped = state ≡ Stopped
-ReplyRefused state bytes fault.Malformed = (state ≢ Stopped) × ((answer : AnswerFrame) → ¬ IsAnswer bytes answer)
-ReplyRefused state bytes fault.NotPending = (state ≢ Stopped) × ((answer : AnswerFrame) × IsAnswer bytes answer) × IsIdle state
+ReplyRefused state bytes fault.Malformed =
+    (state ≢ Stopped) × ((answer : AnswerFrame) → ¬ IsAnswer bytes answer)
+ReplyRefused state bytes fault.NotPending =
+    (state ≢ Stopped) × ((answer : AnswerFrame) × IsAnswer bytes answer) × IsIdle state
 ReplyRefused state bytes fault.NotMine =
-    (answer : AnswerFrame) × (pending : Pending) × IsAnswer bytes answer × IsPending state pending × (ksn_in answer ≢ pending.ksn)
-ReplyRefused state bytes fault.BadMac = (pending : Pending) × IsPending state pending × HasBadMac bytes pending
+    (answer : AnswerFrame) × (pending : Pending) × IsAnswer bytes answer × IsPending state pending
+    × (ksn_in answer ≢ pending.ksn)
+ReplyRefused state bytes fault.BadMac =
+    (pending : Pending) × IsPending state pending × HasBadMac bytes pending
 ReplyRefused state bytes _ = ⊥

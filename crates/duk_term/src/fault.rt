@@ -7,7 +7,8 @@ use duk_block::{BlockFault, KeyFault};
 use duk_store::StoreFault;
 use thiserror::Error;
 
-/// Why a terminal does not do what it was asked. `Display` writes the name, and that of the fault inside it.
+/// Why a terminal does not do what it was asked. `Display` writes the name, and that of the fault
+/// inside it.
 #[derive(Debug, Clone, Copy, PartialEq, Eq, Error)]
 pub enum TermFault {
     /// The terminal is not loaded yet.

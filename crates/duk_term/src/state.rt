@@ -55,10 +55,11 @@ impl State {
         }
     }
 
-    /// Takes the next number: its key, its key serial number, and the registers that are left. The state is stopped
-    /// until their image is kept.
+    /// Takes the next number: its key, its key serial number, and the registers that are left. The
+    /// state is stopped until their image is kept.
     pub fn take_number(&mut self) -> Result<(Key<16>, Ksn, Registers), TermFault>
-        ensures taken { IfOk result (λ taken. (set : RegisterSet) × TakesFrom self.old set taken.0 taken.2
+        ensures taken { IfOk result
+            (λ taken. (set : RegisterSet) × TakesFrom self.old set taken.0 taken.2
             × (taken.1 ≡ serial_of set) × (self.new ≡ State.Stopped)) }
         ensures refused { IfErr result (IsNotTaken self.old) }
         ensures same { IfErr result (λ _. self.new ≡ self.old) }

@@ -86,7 +86,8 @@ chain_before : (counter : ℕ) (numbers : List ℕ) → (IsUsable (suc counter) 
 chain_before counter [] unusable is_last = last_before counter unusable is_last
 chain_before counter (next ∷ others) unusable is_chain = (next_before counter next unusable is_chain.0, is_chain.1)
 
--- so each counter has a chain: from 2 ^ 21 on the empty one, and down from there one more number or the same ones
+-- so each counter has a chain: from 2 ^ 21 on the empty one, and down from there one more number or
+-- the same ones
 pub some_chain : (left counter : ℕ) → 2 ^ 21 ≤ counter + left → (numbers : List ℕ) × IsChainAfter counter numbers
 some_chain zero counter reached = ([], λ other is_usable. omega (arith, IsUsable-counter other is_usable))
 some_chain (suc left) counter reached =

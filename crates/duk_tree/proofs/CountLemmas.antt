@@ -1,4 +1,5 @@
--- How many numbers below a bound have few ones. Below a power of two it is a sum of a row of Pascal's triangle.
+-- How many numbers below a bound have few ones. Below a power of two it is a sum of a row of
+-- Pascal's triangle.
 use Rattle.std.proofs.Common.{◌≡◌, ℕ, zero, suc, ◌+◌, ◌^◌, ◌<◌, ◌≤◌, cond, ltb, refl, ap, ◌∙◌, arith, inl, inr, lt-ltb, le-ltb}
 use Rattle.std.proofs.lemmas.Nat.{ones-le, ones_cat}
 use Rattle.std.proofs.lemmas.Bool.{cases_lt}

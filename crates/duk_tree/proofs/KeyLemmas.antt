@@ -1,4 +1,5 @@
--- The keys of the tree are keys of sixteen bytes, as far as the ciphers below make blocks of blocks.
+-- The keys of the tree are keys of sixteen bytes, as far as the ciphers below make blocks of
+-- blocks.
 use Rattle.std.proofs.Common.{◌≡◌, ℕ, ◌<◌, ◌≤◌, ◌^◌, true, List, [], ◌∷◌, ◌++◌, length, take, drop, refl, arith, ltb}
 use Rattle.std.specs.List.{All, list_all}
 use Rattle.std.proofs.lemmas.Bool.Decides.{nat_tests}

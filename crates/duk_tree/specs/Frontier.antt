@@ -1,4 +1,5 @@
--- The frontier of the key tree: the nodes whose keys a terminal holds in its future key registers (ANSI X9.24-1:2009 annex A).
+-- The frontier of the key tree: the nodes whose keys a terminal holds in its future key registers
+-- (ANSI X9.24-1:2009 annex A).
 use Rattle.std.specs.Prelude.{◌≡◌, ◌<◌, ◌≤◌, ◌+◌, ◌-◌, ◌*◌, ◌/◌, ◌^◌, ℕ, List, [], ◌∷◌, ◌++◌}
 use Rattle.duk_tree.specs.Path.{value_of, path_of, IsUsable}
 
@@ -28,7 +29,7 @@ pub record HasOneHeld (counter node : ℕ) : Type 0 where
   pub is_above : IsAncestorOrSelf held node
   pub is_only : (other : ℕ) → IsHeld counter other → IsAncestorOrSelf other node → other ≡ held
 
--- the only node of a last place that the frontier at a counter may have: the place's power of two above the greatest multiple of the
--- next power of two that is below the counter
+-- the only node of a last place that the frontier at a counter may have: the place's power of two
+-- above the greatest multiple of the next power of two that is below the counter
 abbrev pub candidate_at : ℕ → ℕ → ℕ
 candidate_at counter place = (counter - 1) / 2 ^ (place + 1) * 2 ^ (place + 1) + 2 ^ place

@@ -20,8 +20,8 @@ spent_counter = 2 ^ 21
 abbrev pub ComesAfter : ℕ → ℕ → Type 0
 ComesAfter counter next = IsNextUsable counter next ⊎ (IsLast counter × (next ≡ spent_counter))
 
--- the numbers after a counter, in the order in which a terminal uses them: each is the least usable counter above the one before it, and
--- above the last there is none
+-- the numbers after a counter, in the order in which a terminal uses them: each is the least usable
+-- counter above the one before it, and above the last there is none
 abbrev pub IsChainAfter : ℕ → List ℕ → Type 0
 IsChainAfter counter [] = IsLast counter
 IsChainAfter counter (next ∷ others) = IsNextUsable counter next × IsChainAfter next others

@@ -1,8 +1,10 @@
--- Paths in the tree of keys. ANSI X9.24-1:2009 annex A sets the one bits of a counter one after the other, from the most significant
--- down, and makes a key at each; a path is the list of their places. The words for it are this project's own.
+-- Paths in the tree of keys. ANSI X9.24-1:2009 annex A sets the one bits of a counter one after the
+-- other, from the most significant down, and makes a key at each; a path is the list of their
+-- places. The words for it are this project's own.
 --
--- A path is a strictly falling list of bit places, 20 to 0. It stands here with its last place, the lowest, first. So the parent of a
--- path, which lacks the last place, is its tail, an ancestor is a proper suffix, and the empty list is the root, with value 0.
+-- A path is a strictly falling list of bit places, 20 to 0. It stands here with its last place, the
+-- lowest, first. So the parent of a path, which lacks the last place, is its tail, an ancestor is a
+-- proper suffix, and the empty list is the root, with value 0.
 use Rattle.std.specs.Prelude.{◌≡◌, ◌<◌, ◌≤◌, ◌+◌, ◌/◌, ◌%◌, ◌^◌, ◌==◌, ℕ, zero, suc, Bool, List, [], ◌∷◌, length, ⊤}
 use Rattle.std.specs.List.{filter}
 
@@ -34,7 +36,8 @@ has_one counter place = counter / 2 ^ place % 2 == 1
 unfoldable pub path_of : ℕ → List ℕ
 path_of counter = filter (has_one counter) (places_from 0 21)
 
--- a usable counter is that of a path of one to ten places (annex A: a counter with more than ten ones is skipped)
+-- a usable counter is that of a path of one to ten places (annex A: a counter with more than ten
+-- ones is skipped)
 pub record IsUsable (counter : ℕ) : Type 0 where
   pub path : List ℕ
   pub path_is : IsPath path

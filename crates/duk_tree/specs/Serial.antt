@@ -1,12 +1,13 @@
--- Key serial numbers (ANSI X9.24-1:2009 annex A): 80 bits, 59 of them the initial key serial number, and the low 21 a counter.
--- Their texts are this project's own.
+-- Key serial numbers (ANSI X9.24-1:2009 annex A): 80 bits, 59 of them the initial key serial
+-- number, and the low 21 a counter. Their texts are this project's own.
 use Rattle.std.specs.Prelude.{◌≡◌, ◌<◌, ◌+◌, ◌*◌, ◌/◌, ◌%◌, ◌^◌, ◌==◌, ℕ, List, Option, Some, None, take, drop, if◌then◌else◌}
 use Rattle.std.specs.Option.{option_map, option_and_then}
 use Rattle.std.specs.Result.{result_ok}
 use Rattle.byteorder.specs.Endian.{big_bytes, big_number}
 use Rattle.hex.specs.Hex.{decode_sized}
 
--- a key serial number: the initial key serial number, as the number that it is with counter zero, and the counter
+-- a key serial number: the initial key serial number, as the number that it is with counter zero,
+-- and the counter
 pub record Serial : Type 0 where
   pub iksn : ℕ
   pub counter : ℕ
@@ -39,7 +40,8 @@ iksn_bytes iksn = serial_bytes (record { iksn = iksn; counter = 0 })
 abbrev pub low_bytes : Serial → List ℕ
 low_bytes serial = take 8 (drop 2 (serial_bytes serial))
 
--- the prefix of a key serial number, by which a host finds its base derivation key: the first five of its ten bytes
+-- the prefix of a key serial number, by which a host finds its base derivation key: the first five
+-- of its ten bytes
 abbrev pub prefix_of : Serial → List ℕ
 prefix_of serial = take 5 (serial_bytes serial)
 
@@ -53,4 +55,6 @@ ksn_of_text text = option_map serial_of_bytes (result_ok (decode_sized text 10))
 
 -- the initial key serial number that such a text spells, where the counter in it is zero
 abbrev pub iksn_of_text : List ℕ → Option ℕ
-iksn_of_text text = option_and_then (λ serial. if serial.counter == 0 then Some serial.iksn else None) (ksn_of_text text)
+iksn_of_text text =
+    option_and_then (λ serial. if serial.counter == 0 then Some serial.iksn else None)
+    (ksn_of_text text)

@@ -14,16 +14,16 @@ use duk_tdes::{Key, array_of, tdes_encrypt};
 /// the left half of a derived key.
 const DERIVATION_MASK: u128 = 0xC0C0_C0C0_0000_0000_C0C0_C0C0_0000_0000;
 
-/// The initial key of a terminal, under the base derivation key: each half is TDES of the first eight
-/// bytes of the initial key serial number, the right one under the masked key.
+/// The initial key of a terminal, under the base derivation key: each half is TDES of the first
+/// eight bytes of the initial key serial number, the right one under the masked key.
 #[tactic(auto, unfolding(crate::specs::Derivation::initial_key_of))]
 pub fn initial_key(bdk: &Key<16>, iksn: Iksn) -> Key<16>
     ensures { result ≡ initial_key_of bdk.now iksn }
 {
     let first_eight = array_of(&iksn.bytes()[..8]);
     let left = tdes_encrypt(bdk, first_eight);
-    let right = tdes_encrypt(&masked(bdk), first_eight);
-    joined(left, right)
+    let right = tdes_encrypt(&mask(bdk), first_eight);
+    join(left, right)
 }
 
 /// The key of a child in the key tree, from its parent's key and the low 64 bits of the child's key
@@ -32,13 +32,13 @@ pub fn initial_key(bdk: &Key<16>, iksn: Iksn) -> Key<16>
 pub fn step(key: &Key<16>, crypto_register: [u8; 8]) -> Key<16>
     ensures { result ≡ step_of key.now crypto_register }
 {
-    let left = half_step(&masked(key), crypto_register);
+    let left = half_step(&mask(key), crypto_register);
     let right = half_step(key, crypto_register);
-    joined(left, right)
+    join(left, right)
 }
 
-/// The transaction key of a key serial number, under the base derivation key; counter zero gives the
-/// initial key. `usable` tells which counters number a transaction.
+/// The transaction key of a key serial number, under the base derivation key; counter zero gives
+/// the initial key. `usable` tells which counters number a transaction.
 pub fn derive(bdk: &Key<16>, ksn: Ksn) -> Key<16>
     ensures { result ≡ derived_key_of bdk.now ksn }
 {
@@ -70,13 +70,13 @@ fn half_step(key: &Key<16>, crypto_register: [u8; 8]) -> [u8; 8]
     right.xor(&output).bytes()
 }
 
-fn masked(key: &Key<16>) -> Key<16>
+fn mask(key: &Key<16>) -> Key<16>
     ensures { result ≡ xor_bytes key.now derivation_mask }
 {
     key.xor(&DERIVATION_MASK.to_be_bytes())
 }
 
-fn joined(left: [u8; 8], right: [u8; 8]) -> Key<16>
+fn join(left: [u8; 8], right: [u8; 8]) -> Key<16>
     ensures { result ≡ left ++ right }
 {
     let mut bytes = [0; 16];

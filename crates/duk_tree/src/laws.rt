@@ -25,14 +25,16 @@ pub fn paths()
 pub fn serials()
     ensures ten { (serial : Serial) → length (serial_bytes serial) ≡ 10 }
     ensures are_bytes { (serial : Serial) → All (λ byte. byte < 2 ^ 8) (serial_bytes serial) }
-    ensures found { (serial : Serial) → IsSerial serial → serial_of_bytes (serial_bytes serial) ≡ serial }
+    ensures found { (serial : Serial) → IsSerial serial
+        → serial_of_bytes (serial_bytes serial) ≡ serial }
     ensures written { (bytes : List ℕ) → length bytes ≡ 10 → All (λ byte. byte < 2 ^ 8) bytes
         → serial_bytes (serial_of_bytes bytes) ≡ bytes }
-    ensures serial { (bytes : List ℕ) → All (λ byte. byte < 2 ^ 8) bytes → IsSerial (serial_of_bytes bytes) }
+    ensures serial { (bytes : List ℕ) → All (λ byte. byte < 2 ^ 8) bytes
+        → IsSerial (serial_of_bytes bytes) }
 {}
 
-/// A key serial number has the prefix of its initial key serial number. So all the numbers of a terminal have one base
-/// derivation key, that from which its initial key is made.
+/// A key serial number has the prefix of its initial key serial number. So all the numbers of a
+/// terminal have one base derivation key, that from which its initial key is made.
 #[tactic(auto, using(crate::proofs::Prefixes::one_prefix))]
 pub fn prefixes()
     ensures { (ksn : Serial) → IsSerial ksn → prefix_of ksn ≡ iksn_prefix_of ksn.iksn }
@@ -40,7 +42,8 @@ pub fn prefixes()
 
 /// Every key of the tree and every variant is a key of sixteen bytes.
 pub fn keys()
-    ensures initial { (bdk : List ℕ) (iksn : ℕ) → IsKey 16 bdk → IsKey 16 (initial_key_of bdk iksn) }
+    ensures initial { (bdk : List ℕ) (iksn : ℕ) → IsKey 16 bdk
+        → IsKey 16 (initial_key_of bdk iksn) }
     ensures child { (key crypto_register : List ℕ) → IsKey 16 key → IsBlock crypto_register
         → IsKey 16 (step_of key crypto_register) }
     ensures node { (initial : List ℕ) (iksn : ℕ) (path : List ℕ) → IsKey 16 initial
@@ -54,30 +57,33 @@ pub fn keys()
     duk_tdes::laws::keys();
 }
 
-/// A usable counter has 21 bits, and a path of one to ten places. A counter has as many one bits as its
-/// path has places, and the lowest of them at the last place.
+/// A usable counter has 21 bits, and a path of one to ten places. A counter has as many one bits as
+/// its path has places, and the lowest of them at the last place.
 pub fn bits()
     ensures usable { (counter : ℕ) → IsUsable counter
         → (counter < 2 ^ 21) × (1 ≤ length (path_of counter)) × (length (path_of counter) ≤ 10) }
     ensures place { (counter : ℕ) → IsUsable counter → last_place (path_of counter) < 21 }
-    ensures ones { (counter : ℕ) → counter < 2 ^ 21 → count_ones counter ≡ length (path_of counter) }
+    ensures ones { (counter : ℕ) → counter < 2 ^ 21
+        → count_ones counter ≡ length (path_of counter) }
     ensures lowest { (counter : ℕ) → 0 < counter → counter < 2 ^ 21
         → trailing_zeros w32 counter ≡ last_place (path_of counter) }
 {}
 
-/// The frontier covers the usable numbers that are left, each once, and none that is used; no two of
-/// its nodes have one last place.
+/// The frontier covers the usable numbers that are left, each once, and none that is used; no two
+/// of its nodes have one last place.
 pub fn frontier()
-    ensures one { (counter node : ℕ) → 1 ≤ counter → IsUsable node → counter ≤ node → HasOneHeld counter node }
-    ensures none_used { (counter held node : ℕ) → counter ≤ 2 ^ 21 → IsHeld counter held → node < counter
+    ensures one { (counter node : ℕ) → 1 ≤ counter → IsUsable node → counter ≤ node
+        → HasOneHeld counter node }
+    ensures none_used { (counter held node : ℕ) → counter ≤ 2 ^ 21 → IsHeld counter held
+        → node < counter
         → ¬ IsAncestorOrSelf held node }
     ensures places { (counter a b : ℕ) → IsHeld counter a → IsHeld counter b
         → last_place (path_of a) ≡ last_place (path_of b)
         → a ≡ b }
 {}
 
-/// The first frontier is the powers of two. From a number to the next, the frontier loses that number
-/// and gains its usable children.
+/// The first frontier is the powers of two. From a number to the next, the frontier loses that
+/// number and gains its usable children.
 pub fn moves()
     ensures first { (node : ℕ) → IsHeld 1 node ↔ ((place : ℕ) × (place < 21) × (node ≡ 2 ^ place)) }
     ensures moves { (counter next node : ℕ) → IsUsable counter → ComesAfter counter next
@@ -85,12 +91,13 @@ pub fn moves()
         ↔ ((IsHeld counter node × (node ≢ counter)) ⊎ (IsUsable node × IsChild counter node)) }
 {}
 
-/// The children of a usable number stand at the places below its last one, and are usable where it has
-/// fewer than ten ones.
+/// The children of a usable number stand at the places below its last one, and are usable where it
+/// has fewer than ten ones.
 pub fn children()
     ensures child { (counter place : ℕ) → IsUsable counter → length (path_of counter) < 10
         → place < last_place (path_of counter)
-        → IsUsable (counter + 2 ^ place) × (path_of (counter + 2 ^ place) ≡ place ∷ path_of counter) }
+        → IsUsable (counter + 2 ^ place)
+        × (path_of (counter + 2 ^ place) ≡ place ∷ path_of counter) }
     ensures value { (counter child place : ℕ) → IsUsable counter → IsUsable child
         → path_of child ≡ place ∷ path_of counter
         → (place < last_place (path_of counter)) × (child ≡ counter + 2 ^ place) }
@@ -111,9 +118,10 @@ pub fn candidates()
         ⊎ ((node : ℕ) → IsHeld counter node → last_place (path_of node) ≢ place) }
 {}
 
-/// A terminal has 1,048,575 numbers. After each counter there is one chain of numbers, each the least
-/// usable one above the one before it, as `next_usable` finds it, and none above the last. After zero
-/// it has all the usable counters (ANSI X9.24-1:2009 annex A), 1,048,575 of them, and ends at 1FF800.
+/// A terminal has 1,048,575 numbers. After each counter there is one chain of numbers, each the
+/// least usable one above the one before it, as `next_usable` finds it, and none above the last.
+/// After zero it has all the usable counters (ANSI X9.24-1:2009 annex A), 1,048,575 of them, and
+/// ends at 1FF800.
 pub fn chain()
     ensures exists { (counter : ℕ) → (numbers : List ℕ) × IsChainAfter counter numbers }
     ensures only { (counter : ℕ) (a b : List ℕ) → IsChainAfter counter a → IsChainAfter counter b

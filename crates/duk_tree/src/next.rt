@@ -12,8 +12,8 @@ pub const MOST_ONES: u32 = 10;
 
 /// The number that a terminal uses after this counter: the least usable one above it, or none from
 /// 1FF800 on (ANSI X9.24-1:2009 annex A). A counter of ten one bits has no usable number before the
-/// next multiple of its lowest one bit, since each number in between keeps the ten and has a further
-/// one.
+/// next multiple of its lowest one bit, since each number in between keeps the ten and has a
+/// further one.
 pub fn next_usable(counter: u32) -> Option<u32>
     ensures found { IfSome result (IsNextUsable counter) }
     ensures none { IsNone result ↔ IsLast counter }

@@ -82,7 +82,7 @@ impl Iksn {
     }
 }
 
-// Compares what the model shows, which a derive would not.
+/// Compares what the model shows, which a derive would not.
 impl PartialEq for Iksn {
     ghost eq = { nat_eq };
 
@@ -188,7 +188,8 @@ impl Ksn {
 }
 
 impl PartialEq for Ksn {
-    ghost eq = { eq_of_both (on (λ serial. serial.iksn) nat_eq) (on (λ serial. serial.counter) nat_eq) };
+    ghost eq = { eq_of_both (on (λ serial. serial.iksn) nat_eq)
+        (on (λ serial. serial.counter) nat_eq) };
 
     ghost laws = { Prim.search (comparing, rules) };
 

@@ -4,9 +4,10 @@ ghost use Rattle.std.specs.Prelude.{◌≡◌, ◌-◌, ◌≤◌, ◌<◌, take
 ghost use Rattle.duk_des.specs.Bits.{bits_of};
 ghost use Rattle.duk_des.specs.Words.{word_bits, selected};
 
-// The words of a selection function by its six bits as a number from 0 to 63: the four bits of its entry, each at the
-// place, counted from 1, that P gives it. The first and the last of the six bits tell the rows apart, so the words of
-// the first two rows alternate, and then those of the other two.
+/// The words of a selection function by its six bits as a number from 0 to 63: the four bits of its
+/// entry, each at the place, counted from 1, that P gives it. The first and the last of the six
+/// bits tell the rows apart, so the words of the first two rows alternate, and then those of the
+/// other two.
 macro_rules! words {
     (at $places:tt: ($($a:literal)*) ($($b:literal)*) ($($c:literal)*) ($($d:literal)*)) => {
         [
@@ -78,7 +79,8 @@ const WORDS8: [u32; 64] = words!(at (5 27 15 21):
     (2 1 14 7 4 10 8 13 15 12 9 0 3 5 6 11)
 );
 
-/// P of the 32 bits that hold what box `i`, of S1 to S8, gives of the six bits of `x` at its four places and zeros elsewhere.
+/// P of the 32 bits that hold what box `i`, of S1 to S8, gives of the six bits of `x` at its four
+/// places and zeros elsewhere.
 #[inline(always)]
 pub fn entry(i: u8, x: u8) -> u32
     requires from_one { 1 ≤ i }
@@ -99,7 +101,7 @@ pub fn entry(i: u8, x: u8) -> u32
     }
 }
 
-// The six bits of a word that stand before the lowest `after` bits.
+/// The six bits of a word that stand before the lowest `after` bits.
 #[inline(always)]
 pub(super) fn group_of(word: u32, after: u32) -> u8
     requires { after ≤ 26 }

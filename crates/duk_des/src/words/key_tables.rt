@@ -4,8 +4,8 @@ ghost use Rattle.std.specs.Prelude.{◌≡◌, ◌++◌};
 ghost use Rattle.duk_des.specs.Bits.{permute, bits_of_bytes};
 ghost use Rattle.duk_des.specs.Words.{half_bits, long_bits, halves_places, groups_places};
 
-// The words of 64 bits that hold each of seven bits at its place, counted from 1, by the number that the seven bits
-// spell. A bit with no place, `_`, is in none.
+/// The words of 64 bits that hold each of seven bits at its place, counted from 1, by the number
+/// that the seven bits spell. A bit with no place, `_`, is in none.
 macro_rules! spread {
     (@from $($word:expr),*;) => { [$($word),*] };
     (@from $($word:expr),*; _ $($rest:tt)*) => { spread!(@from $($word, $word),*; $($rest)*) };
@@ -15,8 +15,8 @@ macro_rules! spread {
     ($($place:tt)*) => { spread!(@from 0; $($place)*) };
 }
 
-// Permuted choice 1, a table for the upper seven bits of each byte of a key: C is at the places 5 to 32, and D at the
-// places 37 to 64.
+/// Permuted choice 1, a table for the upper seven bits of each byte of a key: C is at the places 5
+/// to 32, and D at the places 37 to 64.
 const BYTE1: [u64; 128] = spread!(12 20 28 64 60 52 44);
 
 const BYTE2: [u64; 128] = spread!(11 19 27 63 59 51 43);
@@ -33,7 +33,8 @@ const BYTE7: [u64; 128] = spread!(6 14 22 30 54 46 38);
 
 const BYTE8: [u64; 128] = spread!(5 13 21 29 53 45 37);
 
-// Permuted choice 2, a table for each seven bits of C and then of D: the words of a round key, `odd` followed by `even`.
+/// Permuted choice 2, a table for each seven bits of C and then of D: the words of a round key,
+/// `odd` followed by `even`.
 const SEVEN1: [u64; 128] = spread!(7 48 35 14 8 38 44);
 
 const SEVEN2: [u64; 128] = spread!(16 _ 40 5 13 47 3);

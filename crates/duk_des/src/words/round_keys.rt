@@ -8,20 +8,21 @@ ghost use Rattle.duk_des.specs.Words.{half_bits, key_bits};
 
 use super::key_tables::{halves_of_key, words_of_halves};
 
-/// The 48 bits of a round key in groups of six, each in the low part of a byte: those for the boxes 1, 3, 5 and 7, and
-/// those for the boxes 2, 4, 6 and 8. The upper two bits of each byte are of no group.
+/// The 48 bits of a round key in groups of six, each in the low part of a byte: those for the boxes
+/// 1, 3, 5 and 7, and those for the boxes 2, 4, 6 and 8. The upper two bits of each byte are of no
+/// group.
 #[derive(Clone, Copy)]
 pub struct RoundKey {
     pub odd: u32,
     pub even: u32,
 }
 
-// A round key for each of the rotations, by so many places, of the halves C and D.
+/// A round key for each of the rotations, by so many places, of the halves C and D.
 macro_rules! schedule {
     ($c:ident $d:ident: $($count:literal)*) => {
         [$({
-            $c = rotated($c, $count);
-            $d = rotated($d, $count);
+            $c = rotate($c, $count);
+            $d = rotate($d, $count);
             round_key($c, $d)
         }),*]
     };
@@ -32,13 +33,13 @@ macro_rules! schedule {
 pub fn round_keys(key: &[u8; 8]) -> [RoundKey; 16]
     ensures { map key_bits result ≡ round_keys (bits_of_bytes key.now) }
 {
-    let (mut c, mut d) = chosen(key);
+    let (mut c, mut d) = choose_halves(key);
     schedule!(c d: 1 1 2 2 2 2 2 2 1 2 2 2 2 2 2 1)
 }
 
-// The halves C and D of permuted choice 1.
+/// The halves C and D of permuted choice 1.
 #[inline(always)]
-fn chosen(key: &[u8; 8]) -> (u32, u32)
+fn choose_halves(key: &[u8; 8]) -> (u32, u32)
     ensures left_fits { result.0 < 2 ^ 28 }
     ensures right_fits { result.1 < 2 ^ 28 }
     ensures left { half_bits result.0 ≡ permute left_key_places (bits_of_bytes key.now) }
@@ -51,9 +52,9 @@ fn chosen(key: &[u8; 8]) -> (u32, u32)
     )
 }
 
-// A half, rotated to the left in its 28 bits.
+/// A half, rotated to the left in its 28 bits.
 #[inline(always)]
-fn rotated(half: u32, count: u32) -> u32
+fn rotate(half: u32, count: u32) -> u32
     requires fits { half < 2 ^ 28 }
     requires short { count ≤ 2 }
     ensures fits { result < 2 ^ 28 }
@@ -62,7 +63,7 @@ fn rotated(half: u32, count: u32) -> u32
     (half << count ^ half >> (28 - count)) & 0x0fff_ffff
 }
 
-// Permuted choice 2 of C followed by D.
+/// Permuted choice 2 of C followed by D.
 #[inline(always)]
 fn round_key(c: u32, d: u32) -> RoundKey
     ensures { key_bits result ≡ permute round_key_places (half_bits c ++ half_bits d) }

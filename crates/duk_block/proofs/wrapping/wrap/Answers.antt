@@ -16,11 +16,11 @@ returns-in-Some-clause-written g c =
     let kbpk = c.args.kbpk.now in
     let header = c.args.header.now in
     let front = c.text.result.items in
-    let text = c.sealed.result.items in
+    let text = c.seal.result.items in
     let payload : List ℕ = payload_of c.args.key.now c.args.pad.now in
     let payload_is : c.as_slice.result.now ≡ payload = c.as_slice.ensures.value ∙ c.payload_with.ensures.payload in
     let P : List ℕ → Type 0 = λ bytes. IsSealed kbpk front bytes text in
-    let sealed : IsSealed kbpk front payload text = subst P payload_is c.sealed.ensures in
+    let sealed : IsSealed kbpk front payload text = subst P payload_is c.seal.ensures in
     let is_header : IsHeader header = search rules in
     let sixteen : length front ≡ 16 = ap length c.text.ensures ∙ length-header_text c.in-Some.total header 0 (codes "00") is_header.widths refl in
     let width : length payload ≡ 2 + length c.args.key.now + length c.args.pad.now = omega (arith, length-append c.args.key.now c.args.pad.now) in
@@ -62,12 +62,12 @@ pub returns-in-Some-clause-limits : goal.returns-in-Some-clause-limits
 returns-in-Some-clause-limits g c =
     let kbpk = c.args.kbpk.now in
     let front = c.text.result.items in
-    let text = c.sealed.result.items in
+    let text = c.seal.result.items in
     let is_header : IsHeader c.args.header.now = search rules in
     let sixteen : length front ≡ 16 = ap length c.text.ensures ∙ length-header_text c.in-Some.total c.args.header.now 0 (codes "00") is_header.widths refl in
     let width : length c.as_slice.result.now ≡ 2 + length c.args.key.now + length c.args.pad.now =
     ap length (c.as_slice.ensures.value ∙ c.payload_with.ensures.payload) ∙ omega (arith, length-append c.args.key.now c.args.pad.now) in
-    let total = length-sealed kbpk front c.as_slice.result.now text c.sealed.ensures sixteen in
+    let total = length-sealed kbpk front c.as_slice.result.now text c.seal.ensures sixteen in
     let fits = c.in-Some.ensures.0 in
     let least : 16 ≤ g.row.M = elim c.requires.key [ inl double ↦ omega arith | inr triple ↦ omega arith ] in
     record {

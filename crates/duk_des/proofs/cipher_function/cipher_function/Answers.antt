@@ -7,6 +7,6 @@ use Rattle.duk_des.proofs.cipher_function.cipher_function.Goals as goal
 pub returns : goal.returns
 unfolding cipher_function
 returns c =
-    c.permuted.ensures
+    c.permute.ensures
     ∙ ap (permute output_places)
-    (c.substitute_all-chosen.ensures ∙ ap (substitute_all boxes) (c.xor.ensures ∙ ap (λ bits. xor_bits bits c.args.key.now) c.permuted-expanded.ensures))
+    (c.substitute_all-chosen.ensures ∙ ap (substitute_all boxes) (c.xor.ensures ∙ ap (λ bits. xor_bits bits c.args.key.now) c.permute-expanded.ensures))

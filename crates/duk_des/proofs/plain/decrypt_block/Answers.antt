@@ -10,6 +10,6 @@ pub returns : goal.returns
 unfolding decipher decrypted
 returns c =
     let keys = c.reverse.ensures.after ∙ ap reverse (c.round_keys-keys.ensures ∙ ap round_keys c.bits_of_bytes.ensures) in
-    let bits = c.crypted.ensures ∙ both crypted keys c.bits_of_bytes-2.ensures in
+    let bits = c.crypt_block.ensures ∙ both crypted keys c.bits_of_bytes-2.ensures in
     let bytes = c.bytes_of_bits.ensures ∙ ap (bytes_of_bits 8) bits in
     record { bytes = bytes; bits = ap bits_of_bytes bytes ∙ bits_of_bytes-bytes_of_bits 8 _ (length-crypted _ _) }

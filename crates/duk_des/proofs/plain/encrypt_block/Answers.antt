@@ -9,6 +9,6 @@ use Rattle.duk_des.proofs.plain.encrypt_block.Goals as goal
 pub returns : goal.returns
 unfolding encipher encrypted
 returns c =
-    let bits = c.crypted.ensures ∙ both crypted (c.round_keys-keys.ensures ∙ ap round_keys c.bits_of_bytes.ensures) c.bits_of_bytes-2.ensures in
+    let bits = c.crypt_block.ensures ∙ both crypted (c.round_keys-keys.ensures ∙ ap round_keys c.bits_of_bytes.ensures) c.bits_of_bytes-2.ensures in
     let bytes = c.bytes_of_bits.ensures ∙ ap (bytes_of_bits 8) bits in
     record { bytes = bytes; bits = ap bits_of_bytes bytes ∙ bits_of_bytes-bytes_of_bits 8 _ (length-crypted _ _) }

@@ -9,9 +9,9 @@ pub loop-i-init : goal.loop-i-init
 unfolding round_keys
 loop-i-init c = record {
   length_is = refl;
-  left_is = ap length c.permuted-c.ensures;
-  right_is = ap length c.permuted-d.ensures;
-  scheduled = both (schedule rotations) c.permuted-c.ensures c.permuted-d.ensures;
+  left_is = ap length c.permute-c.ensures;
+  right_is = ap length c.permute-d.ensures;
+  scheduled = both (schedule rotations) c.permute-c.ensures c.permute-d.ensures;
 }
 
 pub rotate_left-requires : goal.rotate_left-requires

@@ -8,5 +8,5 @@ use Rattle.duk_des.proofs.words.encrypt_block.Goals as goal
 pub returns : goal.returns
 unfolding encipher encrypted
 returns c =
-    let bytes = c.crypted.ensures ∙ ap (λ keys. bytes_of_bits 8 (crypted keys (bits_of_bytes c.args.block))) c.round_keys.ensures in
+    let bytes = c.crypt_block.ensures ∙ ap (λ keys. bytes_of_bits 8 (crypted keys (bits_of_bytes c.args.block))) c.round_keys.ensures in
     record { bytes = bytes; bits = ap bits_of_bytes bytes ∙ bits_of_bytes-bytes_of_bits 8 _ (length-crypted _ _) }

@@ -28,6 +28,6 @@ returns-clause-mac g c =
     let enciphered = tdes_encrypted c.args.key.now in
     let chain = c.loop-rest.chain in
     let short : length c.loop-rest.rest.now ≤ 8 = omega arith in
-    c.tdes_encrypt.ensures ∙ ap enciphered (c.xor_bytes-2.ensures ∙ ap (xor_bytes chain) c.last.ensures)
+    c.tdes_encrypt.ensures ∙ ap enciphered (c.xor_bytes-2.ensures ∙ ap (xor_bytes chain) c.last_block.ensures)
     ∙ sym (ap (chained enciphered chain) (masked-one c.args.key.now c.loop-rest.rest.now short))
     ∙ c.loop-rest.invariant

@@ -30,7 +30,7 @@ returns c =
     let chain = c.loop-rest.chain in
     let rest = c.loop-rest.rest.now in
     let short : length rest ≤ 8 = omega arith in
-    let last = c.encrypt_block-chain-2.ensures.bytes ∙ ap enciphered (c.xor_bytes-2.ensures ∙ ap (xor_bytes chain) c.filled.ensures)
+    let last = c.encrypt_block-chain-2.ensures.bytes ∙ ap enciphered (c.xor_bytes-2.ensures ∙ ap (xor_bytes chain) c.fill_block.ensures)
     ∙ sym (ap (chained enciphered chain) (filled-one rest c.loop-rest.invariant.some short))
     ∙ c.loop-rest.invariant.same in
     let left = c.bytes-left.ensures.bytes ∙ c.halves-left.ensures.left in

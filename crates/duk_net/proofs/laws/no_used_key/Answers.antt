@@ -9,4 +9,4 @@ returns-clause-above g c world reached =
 pub returns-clause-no_used_key : goal.returns-clause-no_used_key
 returns-clause-no_used_key g c world reached =
     terminals_hold _ world _ c.bits.ensures.usable c.one_reading.ensures.request reached
-    (λ t set safe. hold_no_used_key (books_of world) t set c.bits.ensures.usable c.frontier.ensures.none_used c.determined.ensures.register safe)
+    (λ t set safe. hold_no_used_key (books_of world) t set c.bits.ensures.usable c.frontier.ensures.none_used c.uniqueness.ensures.register safe)

@@ -14,7 +14,7 @@ invariant_of-left c =
     let is_usable = usable_counter before.counter c.self.invariant.counter_is c.if-self-eq-SPENT.false in
     let fill = c.fill_below.ensures in
     let taken = taken_by laws before c.index-registers-place.result c.no_key.result c.next_usable.result c.fill_below.new.registers is_usable c.self.invariant.are_21 c.no_key.ensures fill.are_21 fill.filled fill.not_filled fill.others_stay c.next_usable.ensures.found c.next_usable.ensures.none in
-    rw c.unwrap_or.ensures (c.taken.ensures.set before _ _ is_usable taken c.self.invariant)
+    rw c.unwrap_or.ensures (c.transactions.ensures.set before _ _ is_usable taken c.self.invariant)
 
 pub returns-clause-usable : goal.returns-clause-usable
 returns-clause-usable c =
@@ -42,6 +42,6 @@ returns-clause-stands c =
     let taken = taken_by laws before c.index-registers-place.result c.no_key.result c.next_usable.result c.fill_below.new.registers is_usable c.self.invariant.are_21 c.no_key.ensures fill.are_21 fill.filled fill.not_filled fill.others_stay c.next_usable.ensures.found c.next_usable.ensures.none in
     λ initial stands.
     let stands_before : StandsFor initial before = subst (StandsFor initial) (sym c.self.view_is) stands in (
-      c.taken.ensures.key initial before _ _ is_usable taken stands_before ∙ ap (λ (old : RegisterSet). transaction_key_of initial old.iksn old.counter) c.self.view_is,
-      rw c.unwrap_or.ensures (c.taken.ensures.stands initial before _ _ is_usable taken stands_before),
+      c.transactions.ensures.key initial before _ _ is_usable taken stands_before ∙ ap (λ (old : RegisterSet). transaction_key_of initial old.iksn old.counter) c.self.view_is,
+      rw c.unwrap_or.ensures (c.transactions.ensures.stands initial before _ _ is_usable taken stands_before),
     )

@@ -1,0 +1,115 @@
+use Rattle.std.proofs.Common.{◌≡◌, ◌-◌, ◌/◌, ◌++◌, ℕ, List, length, take, drop, lit<, sym, ap, subst, ◌∙◌, refl, arith, length-drop, length-append}
+use Rattle.std.specs.List.{AllPass, concat}
+use Rattle.std.proofs.lemmas.Bool.{false≢true}
+use Rattle.std.proofs.lemmas.List.{take-append-drop}
+use Rattle.hex.specs.Hex.{is_hex_digit}
+use Rattle.hex.proofs.HexLemmas.{decode_of-ok}
+use Rattle.duk_block.specs.KeyBlock.{mac_of, ciphertext_of}
+use Rattle.duk_block.specs.Faults.{HasBody, HasParts}
+use Rattle.duk_block.specs.Hexadecimal.{IsHexadecimal}
+use Rattle.std.proofs.lemmas.Slice.Eq.{slice_eq-Decides}
+use Rattle.std.proofs.lemmas.Bool.Decides.{Decides-eqb}
+use Rattle.duk_block.specs.declared.fault.BlockFault.TheVariants.{Hex, Mac}
+use Rattle.duk_block.proofs.FaultOrder.{met_next}
+use Rattle.duk_block.proofs.Bodies.{HasBody-same, HasParts-same, body_behind}
+use Rattle.duk_block.proofs.unwrapping.open_payload.Goals as goal
+
+-- the parts that reading and cutting gave
+parts_of : (text body bytes ciphertext mac : List ℕ) (items : List ℕ) (n : ℕ) → HasBody text body → IsHexadecimal body items → bytes ≡ items
+    → ciphertext ≡ take n bytes → mac ≡ drop n bytes → length mac ≡ 8 → HasParts text (take (length text - length body) text) ciphertext mac
+parts_of text body bytes ciphertext mac items n has read same front back eight =
+    let P : List ℕ → Type 0 = IsHexadecimal body in
+    record {
+      body = body;
+      body_is = has;
+      front_is = body_behind text body (omega (arith, has.least, ap length has.leaves.laid_out, length-drop 16 text, length-append (concat has.leaves.optional_blocks) body)) has;
+      body_is_read = subst P (sym same ∙ sym (take-append-drop n bytes) ∙ ap (λ part. part ++ drop n bytes) (sym front) ∙ ap (λ part. ciphertext ++ part) (sym back)) read;
+      mac_width = eight;
+    }
+
+pub returns-in_default-clause-refused : goal.returns-in_default-clause-refused
+returns-in_default-clause-refused g c =
+    let P : List ℕ → Type 0 = AllPass is_hex_digit in
+    let none = c.in_default.ensures in
+    record {
+      unmet = λ met. none (subst P (HasBody-same c.args.text.now met.0 c.args.body.now met.1 c.requires.body) met.2);
+      earlier_met = c.requires.met;
+    }
+
+pub split_at-requires : goal.split_at-requires
+split_at-requires g c =
+    let read = decode_of-ok c.args.body.now c.in-Some.bytes.items c.in-Some.ensures in
+    omega (arith, read.2, ap length c.as_slice.ensures.value)
+
+pub array_of-mac-requires : goal.array_of-mac-requires
+array_of-mac-requires g c =
+    let read = decode_of-ok c.args.body.now c.in-Some.bytes.items c.in-Some.ensures in
+    (lit< tt, omega (arith, read.2, ap length c.as_slice.ensures.value, c.split_at.ensures.back_len))
+
+pub returns-then-eq-clause-found : goal.returns-then-eq-clause-found
+returns-then-eq-clause-found g c =
+    let text = c.args.text.now in
+    let body = c.args.body.now in
+    let payload = c.decipher-payload.result.items in
+    let ciphertext = c.split_at.result.0.now in
+    let mac = c.array_of-mac.result in
+    let same : c.block_mac.result ≡ mac = (slice_eq-Decides Decides-eqb c.block_mac.result mac c.eq.result c.eq.ensures).0 c.if-eq.true in
+    record {
+      front = take (length text - length body) text;
+      ciphertext = ciphertext;
+      mac = mac;
+      parts = parts_of c.args.text.now body c.as_slice.result.now ciphertext mac c.in-Some.bytes.items (length body / 2 - 8) c.requires.body c.in-Some.ensures c.as_slice.ensures.value
+          c.split_at.ensures.front (c.array_of-mac.ensures.bytes ∙ c.split_at.ensures.back) c.array_of-mac.ensures.key.size_is;
+      payload_is = c.decipher-payload.ensures.whole;
+      authentic = sym same ∙ c.block_mac.ensures.mac ∙ ap (mac_of c.args.kbpk.now (take (length text - length body) text)) c.as_slice-2.ensures.value;
+      enciphered = c.decipher-payload.ensures.payload;
+    }
+
+pub returns-then-eq-clause-length : goal.returns-then-eq-clause-length
+returns-then-eq-clause-length g c =
+    let read = decode_of-ok c.args.body.now c.in-Some.bytes.items c.in-Some.ensures in
+    omega (arith, c.decipher-payload.ensures.width, c.split_at.ensures.front_len, c.requires.body.least)
+
+pub returns-then-eq-clause-only : goal.returns-then-eq-clause-only
+returns-then-eq-clause-only g c = λ payload other.
+    let text = c.args.text.now in
+    let key = c.args.kbpk.now in
+    let body = c.args.body.now in
+    let ciphertext = c.split_at.result.0.now in
+    let mac = c.array_of-mac.result in
+    let front : List ℕ = take (length text - length body) text in
+    let parts : HasParts text front ciphertext mac =
+    parts_of c.args.text.now body c.as_slice.result.now ciphertext mac c.in-Some.bytes.items (length body / 2 - 8) c.requires.body c.in-Some.ensures c.as_slice.ensures.value
+    c.split_at.ensures.front (c.array_of-mac.ensures.bytes ∙ c.split_at.ensures.back) c.array_of-mac.ensures.key.size_is in
+    let same = HasParts-same text other.front other.ciphertext other.mac front ciphertext mac other.parts parts in
+    c.decipher-payload.ensures.only payload other.payload_is (sym same.ciphertexts ∙ other.enciphered ∙ ap (λ m. ciphertext_of key m payload) same.macs)
+
+pub returns-else-eq-clause-refused : goal.returns-else-eq-clause-refused
+returns-else-eq-clause-refused g c =
+    let text = c.args.text.now in
+    let key = c.args.kbpk.now in
+    let body = c.args.body.now in
+    let payload = c.decipher-payload.result.items in
+    let ciphertext = c.split_at.result.0.now in
+    let mac = c.array_of-mac.result in
+    let front : List ℕ = take (length text - length body) text in
+    let read = decode_of-ok body c.in-Some.bytes.items c.in-Some.ensures in
+    let parts : HasParts text front ciphertext mac =
+    parts_of c.args.text.now body c.as_slice.result.now ciphertext mac c.in-Some.bytes.items (length body / 2 - 8) c.requires.body c.in-Some.ensures c.as_slice.ensures.value
+    c.split_at.ensures.front (c.array_of-mac.ensures.bytes ∙ c.split_at.ensures.back) c.array_of-mac.ensures.key.size_is in
+    record {
+      unmet = λ met.
+          let other = met.1 in
+          let same = HasParts-same text other.front other.ciphertext other.mac front ciphertext mac other.parts parts in
+          let enciphered : ciphertext ≡ ciphertext_of key mac met.0 =
+          sym same.ciphertexts ∙ other.enciphered ∙ ap (λ m. ciphertext_of key m met.0) same.macs in
+          let payloads : met.0 ≡ payload = c.decipher-payload.ensures.only met.0 other.payload_is enciphered in
+          let macs : c.block_mac.result ≡ mac =
+          c.block_mac.ensures.mac
+          ∙ ap (mac_of key front) (c.as_slice-2.ensures.value ∙ sym payloads)
+          ∙ ap (λ f. mac_of key f met.0) (sym same.fronts)
+          ∙ sym other.authentic
+          ∙ same.macs in
+          false≢true (sym c.if-eq.false ∙ (slice_eq-Decides Decides-eqb c.block_mac.result mac c.eq.result c.eq.ensures).1 macs);
+      earlier_met = met_next text key Hex Mac refl c.requires.met (body, c.requires.body, read.1);
+    }

@@ -1,5 +1,0 @@
-use Rattle.duk_des.proofs.Halves.{rotated}
-use Rattle.duk_des.proofs.words.round_keys.rotated.Goals as goal
-
-pub returns-clause-bits : goal.returns-clause-bits
-returns-clause-bits c = rotated c.args.half c.args.count c.requires.fits c.requires.short

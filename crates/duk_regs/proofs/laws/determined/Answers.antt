@@ -1,8 +1,0 @@
-use Rattle.duk_regs.proofs.TakenLemmas.{register_either, same_set}
-use Rattle.duk_regs.proofs.laws.determined.Goals as goal
-
-pub returns-clause-register : goal.returns-clause-register
-returns-clause-register c = register_either c.candidates.ensures.either
-
-pub returns-clause-same : goal.returns-clause-same
-returns-clause-same c = same_set c.candidates.ensures.either
