@@ -2,8 +2,7 @@
 use Rattle.std.proofs.Common.{◌≡◌, ◌≢◌, ℕ, zero, suc, ◌<◌, List, [], ◌∷◌, ◌++◌, Contains, length, get_or, inl, inr, refl, sym, subst, arith}
 use Rattle.std.proofs.lemmas.List.Elements.{All-append, All-cons, All-nil, Contains-append_cases, Contains-append_left, Contains-append_right}
 use Rattle.std.proofs.lemmas.List.Quantifiers.{all_pairs_push}
-use Rattle.duk_store.specs.Log.{Numbers, IsAppended}
-use Rattle.duk_store.specs.Meaning.{Meaning}
+use Rattle.duk_store.specs.Log.{LogMeaning, Numbers, IsAppended}
 use Rattle.duk_tree.specs.Path.{IsUsable}
 use Rattle.duk_tree.specs.Serial.{Serial}
 use Rattle.duk_host.specs.Host.{Holds}
@@ -45,8 +44,10 @@ lists_more numbers used ksn more lists taken = record {
 }
 
 -- a log with one number more holds the used numbers with it
-pub holds_more : (old new : Meaning Numbers) (used : List ℕ) (ksn : Serial) (more : List ℕ) → Holds old used → IsAppended old new ksn → IsTakenIn used ksn more → Holds new more
-holds_more old new used ksn more holds appended taken = record {
+pub holds_more :
+    {L : Type 0} (meaning : LogMeaning L) (old new : L) (used : List ℕ) (ksn : Serial) (more : List ℕ)
+    → Holds (meaning.state_of old) used → IsAppended meaning old new ksn → IsTakenIn used ksn more → Holds (meaning.state_of new) more
+holds_more meaning old new used ksn more holds appended taken = record {
   runs = appended.runs;
   lists = λ honest.
       let was_honest = appended.nature.honest.1 honest in

@@ -2,34 +2,34 @@
 use Rattle.std.proofs.Common.{◌≡◌, ◌≢◌, ℕ, zero, suc, ◌+◌, ◌<◌, List, [], ◌∷◌, ◌++◌, Contains, AllPairs, Some, length, take, drop, get_or, inl, inr, refl, sym, ap, ◌∙◌, subst, arith, length-append}
 use Rattle.std.specs.List.{slice_get}
 use Rattle.std.proofs.lemmas.List.Elements.{All-nil}
-use Rattle.duk_store.specs.Log.{Numbers, IsRead, ReadStopped}
-use Rattle.duk_store.specs.Meaning.{Meaning, KeepsNature, Stays}
+use Rattle.duk_store.specs.Log.{LogMeaning, Numbers, IsRead, ReadStopped}
+use Rattle.duk_store.specs.StoreState.{StoreState, KeepsNature, Stays}
 use Rattle.duk_tree.specs.Path.{IsUsable}
 use Rattle.duk_tree.specs.Serial.{Serial}
-use Rattle.duk_host.specs.Reading.{AreBad, AreRead, IsBadNumber, IsBadPlace, IsReadOne, IsReadUp, ReadOneRefused, ReadRefused}
+use Rattle.duk_host.specs.Reading.{AreBad, IsBadNumber, IsBadPlace, IsReadOne, IsReadUp, ReadOneRefused, ReadRefused}
 use Rattle.duk_host.specs.Used.{AreUsable, Lists}
 use Rattle.duk_host.specs.declared.fault.HostFault.{HostFault}
 use Rattle.duk_host.specs.declared.fault.HostFault.TheVariants as fault
 use Rattle.duk_host.proofs.ListLemmas.{lists_more}
 
 -- so many numbers are read, and they are the used ones
-pub record IsReading (start now : Meaning Numbers) (place : ℕ) (used : List ℕ) : Type 0 where
+pub record IsReading {L : Type 0} (meaning : LogMeaning L) (start now : L) (place : ℕ) (used : List ℕ) : Type 0 where
   pub seen : Numbers
-  pub read : IsReadUp start now seen
+  pub read : IsReadUp meaning start now seen
   pub counted : length seen ≡ place
   pub lists : Lists seen used
 
-nature_same : (log : Meaning Numbers) → KeepsNature log log
+nature_same : (log : StoreState Numbers) → KeepsNature log log
 nature_same log = record { honest = (λ h. h, λ h. h); sound = λ honest sound. sound; calm = λ calm. calm }
 
-pub nature_on : (a b c : Meaning Numbers) → KeepsNature a b → KeepsNature b c → KeepsNature a c
+pub nature_on : (a b c : StoreState Numbers) → KeepsNature a b → KeepsNature b c → KeepsNature a c
 nature_on a b c first second = record {
   honest = (λ h. second.honest.0 (first.honest.0 h), λ h. first.honest.1 (second.honest.1 h));
   sound = λ honest sound. second.sound (first.honest.0 honest) (first.sound honest sound);
   calm = λ calm. second.calm (first.calm calm);
 }
 
-stays_same : (log : Meaning Numbers) → Stays log log
+stays_same : (log : StoreState Numbers) → Stays log log
 stays_same log = record {
   nature = nature_same log;
   no_calmer = λ calm. calm;
@@ -38,7 +38,7 @@ stays_same log = record {
   found = λ numbers. (λ found. found, λ found. found);
 }
 
-pub stays_on : (a b c : Meaning Numbers) → Stays a b → Stays b c → Stays a c
+pub stays_on : (a b c : StoreState Numbers) → Stays a b → Stays b c → Stays a c
 stays_on a b c first second = record {
   nature = nature_on a b c first.nature second.nature;
   no_calmer = λ calm. first.no_calmer (second.no_calmer calm);
@@ -47,11 +47,11 @@ stays_on a b c first second = record {
   found = λ numbers. (λ found. (first.found numbers).0 ((second.found numbers).0 found), λ found. (second.found numbers).1 ((first.found numbers).1 found));
 }
 
-stopped_on : (a b c : Meaning Numbers) → Stays a b → ReadStopped b c → ReadStopped a c
-stopped_on a b c first second = record {
+stopped_on : {L : Type 0} (meaning : LogMeaning L) (a b c : L) → Stays (meaning.state_of a) (meaning.state_of b) → ReadStopped meaning b c → ReadStopped meaning a c
+stopped_on meaning a b c first second = record {
   was_running = sym first.running ∙ second.was_running;
   stops = record {
-    nature = nature_on a b c first.nature second.stops.nature;
+    nature = nature_on (meaning.state_of a) (meaning.state_of b) (meaning.state_of c) first.nature second.stops.nature;
     quiet = λ calm. second.stops.quiet (first.nature.calm calm) ∙ first.no_failure;
     stopped = second.stops.stopped;
     within = λ honest numbers found. (first.found numbers).0 (second.stops.within (first.nature.honest.0 honest) numbers found);
@@ -67,9 +67,9 @@ take_next (first ∷ numbers) zero number is = grind (arith, is)
 take_next (first ∷ numbers) (suc place) number is = grind (arith, is, take_next numbers place number)
 
 -- one number more is read
-read_up : (start mid now : Meaning Numbers) (seen : Numbers) (number : Serial) → IsReadUp start mid seen → IsRead mid now (length seen) number → IsReadUp start now (seen ++ number ∷ [])
-read_up start mid now seen number up read = record {
-  stays = stays_on start mid now up.stays read.stays;
+read_up : {L : Type 0} (meaning : LogMeaning L) (start mid now : L) (seen : Numbers) (number : Serial) → IsReadUp meaning start mid seen → IsRead meaning mid now (length seen) number → IsReadUp meaning start now (seen ++ number ∷ [])
+read_up meaning start mid now seen number up read = record {
+  stays = stays_on (meaning.state_of start) (meaning.state_of mid) (meaning.state_of now) up.stays read.stays;
   first = λ honest numbers found.
       let at_place = read.number_is (up.stays.nature.honest.0 honest) numbers ((up.stays.found numbers).1 found) in
       let longer : length (seen ++ number ∷ []) ≡ length seen + 1 = length-append seen (number ∷ []) in
@@ -77,10 +77,10 @@ read_up start mid now seen number up read = record {
 }
 
 -- before the first number
-pub start_reading : (start : Meaning Numbers) → IsReading start start 0 []
-start_reading start = record {
+pub start_reading : {L : Type 0} (meaning : LogMeaning L) (start : L) → IsReading meaning start start 0 []
+start_reading meaning start = record {
   seen = [];
-  read = record { stays = stays_same start; first = λ honest numbers found. refl };
+  read = record { stays = stays_same (meaning.state_of start); first = λ honest numbers found. refl };
   counted = refl;
   lists = record {
     usable = record { usable = All-nil (λ ksn. IsUsable ksn.counter); once = λ i j d before within. absurd (omega (arith, within)) };
@@ -89,17 +89,13 @@ start_reading start = record {
 }
 
 -- a number is read, and taken in
-pub next_reading : (start mid now : Meaning Numbers) (place : ℕ) (used more : List ℕ) → IsReading start mid place used → IsReadOne mid now place used more → IsReading start now (place + 1) more
-next_reading start mid now place used more reading one = record {
+pub next_reading : {L : Type 0} (meaning : LogMeaning L) (start mid now : L) (place : ℕ) (used more : List ℕ) → IsReading meaning start mid place used → IsReadOne meaning mid now place used more → IsReading meaning start now (place + 1) more
+next_reading meaning start mid now place used more reading one = record {
   seen = reading.seen ++ one.number ∷ [];
-  read = read_up start mid now reading.seen one.number reading.read (subst (λ count. IsRead mid now count one.number) (sym reading.counted) one.read);
+  read = read_up meaning start mid now reading.seen one.number reading.read (subst (λ count. IsRead meaning mid now count one.number) (sym reading.counted) one.read);
   counted = length-append reading.seen (one.number ∷ []) ∙ ap (λ count. count + 1) reading.counted;
   lists = lists_more reading.seen used one.number more reading.lists one.taken;
 }
-
--- all numbers are read
-pub done_reading : (start now : Meaning Numbers) (count : ℕ) (used : List ℕ) → IsReading start now count used → AreRead start now count used
-done_reading start now count used reading = record { seen = reading.seen; read = reading.read; counted = reading.counted; lists = reading.lists }
 
 at_left : (first rest : Numbers) (k : ℕ) (d : Serial) → k < length first → get_or (first ++ rest) k d ≡ get_or first k d
 at_left [] rest k d within = absurd (omega (arith, within))
@@ -150,23 +146,23 @@ pub all_are_seen : (numbers seen : Numbers) → take (length seen) numbers ≡ s
 all_are_seen numbers seen first counted = sym (take_all numbers) ∙ ap (λ count. take count numbers) counted ∙ first
 
 -- a number is read that is not to be used
-bad_reading : (start mid now : Meaning Numbers) (place count : ℕ) (used : List ℕ) → place < count → IsReading start mid place used → IsBadPlace mid now place used → AreBad start now count
-bad_reading start mid now place count used within reading bad = record {
+bad_reading : {L : Type 0} (meaning : LogMeaning L) (start mid now : L) (place count : ℕ) (used : List ℕ) → place < count → IsReading meaning start mid place used → IsBadPlace meaning mid now place used → AreBad meaning start now count
+bad_reading meaning start mid now place count used within reading bad = record {
   seen = reading.seen ++ bad.number ∷ [];
-  read = read_up start mid now reading.seen bad.number reading.read (subst (λ place. IsRead mid now place bad.number) (sym reading.counted) bad.read);
+  read = read_up meaning start mid now reading.seen bad.number reading.read (subst (λ place. IsRead meaning mid now place bad.number) (sym reading.counted) bad.read);
   counted = omega (arith, length-append reading.seen (bad.number ∷ []), reading.counted, within);
   not_usable = not_usable_with reading.seen used bad.number reading.lists bad.bad;
 }
 
 -- a number is not read, or not taken in
-pub refused_reading : (start mid now : Meaning Numbers) (place count : ℕ) (used : List ℕ) (why : HostFault) → place < count → IsReading start mid place used → ReadOneRefused mid now place used why → ReadRefused start now count why
-refused_reading start mid now place count used fault.NoMemory within reading stays = stays_on start mid now reading.read.stays stays
-refused_reading start mid now place count used (fault.Store why) within reading refused = elim refused [
-  | inl failed ↦ inl (failed.0, stopped_on start mid now reading.read.stays failed.1)
-  | inr bad ↦ inr (bad.0, bad_reading start mid now place count used within reading bad.1)
+pub refused_reading : {L : Type 0} (meaning : LogMeaning L) (start mid now : L) (place count : ℕ) (used : List ℕ) (why : HostFault) → place < count → IsReading meaning start mid place used → ReadOneRefused meaning mid now place used why → ReadRefused meaning start now count why
+refused_reading meaning start mid now place count used fault.NoMemory within reading stays = stays_on (meaning.state_of start) (meaning.state_of mid) (meaning.state_of now) reading.read.stays stays
+refused_reading meaning start mid now place count used (fault.Store why) within reading refused = elim refused [
+  | inl failed ↦ inl (failed.0, stopped_on meaning start mid now reading.read.stays failed.1)
+  | inr bad ↦ inr (bad.0, bad_reading meaning start mid now place count used within reading bad.1)
 ]
-refused_reading start mid now place count used fault.Stopped within reading refused = absurd refused
-refused_reading start mid now place count used fault.Read within reading refused = absurd refused
-refused_reading start mid now place count used fault.Write within reading refused = absurd refused
-refused_reading start mid now place count used fault.Truncated within reading refused = absurd refused
-refused_reading start mid now place count used fault.TooLong within reading refused = absurd refused
+refused_reading meaning start mid now place count used fault.Stopped within reading refused = absurd refused
+refused_reading meaning start mid now place count used fault.Read within reading refused = absurd refused
+refused_reading meaning start mid now place count used fault.Write within reading refused = absurd refused
+refused_reading meaning start mid now place count used fault.Truncated within reading refused = absurd refused
+refused_reading meaning start mid now place count used fault.TooLong within reading refused = absurd refused

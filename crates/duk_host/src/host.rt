@@ -1,11 +1,11 @@
 //! A host over its log.
 
 ghost use Rattle.std.specs.Prelude.{◌≡◌, ◌↔◌, ◌<◌, ◌-◌, None, IfOk, IfErr, IsSome, IsTrue};
-ghost use Rattle.duk_store.specs.Meaning.{StaysButCalm};
+ghost use Rattle.duk_store.specs.StoreState.{StaysButCalm};
 ghost use Rattle.duk_hsm.specs.Commands.{HasTransactionKey};
 ghost use Rattle.duk_host.specs.Handle.{Answers, HandleRefused, IsKept, IsReplied, IsToAccept, KeepRefused};
 ghost use Rattle.duk_host.specs.Judgement.{IsReplyTo};
-ghost use Rattle.duk_host.specs.Host.{words_of};
+ghost use Rattle.duk_host.specs.Host.{host_meaning_of};
 ghost use Rattle.duk_host.specs.Restart.{IsRestarted, KeepsEnds, RestartRefused};
 ghost use Rattle.duk_host.specs.Used.{IsFreshIn, IsUsedIn};
 ghost use Rattle.duk_tree.specs.Path.{IsUsable};
@@ -41,7 +41,7 @@ impl<const N: usize, L: UsedLog, I: Issuer> Model for Host<N, L, I> {
 
     ghost view = { λ host. record { keys = host.hsm; issuer = host.issuer; log = host.log; used = host.used } };
 
-    ghost invariant = { λ host. AgreesWithLog host.hsm (L.meaning host.log) host.used };
+    ghost invariant = { λ host. AgreesWithLog host.hsm (L.meaning.state_of host.log) host.used };
 }
 
 impl<const N: usize, L: UsedLog, I: Issuer> Host<N, L, I> {
@@ -66,9 +66,9 @@ impl<const N: usize, L: UsedLog, I: Issuer> Host<N, L, I> {
     pub fn restart(&mut self) -> Result<u64, HostFault>
         ensures restarted { IfOk result (IsRestarted L.meaning self.old self.new) }
         ensures refused { IfErr result (RestartRefused L.meaning self.old self.new) }
-        ensures disarmed { L.disarmed self.new.log }
-        ensures counted { IfOk result (λ found. L.count self.new.log ≡ found) }
-        ensures capacity { L.capacity self.new.log ≡ L.capacity self.old.log }
+        ensures disarmed { L.meaning.disarmed self.new.log }
+        ensures counted { IfOk result (λ found. L.meaning.count self.new.log ≡ found) }
+        ensures capacity { L.meaning.capacity self.new.log ≡ L.meaning.capacity self.old.log }
     {
         self.used = None;
         let kept = match self.log.restart() {
@@ -90,8 +90,8 @@ impl<const N: usize, L: UsedLog, I: Issuer> Host<N, L, I> {
     /// Refused with, in this order: `Stopped`; and where the request is to be accepted, `NoMemory`, which changes
     /// nothing, and `Store`, after which the host is stopped.
     pub fn handle(&mut self, bytes: &[u8]) -> Result<Frame, HostFault>
-        ensures answered { IfOk result (λ frame. Answers (words_of L.meaning L.count L.capacity I.decides) bytes.now self.old self.new frame.items) }
-        ensures refused { IfErr result (HandleRefused (words_of L.meaning L.count L.capacity I.decides) bytes.now self.old self.new) }
+        ensures answered { IfOk result (λ frame. Answers (host_meaning_of L.meaning I.decides) bytes.now self.old self.new frame.items) }
+        ensures refused { IfErr result (HandleRefused (host_meaning_of L.meaning I.decides) bytes.now self.old self.new) }
     {
         let Some(used) = &self.used else {
             return Err(HostFault::Stopped);
@@ -104,11 +104,11 @@ impl<const N: usize, L: UsedLog, I: Issuer> Host<N, L, I> {
 
     /// Keeps the number of a request against which there is no reason, and then replies to it.
     fn accept(&mut self, request: &Request) -> Result<Frame, HostFault>
-        requires acceptable { IsToAccept (words_of L.meaning L.count L.capacity I.decides) self.old request.now }
+        requires acceptable { IsToAccept (host_meaning_of L.meaning I.decides) self.old request.now }
         ensures replied { IfOk result
-            (λ frame. IsReplied (words_of L.meaning L.count L.capacity I.decides) self.old self.new request.now frame.items) }
+            (λ frame. IsReplied (host_meaning_of L.meaning I.decides) self.old self.new request.now frame.items) }
         ensures refused { IfErr result
-            (KeepRefused (words_of L.meaning L.count L.capacity I.decides) self.old self.new request.now.ksn) }
+            (KeepRefused (host_meaning_of L.meaning I.decides) self.old self.new request.now.ksn) }
     {
         self.keep(request.ksn)?;
         Ok(self.reply(request))
@@ -127,10 +127,10 @@ impl<const N: usize, L: UsedLog, I: Issuer> Host<N, L, I> {
     fn keep(&mut self, ksn: Ksn) -> Result<(), HostFault>
         requires fresh { IsFreshIn self.old.used ksn }
         requires usable { IsUsable ksn.counter }
-        requires room { 0 < L.capacity self.old.log - L.count self.old.log }
-        ensures kept { IfOk result (λ _. IsKept (words_of L.meaning L.count L.capacity I.decides) self.old self.new ksn) }
+        requires room { 0 < L.meaning.capacity self.old.log - L.meaning.count self.old.log }
+        ensures kept { IfOk result (λ _. IsKept (host_meaning_of L.meaning I.decides) self.old self.new ksn) }
         ensures refused { IfErr result
-            (KeepRefused (words_of L.meaning L.count L.capacity I.decides) self.old self.new ksn) }
+            (KeepRefused (host_meaning_of L.meaning I.decides) self.old self.new ksn) }
     {
         let Some(used) = &mut self.used else {
             return Err(HostFault::Stopped);
@@ -164,10 +164,10 @@ impl<const N: usize, L: UsedLog, I: Issuer> Host<N, L, I> {
 
     /// Lets the next `steps` device steps of the log pass and each later one fail, until a restart.
     pub fn arm(&mut self, steps: u32)
-        ensures armed { L.arms self.old.log steps self.new.log }
-        ensures stays { StaysButCalm (L.meaning self.old.log) (L.meaning self.new.log) }
-        ensures counted { L.count self.new.log ≡ L.count self.old.log }
-        ensures capacity { L.capacity self.new.log ≡ L.capacity self.old.log }
+        ensures armed { L.meaning.arms self.old.log steps self.new.log }
+        ensures stays { StaysButCalm (L.meaning.state_of self.old.log) (L.meaning.state_of self.new.log) }
+        ensures counted { L.meaning.count self.new.log ≡ L.meaning.count self.old.log }
+        ensures capacity { L.meaning.capacity self.new.log ≡ L.meaning.capacity self.old.log }
         ensures ends { KeepsEnds self.old self.new }
         ensures used { self.new.used ≡ self.old.used }
     {

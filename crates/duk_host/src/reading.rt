@@ -18,13 +18,13 @@ pub(crate) fn numbers_in<L: UsedLog>(
     log: &mut L,
     kept: u64,
 ) -> Result<UsedNumbers, HostFault>
-    requires runs { (L.meaning log.old).running ≡ true }
-    requires kept { L.count log.old ≡ kept }
-    ensures read { IfOk result (AreRead (L.meaning log.old) (L.meaning log.new) kept) }
-    ensures counted { IfOk result (λ _. L.count log.new ≡ L.count log.old) }
-    ensures capacity { L.capacity log.new ≡ L.capacity log.old }
-    ensures disarmed { L.disarmed log.old → L.disarmed log.new }
-    ensures refused { IfErr result (ReadRefused (L.meaning log.old) (L.meaning log.new) kept) }
+    requires runs { (L.meaning.state_of log.old).running ≡ true }
+    requires kept { L.meaning.count log.old ≡ kept }
+    ensures read { IfOk result (AreRead L.meaning log.old log.new kept) }
+    ensures counted { IfOk result (λ _. L.meaning.count log.new ≡ L.meaning.count log.old) }
+    ensures capacity { L.meaning.capacity log.new ≡ L.meaning.capacity log.old }
+    ensures disarmed { L.meaning.disarmed log.old → L.meaning.disarmed log.new }
+    ensures refused { IfErr result (ReadRefused L.meaning log.old log.new kept) }
 {
     let mut used = UsedNumbers::new(alloc);
     for place in 0..kept {
@@ -35,14 +35,14 @@ pub(crate) fn numbers_in<L: UsedLog>(
 
 /// Adds the number at a place of the log.
 fn read_one<L: UsedLog>(log: &mut L, place: u64, used: &mut UsedNumbers) -> Result<(), HostFault>
-    requires runs { (L.meaning log.old).running ≡ true }
-    requires place { place < L.count log.old }
+    requires runs { (L.meaning.state_of log.old).running ≡ true }
+    requires place { place < L.meaning.count log.old }
     ensures read { IfOk result
-        (λ _. IsReadOne (L.meaning log.old) (L.meaning log.new) place used.old used.new) }
-    ensures counted { IfOk result (λ _. L.count log.new ≡ L.count log.old) }
-    ensures capacity { L.capacity log.new ≡ L.capacity log.old }
-    ensures disarmed { L.disarmed log.old → L.disarmed log.new }
-    ensures refused { IfErr result (ReadOneRefused (L.meaning log.old) (L.meaning log.new) place used.old) }
+        (λ _. IsReadOne L.meaning log.old log.new place used.old used.new) }
+    ensures counted { IfOk result (λ _. L.meaning.count log.new ≡ L.meaning.count log.old) }
+    ensures capacity { L.meaning.capacity log.new ≡ L.meaning.capacity log.old }
+    ensures disarmed { L.meaning.disarmed log.old → L.meaning.disarmed log.new }
+    ensures refused { IfErr result (ReadOneRefused L.meaning log.old log.new place used.old) }
 {
     match log.at(place) {
         Ok(ksn) => take_in(used, ksn),

@@ -14,8 +14,8 @@ use Rattle.duk_host.specs.Restart.{RestartRefused}
 use Rattle.duk_host.specs.Used.{IsUsed}
 use Rattle.duk_host.specs.declared.fault.HostFault.{HostFault}
 use Rattle.duk_host.specs.declared.fault.HostFault.TheVariants as fault
-use Rattle.duk_store.specs.Log.{AppendFailed, Numbers}
-use Rattle.duk_store.specs.Meaning.{FindsOnly, Meaning}
+use Rattle.duk_store.specs.Log.{AppendFailed, LogMeaning, Numbers}
+use Rattle.duk_store.specs.StoreState.{FindsOnly, StoreState}
 use Rattle.duk_store.specs.Restart.{Restarted}
 use Rattle.duk_store.specs.declared.fault.StoreFault.{StoreFault}
 use Rattle.duk_store.specs.declared.fault.StoreFault.TheVariants as store_fault
@@ -74,51 +74,54 @@ accepted_serial : (answers : List Frame) (ksn : Serial) → IsAcceptedNumber ans
 accepted_serial answers ksn (code, is) = is.reply.fields.0
 
 -- while a host runs with these used numbers, a restart of its log would find one list alone, whose numbers are all used
-abbrev UsesAll : Meaning Numbers → Option (List ℕ) → Type 0
+abbrev UsesAll : StoreState Numbers → Option (List ℕ) → Type 0
 UsesAll log None = Unit {0}
 UsesAll log (Some used) = (numbers : Numbers) × FindsOnly log numbers × ((ksn : Serial) → IsSerial ksn → Contains numbers ksn → IsUsed used ksn)
 
 -- the log of a host keeps each number that these answers accept, and a running host uses each number that its log keeps
 pub record HostKeepsAccepted {C L I : Type 0} (m : Meanings C L I) (at : HostOf L I) (answers : List Frame) : Type 0 where
-  pub honest : (m.host.meaning at.log).honest
-  pub keeps : (numbers : Numbers) → (m.host.meaning at.log).found numbers → (ksn : Serial) → IsAcceptedNumber answers ksn → Contains numbers ksn
-  pub uses : UsesAll (m.host.meaning at.log) at.used
+  pub honest : (m.host.log.state_of at.log).honest
+  pub keeps : (numbers : Numbers) → (m.host.log.state_of at.log).found numbers → (ksn : Serial) → IsAcceptedNumber answers ksn → Contains numbers ksn
+  pub uses : UsesAll (m.host.log.state_of at.log) at.used
 
 -- the log of a world's host keeps each accepted number
 abbrev pub KeepsAllAccepted : {C L I : Type 0} → Meanings C L I → WorldOf C L I → Type 0
 KeepsAllAccepted m world = HostKeepsAccepted m world.host world.answers
 
 -- a log is honest, and each list that a restart of it finds has the numbers of a list that a restart would have found before
-record Grows (old new : Meaning Numbers) : Type 0 where
+record Grows (old new : StoreState Numbers) : Type 0 where
   honest : new.honest
   within : (numbers : Numbers) → new.found numbers → (earlier : Numbers) × old.found earlier × ((ksn : Serial) → Contains earlier ksn → Contains numbers ksn)
 
 -- a log that finds no other list than before grows
-finds_as_before : (old new : Meaning Numbers) → new.honest → ((numbers : Numbers) → new.found numbers → old.found numbers) → Grows old new
+finds_as_before : (old new : StoreState Numbers) → new.honest → ((numbers : Numbers) → new.found numbers → old.found numbers) → Grows old new
 finds_as_before old new honest found = record { honest = honest; within = λ numbers finds. (numbers, found numbers finds, λ ksn has. has) }
 
 -- a log that restarted finds no other list than before
-restarted_grows : (old new : Meaning Numbers) (numbers : Numbers) → old.honest → Restarted old new numbers → Grows old new
+restarted_grows : (old new : StoreState Numbers) (numbers : Numbers) → old.honest → Restarted old new numbers → Grows old new
 restarted_grows old new numbers honest restarted = finds_as_before old new (restarted.settles.nature.honest.0 honest)
     (λ other found. rw ((restarted.settles.finds honest other).0 found) (restarted.was_found honest))
 
 -- a log whose append failed finds a list as before, perhaps with the number at its end
-append_failed_grows : (old new : Meaning Numbers) (ksn : Serial) (why : StoreFault) → old.honest → AppendFailed old new ksn why → Grows old new
-append_failed_grows old new ksn store_fault.Device honest failed = record {
+append_failed_grows :
+    {L : Type 0} (log : LogMeaning L) (old new : L) (ksn : Serial) (why : StoreFault)
+    → (log.state_of old).honest → AppendFailed log old new ksn why → Grows (log.state_of old) (log.state_of new)
+append_failed_grows log old new ksn store_fault.Device honest failed = record {
   honest = failed.stops.nature.honest.0 honest;
   within = λ numbers found. elim (failed.stops.within honest numbers found) [
     | inl before ↦ (numbers, before, λ other has. has)
     | inr (earlier, before, is) ↦ (earlier, before, λ other has. rw is (Contains-append_left earlier (ksn ∷ []) other has))
   ];
 }
-append_failed_grows old new ksn store_fault.Stopped honest failed = finds_as_before old new (failed.stays.nature.honest.0 honest) (λ numbers. (failed.stays.found numbers).0)
-append_failed_grows old new ksn store_fault.Damaged honest failed = absurd failed
-append_failed_grows old new ksn store_fault.Worn honest failed = absurd failed
-append_failed_grows old new ksn store_fault.NoMemory honest failed = absurd failed
+append_failed_grows log old new ksn store_fault.Stopped honest failed =
+    finds_as_before (log.state_of old) (log.state_of new) (failed.stays.nature.honest.0 honest) (λ numbers. (failed.stays.found numbers).0)
+append_failed_grows log old new ksn store_fault.Damaged honest failed = absurd failed
+append_failed_grows log old new ksn store_fault.Worn honest failed = absurd failed
+append_failed_grows log old new ksn store_fault.NoMemory honest failed = absurd failed
 
 -- a host whose log grows keeps each accepted number
 grown_safe : {C L I : Type 0} (m : Meanings C L I) (old new : HostOf L I) (answers : List Frame) → HostKeepsAccepted m old answers
-    → Grows (m.host.meaning old.log) (m.host.meaning new.log) → UsesAll (m.host.meaning new.log) new.used → HostKeepsAccepted m new answers
+    → Grows (m.host.log.state_of old.log) (m.host.log.state_of new.log) → UsesAll (m.host.log.state_of new.log) new.used → HostKeepsAccepted m new answers
 grown_safe m old new answers safe grows uses = record {
   honest = grows.honest;
   keeps = λ numbers found ksn accepted. let before = grows.within numbers found in before.2 ksn (safe.keeps before.0 before.1 ksn accepted);
@@ -132,7 +135,7 @@ no_answer_safe m old new answers bytes fault.Stopped safe refused = rw refused.1
 no_answer_safe m old new answers bytes fault.NoMemory safe refused = rw refused.not_kept safe
 no_answer_safe m old new answers bytes (fault.Store why) safe refused =
     let kept = refused.not_kept in
-    grown_safe m old new answers safe (append_failed_grows _ _ refused.request.ksn why safe.honest kept.not_appended) (rw kept.stopped tt)
+    grown_safe m old new answers safe (append_failed_grows m.host.log old.log new.log refused.request.ksn why safe.honest kept.not_appended) (rw kept.stopped tt)
 no_answer_safe m old new answers bytes fault.Read safe refused = absurd refused
 no_answer_safe m old new answers bytes fault.Write safe refused = absurd refused
 no_answer_safe m old new answers bytes fault.Truncated safe refused = absurd refused
@@ -140,9 +143,9 @@ no_answer_safe m old new answers bytes fault.TooLong safe refused = absurd refus
 
 -- a host whose restart is refused keeps each accepted number
 restart_refused_safe : {C L I : Type 0} (m : Meanings C L I) (old new : HostOf L I) (answers : List Frame) (why : HostFault) → HostKeepsAccepted m old answers
-    → RestartRefused m.host.meaning old new why → HostKeepsAccepted m new answers
+    → RestartRefused m.host.log old new why → HostKeepsAccepted m new answers
 restart_refused_safe m old new answers (fault.Store why) safe refused =
-    let grows : Grows (m.host.meaning old.log) (m.host.meaning new.log) = elim refused.cause [
+    let grows : Grows (m.host.log.state_of old.log) (m.host.log.state_of new.log) = elim refused.cause [
       | inl failed ↦ finds_as_before _ _ (failed.stops.nature.honest.0 safe.honest) (failed.stops.within safe.honest)
       | inr (damaged, none) ↦ restarted_grows _ _ none.numbers safe.honest none.log
     ] in
@@ -156,7 +159,7 @@ restart_refused_safe m old new answers fault.Truncated safe refused = absurd ref
 restart_refused_safe m old new answers fault.TooLong safe refused = absurd refused
 
 -- where a log finds the same lists as before, the same used numbers are all that it keeps
-uses_as_before : (old new : Meaning Numbers) (used : Option (List ℕ)) → ((numbers : Numbers) → new.found numbers ↔ old.found numbers) → UsesAll old used → UsesAll new used
+uses_as_before : (old new : StoreState Numbers) (used : Option (List ℕ)) → ((numbers : Numbers) → new.found numbers ↔ old.found numbers) → UsesAll old used → UsesAll new used
 uses_as_before old new None same uses = tt
 uses_as_before old new (Some used) same uses =
     (uses.0, λ other. ((λ found. (uses.1 other).0 ((same other).0 found)), (λ is. (same other).1 ((uses.1 other).1 is))), uses.2)
@@ -169,14 +172,14 @@ touched_safe m old new answers safe (host_restarted found restarted) = grown_saf
 touched_safe m old new answers safe (host_restart_refused why refused) = restart_refused_safe m old new answers why safe refused
 touched_safe m old new answers safe (host_armed steps armed) = grown_safe m old new answers safe
     (finds_as_before _ _ (armed.stays.honest.0 safe.honest) (λ numbers. (armed.stays.found numbers).0))
-    (rw armed.used (uses_as_before (m.host.meaning old.log) (m.host.meaning new.log) old.used armed.stays.found safe.uses))
+    (rw armed.used (uses_as_before (m.host.log.state_of old.log) (m.host.log.state_of new.log) old.used armed.stays.found safe.uses))
 
 -- the number that a host accepts was not accepted before
 accepts_fresh : {C L I : Type 0} (m : Meanings C L I) (old new : HostOf L I) (answers : List Frame) (bytes frame : List ℕ) (ksn : Serial) → OneReading → HostKeepsAccepted m old answers
     → AnswersReply m.host bytes old new frame → RepliesTo frame ksn → ¬ IsAcceptedNumber answers ksn
 accepts_fresh m old new answers bytes frame ksn one safe reply told accepted =
     let with = reply.accepted.reply.reply in
-    let uses : UsesAll (m.host.meaning old.log) (Some reply.used) = rw reply.was_running at safe.uses in
+    let uses : UsesAll (m.host.log.state_of old.log) (Some reply.used) = rw reply.was_running at safe.uses in
     let is : ksn ≡ reply.request.ksn = one_number one frame ksn reply.request.ksn told (_, _, with.is_reply) in
     let used : IsUsed reply.used ksn = uses.2 ksn (accepted_serial answers ksn accepted) (safe.keeps uses.0 ((uses.1 uses.0).1 refl) ksn accepted) in
     reply.accepted.acceptable.fresh (rw is at used)
@@ -188,8 +191,8 @@ accepts_safe m old new answers bytes frame one safe reply =
     let kept = reply.kept in
     let with = reply.accepted.reply.reply in
     let number = reply.request.ksn in
-    let uses : UsesAll (m.host.meaning old.log) (Some kept.used) = rw kept.were_used at safe.uses in
-    let finds : FindsOnly (m.host.meaning new.log) (uses.0 ++ number ∷ []) = kept.appended.finds safe.honest uses.0 uses.1 in
+    let uses : UsesAll (m.host.log.state_of old.log) (Some kept.used) = rw kept.were_used at safe.uses in
+    let finds : FindsOnly (m.host.log.state_of new.log) (uses.0 ++ number ∷ []) = kept.appended.finds safe.honest uses.0 uses.1 in
     record {
       honest = kept.appended.nature.honest.0 safe.honest;
       keeps = λ numbers found ksn accepted. rw ((finds numbers).0 found) (elim (accepted_cases answers frame ksn accepted) [

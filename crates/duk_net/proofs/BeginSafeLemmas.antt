@@ -3,8 +3,7 @@ use Rattle.std.proofs.Common.{◌≡◌, ◌≢◌, ◌⊎◌, ◌++◌, ◌∷�
 use Rattle.std.proofs.lemmas.List.Elements.{All-push, Contains-get_or}
 use Rattle.std.proofs.lemmas.List.Quantifiers.{all_pairs_push}
 use Rattle.duk_regs.specs.Registers.{RegisterSet}
-use Rattle.duk_store.specs.Cell.{Kept}
-use Rattle.duk_store.specs.Meaning.{Meaning}
+use Rattle.duk_store.specs.Cell.{CellMeaning}
 use Rattle.duk_term.specs.Begin.{IsBegun, requested}
 use Rattle.duk_term.specs.Terminal.{Term, serial_of}
 use Rattle.duk_term.specs.declared.purchase.Purchase.{Purchase}
@@ -21,13 +20,13 @@ abbrev pub after_begin : Books → Frame → Books
 after_begin books frame = record books { requests = books.requests ++ frame ∷ [] }
 
 -- the number of the request that goes out
-pub begun_number : {C : Type 0} (cell : C → Meaning Kept) (worn : C → Type 0) (purchase : Purchase) (frame : Frame) (before after : Term C) (begun : IsBegun cell worn purchase before after frame.items) → HasNumber frame (serial_of begun.set)
-begun_number cell worn purchase frame before after begun = record { request = requested begun.set begun.key purchase; is_request = begun.request; ksn_is = refl }
+pub begun_number : {C : Type 0} (cell : CellMeaning C) (purchase : Purchase) (frame : Frame) (before after : Term C) (begun : IsBegun cell purchase before after frame.items) → HasNumber frame (serial_of begun.set)
+begun_number cell purchase frame before after begun = record { request = requested begun.set begun.key purchase; is_request = begun.request; ksn_is = refl }
 
 -- the registers from which it was taken are safe
-pub begun_safe : {C : Type 0} (cell : C → Meaning Kept) (worn : C → Type 0) (books : Books) (t : ℕ) (purchase : Purchase) (frame : Frame) (before after : Term C) (begun : IsBegun cell worn purchase before after frame.items)
+pub begun_safe : {C : Type 0} (cell : CellMeaning C) (books : Books) (t : ℕ) (purchase : Purchase) (frame : Frame) (before after : Term C) (begun : IsBegun cell purchase before after frame.items)
     → TermSafe cell books t before → SetSafe books t begun.set
-begun_safe cell worn books t purchase frame before after begun safe = taken_from_safe books t before.state begun.set begun.left begun.key begun.takes safe.state
+begun_safe cell books t purchase frame before after begun safe = taken_from_safe books t before.state begun.set begun.left begun.key begun.takes safe.state
 
 -- a used number then is one that was used before, or the new one
 used_then : (books : Books) (frame : Frame) (new ksn : Serial) → OneRequest → HasNumber frame new → IsUsedNumber (books.requests ++ frame ∷ []) ksn → IsUsedNumber books.requests ksn ⊎ (ksn ≡ new)
@@ -37,12 +36,12 @@ used_then books frame new ksn reading number used = elim (used_before books.requ
 ]
 
 -- the terminal is safe
-pub begin_safe : {C : Type 0} (cell : C → Meaning Kept) (worn : C → Type 0) (books : Books) (t : ℕ) (purchase : Purchase) (frame : Frame) (before after : Term C) → UsableFits → OneRequest → TermSafe cell books t before
-    → IsBegun cell worn purchase before after frame.items → TermSafe cell (after_begin books frame) t after
-begin_safe cell worn books t purchase frame before after fits reading safe begun =
+pub begin_safe : {C : Type 0} (cell : CellMeaning C) (books : Books) (t : ℕ) (purchase : Purchase) (frame : Frame) (before after : Term C) → UsableFits → OneRequest → TermSafe cell books t before
+    → IsBegun cell purchase before after frame.items → TermSafe cell (after_begin books frame) t after
+begin_safe cell books t purchase frame before after fits reading safe begun =
     let now = after_begin books frame in
-    let number = begun_number cell worn purchase frame before after begun in
-    let set = begun_safe cell worn books t purchase frame before after begun safe in
+    let number = begun_number cell purchase frame before after begun in
+    let set = begun_safe cell books t purchase frame before after begun safe in
     let left : SetSafe now t begun.left = left_is_safe books t begun.set begun.left begun.key now.requests fits set begun.takes.takes begun.again
     (λ ksn used. used_then books frame (serial_of begun.set) ksn reading number used) in
     record {

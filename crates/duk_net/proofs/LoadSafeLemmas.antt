@@ -1,8 +1,7 @@
 -- A terminal that is loaded is safe, and so are the others.
 use Rattle.std.proofs.Common.{◌≡◌, ℕ, List, Some, inl, inr, refl, sym, ap, subst, ◌∙◌}
 use Rattle.duk_regs.specs.Registers.{RegisterSet}
-use Rattle.duk_store.specs.Cell.{Kept}
-use Rattle.duk_store.specs.Meaning.{Meaning}
+use Rattle.duk_store.specs.Cell.{CellMeaning}
 use Rattle.duk_store.specs.declared.fault.StoreFault.{StoreFault}
 use Rattle.duk_term.specs.Body.{IsFoundAgain, body_bytes}
 use Rattle.duk_term.specs.Load.{IsFirstSet, IsLoaded, LoadStopped, Loading}
@@ -56,9 +55,9 @@ first_safe books t iksn asked set v loaded may nothing first again =
       again = again;
     }
 
-loaded_safe : {C : Type 0} (cell : C → Meaning Kept) (worn : C → Type 0) (books : Books) (t iksn : ℕ) (asked : Loading) (v loaded : ℕ) (before after : Term C) → MayBeGiven books t iksn asked → TermSafe cell books t before
-    → IsLoaded cell worn asked before after → TermSafe cell (after_load books (came.Loaded v loaded) iksn t) t after
-loaded_safe cell worn books t iksn asked v loaded before after may safe is =
+loaded_safe : {C : Type 0} (cell : CellMeaning C) (books : Books) (t iksn : ℕ) (asked : Loading) (v loaded : ℕ) (before after : Term C) → MayBeGiven books t iksn asked → TermSafe cell books t before
+    → IsLoaded cell asked before after → TermSafe cell (after_load books (came.Loaded v loaded) iksn t) t after
+loaded_safe cell books t iksn asked v loaded before after may safe is =
     let now = after_load books (came.Loaded v loaded) iksn t in
     let nothing : HasSentNothing books t = subst (λ state. StateSafe books t state) is.was_empty safe.state in
     let set = first_safe books t iksn asked is.set v loaded may nothing is.set_is is.again in
@@ -68,15 +67,15 @@ loaded_safe cell worn books t iksn asked v loaded before after may safe is =
       kept = λ kept found. safe_body now t is.set kept set ((is.kept.settles.finds safe.honest kept).0 found);
     }
 
-stopped_safe : {C : Type 0} (cell : C → Meaning Kept) (worn : C → Type 0) (books : Books) (t iksn : ℕ) (asked : Loading) (v : ℕ) (why : StoreFault) (before after : Term C) → MayBeGiven books t iksn asked → TermSafe cell books t before
-    → LoadStopped cell worn asked before after why → TermSafe cell (after_load books (came.TermFaulted v (fault.Store why)) iksn t) t after
-stopped_safe cell worn books t iksn asked v why before after may safe is =
+stopped_safe : {C : Type 0} (cell : CellMeaning C) (books : Books) (t iksn : ℕ) (asked : Loading) (v : ℕ) (why : StoreFault) (before after : Term C) → MayBeGiven books t iksn asked → TermSafe cell books t before
+    → LoadStopped cell asked before after why → TermSafe cell (after_load books (came.TermFaulted v (fault.Store why)) iksn t) t after
+stopped_safe cell books t iksn asked v why before after may safe is =
     let now = after_load books (came.TermFaulted v (fault.Store why)) iksn t in
     let nothing : HasSentNothing books t = subst (λ state. StateSafe books t state) is.was_empty safe.state in
     let set : SetSafe now t is.set = first_safe books t iksn asked is.set v iksn may nothing is.set_is is.again in
     let follows = load_follows books t iksn t (came.TermFaulted v (fault.Store why)) may.owned in
     record {
-      honest = put_failed_honest (cell before.cell) (worn before.cell) (cell after.cell) (body_bytes is.set) why is.not_kept safe.honest;
+      honest = put_failed_honest cell before.cell after.cell (body_bytes is.set) why is.not_kept safe.honest;
       state = subst (λ state. StateSafe now t state) (sym is.stopped) tt;
       kept = λ kept found. elim (is.within safe.honest kept found) [
         | inl none ↦ subst (λ kept. KeptSafe now t kept) (sym none) (follows.nothing nothing)
@@ -85,13 +84,13 @@ stopped_safe cell worn books t iksn asked v why before after may safe is =
     }
 
 -- a terminal that was to be loaded is safe, whatever came of it
-pub load_safe : {C : Type 0} (cell : C → Meaning Kept) (worn : C → Type 0) (books : Books) (t iksn : ℕ) (asked : Loading) (outcome : Outcome) (before after : Term C) → MayBeGiven books t iksn asked → TermSafe cell books t before
-    → TakesLoad cell worn t asked outcome before after → TermSafe cell (after_load books outcome iksn t) t after
-load_safe cell worn books t iksn asked (came.Loaded v loaded) before after may safe takes = loaded_safe cell worn books t iksn asked v loaded before after may safe takes.2
-load_safe cell worn books t iksn asked (came.TermFaulted v (fault.Store why)) before after may safe takes = stopped_safe cell worn books t iksn asked v why before after may safe takes.1
-load_safe cell worn books t iksn asked (came.TermFaulted v fault.Stopped) before after may safe takes = subst (λ terminal. TermSafe cell books t terminal) (sym takes.1.1) safe
-load_safe cell worn books t iksn asked (came.TermFaulted v fault.AlreadyLoaded) before after may safe takes = subst (λ terminal. TermSafe cell books t terminal) (sym takes.1.1) safe
-load_safe cell worn books t iksn asked (came.TermFaulted v (fault.Block why)) before after may safe takes = subst (λ terminal. TermSafe cell books t terminal) (sym takes.1.2) safe
-load_safe cell worn books t iksn asked (came.TermFaulted v fault.WrongUse) before after may safe takes = subst (λ terminal. TermSafe cell books t terminal) (sym takes.1.2) safe
-load_safe cell worn books t iksn asked (came.TermFaulted v _) before after may safe takes = absurd takes.1
-load_safe cell worn books t iksn asked _ before after may safe takes = absurd takes
+pub load_safe : {C : Type 0} (cell : CellMeaning C) (books : Books) (t iksn : ℕ) (asked : Loading) (outcome : Outcome) (before after : Term C) → MayBeGiven books t iksn asked → TermSafe cell books t before
+    → TakesLoad cell t asked outcome before after → TermSafe cell (after_load books outcome iksn t) t after
+load_safe cell books t iksn asked (came.Loaded v loaded) before after may safe takes = loaded_safe cell books t iksn asked v loaded before after may safe takes.2
+load_safe cell books t iksn asked (came.TermFaulted v (fault.Store why)) before after may safe takes = stopped_safe cell books t iksn asked v why before after may safe takes.1
+load_safe cell books t iksn asked (came.TermFaulted v fault.Stopped) before after may safe takes = subst (λ terminal. TermSafe cell books t terminal) (sym takes.1.1) safe
+load_safe cell books t iksn asked (came.TermFaulted v fault.AlreadyLoaded) before after may safe takes = subst (λ terminal. TermSafe cell books t terminal) (sym takes.1.1) safe
+load_safe cell books t iksn asked (came.TermFaulted v (fault.Block why)) before after may safe takes = subst (λ terminal. TermSafe cell books t terminal) (sym takes.1.2) safe
+load_safe cell books t iksn asked (came.TermFaulted v fault.WrongUse) before after may safe takes = subst (λ terminal. TermSafe cell books t terminal) (sym takes.1.2) safe
+load_safe cell books t iksn asked (came.TermFaulted v _) before after may safe takes = absurd takes.1
+load_safe cell books t iksn asked _ before after may safe takes = absurd takes

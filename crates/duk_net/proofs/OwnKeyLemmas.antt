@@ -64,7 +64,7 @@ IsOwn world = All (IsOwnRequest world.host.keys) world.requests × All (IsOwnRep
 
 module _ {C L I : Type 0} (m : Meanings C L I) (laws : KeyLaws m) where
   -- registers that stand for the terminal's own initial key give a request under the transaction key of its number
-  own_request : (keys : HsmKeys) (requests : List Frame) (purchase : Purchase) (before after : Term C) (frame : Frame) (begun : IsBegun m.cell m.worn purchase before after frame.items)
+  own_request : (keys : HsmKeys) (requests : List Frame) (purchase : Purchase) (before after : Term C) (frame : Frame) (begun : IsBegun m.cell purchase before after frame.items)
       → StandsAboveUsed keys requests begun.set → IsOwnRequest keys frame
   own_request keys requests purchase before after frame begun stands =
       let set = begun.set in

@@ -1,8 +1,7 @@
 -- What is pending at the terminals of a world, as the world moves on.
 use Rattle.std.proofs.Common.{◌≡◌, ◌≢◌, ◌⊎◌, ◌++◌, ◌∷◌, [], ℕ, List, All, Contains, Some, None, inl, inr, refl, sym, ap, subst, ◌∙◌}
 use Rattle.std.proofs.lemmas.List.Elements.{All-contains, All-head, Contains-append_left, Contains-push}
-use Rattle.duk_store.specs.Cell.{Kept}
-use Rattle.duk_store.specs.Meaning.{Meaning}
+use Rattle.duk_store.specs.Cell.{CellMeaning, Kept}
 use Rattle.duk_term.specs.Begin.{BeginRefused, pending_of}
 use Rattle.duk_term.specs.Load.{LoadRefused, Loading}
 use Rattle.duk_term.specs.Reply.{IsPending, completed}
@@ -66,38 +65,38 @@ same_subsides : {C : Type 0} (before after : Term C) → after ≡ before → Su
 same_subsides before after same pending waits = subst (λ terminal. IsPending terminal.state pending) same waits
 
 -- a refused load makes nothing pending
-load_refused_subsides : {C : Type 0} (meaning : C → Meaning Kept) (worn : C → Type 0) (asked : Loading) (before after : Term C) (why : TermFault)
-    → LoadRefused meaning worn asked before after why → Subsides before after
-load_refused_subsides meaning worn asked before after fault.Stopped refused = same_subsides before after refused.1
-load_refused_subsides meaning worn asked before after fault.AlreadyLoaded refused = same_subsides before after refused.1
-load_refused_subsides meaning worn asked before after (fault.Block why) refused = same_subsides before after refused.2
-load_refused_subsides meaning worn asked before after fault.WrongUse refused = same_subsides before after refused.2
-load_refused_subsides meaning worn asked before after (fault.Store why) refused = λ pending waits. absurd (stopped_waits after.state pending refused.stopped waits)
-load_refused_subsides meaning worn asked before after _ refused = absurd refused
+load_refused_subsides : {C : Type 0} (meaning : CellMeaning C) (asked : Loading) (before after : Term C) (why : TermFault)
+    → LoadRefused meaning asked before after why → Subsides before after
+load_refused_subsides meaning asked before after fault.Stopped refused = same_subsides before after refused.1
+load_refused_subsides meaning asked before after fault.AlreadyLoaded refused = same_subsides before after refused.1
+load_refused_subsides meaning asked before after (fault.Block why) refused = same_subsides before after refused.2
+load_refused_subsides meaning asked before after fault.WrongUse refused = same_subsides before after refused.2
+load_refused_subsides meaning asked before after (fault.Store why) refused = λ pending waits. absurd (stopped_waits after.state pending refused.stopped waits)
+load_refused_subsides meaning asked before after _ refused = absurd refused
 
 -- a load makes nothing pending
-load_subsides : {C : Type 0} (meaning : C → Meaning Kept) (worn : C → Type 0) (t : ℕ) (asked : Loading) (outcome : Outcome) (before after : Term C)
-    → TakesLoad meaning worn t asked outcome before after → Subsides before after
-load_subsides meaning worn t asked (came.Loaded u iksn) before after takes = λ pending waits. absurd (idle_waits after.state takes.2.set pending takes.2.state_is waits)
-load_subsides meaning worn t asked (came.TermFaulted u why) before after takes = load_refused_subsides meaning worn asked before after why takes.1
-load_subsides meaning worn t asked _ before after takes = absurd takes
+load_subsides : {C : Type 0} (meaning : CellMeaning C) (t : ℕ) (asked : Loading) (outcome : Outcome) (before after : Term C)
+    → TakesLoad meaning t asked outcome before after → Subsides before after
+load_subsides meaning t asked (came.Loaded u iksn) before after takes = λ pending waits. absurd (idle_waits after.state takes.2.set pending takes.2.state_is waits)
+load_subsides meaning t asked (came.TermFaulted u why) before after takes = load_refused_subsides meaning asked before after why takes.1
+load_subsides meaning t asked _ before after takes = absurd takes
 
 -- a refused begin makes nothing pending
-begin_refused_subsides : {C : Type 0} (meaning : C → Meaning Kept) (worn : C → Type 0) (before after : Term C) (why : TermFault) → BeginRefused meaning worn before after why → Subsides before after
-begin_refused_subsides meaning worn before after fault.Stopped refused = same_subsides before after refused.1
-begin_refused_subsides meaning worn before after fault.NotLoaded refused = same_subsides before after refused.1
-begin_refused_subsides meaning worn before after fault.Spent refused = same_subsides before after refused.1
-begin_refused_subsides meaning worn before after (fault.Store why) refused = λ pending waits. absurd (stopped_waits after.state pending refused.stopped waits)
-begin_refused_subsides meaning worn before after _ refused = absurd refused
+begin_refused_subsides : {C : Type 0} (meaning : CellMeaning C) (before after : Term C) (why : TermFault) → BeginRefused meaning before after why → Subsides before after
+begin_refused_subsides meaning before after fault.Stopped refused = same_subsides before after refused.1
+begin_refused_subsides meaning before after fault.NotLoaded refused = same_subsides before after refused.1
+begin_refused_subsides meaning before after fault.Spent refused = same_subsides before after refused.1
+begin_refused_subsides meaning before after (fault.Store why) refused = λ pending waits. absurd (stopped_waits after.state pending refused.stopped waits)
+begin_refused_subsides meaning before after _ refused = absurd refused
 
 -- after a refused restart a terminal waits for nothing
-restart_refused_waits : {C : Type 0} (meaning : C → Meaning Kept) (before after : Term C) (why : TermFault) (pending : Pending) → RestartRefused meaning before after why → ¬ IsPending after.state pending
+restart_refused_waits : {C : Type 0} (meaning : CellMeaning C) (before after : Term C) (why : TermFault) (pending : Pending) → RestartRefused meaning before after why → ¬ IsPending after.state pending
 restart_refused_waits meaning before after (fault.Store why) pending refused waits = stopped_waits after.state pending refused.stopped waits
 restart_refused_waits meaning before after _ pending refused waits = refused
 
 -- where no request goes out nothing becomes pending
 touches_subsides : {C L I : Type 0} (m : Meanings C L I) (before after : Term C) → Touches m before after → Subsides before after
-touches_subsides m before after (step.begin_refused why refused) = begin_refused_subsides m.cell m.worn before after why refused
+touches_subsides m before after (step.begin_refused why refused) = begin_refused_subsides m.cell before after why refused
 touches_subsides m before after (step.restarted restarted) = λ pending waits. absurd (opened_waits restarted.kept after.state pending restarted.opens waits)
 touches_subsides m before after (step.restart_refused why refused) = λ pending waits. absurd (restart_refused_waits m.cell before after why pending refused waits)
 touches_subsides m before after (step.armed steps armed) = λ pending waits. subst (λ state. IsPending state pending) armed.state waits
@@ -114,9 +113,9 @@ record Waits {C : Type 0} (terminal : Term C) (ksn : Serial) : Type 0 where
   ksn_is : ksn ≡ pending.ksn
 
 -- a terminal that hands out a request waits for the reply to that
-begun_waits : {C : Type 0} (meaning : C → Meaning Kept) (worn : C → Type 0) (purchase : Purchase) (frame : Frame) (sent ksn : Serial) (before after : Term C)
-    → HandsOut meaning worn purchase frame sent before after → Waits after ksn → sent ≡ ksn
-begun_waits meaning worn purchase frame sent ksn before after hands waits =
+begun_waits : {C : Type 0} (meaning : CellMeaning C) (purchase : Purchase) (frame : Frame) (sent ksn : Serial) (before after : Term C)
+    → HandsOut meaning purchase frame sent before after → Waits after ksn → sent ≡ ksn
+begun_waits meaning purchase frame sent ksn before after hands waits =
     let begun = hands.begun in
     let same = one_pending after.state (pending_of begun.set begun.key) waits.pending (begun.left, begun.state_is) waits.is_pending in
     hands.ksn_is ∙ ap (λ pending. pending.ksn) same ∙ sym waits.ksn_is
@@ -163,11 +162,11 @@ pub pending_comes : {C L I : Type 0} (m : Meanings C L I) (old : WorldOf C L I) 
     → View m old outcome new → IsPendingAt new.terminals u ksn → IsPendingAt old.terminals u ksn ⊎ Sends u ksn outcome
 pending_comes m old outcome new u ksn (step.nothing same quiet) waits = inl (subst (λ world. IsPendingAt world.terminals u ksn) same waits)
 pending_comes m old outcome new u ksn (step.load t iksn given quiet) waits =
-    inl (acts_subside t _ old.terminals new.terminals (load_subsides m.cell m.worn t given.asked outcome) given.terminal u ksn waits)
+    inl (acts_subside t _ old.terminals new.terminals (load_subsides m.cell t given.asked outcome) given.terminal u ksn waits)
 pending_comes m old outcome new u ksn (step.send t k purchase sent is begins) waits = elim (acts_cases t _ old.terminals new.terminals begins.terminal u ksn waits) [
   | inl elsewhere ↦ inl elsewhere.1
   | inr here ↦
-      let begun = begun_waits m.cell m.worn purchase begins.frame sent ksn begins.terminal.before begins.terminal.after begins.terminal.goes_on here.1 in
+      let begun = begun_waits m.cell purchase begins.frame sent ksn begins.terminal.before begins.terminal.after begins.terminal.goes_on here.1 in
       inr (subst (λ outcome. Sends u ksn outcome) (sym is) (sym here.0, begun))
 ]
 pending_comes m old outcome new u ksn (step.terminal t goes quiet) waits = inl (acts_subside t _ old.terminals new.terminals (touches_subsides m) goes.terminal u ksn waits)

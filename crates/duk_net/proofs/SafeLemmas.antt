@@ -5,8 +5,7 @@ use Rattle.duk_frame.specs.Request.{IsRequest}
 use Rattle.duk_frame.specs.declared.request.Request.{Request}
 use Rattle.duk_hsm.specs.Keys.{HsmKeys}
 use Rattle.duk_regs.specs.Registers.{RegisterSet}
-use Rattle.duk_store.specs.Cell.{Kept}
-use Rattle.duk_store.specs.Meaning.{Meaning}
+use Rattle.duk_store.specs.Cell.{CellMeaning, Kept}
 use Rattle.duk_term.specs.Begin.{TakesNumber}
 use Rattle.duk_term.specs.Body.{IsFoundAgain, body_bytes}
 use Rattle.duk_term.specs.Terminal.{Term, serial_of}
@@ -55,10 +54,10 @@ abbrev pub KeptSafe : Books → ℕ → Kept → Type 0
 KeptSafe books t None = HasSentNothing books t
 KeptSafe books t (Some body) = BodySafe books t body
 
-pub record TermSafe {C : Type 0} (cell : C → Meaning Kept) (books : Books) (t : ℕ) (terminal : Term C) : Type 0 where
-  pub honest : (cell terminal.cell).honest
+pub record TermSafe {C : Type 0} (cell : CellMeaning C) (books : Books) (t : ℕ) (terminal : Term C) : Type 0 where
+  pub honest : (cell.state_of terminal.cell).honest
   pub state : StateSafe books t terminal.state
-  pub kept : (kept : Kept) → (cell terminal.cell).found kept → KeptSafe books t kept
+  pub kept : (kept : Kept) → (cell.state_of terminal.cell).found kept → KeptSafe books t kept
 
 -- each used number is owned
 abbrev pub AreOwned : Books → Type 0
@@ -83,7 +82,7 @@ kept_follows : (old : Books) (t : ℕ) (new : Books) (kept : Kept) → Follows o
 kept_follows old t new None follows safe = follows.nothing safe
 kept_follows old t new (Some body) follows safe = record { set = safe.set; body_is = safe.body_is; safe = follows.set safe.set safe.safe }
 
-pub term_follows : {C : Type 0} (cell : C → Meaning Kept) (old : Books) (t : ℕ) (new : Books) (terminal : Term C) → Follows old t new → TermSafe cell old t terminal → TermSafe cell new t terminal
+pub term_follows : {C : Type 0} (cell : CellMeaning C) (old : Books) (t : ℕ) (new : Books) (terminal : Term C) → Follows old t new → TermSafe cell old t terminal → TermSafe cell new t terminal
 term_follows cell old t new terminal follows safe = record {
   honest = safe.honest;
   state = state_follows old t new terminal.state follows safe.state;

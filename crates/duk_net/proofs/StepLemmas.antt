@@ -7,8 +7,7 @@ use Rattle.duk_host.specs.Host.{HostOf}
 use Rattle.duk_host.specs.Restart.{IsRestarted as IsHostRestarted, RestartRefused as HostRestartRefused}
 use Rattle.duk_host.specs.declared.fault.HostFault.{HostFault}
 use Rattle.duk_host.specs.declared.fault.HostFault.TheVariants as host_fault
-use Rattle.duk_store.specs.Cell.{Kept}
-use Rattle.duk_store.specs.Meaning.{Meaning}
+use Rattle.duk_store.specs.Cell.{CellMeaning}
 use Rattle.duk_term.specs.Begin.{BeginRefused}
 use Rattle.duk_term.specs.Load.{Loading}
 use Rattle.duk_term.specs.Restart.{IsRestarted, RestartRefused}
@@ -41,7 +40,7 @@ IsQuiet _ = Unit {0}
 
 -- what else may happen to a terminal: no request goes out, a restart, or arming
 pub data Touches {C L I : Type 0} (m : Meanings C L I) (before after : Term C) : Type 0 where
-  begin_refused : (why : TermFault) → BeginRefused m.cell m.worn before after why → Touches m before after
+  begin_refused : (why : TermFault) → BeginRefused m.cell before after why → Touches m before after
   restarted : IsRestarted m.cell before after → Touches m before after
   restart_refused : (why : TermFault) → RestartRefused m.cell before after why → Touches m before after
   armed : (steps : ℕ) → ArmsCell m steps before after → Touches m before after
@@ -49,8 +48,8 @@ pub data Touches {C L I : Type 0} (m : Meanings C L I) (before after : Term C) :
 -- what else may happen to the host: no answer, a restart, or arming
 pub data TouchesHost {C L I : Type 0} (m : Meanings C L I) (before after : HostOf L I) : Type 0 where
   no_answer : (bytes : List ℕ) (why : HostFault) → HandleRefused m.host bytes before after why → TouchesHost m before after
-  host_restarted : (found : ℕ) → IsHostRestarted m.host.meaning before after found → TouchesHost m before after
-  host_restart_refused : (why : HostFault) → HostRestartRefused m.host.meaning before after why → TouchesHost m before after
+  host_restarted : (found : ℕ) → IsHostRestarted m.host.log before after found → TouchesHost m before after
+  host_restart_refused : (why : HostFault) → HostRestartRefused m.host.log before after why → TouchesHost m before after
   host_armed : (steps : ℕ) → ArmsLog m steps before after → TouchesHost m before after
 
 -- what a step is, by what it changes
@@ -95,12 +94,12 @@ quiet_as : (outcome other : Outcome) → outcome ≡ other → IsQuiet other →
 quiet_as outcome other is quiet = subst IsQuiet (sym is) quiet
 
 -- a load is told by a quiet outcome
-quiet_load : {C : Type 0} (meaning : C → Meaning Kept) (worn : C → Type 0) (t : ℕ) (asked : Loading) (outcome : Outcome) (before after : Term C) → TakesLoad meaning worn t asked outcome before after → IsQuiet outcome
-quiet_load meaning worn at asked (came.Sent t k ksn) before after takes = absurd takes
-quiet_load meaning worn at asked (came.Accepted k ksn code) before after takes = absurd takes
-quiet_load meaning worn at asked (came.Refused k ksn reason) before after takes = absurd takes
-quiet_load meaning worn at asked (came.Done t ksn code) before after takes = absurd takes
-quiet_load meaning worn at asked _ before after takes = tt
+quiet_load : {C : Type 0} (meaning : CellMeaning C) (t : ℕ) (asked : Loading) (outcome : Outcome) (before after : Term C) → TakesLoad meaning t asked outcome before after → IsQuiet outcome
+quiet_load meaning at asked (came.Sent t k ksn) before after takes = absurd takes
+quiet_load meaning at asked (came.Accepted k ksn code) before after takes = absurd takes
+quiet_load meaning at asked (came.Refused k ksn reason) before after takes = absurd takes
+quiet_load meaning at asked (came.Done t ksn code) before after takes = absurd takes
+quiet_load meaning at asked _ before after takes = tt
 
 begin_view : {C L I : Type 0} (m : Meanings C L I) (old : WorldOf C L I) (t : ℕ) (purchase : Purchase) (outcome : Outcome) (new : WorldOf C L I) → Begins m old t purchase outcome new → View m old outcome new
 begin_view m old at purchase (came.Sent u k ksn) new begins = send at k purchase ksn (ap (λ n. came.Sent n k ksn) begins.0) begins.1
@@ -149,7 +148,7 @@ step_view m old (event.Load t iksn) outcome new step = elim step [
     | inl other ↦ nothing other.same (quiet_as outcome _ other.outcome_is tt)
     | inr free ↦ elim free [
       | inl no_keys ↦ nothing no_keys.same (quiet_as outcome _ no_keys.outcome_is tt)
-      | inr given ↦ load t iksn given (quiet_load m.cell m.worn t given.asked outcome given.terminal.before given.terminal.after given.terminal.goes_on)
+      | inr given ↦ load t iksn given (quiet_load m.cell t given.asked outcome given.terminal.before given.terminal.after given.terminal.goes_on)
     ]
   ]
 ]

@@ -99,7 +99,7 @@ step_is_safe m old new outcome fits reading safe (load t iksn given quiet) =
     } in
     let books : books_of new ≡ after_load (books_of old) outcome iksn t = ap (λ world. books_of world) given.rest in
     acts_safe m old new t _ given.terminal safe
-    (λ before. subst (λ books. TermSafe m.cell books t given.terminal.after) (sym books) (load_safe m.cell m.worn (books_of old) t iksn given.asked outcome given.terminal.before given.terminal.after may before given.terminal.goes_on))
+    (λ before. subst (λ books. TermSafe m.cell books t given.terminal.after) (sym books) (load_safe m.cell (books_of old) t iksn given.asked outcome given.terminal.before given.terminal.after may before given.terminal.goes_on))
     (λ u other. subst (λ books. Follows (books_of old) u books) (sym books) (load_follows (books_of old) t iksn u outcome safe.owned))
     (subst AreOwned (sym books) (λ ksn used. let had = safe.owned ksn used in (had.0, owner_stays outcome old.owners iksn t ksn.iksn had.0 had.1)))
     (subst NoneTwice (sym (ap (λ books. books.requests) books)) safe.none_twice)
@@ -108,10 +108,10 @@ step_is_safe m old new outcome fits reading safe (send t k purchase ksn is sent)
     let begun = acts.goes_on.begun in
     let frame = sent.frame in
     let books : books_of new ≡ after_begin (books_of old) frame = ap (λ world. books_of world) sent.rest in
-    let number = begun_number m.cell m.worn purchase frame acts.before acts.after begun in
-    let set = begun_safe m.cell m.worn (books_of old) t purchase frame acts.before acts.after begun (safe.terminals t acts.before (before_acts t _ old.terminals new.terminals acts)) in
+    let number = begun_number m.cell purchase frame acts.before acts.after begun in
+    let set = begun_safe m.cell (books_of old) t purchase frame acts.before acts.after begun (safe.terminals t acts.before (before_acts t _ old.terminals new.terminals acts)) in
     acts_safe m old new t _ acts safe
-    (λ before. subst (λ books. TermSafe m.cell books t acts.after) (sym books) (begin_safe m.cell m.worn (books_of old) t purchase frame acts.before acts.after fits reading before begun))
+    (λ before. subst (λ books. TermSafe m.cell books t acts.after) (sym books) (begin_safe m.cell (books_of old) t purchase frame acts.before acts.after fits reading before begun))
     (λ u other. subst (λ books. Follows (books_of old) u books) (sym books) (begin_follows (books_of old) t u frame (serial_of begun.set) reading number set.owned other))
     (subst AreOwned (sym books) (begin_owned (books_of old) t frame (serial_of begun.set) reading number set.owned safe.owned))
     (subst NoneTwice (sym (ap (λ books. books.requests) books))
@@ -161,7 +161,7 @@ step_by_owner m old new outcome safe (done k t frame ksn code is sent goes) = by
 step_by_owner m old new outcome safe (load t iksn given quiet) = quiet_by_owner new.owners outcome quiet
 step_by_owner m old new outcome safe (send t k purchase ksn is sent) =
     let acts = sent.terminal in
-    let set = begun_safe m.cell m.worn (books_of old) t purchase sent.frame acts.before acts.after acts.goes_on.begun (safe.terminals t acts.before (before_acts t _ old.terminals new.terminals acts)) in
+    let set = begun_safe m.cell (books_of old) t purchase sent.frame acts.before acts.after acts.goes_on.begun (safe.terminals t acts.before (before_acts t _ old.terminals new.terminals acts)) in
     by_owner_as new.owners outcome (came.Sent t k ksn) is (ap (λ world. owner_of world.owners ksn.iksn) sent.rest ∙ ap (λ ksn. owner_of old.owners ksn.iksn) acts.goes_on.ksn_is ∙ set.owned)
 
 -- what a call sends is sent by owners

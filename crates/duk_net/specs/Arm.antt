@@ -2,7 +2,7 @@
 use Rattle.std.specs.Prelude.{◌≡◌, ℕ}
 use Rattle.duk_host.specs.Host.{HostOf}
 use Rattle.duk_host.specs.Restart.{KeepsEnds}
-use Rattle.duk_store.specs.Meaning.{StaysButCalm}
+use Rattle.duk_store.specs.StoreState.{StaysButCalm}
 use Rattle.duk_term.specs.Terminal.{Term}
 use Rattle.duk_net.specs.World.{HasNone, Meanings, TerminalGoes, WorldOf}
 use Rattle.duk_net.specs.declared.event.End.{End}
@@ -12,16 +12,16 @@ use Rattle.duk_net.specs.declared.outcome.Outcome.TheVariants as outcome
 
 -- a terminal's cell is armed
 pub record ArmsCell {C L I : Type 0} (m : Meanings C L I) (steps : ℕ) (before after : Term C) : Type 0 where
-  pub armed : m.arms_cell before.cell steps after.cell
-  pub stays : StaysButCalm (m.cell before.cell) (m.cell after.cell)
+  pub armed : m.cell.arms before.cell steps after.cell
+  pub stays : StaysButCalm (m.cell.state_of before.cell) (m.cell.state_of after.cell)
   pub state : after.state ≡ before.state
 
 -- the host's log is armed
 pub record ArmsLog {C L I : Type 0} (m : Meanings C L I) (steps : ℕ) (before after : HostOf L I) : Type 0 where
-  pub armed : m.arms_log before.log steps after.log
-  pub stays : StaysButCalm (m.host.meaning before.log) (m.host.meaning after.log)
-  pub counted : m.host.count after.log ≡ m.host.count before.log
-  pub capacity : m.host.capacity after.log ≡ m.host.capacity before.log
+  pub armed : m.host.log.arms before.log steps after.log
+  pub stays : StaysButCalm (m.host.log.state_of before.log) (m.host.log.state_of after.log)
+  pub counted : m.host.log.count after.log ≡ m.host.log.count before.log
+  pub capacity : m.host.log.capacity after.log ≡ m.host.log.capacity before.log
   pub ends : KeepsEnds before after
   pub used : after.used ≡ before.used
 

@@ -2,8 +2,7 @@
 use Rattle.std.specs.Prelude.{◌≡◌, ◌⊎◌, ℕ, List, None, replicate}
 use Rattle.duk_hsm.specs.Commands.{IsIssued}
 use Rattle.duk_hsm.specs.Keys.{iksn_prefix_of, key_set_of}
-use Rattle.duk_store.specs.Cell.{Kept}
-use Rattle.duk_store.specs.Meaning.{Meaning}
+use Rattle.duk_store.specs.Cell.{CellMeaning}
 use Rattle.duk_term.specs.Load.{IsLoaded, LoadRefused, Loading, loading_of}
 use Rattle.duk_term.specs.Loading.{WrapsInitialKey}
 use Rattle.duk_term.specs.Terminal.{Term}
@@ -29,10 +28,10 @@ pub record IsIssuedFor {C L I : Type 0} (old : WorldOf C L I) (iksn : ℕ) (aske
   pub own_key : (initial : List ℕ) → WrapsInitialKey old.loading block initial → IsInitialKeyOf old.host.keys iksn initial
 
 -- what the terminal makes of it
-abbrev pub TakesLoad : {C : Type 0} → (C → Meaning Kept) → (C → Type 0) → ℕ → Loading → Outcome → Term C → Term C → Type 0
-TakesLoad meaning worn t asked (came.Loaded u iksn) before after = (u ≡ t) × (iksn ≡ asked.iksn) × IsLoaded meaning worn asked before after
-TakesLoad meaning worn t asked (came.TermFaulted u why) before after = (u ≡ t) × LoadRefused meaning worn asked before after why
-TakesLoad meaning worn t asked _ before after = ⊥
+abbrev pub TakesLoad : {C : Type 0} → CellMeaning C → ℕ → Loading → Outcome → Term C → Term C → Type 0
+TakesLoad meaning t asked (came.Loaded u iksn) before after = (u ≡ t) × (iksn ≡ asked.iksn) × IsLoaded meaning asked before after
+TakesLoad meaning t asked (came.TermFaulted u why) before after = (u ≡ t) × LoadRefused meaning asked before after why
+TakesLoad meaning t asked _ before after = ⊥
 
 -- the owners then: the terminal owns the initial key serial number where it was loaded, or where its store failed, since that may have kept
 -- the image
@@ -46,7 +45,7 @@ pub record IsGiven {C L I : Type 0} (m : Meanings C L I) (old : WorldOf C L I) (
   pub asked : Loading
   pub may : MayLoad old t iksn
   pub issued : IsIssuedFor old iksn asked
-  pub terminal : Acts t (TakesLoad m.cell m.worn t asked outcome) old.terminals new.terminals
+  pub terminal : Acts t (TakesLoad m.cell t asked outcome) old.terminals new.terminals
   pub rest : new ≡ record old { terminals = new.terminals; owners = owners_once outcome old.owners iksn t }
 
 -- another terminal owns the initial key serial number

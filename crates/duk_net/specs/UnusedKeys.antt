@@ -70,4 +70,4 @@ HoldsOfKept P (Some body) = HoldsOfImage P body
 -- this holds of the registers of a terminal, if it runs, and of each image that its cell may find after a stop
 pub record HoldsOfTerminal {C L I : Type 0} (m : Meanings C L I) (P : RegisterSet → Type 0) (terminal : Term C) : Type 0 where
   pub registers : HoldsOfState P terminal.state
-  pub images : (kept : Kept) → (m.cell terminal.cell).found kept → HoldsOfKept P kept
+  pub images : (kept : Kept) → (m.cell.state_of terminal.cell).found kept → HoldsOfKept P kept

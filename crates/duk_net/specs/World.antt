@@ -1,9 +1,10 @@
 -- Terminals, host and network together: this project's own.
 use Rattle.std.specs.Prelude.{◌≡◌, ◌+◌, ◌⊎◌, ◌<◌, ℕ, List, Some, length, slice_get, slice_set}
 use Rattle.arrayvec.specs.ArrayVec.{ArrayVec}
-use Rattle.duk_host.specs.Host.{HostOf, Words}
-use Rattle.duk_store.specs.Cell.{Kept}
-use Rattle.duk_store.specs.Meaning.{Meaning}
+use Rattle.duk_host.specs.Host.{HostMeaning, HostOf, host_meaning_of}
+use Rattle.duk_host.specs.Judgement.{Decision}
+use Rattle.duk_store.specs.Cell.{CellMeaning}
+use Rattle.duk_store.specs.Log.{LogMeaning}
 use Rattle.duk_term.specs.Terminal.{Term}
 use Rattle.duk_net.specs.declared.outcome.Outcome.{Outcome}
 use Rattle.duk_net.specs.declared.outcome.Outcome.TheVariants.{NoSuchTerminal}
@@ -23,17 +24,14 @@ pub record WorldOf (C L I : Type 0) : Type 0 where
   pub answers : List Frame
   pub owners : List Owner
 
--- what its cells, its log and its issuer mean, and what arming does to them
+-- what the cells of its terminals, and the log and the issuer of its host mean
 pub record Meanings (C L I : Type 0) : Type 1 where
-  pub cell : C → Meaning Kept
-  pub worn : C → Type 0
-  pub arms_cell : C → ℕ → C → Type 0
-  pub host : Words L I
-  pub arms_log : L → ℕ → L → Type 0
+  pub cell : CellMeaning C
+  pub host : HostMeaning L I
 
--- those meanings
-abbrev pub meanings_of : {C L I : Type 0} → (C → Meaning Kept) → (C → Type 0) → (C → ℕ → C → Type 0) → Words L I → (L → ℕ → L → Type 0) → Meanings C L I
-meanings_of cell worn arms_cell host arms_log = record { cell = cell; worn = worn; arms_cell = arms_cell; host = host; arms_log = arms_log }
+-- those meanings together
+abbrev pub meanings_of : {C L I : Type 0} → CellMeaning C → LogMeaning L → (I → Decision) → Meanings C L I
+meanings_of cell log decides = record { cell = cell; host = host_meaning_of log decides }
 
 -- a thing of this number, counted from 1, stands at a place of a list
 pub record IsAt {A : Type 0} (things : List A) (number : ℕ) (thing : A) : Type 0 where

@@ -3,7 +3,7 @@
 ghost use Rattle.std.specs.Prelude.{◌≡◌, ◌≢◌, IfOk, IfErr, OnErr};
 ghost use Rattle.duk_frame.specs.Answer.{IsAnswer};
 ghost use Rattle.duk_host.specs.Handle.{HandleRefused};
-ghost use Rattle.duk_host.specs.Host.{words_of};
+ghost use Rattle.duk_host.specs.Host.{host_meaning_of};
 ghost use Rattle.duk_net.specs.Arm.{ArmsHost};
 ghost use Rattle.duk_net.specs.declared.outcome.Outcome.TheVariants as came;
 ghost use Rattle.duk_net.specs.Restart.{IsHostLeft, RestartsHost};
@@ -27,10 +27,10 @@ fn answer_to<const N: usize, L: UsedLog, I: Issuer>(
 ) -> Result<(Frame, AnswerFrame), HostFault>
     ensures told { IfOk result (λ answered. IsAnswer answered.0.items answered.1) }
     ensures answered { IfOk result (λ answered. AnswersAs
-        (words_of L.meaning L.count L.capacity I.decides)
+        (host_meaning_of L.meaning I.decides)
         request.now.items host.old host.new answered.0.items answered.1) }
     ensures refused { IfErr result
-        (HandleRefused (words_of L.meaning L.count L.capacity I.decides) request.now.items host.old host.new) }
+        (HandleRefused (host_meaning_of L.meaning I.decides) request.now.items host.old host.new) }
 {
     duk_frame::laws::one_reading();
     let frame = host.handle(request.as_slice())?;
@@ -53,7 +53,7 @@ impl<const N: usize, C: Cell, L: UsedLog, I: Issuer> System<N, C, L, I> {
     /// Takes a request to the host, and its answer to the network.
     pub(crate) fn up(&mut self, k: u32) -> Result<Outcome, AllocError>
         ensures outcome { IfOk result (λ outcome. Ups
-            (meanings_of C.meaning C.worn C.arms (words_of L.meaning L.count L.capacity I.decides) L.arms)
+            (meanings_of C.meaning L.meaning I.decides)
             self.old k outcome self.new) }
         ensures same { OnErr result (self.new ≡ self.old) }
     {
@@ -74,10 +74,10 @@ impl<const N: usize, C: Cell, L: UsedLog, I: Issuer> System<N, C, L, I> {
     /// Restarts the host.
     pub(crate) fn restart_host(&mut self) -> Result<Outcome, AllocError>
         ensures outcome { IfOk result (λ outcome. RestartsHost
-            (meanings_of C.meaning C.worn C.arms (words_of L.meaning L.count L.capacity I.decides) L.arms)
+            (meanings_of C.meaning L.meaning I.decides)
             self.old outcome self.new) }
         ensures left { OnErr result (IsHostLeft
-            (meanings_of C.meaning C.worn C.arms (words_of L.meaning L.count L.capacity I.decides) L.arms)
+            (meanings_of C.meaning L.meaning I.decides)
             self.old self.new) }
     {
         match self.host.restart() {
@@ -89,7 +89,7 @@ impl<const N: usize, C: Cell, L: UsedLog, I: Issuer> System<N, C, L, I> {
     /// Arms the host's log.
     pub(crate) fn arm_host(&mut self, n: u32) -> Outcome
         ensures { ArmsHost
-            (meanings_of C.meaning C.worn C.arms (words_of L.meaning L.count L.capacity I.decides) L.arms)
+            (meanings_of C.meaning L.meaning I.decides)
             self.old n result self.new }
     {
         self.host.arm(n);

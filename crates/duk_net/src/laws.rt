@@ -2,7 +2,6 @@
 //! then moved on by events alone, and of what came of every call.
 
 ghost use Rattle.std.specs.Prelude.{◌≡◌, ℕ, All, List, Some};
-ghost use Rattle.duk_host.specs.Host.{words_of};
 ghost use Rattle.duk_net.specs.Accepted.{AcceptsOnce, KeepsAccepted};
 ghost use Rattle.duk_net.specs.Completed.{Completed};
 ghost use Rattle.duk_net.specs.declared.outcome.Outcome.{Outcome};
@@ -19,11 +18,11 @@ use duk_store::{Cell, UsedLog};
 /// No two transactions use one number, and a terminal sends none but under an initial key serial number that it owns.
 pub fn no_number_twice<C: Cell, L: UsedLog, I: Issuer>()
     ensures none_twice { (world : WorldOf C L I)
-        → Reached (meanings_of C.meaning C.worn C.arms (words_of L.meaning L.count L.capacity I.decides) L.arms) world
+        → Reached (meanings_of C.meaning L.meaning I.decides) world
         → NoneTwice world.requests }
     ensures by_owner { (old new : WorldOf C L I) (outcomes : List Outcome)
-        → Reached (meanings_of C.meaning C.worn C.arms (words_of L.meaning L.count L.capacity I.decides) L.arms) old
-        → CallLeads (meanings_of C.meaning C.worn C.arms (words_of L.meaning L.count L.capacity I.decides) L.arms)
+        → Reached (meanings_of C.meaning L.meaning I.decides) old
+        → CallLeads (meanings_of C.meaning L.meaning I.decides)
         old outcomes new
         → All (IsSentByOwner new.owners) outcomes }
 {
@@ -34,14 +33,14 @@ pub fn no_number_twice<C: Cell, L: UsedLog, I: Issuer>()
 /// No register and no image that a terminal's cell may find holds the key of a used number or of an ancestor of one.
 pub fn no_used_key<C: Cell, L: UsedLog, I: Issuer>()
     ensures above { (world : WorldOf C L I)
-        → Reached (meanings_of C.meaning C.worn C.arms (words_of L.meaning L.count L.capacity I.decides) L.arms) world
+        → Reached (meanings_of C.meaning L.meaning I.decides) world
         → All (HoldsOfTerminal
-        (meanings_of C.meaning C.worn C.arms (words_of L.meaning L.count L.capacity I.decides) L.arms)
+        (meanings_of C.meaning L.meaning I.decides)
         (StandsAboveUsed world.host.keys world.requests)) world.terminals }
     ensures no_used_key { (world : WorldOf C L I)
-        → Reached (meanings_of C.meaning C.worn C.arms (words_of L.meaning L.count L.capacity I.decides) L.arms) world
+        → Reached (meanings_of C.meaning L.meaning I.decides) world
         → All (HoldsOfTerminal
-        (meanings_of C.meaning C.worn C.arms (words_of L.meaning L.count L.capacity I.decides) L.arms)
+        (meanings_of C.meaning L.meaning I.decides)
         (HoldNoUsedKey world.host.keys world.requests)) world.terminals }
 {
     duk_frame::laws::one_reading();
@@ -54,12 +53,12 @@ pub fn no_used_key<C: Cell, L: UsedLog, I: Issuer>()
 /// find.
 pub fn accepted_once<C: Cell, L: UsedLog, I: Issuer>()
     ensures kept { (world : WorldOf C L I)
-        → Reached (meanings_of C.meaning C.worn C.arms (words_of L.meaning L.count L.capacity I.decides) L.arms) world
+        → Reached (meanings_of C.meaning L.meaning I.decides) world
         → KeepsAccepted
-        (meanings_of C.meaning C.worn C.arms (words_of L.meaning L.count L.capacity I.decides) L.arms) world }
+        (meanings_of C.meaning L.meaning I.decides) world }
     ensures once { (old new : WorldOf C L I) (outcomes : List Outcome)
-        → Reached (meanings_of C.meaning C.worn C.arms (words_of L.meaning L.count L.capacity I.decides) L.arms) old
-        → CallLeads (meanings_of C.meaning C.worn C.arms (words_of L.meaning L.count L.capacity I.decides) L.arms)
+        → Reached (meanings_of C.meaning L.meaning I.decides) old
+        → CallLeads (meanings_of C.meaning L.meaning I.decides)
         old outcomes new
         → AcceptsOnce old.answers outcomes }
 {
@@ -70,14 +69,14 @@ pub fn accepted_once<C: Cell, L: UsedLog, I: Issuer>()
 /// key, and a running host refuses no request that was sent but because its number is used or the log is full.
 pub fn own_key<C: Cell, L: UsedLog, I: Issuer>()
     ensures requests { (world : WorldOf C L I)
-        → Reached (meanings_of C.meaning C.worn C.arms (words_of L.meaning L.count L.capacity I.decides) L.arms) world
+        → Reached (meanings_of C.meaning L.meaning I.decides) world
         → All (IsOwnRequest world.host.keys) world.requests }
     ensures replies { (world : WorldOf C L I)
-        → Reached (meanings_of C.meaning C.worn C.arms (words_of L.meaning L.count L.capacity I.decides) L.arms) world
+        → Reached (meanings_of C.meaning L.meaning I.decides) world
         → All (IsOwnReply world.host.keys) world.answers }
     ensures refused { (old new : WorldOf C L I) (outcomes : List Outcome)
-        → Reached (meanings_of C.meaning C.worn C.arms (words_of L.meaning L.count L.capacity I.decides) L.arms) old
-        → CallLeads (meanings_of C.meaning C.worn C.arms (words_of L.meaning L.count L.capacity I.decides) L.arms)
+        → Reached (meanings_of C.meaning L.meaning I.decides) old
+        → CallLeads (meanings_of C.meaning L.meaning I.decides)
         old outcomes new
         → All IsRefusedAsUsedOrFull outcomes }
 {
@@ -92,11 +91,11 @@ pub fn own_key<C: Cell, L: UsedLog, I: Issuer>()
 /// A terminal completes only with the host's reply to the number that was pending, and each number at most once.
 pub fn completed<C: Cell, L: UsedLog, I: Issuer>()
     ensures { (old new : WorldOf C L I) (outcomes : List Outcome)
-        → Reached (meanings_of C.meaning C.worn C.arms (words_of L.meaning L.count L.capacity I.decides) L.arms) old
-        → CallLeads (meanings_of C.meaning C.worn C.arms (words_of L.meaning L.count L.capacity I.decides) L.arms)
+        → Reached (meanings_of C.meaning L.meaning I.decides) old
+        → CallLeads (meanings_of C.meaning L.meaning I.decides)
         old outcomes new
         → Completed
-        (meanings_of C.meaning C.worn C.arms (words_of L.meaning L.count L.capacity I.decides) L.arms)
+        (meanings_of C.meaning L.meaning I.decides)
         old new.terminals outcomes }
 {
     no_number_twice::<C, L, I>();
@@ -106,13 +105,13 @@ pub fn completed<C: Cell, L: UsedLog, I: Issuer>()
 /// Who owns an initial key serial number owns it for good, and the security module keeps its keys.
 pub fn what_stays<C: Cell, L: UsedLog, I: Issuer>()
     ensures owners { (old new : WorldOf C L I) (outcomes : List Outcome)
-        → Reached (meanings_of C.meaning C.worn C.arms (words_of L.meaning L.count L.capacity I.decides) L.arms) old
-        → CallLeads (meanings_of C.meaning C.worn C.arms (words_of L.meaning L.count L.capacity I.decides) L.arms)
+        → Reached (meanings_of C.meaning L.meaning I.decides) old
+        → CallLeads (meanings_of C.meaning L.meaning I.decides)
         old outcomes new
         → (iksn t : ℕ) → owner_of old.owners iksn ≡ Some t → owner_of new.owners iksn ≡ Some t }
     ensures keys { (old new : WorldOf C L I) (outcomes : List Outcome)
-        → Reached (meanings_of C.meaning C.worn C.arms (words_of L.meaning L.count L.capacity I.decides) L.arms) old
-        → CallLeads (meanings_of C.meaning C.worn C.arms (words_of L.meaning L.count L.capacity I.decides) L.arms)
+        → Reached (meanings_of C.meaning L.meaning I.decides) old
+        → CallLeads (meanings_of C.meaning L.meaning I.decides)
         old outcomes new
         → new.host.keys ≡ old.host.keys }
 {}

@@ -1,7 +1,6 @@
 //! Runs of events.
 
 ghost use Rattle.std.specs.Prelude.{◌≡◌, ◌++◌, ◌∷◌, [], ℕ, All, Some, IfOk, IfErr, OnErr};
-ghost use Rattle.duk_host.specs.Host.{words_of};
 ghost use Rattle.duk_net.specs.Accepted.{AcceptsOnce, KeepsAccepted};
 ghost use Rattle.duk_net.specs.Completed.{Completed};
 ghost use Rattle.duk_net.specs.Gained.{EachGained, HoldsOfGained};
@@ -48,10 +47,10 @@ pub fn run<const N: usize, C: Cell, L: UsedLog, I: Issuer>(
     out: &mut Vec<Outcome>,
 ) -> Result<(), NetFault>
     ensures run { IfOk result (λ _. IsRun
-        (meanings_of C.meaning C.worn C.arms (words_of L.meaning L.count L.capacity I.decides) L.arms)
+        (meanings_of C.meaning L.meaning I.decides)
         world.old events.now out.old.items out.new.items world.new) }
     ensures refused { IfErr result (RunRefused
-        (meanings_of C.meaning C.worn C.arms (words_of L.meaning L.count L.capacity I.decides) L.arms)
+        (meanings_of C.meaning L.meaning I.decides)
         world.old events.now out.old.items out.new.items world.new) }
     ensures none_twice { NoneTwice world.new.requests }
     ensures owners_stay { (iksn t : ℕ)
@@ -60,21 +59,21 @@ pub fn run<const N: usize, C: Cell, L: UsedLog, I: Issuer>(
     ensures by_owner { EachGained (IsSentByOwner world.new.owners) out.old.items out.new.items }
     ensures accepted_once { HoldsOfGained (AcceptsOnce world.old.answers) out.old.items out.new.items }
     ensures accepted_is_kept { KeepsAccepted
-        (meanings_of C.meaning C.worn C.arms (words_of L.meaning L.count L.capacity I.decides) L.arms)
+        (meanings_of C.meaning L.meaning I.decides)
         world.new }
     ensures own_requests { All (IsOwnRequest world.new.host.keys) world.new.requests }
     ensures own_replies { All (IsOwnReply world.new.host.keys) world.new.answers }
     ensures refusals { EachGained IsRefusedAsUsedOrFull out.old.items out.new.items }
     ensures completed { HoldsOfGained
         (Completed
-        (meanings_of C.meaning C.worn C.arms (words_of L.meaning L.count L.capacity I.decides) L.arms)
+        (meanings_of C.meaning L.meaning I.decides)
         world.old world.new.terminals)
         out.old.items out.new.items }
     ensures above_used { All (HoldsOfTerminal
-        (meanings_of C.meaning C.worn C.arms (words_of L.meaning L.count L.capacity I.decides) L.arms)
+        (meanings_of C.meaning L.meaning I.decides)
         (StandsAboveUsed world.new.host.keys world.new.requests)) world.new.terminals }
     ensures no_used_key { All (HoldsOfTerminal
-        (meanings_of C.meaning C.worn C.arms (words_of L.meaning L.count L.capacity I.decides) L.arms)
+        (meanings_of C.meaning L.meaning I.decides)
         (HoldNoUsedKey world.new.host.keys world.new.requests)) world.new.terminals }
 {
     laws::no_number_twice::<C, L, I>();
@@ -93,10 +92,10 @@ fn run_system<const N: usize, C: Cell, L: UsedLog, I: Issuer>(
     out: &mut Vec<Outcome>,
 ) -> Result<(), NetFault>
     ensures run { IfOk result (λ _. IsRun
-        (meanings_of C.meaning C.worn C.arms (words_of L.meaning L.count L.capacity I.decides) L.arms)
+        (meanings_of C.meaning L.meaning I.decides)
         system.old events.now out.old.items out.new.items system.new) }
     ensures refused { IfErr result (RunRefused
-        (meanings_of C.meaning C.worn C.arms (words_of L.meaning L.count L.capacity I.decides) L.arms)
+        (meanings_of C.meaning L.meaning I.decides)
         system.old events.now out.old.items out.new.items system.new) }
 {
     let mut done = 0;
@@ -116,11 +115,11 @@ fn step_into<const N: usize, C: Cell, L: UsedLog, I: Issuer>(
     out: &mut Vec<Outcome>,
 ) -> Result<(), AllocError>
     ensures step { IfOk result (λ _. IsStepInto
-        (meanings_of C.meaning C.worn C.arms (words_of L.meaning L.count L.capacity I.decides) L.arms)
+        (meanings_of C.meaning L.meaning I.decides)
         system.old event.now out.old.items out.new.items system.new) }
     ensures out { OnErr result (out.new.items ≡ out.old.items) }
     ensures left { OnErr result (IsLeft
-        (meanings_of C.meaning C.worn C.arms (words_of L.meaning L.count L.capacity I.decides) L.arms)
+        (meanings_of C.meaning L.meaning I.decides)
         system.old event.now system.new) }
 {
     out.reserve(1)?;
@@ -135,10 +134,10 @@ fn step<const N: usize, C: Cell, L: UsedLog, I: Issuer>(
     event: &Event,
 ) -> Result<Outcome, AllocError>
     ensures step { IfOk result (λ outcome. Step
-        (meanings_of C.meaning C.worn C.arms (words_of L.meaning L.count L.capacity I.decides) L.arms)
+        (meanings_of C.meaning L.meaning I.decides)
         system.old event.now outcome system.new) }
     ensures left { OnErr result (IsLeft
-        (meanings_of C.meaning C.worn C.arms (words_of L.meaning L.count L.capacity I.decides) L.arms)
+        (meanings_of C.meaning L.meaning I.decides)
         system.old event.now system.new) }
 {
     match *event {

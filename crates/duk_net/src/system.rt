@@ -1,7 +1,6 @@
 //! Terminals, host and the frames between them.
 
 ghost use Rattle.std.specs.Prelude.{◌≡◌, IfOk, OnErr};
-ghost use Rattle.duk_host.specs.Host.{words_of};
 ghost use Rattle.duk_net.specs.Arm.{ArmsTerm};
 ghost use Rattle.duk_net.specs.Begin.{Begins};
 ghost use Rattle.duk_net.specs.Down.{Downs};
@@ -56,7 +55,7 @@ impl<const N: usize, C: Cell, L: UsedLog, I: Issuer> System<N, C, L, I> {
     /// Loads a terminal with the initial key that the host's security module issues.
     pub(crate) fn load(&mut self, t: u32, iksn: Iksn) -> Result<Outcome, AllocError>
         ensures outcome { IfOk result (λ outcome. Loads
-            (meanings_of C.meaning C.worn C.arms (words_of L.meaning L.count L.capacity I.decides) L.arms)
+            (meanings_of C.meaning L.meaning I.decides)
             self.old t iksn outcome self.new) }
         ensures same { OnErr result (self.new ≡ self.old) }
     {
@@ -81,7 +80,7 @@ impl<const N: usize, C: Cell, L: UsedLog, I: Issuer> System<N, C, L, I> {
     /// Lets a terminal begin a transaction, and takes its request to the network.
     pub(crate) fn begin(&mut self, t: u32, purchase: &Purchase) -> Result<Outcome, AllocError>
         ensures outcome { IfOk result (λ outcome. Begins
-            (meanings_of C.meaning C.worn C.arms (words_of L.meaning L.count L.capacity I.decides) L.arms)
+            (meanings_of C.meaning L.meaning I.decides)
             self.old t purchase.now outcome self.new) }
         ensures same { OnErr result (self.new ≡ self.old) }
     {
@@ -115,7 +114,7 @@ impl<const N: usize, C: Cell, L: UsedLog, I: Issuer> System<N, C, L, I> {
     /// Restarts a terminal.
     pub(crate) fn restart_terminal(&mut self, t: u32) -> Outcome
         ensures { RestartsTerm
-            (meanings_of C.meaning C.worn C.arms (words_of L.meaning L.count L.capacity I.decides) L.arms)
+            (meanings_of C.meaning L.meaning I.decides)
             self.old t result self.new }
     {
         let Some(place) = place_of(t, self.terminals.len()) else {
@@ -127,7 +126,7 @@ impl<const N: usize, C: Cell, L: UsedLog, I: Issuer> System<N, C, L, I> {
     /// Arms a terminal's cell.
     pub(crate) fn arm_terminal(&mut self, t: u32, n: u32) -> Outcome
         ensures { ArmsTerm
-            (meanings_of C.meaning C.worn C.arms (words_of L.meaning L.count L.capacity I.decides) L.arms)
+            (meanings_of C.meaning L.meaning I.decides)
             self.old t n result self.new }
     {
         let Some(place) = place_of(t, self.terminals.len()) else {

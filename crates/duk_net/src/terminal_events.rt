@@ -24,7 +24,7 @@ pub(crate) fn load<C: Cell>(
     block: &[u8],
     iksn: Iksn,
 ) -> Outcome
-    ensures { TakesLoad C.meaning C.worn t (loading_of loading.now block.now iksn) result terminal.old terminal.new }
+    ensures { TakesLoad C.meaning t (loading_of loading.now block.now iksn) result terminal.old terminal.new }
 {
     match terminal.load(loading, block, iksn) {
         Ok(()) => Outcome::Loaded { t, iksn },
@@ -37,8 +37,8 @@ pub(crate) fn begin<C: Cell>(
     terminal: &mut Terminal<C>,
     purchase: &Purchase,
 ) -> Result<(Frame, Ksn), TermFault>
-    ensures sent { IfOk result (λ sent. HandsOut C.meaning C.worn purchase.now sent.0 sent.1 terminal.old terminal.new) }
-    ensures refused { IfErr result (BeginRefused C.meaning C.worn terminal.old terminal.new) }
+    ensures sent { IfOk result (λ sent. HandsOut C.meaning purchase.now sent.0 sent.1 terminal.old terminal.new) }
+    ensures refused { IfErr result (BeginRefused C.meaning terminal.old terminal.new) }
 {
     let frame = terminal.begin(purchase)?;
     let ksn = ksn_of_request(&frame);

@@ -1,7 +1,6 @@
 //! A world of terminals and one host.
 
 ghost use Rattle.std.specs.Prelude.{◌≡◌, All};
-ghost use Rattle.duk_host.specs.Host.{words_of};
 ghost use Rattle.duk_net.specs.Accepted.{KeepsAccepted};
 ghost use Rattle.duk_net.specs.First.{IsNewHost, IsNewTerminal, first_world};
 ghost use Rattle.duk_net.specs.UsedNumbers.{NoneTwice};
@@ -28,7 +27,6 @@ pub struct World<const N: usize, C: Cell, L: UsedLog, I: Issuer> {
 }
 
 impl<const N: usize, C: Cell, L: UsedLog, I: Issuer> Model for World<N, C, L, I> {
-    ghost use Rattle.duk_host.specs.Host.{words_of};
     ghost use Rattle.duk_net.specs.Reached.{Reached};
     ghost use Rattle.duk_net.specs.World.{WorldOf, meanings_of};
 
@@ -37,7 +35,7 @@ impl<const N: usize, C: Cell, L: UsedLog, I: Issuer> Model for World<N, C, L, I>
     ghost view = { λ world. world.system };
 
     ghost invariant = { λ world. Reached
-        (meanings_of C.meaning C.worn C.arms (words_of L.meaning L.count L.capacity I.decides) L.arms)
+        (meanings_of C.meaning L.meaning I.decides)
         world.system };
 }
 
@@ -52,22 +50,22 @@ impl<const N: usize, C: Cell, L: UsedLog, I: Issuer> World<N, C, L, I> {
         terminals: Vec<Terminal<C>>,
     ) -> Self
         requires host { IsNewHost
-            (meanings_of C.meaning C.worn C.arms (words_of L.meaning L.count L.capacity I.decides) L.arms) host }
+            (meanings_of C.meaning L.meaning I.decides) host }
         requires terminals { All (IsNewTerminal
-            (meanings_of C.meaning C.worn C.arms (words_of L.meaning L.count L.capacity I.decides) L.arms))
+            (meanings_of C.meaning L.meaning I.decides))
             terminals.items }
         ensures first { result ≡ first_world host loading terminals.items }
         ensures none_twice { NoneTwice result.requests }
         ensures accepted_is_kept { KeepsAccepted
-            (meanings_of C.meaning C.worn C.arms (words_of L.meaning L.count L.capacity I.decides) L.arms)
+            (meanings_of C.meaning L.meaning I.decides)
             result }
         ensures own_requests { All (IsOwnRequest result.host.keys) result.requests }
         ensures own_replies { All (IsOwnReply result.host.keys) result.answers }
         ensures above_used { All (HoldsOfTerminal
-            (meanings_of C.meaning C.worn C.arms (words_of L.meaning L.count L.capacity I.decides) L.arms)
+            (meanings_of C.meaning L.meaning I.decides)
             (StandsAboveUsed result.host.keys result.requests)) result.terminals }
         ensures no_used_key { All (HoldsOfTerminal
-            (meanings_of C.meaning C.worn C.arms (words_of L.meaning L.count L.capacity I.decides) L.arms)
+            (meanings_of C.meaning L.meaning I.decides)
             (HoldNoUsedKey result.host.keys result.requests)) result.terminals }
     {
         laws::no_number_twice::<C, L, I>();

@@ -1,7 +1,7 @@
 -- What a script does over stores in memory, and what is written of it: this project's own.
-use Rattle.std.specs.Prelude.{Some, slice_get, ◌≡◌, ◌⊎◌, ◌+◌, ◌++◌, ◌∷◌, zero, suc, ℕ, List, [], None, length, replicate, take}
+use Rattle.std.specs.Prelude.{Some, slice_get, ◌≡◌, ◌⊎◌, ◌+◌, ◌++◌, ◌∷◌, zero, suc, ℕ, List, [], None, replicate, take}
 use Rattle.duk_tdes.specs.KeyBytes.{bytes_of}
-use Rattle.duk_host.specs.Host.{HostOf, words_of}
+use Rattle.duk_host.specs.Host.{HostOf}
 use Rattle.duk_host.specs.Table.{CardTable, table_decision}
 use Rattle.duk_net.specs.First.{first_world}
 use Rattle.duk_net.specs.InMemory.{new_terminal}
@@ -10,8 +10,8 @@ use Rattle.duk_net.specs.World.{Meanings, WorldOf, meanings_of}
 use Rattle.duk_net.specs.declared.event.Event.{Event}
 use Rattle.duk_net.specs.declared.event.Event.TheVariants.{RestartHost, RestartTerm}
 use Rattle.duk_net.specs.declared.outcome.Outcome.{Outcome}
-use Rattle.duk_store.specs.MemoryCell.{MemoryCell, armed_cell, memory_meaning}
-use Rattle.duk_store.specs.MemoryLog.{MemoryLog, armed_log, log_meaning, new_log}
+use Rattle.duk_store.specs.MemoryCell.{MemoryCell, memory_cell_meaning}
+use Rattle.duk_store.specs.MemoryLog.{MemoryLog, memory_log_meaning, new_log}
 use Rattle.duk_config.specs.ConfigFile.{IsConfigFault, IsConfigFile}
 use Rattle.duk_config.specs.Opened.{keys_for}
 use Rattle.duk_script.specs.OutcomeText.{lines_of}
@@ -28,8 +28,7 @@ MemoryWorld = WorldOf MemoryCell MemoryLog CardTable
 
 -- what its stores and its issuer mean
 abbrev pub in_memory : Meanings MemoryCell MemoryLog CardTable
-in_memory = meanings_of memory_meaning (λ cell. ⊥) (λ old steps new. new ≡ armed_cell steps old)
-    (words_of log_meaning (λ log. length log.numbers) (λ log. log.capacity) table_decision) (λ old steps new. new ≡ armed_log steps old)
+in_memory = meanings_of memory_cell_meaning memory_log_meaning table_decision
 
 -- the host of a configuration, as it is made
 abbrev pub new_host_of : List ℕ → Settings → HostOf MemoryLog CardTable

@@ -6,8 +6,8 @@ use Rattle.duk_frame.specs.declared.request.Request.{Request}
 use Rattle.duk_mac.specs.Retail.{retail_of}
 use Rattle.duk_pin.specs.PinBlock.{IsPinBlock, pin_block}
 use Rattle.duk_regs.specs.Registers.{RegisterSet, StandsFor, IsTaken}
-use Rattle.duk_store.specs.Cell.{Kept, IsPut, PutFailed}
-use Rattle.duk_store.specs.Meaning.{Meaning, FindsWithin}
+use Rattle.duk_store.specs.Cell.{CellMeaning, IsPut, PutFailed}
+use Rattle.duk_store.specs.StoreState.{FindsWithin}
 use Rattle.duk_store.specs.declared.fault.StoreFault.{StoreFault}
 use Rattle.duk_tree.specs.Derivation.{request_key_of, response_key_of, transaction_key_of}
 use Rattle.duk_tree.specs.Next.{spent_counter}
@@ -53,7 +53,7 @@ requested set key purchase =
     }
 
 -- a request goes out: it is that of the number taken, and the image of the registers that are left is kept
-pub record IsBegun {C : Type 0} (meaning : C → Meaning Kept) (worn : C → Type 0) (purchase : Purchase) (old new : Term C) (frame : List ℕ) : Type 0 where
+pub record IsBegun {C : Type 0} (meaning : CellMeaning C) (purchase : Purchase) (old new : Term C) (frame : List ℕ) : Type 0 where
   pub set : RegisterSet
   pub key : List ℕ
   pub left : RegisterSet
@@ -63,32 +63,32 @@ pub record IsBegun {C : Type 0} (meaning : C → Meaning Kept) (worn : C → Typ
   pub pin_is_readable : IsPinBlock purchase.pin purchase.pan (pin_block purchase.pin purchase.pan)
   pub frame_is : frame ≡ payment_request key (serial_of set) purchase.pan purchase.pin purchase.amount
   pub state_is : new.state ≡ Loaded left (Some (pending_of set key))
-  pub kept : IsPut (meaning old.cell) (worn old.cell) (meaning new.cell) (body_bytes left)
+  pub kept : IsPut meaning old.cell new.cell (body_bytes left)
 
 -- no request goes out, since the image was not kept: the terminal is stopped, and a restart would find the image of the registers before
 -- the number was taken, or after
-pub record BeginStopped {C : Type 0} (meaning : C → Meaning Kept) (worn : C → Type 0) (old new : Term C) (why : StoreFault) : Type 0 where
+pub record BeginStopped {C : Type 0} (meaning : CellMeaning C) (old new : Term C) (why : StoreFault) : Type 0 where
   pub set : RegisterSet
   pub key : List ℕ
   pub left : RegisterSet
   pub takes : TakesFrom old.state set key left
   pub again : IsFoundAgain left
   pub stopped : new.state ≡ Stopped
-  pub not_kept : PutFailed (meaning old.cell) (worn old.cell) (meaning new.cell) (body_bytes left) why
-  pub within : (meaning old.cell).honest
-      → FindsWithin (meaning new.cell) (λ kept. (kept ≡ Some (body_bytes set)) ⊎ (kept ≡ Some (body_bytes left)))
+  pub not_kept : PutFailed meaning old.cell new.cell (body_bytes left) why
+  pub within : (meaning.state_of old.cell).honest
+      → FindsWithin (meaning.state_of new.cell) (λ kept. (kept ≡ Some (body_bytes set)) ⊎ (kept ≡ Some (body_bytes left)))
 
 -- a state whose registers have no number left
 abbrev pub IsSpent : State → Type 0
 IsSpent state = (set : RegisterSet) × (pending : _) × (state ≡ Loaded set pending) × (set.counter ≡ spent_counter)
 
 -- why no request goes out, and what that leaves
-abbrev pub BeginRefused : {C : Type 0} → (C → Meaning Kept) → (C → Type 0) → Term C → Term C → TermFault → Type 0
-BeginRefused meaning worn old new fault.Stopped = (old.state ≡ Stopped) × (new ≡ old)
-BeginRefused meaning worn old new fault.NotLoaded = (old.state ≡ Empty) × (new ≡ old)
-BeginRefused meaning worn old new fault.Spent = IsSpent old.state × (new ≡ old)
-BeginRefused meaning worn old new (fault.Store why) = BeginStopped meaning worn old new why
-BeginRefused meaning worn old new _ = ⊥
+abbrev pub BeginRefused : {C : Type 0} → CellMeaning C → Term C → Term C → TermFault → Type 0
+BeginRefused meaning old new fault.Stopped = (old.state ≡ Stopped) × (new ≡ old)
+BeginRefused meaning old new fault.NotLoaded = (old.state ≡ Empty) × (new ≡ old)
+BeginRefused meaning old new fault.Spent = IsSpent old.state × (new ≡ old)
+BeginRefused meaning old new (fault.Store why) = BeginStopped meaning old new why
+BeginRefused meaning old new _ = ⊥
 
 -- why no number is taken from a state
 abbrev pub IsNotTaken : State → TermFault → Type 0

@@ -1,7 +1,7 @@
 -- A terminal: what it is, and what its store holds of it. This project's own.
 use Rattle.std.specs.Prelude.{◌≡◌, true, ℕ, List, Some, None, ◌==◌, if◌then◌else◌}
-use Rattle.duk_store.specs.Cell.{Kept, PutFailed}
-use Rattle.duk_store.specs.Meaning.{Meaning, FindsOnly}
+use Rattle.duk_store.specs.Cell.{CellMeaning, Kept, PutFailed}
+use Rattle.duk_store.specs.StoreState.{StoreState, FindsOnly}
 use Rattle.duk_regs.specs.Registers.{RegisterSet}
 use Rattle.duk_tree.specs.Next.{spent_counter}
 use Rattle.duk_tree.specs.Serial.{Serial}
@@ -24,12 +24,12 @@ abbrev pub serial_of : RegisterSet → Serial
 serial_of set = record { iksn = set.iksn; counter = set.counter }
 
 -- the cell runs, and a restart would find this alone
-pub record Holds (cell : Meaning Kept) (kept : Kept) : Type 0 where
+pub record Holds (cell : StoreState Kept) (kept : Kept) : Type 0 where
   pub runs : cell.running ≡ true
   pub finds : cell.honest → FindsOnly cell kept
 
 -- what the cell of a running terminal holds: nothing, or the image of its registers
-abbrev pub Agrees : Meaning Kept → State → Type 0
+abbrev pub Agrees : StoreState Kept → State → Type 0
 Agrees cell Stopped = Unit {0}
 Agrees cell Empty = Holds cell None
 Agrees cell (Loaded set pending) = Holds cell (Some (body_bytes set))
@@ -45,6 +45,6 @@ abbrev pub HasRegisters : State → Type 0
 HasRegisters state = (set : RegisterSet) × (pending : _) × (state ≡ Loaded set pending)
 
 -- an image that was not kept: the terminal is stopped
-abbrev pub IsNotKept : {C : Type 0} → (C → Meaning Kept) → (C → Type 0) → List ℕ → Term C → Term C → TermFault → Type 0
-IsNotKept meaning worn body old new (fault.Store why) = (new.state ≡ Stopped) × PutFailed (meaning old.cell) (worn old.cell) (meaning new.cell) body why
-IsNotKept meaning worn body old new _ = ⊥
+abbrev pub IsNotKept : {C : Type 0} → CellMeaning C → List ℕ → Term C → Term C → TermFault → Type 0
+IsNotKept meaning body old new (fault.Store why) = (new.state ≡ Stopped) × PutFailed meaning old.cell new.cell body why
+IsNotKept meaning body old new _ = ⊥

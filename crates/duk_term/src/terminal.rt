@@ -1,7 +1,7 @@
 //! A terminal over its cell.
 
 ghost use Rattle.std.specs.Prelude.{◌≡◌, ℕ, IfOk, IfErr};
-ghost use Rattle.duk_store.specs.Meaning.{StaysButCalm};
+ghost use Rattle.duk_store.specs.StoreState.{StaysButCalm};
 ghost use Rattle.duk_tdes.specs.Tdes.{IsTdesLength};
 ghost use Rattle.duk_term.specs.Begin.{BeginRefused, IsBegun};
 ghost use Rattle.duk_term.specs.Body.{IsFoundAgain, body_bytes};
@@ -40,7 +40,7 @@ impl<C: Cell> Model for Terminal<C> {
 
     ghost view = { λ terminal. record { cell = terminal.cell; state = terminal.state } };
 
-    ghost invariant = { λ terminal. Agrees (C.meaning terminal.cell) terminal.state };
+    ghost invariant = { λ terminal. Agrees (C.meaning.state_of terminal.cell) terminal.state };
 }
 
 impl<C: Cell> Terminal<C> {
@@ -62,7 +62,7 @@ impl<C: Cell> Terminal<C> {
     pub fn restart(&mut self) -> Result<(), TermFault>
         ensures restarted { IfOk result (λ _. IsRestarted C.meaning self.old self.new) }
         ensures refused { IfErr result (RestartRefused C.meaning self.old self.new) }
-        ensures disarmed { C.disarmed self.new.cell }
+        ensures disarmed { C.meaning.disarmed self.new.cell }
     {
         self.state = State::Stopped;
         let kept = match self.cell.restart() {
@@ -104,9 +104,10 @@ impl<C: Cell> Terminal<C> {
     ) -> Result<(), TermFault>
         requires { IsTdesLength M }
         ensures loaded { IfOk result
-            (λ _. IsLoaded C.meaning C.worn (loading_of loading.now block.now iksn) self.old self.new) }
+            (λ _. IsLoaded C.meaning (loading_of loading.now block.now iksn) self.old self.new) }
+        ensures after_put { IfOk result (λ _. C.meaning.after_put self.new.cell) }
         ensures refused { IfErr result
-            (LoadRefused C.meaning C.worn (loading_of loading.now block.now iksn) self.old self.new) }
+            (LoadRefused C.meaning (loading_of loading.now block.now iksn) self.old self.new) }
     {
         match self.state {
             State::Stopped => return Err(TermFault::Stopped),
@@ -123,8 +124,9 @@ impl<C: Cell> Terminal<C> {
     /// Refused with, in this order: `Stopped`; `NotLoaded`; `Spent`; `Store`, where the image could not be kept, and
     /// then the terminal is stopped. The others change nothing.
     pub fn begin(&mut self, purchase: &Purchase) -> Result<Frame, TermFault>
-        ensures begun { IfOk result (λ frame. IsBegun C.meaning C.worn purchase.now self.old self.new frame.items) }
-        ensures refused { IfErr result (BeginRefused C.meaning C.worn self.old self.new) }
+        ensures begun { IfOk result (λ frame. IsBegun C.meaning purchase.now self.old self.new frame.items) }
+        ensures after_put { IfOk result (λ _. C.meaning.after_put self.new.cell) }
+        ensures refused { IfErr result (BeginRefused C.meaning self.old self.new) }
     {
         let (key, ksn, left) = self.state.take_number()?;
         let request = request_frame(&key, ksn, purchase);
@@ -138,10 +140,11 @@ impl<C: Cell> Terminal<C> {
 
     /// Keeps the image of these registers and goes on with them. Where the cell fails, the terminal is stopped.
     fn keep(&mut self, registers: Registers, pending: Option<Pending>) -> Result<(), TermFault>
-        ensures kept { IfOk result (λ _. IsPut (C.meaning self.old.cell) (C.worn self.old.cell) (C.meaning self.new.cell) (body_bytes registers)) }
+        ensures kept { IfOk result (λ _. IsPut C.meaning self.old.cell self.new.cell (body_bytes registers)) }
         ensures state { IfOk result (λ _. self.new.state ≡ state.Loaded registers pending) }
+        ensures after_put { IfOk result (λ _. C.meaning.after_put self.new.cell) }
         ensures again { IsFoundAgain registers }
-        ensures refused { IfErr result (IsNotKept C.meaning C.worn (body_bytes registers) self.old self.new) }
+        ensures refused { IfErr result (IsNotKept C.meaning (body_bytes registers) self.old self.new) }
     {
         self.state = State::Stopped;
         if let Err(fault) = self.cell.put(&body_of(&registers)) {
@@ -171,8 +174,8 @@ impl<C: Cell> Terminal<C> {
 
     /// Lets the next `steps` device steps of the cell pass and each later one fail, until a restart.
     pub fn arm(&mut self, steps: u32)
-        ensures armed { C.arms self.old.cell steps self.new.cell }
-        ensures stays { StaysButCalm (C.meaning self.old.cell) (C.meaning self.new.cell) }
+        ensures armed { C.meaning.arms self.old.cell steps self.new.cell }
+        ensures stays { StaysButCalm (C.meaning.state_of self.old.cell) (C.meaning.state_of self.new.cell) }
         ensures state { self.new.state ≡ self.old.state }
     {
         self.cell.arm(steps);

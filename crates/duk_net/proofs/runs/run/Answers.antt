@@ -1,4 +1,3 @@
-use Rattle.duk_host.specs.Host.{words_of}
 use Rattle.duk_net.specs.Gained.{HoldsOfGained}
 use Rattle.duk_net.specs.Reached.{CallLeads, Reached}
 use Rattle.duk_net.specs.World.{meanings_of}
@@ -7,11 +6,11 @@ use Rattle.duk_net.proofs.runs.run.Goals as goal
 
 -- what the call leads from and to
 leads : (g : _) (c : goal.After-run_system g)
-    → HoldsOfGained (λ outcomes. CallLeads (meanings_of g.C.Cell.meaning g.C.Cell.worn g.C.Cell.arms (words_of g.L.UsedLog.meaning g.L.UsedLog.count g.L.UsedLog.capacity g.I.Issuer.decides) g.L.UsedLog.arms) c.world.inside.system outcomes c.run_system.new.system) c.args.out.now.items c.run_system.new.out.items
+    → HoldsOfGained (λ outcomes. CallLeads (meanings_of g.C.Cell.meaning g.L.UsedLog.meaning g.I.Issuer.decides) c.world.inside.system outcomes c.run_system.new.system) c.args.out.now.items c.run_system.new.out.items
 leads g c = call_leads _ c.world.inside.system c.args.events.now c.args.out.now.items c.run_system.new.out.items c.run_system.new.system c.run_system.result c.run_system.ensures.run c.run_system.ensures.refused
 
 reached : (g : _) (c : goal.After-run_system g)
-    → Reached (meanings_of g.C.Cell.meaning g.C.Cell.worn g.C.Cell.arms (words_of g.L.UsedLog.meaning g.L.UsedLog.count g.L.UsedLog.capacity g.I.Issuer.decides) g.L.UsedLog.arms) c.run_system.new.system
+    → Reached (meanings_of g.C.Cell.meaning g.L.UsedLog.meaning g.I.Issuer.decides) c.run_system.new.system
 reached g c = let led = leads g c in reached_leads _ c.world.inside.system c.run_system.new.system led.outcomes c.world.invariant led.holds
 
 pub invariant_of-world : goal.invariant_of-world

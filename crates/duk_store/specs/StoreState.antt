@@ -1,8 +1,8 @@
--- What a store means to those above it: this project's own.
+-- The state of a store, as those above it see it: this project's own.
 use Rattle.std.specs.Prelude.{◌≡◌, ◌↔◌, Bool, true, false, ℕ}
 
 -- what may be said of a store that keeps values of one kind
-pub record Meaning (V : Type 0) : Type 1 where
+pub record StoreState (V : Type 0) : Type 1 where
   -- its medium keeps to its model, so that what is said of the values that it keeps is so
   pub honest : Type 0
   -- it was made over what its own type left in a medium of right size
@@ -17,19 +17,19 @@ pub record Meaning (V : Type 0) : Type 1 where
   pub failures : ℕ
 
 -- a restart may find this value and no other
-abbrev pub FindsOnly : {V : Type 0} → Meaning V → V → Type 0
+abbrev pub FindsOnly : {V : Type 0} → StoreState V → V → Type 0
 FindsOnly store value = (other : _) → store.found other ↔ (other ≡ value)
 
 -- a restart may find some value
-abbrev pub FindsSome : {V : Type 0} → Meaning V → Type 0
+abbrev pub FindsSome : {V : Type 0} → StoreState V → Type 0
 FindsSome {V} store = (value : V) × store.found value
 
 -- every value that a restart may find is one of these
-abbrev pub FindsWithin : {V : Type 0} → Meaning V → (V → Type 0) → Type 0
+abbrev pub FindsWithin : {V : Type 0} → StoreState V → (V → Type 0) → Type 0
 FindsWithin store values = (value : _) → store.found value → values value
 
 -- a store as it is made: a restart would find this value alone
-pub record IsNew {V : Type 0} (store : Meaning V) (value : V) : Type 0 where
+pub record IsNew {V : Type 0} (store : StoreState V) (value : V) : Type 0 where
   pub honest : store.honest
   pub sound : store.sound
   pub calm : store.calm
@@ -37,20 +37,20 @@ pub record IsNew {V : Type 0} (store : Meaning V) (value : V) : Type 0 where
   pub finds : FindsOnly store value
 
 -- what no call changes: honesty stays, and so does the soundness of an honest store; calm ends by arming alone
-pub record KeepsNature {V : Type 0} (old new : Meaning V) : Type 0 where
+pub record KeepsNature {V : Type 0} (old new : StoreState V) : Type 0 where
   pub honest : old.honest ↔ new.honest
   pub sound : old.honest → old.sound → new.sound
   pub calm : old.calm → new.calm
 
 -- a step that is done: the store runs, and a restart would find this value alone
-pub record Settles {V : Type 0} (old new : Meaning V) (value : V) : Type 0 where
+pub record Settles {V : Type 0} (old new : StoreState V) (value : V) : Type 0 where
   pub nature : KeepsNature old new
   pub no_failure : new.failures ≡ old.failures
   pub runs : new.running ≡ true
   pub finds : old.honest → FindsOnly new value
 
 -- a step that failed: the store is stopped, and a restart would find one of these values
-pub record Stops {V : Type 0} (old new : Meaning V) (values : V → Type 0) : Type 0 where
+pub record Stops {V : Type 0} (old new : StoreState V) (values : V → Type 0) : Type 0 where
   pub nature : KeepsNature old new
   pub quiet : old.calm → new.failures ≡ old.failures
   pub stopped : new.running ≡ false
@@ -58,7 +58,7 @@ pub record Stops {V : Type 0} (old new : Meaning V) (values : V → Type 0) : Ty
   pub some : old.honest → old.sound → FindsSome new
 
 -- a step that was not taken: all stays, and what was not calm is not calm
-pub record Stays {V : Type 0} (old new : Meaning V) : Type 0 where
+pub record Stays {V : Type 0} (old new : StoreState V) : Type 0 where
   pub nature : KeepsNature old new
   pub no_calmer : new.calm → old.calm
   pub no_failure : new.failures ≡ old.failures
@@ -66,12 +66,12 @@ pub record Stays {V : Type 0} (old new : Meaning V) : Type 0 where
   pub found : (value : V) → new.found value ↔ old.found value
 
 -- a call of a store that is stopped: all stays
-pub record IsAlreadyStopped {V : Type 0} (old new : Meaning V) : Type 0 where
+pub record IsAlreadyStopped {V : Type 0} (old new : StoreState V) : Type 0 where
   pub was_stopped : old.running ≡ false
   pub stays : Stays old new
 
 -- an armed store is as it was, but for calm
-pub record StaysButCalm {V : Type 0} (old new : Meaning V) : Type 0 where
+pub record StaysButCalm {V : Type 0} (old new : StoreState V) : Type 0 where
   pub honest : old.honest ↔ new.honest
   pub sound : old.honest → old.sound → new.sound
   pub no_failure : new.failures ≡ old.failures

@@ -3,14 +3,14 @@ use Rattle.std.proofs.Common.{◌≡◌, ◌++◌, [], ◌∷◌, length, refl, 
 use Rattle.duk_tree.specs.Serial.{Serial}
 use Rattle.duk_store.specs.Device.{after_two}
 use Rattle.duk_store.specs.Log.{IsAppended, LogRestarted}
-use Rattle.duk_store.specs.MemoryLog.{MemoryLog, IsMemoryAppended, log_meaning, restarted_log}
+use Rattle.duk_store.specs.MemoryLog.{MemoryLog, IsMemoryAppended, memory_log_meaning, restarted_log}
 
 -- a restart finds what is kept
-pub restarted_in_memory : (log : MemoryLog) → LogRestarted (log_meaning log) (log_meaning (restarted_log log)) (length log.numbers)
+pub restarted_in_memory : (log : MemoryLog) → LogRestarted memory_log_meaning log (restarted_log log) (length log.numbers)
 restarted_in_memory log = record { numbers = log.numbers; restarted = search rules; counted = λ honest. refl }
 
 -- an append that is done appends
-pub appended_in_memory : (old new : MemoryLog) (number : Serial) → IsMemoryAppended old new number → IsAppended (log_meaning old) (log_meaning new) number
+pub appended_in_memory : (old new : MemoryLog) (number : Serial) → IsMemoryAppended old new number → IsAppended memory_log_meaning old new number
 appended_in_memory old new number done = record {
   was_running = done.passed.runs;
   nature = record {
