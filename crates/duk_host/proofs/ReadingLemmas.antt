@@ -3,7 +3,7 @@ use Rattle.std.proofs.Common.{◌≡◌, ◌≢◌, ℕ, zero, suc, ◌+◌, ◌
 use Rattle.std.specs.List.{slice_get}
 use Rattle.std.proofs.lemmas.List.Elements.{All-nil}
 use Rattle.duk_store.specs.Log.{LogMeaning, Numbers, IsRead, ReadStopped}
-use Rattle.duk_store.specs.StoreState.{StoreState, KeepsNature, Stays}
+use Rattle.duk_store.specs.StoreState.{StoreState, FindsAsBefore, KeepsNature, Stays}
 use Rattle.duk_tree.specs.Path.{IsUsable}
 use Rattle.duk_tree.specs.Serial.{Serial}
 use Rattle.duk_host.specs.Reading.{AreBad, IsBadNumber, IsBadPlace, IsReadOne, IsReadUp, ReadOneRefused, ReadRefused}
@@ -32,31 +32,33 @@ nature_on a b c first second = record {
 stays_same : (log : StoreState Numbers) → Stays log log
 stays_same log = record {
   nature = nature_same log;
-  no_calmer = λ calm. calm;
   no_failure = refl;
   running = refl;
-  found = λ numbers. (λ found. found, λ found. found);
+  found = λ honest numbers. (λ found. found, λ found. found);
 }
+
+-- what may be found stays over two steps
+found_on : (a b c : StoreState Numbers) → KeepsNature a b → FindsAsBefore a b → FindsAsBefore b c → FindsAsBefore a c
+found_on a b c nature first second honest numbers =
+    let earlier = first honest numbers in
+    let later = second (nature.honest.0 honest) numbers in
+    (λ found. earlier.0 (later.0 found), λ found. later.1 (earlier.1 found))
 
 pub stays_on : (a b c : StoreState Numbers) → Stays a b → Stays b c → Stays a c
 stays_on a b c first second = record {
   nature = nature_on a b c first.nature second.nature;
-  no_calmer = λ calm. first.no_calmer (second.no_calmer calm);
   no_failure = second.no_failure ∙ first.no_failure;
   running = second.running ∙ first.running;
-  found = λ numbers. (λ found. (first.found numbers).0 ((second.found numbers).0 found), λ found. (second.found numbers).1 ((first.found numbers).1 found));
+  found = found_on a b c first.nature first.found second.found;
 }
 
 stopped_on : {L : Type 0} (meaning : LogMeaning L) (a b c : L) → Stays (meaning.state_of a) (meaning.state_of b) → ReadStopped meaning b c → ReadStopped meaning a c
 stopped_on meaning a b c first second = record {
   was_running = sym first.running ∙ second.was_running;
-  stops = record {
-    nature = nature_on (meaning.state_of a) (meaning.state_of b) (meaning.state_of c) first.nature second.stops.nature;
-    quiet = λ calm. second.stops.quiet (first.nature.calm calm) ∙ first.no_failure;
-    stopped = second.stops.stopped;
-    within = λ honest numbers found. (first.found numbers).0 (second.stops.within (first.nature.honest.0 honest) numbers found);
-    some = λ honest sound. second.stops.some (first.nature.honest.0 honest) (first.nature.sound honest sound);
-  };
+  nature = nature_on (meaning.state_of a) (meaning.state_of b) (meaning.state_of c) first.nature second.nature;
+  not_calm = λ calm. second.not_calm (first.nature.calm calm);
+  stopped = second.stopped;
+  found = found_on (meaning.state_of a) (meaning.state_of b) (meaning.state_of c) first.nature first.found second.found;
   failure = λ same. second.failure (same ∙ sym first.no_failure);
 }
 
@@ -71,7 +73,7 @@ read_up : {L : Type 0} (meaning : LogMeaning L) (start mid now : L) (seen : Numb
 read_up meaning start mid now seen number up read = record {
   stays = stays_on (meaning.state_of start) (meaning.state_of mid) (meaning.state_of now) up.stays read.stays;
   first = λ honest numbers found.
-      let at_place = read.number_is (up.stays.nature.honest.0 honest) numbers ((up.stays.found numbers).1 found) in
+      let at_place = read.number_is (up.stays.nature.honest.0 honest) numbers ((up.stays.found honest numbers).1 found) in
       let longer : length (seen ++ number ∷ []) ≡ length seen + 1 = length-append seen (number ∷ []) in
       ap (λ count. take count numbers) longer ∙ take_next numbers (length seen) number at_place ∙ ap (λ list. list ++ number ∷ []) (up.first honest numbers found);
 }

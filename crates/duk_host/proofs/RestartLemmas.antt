@@ -19,10 +19,10 @@ restarted_on old mid new numbers restarted stays = record {
     nature = nature_on old mid new restarted.settles.nature stays.nature;
     no_failure = stays.no_failure ∙ restarted.settles.no_failure;
     runs = stays.running ∙ restarted.settles.runs;
-    finds = λ honest other. (
-      λ found. (restarted.settles.finds honest other).0 ((stays.found other).0 found),
-      λ same. (stays.found other).1 ((restarted.settles.finds honest other).1 same),
-    );
+    finds = λ honest other.
+        let as_before = stays.found (restarted.settles.nature.honest.0 honest) other in
+        let only = restarted.settles.finds honest other in
+        (λ found. only.0 (as_before.0 found), λ same. as_before.1 (only.1 same));
   };
   was_found = restarted.was_found;
 }
@@ -35,13 +35,13 @@ failed_on meaning old mid new numbers restarted stopped =
     let nature = restarted.settles.nature in
     record {
       stops = record {
-        nature = nature_on (meaning.state_of old) (meaning.state_of mid) (meaning.state_of new) nature stopped.stops.nature;
-        quiet = λ calm. stopped.stops.quiet (nature.calm calm) ∙ restarted.settles.no_failure;
-        stopped = stopped.stops.stopped;
+        nature = nature_on (meaning.state_of old) (meaning.state_of mid) (meaning.state_of new) nature stopped.nature;
+        quiet = λ calm. absurd (stopped.not_calm (nature.calm calm));
+        stopped = stopped.stopped;
         within = λ honest other found.
-            let same = (restarted.settles.finds honest other).0 (stopped.stops.within (nature.honest.0 honest) other found) in
+            let same = (restarted.settles.finds honest other).0 ((stopped.found (nature.honest.0 honest) other).0 found) in
             subst (meaning.state_of old).found (sym same) (restarted.was_found honest);
-        some = λ honest sound. stopped.stops.some (nature.honest.0 honest) (nature.sound honest sound);
+        some = λ honest sound. (numbers, (stopped.found (nature.honest.0 honest) numbers).1 ((restarted.settles.finds honest numbers).1 refl));
       };
       fault_is = λ same. stopped.failure (same ∙ sym restarted.settles.no_failure);
     }

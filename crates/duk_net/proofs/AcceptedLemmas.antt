@@ -114,7 +114,7 @@ append_failed_grows log old new ksn store_fault.Device honest failed = record {
   ];
 }
 append_failed_grows log old new ksn store_fault.Stopped honest failed =
-    finds_as_before (log.state_of old) (log.state_of new) (failed.stays.nature.honest.0 honest) (λ numbers. (failed.stays.found numbers).0)
+    finds_as_before (log.state_of old) (log.state_of new) (failed.stays.nature.honest.0 honest) (λ numbers. (failed.stays.found honest numbers).0)
 append_failed_grows log old new ksn store_fault.Damaged honest failed = absurd failed
 append_failed_grows log old new ksn store_fault.Worn honest failed = absurd failed
 append_failed_grows log old new ksn store_fault.NoMemory honest failed = absurd failed
@@ -171,8 +171,8 @@ touched_safe m old new answers safe (host_restarted found restarted) = grown_saf
     (rw restarted.used_are (restarted.numbers, restarted.log.settles.finds safe.honest, λ ksn serial. ((restarted.lists safe.honest).members ksn serial).0))
 touched_safe m old new answers safe (host_restart_refused why refused) = restart_refused_safe m old new answers why safe refused
 touched_safe m old new answers safe (host_armed steps armed) = grown_safe m old new answers safe
-    (finds_as_before _ _ (armed.stays.honest.0 safe.honest) (λ numbers. (armed.stays.found numbers).0))
-    (rw armed.used (uses_as_before (m.host.log.state_of old.log) (m.host.log.state_of new.log) old.used armed.stays.found safe.uses))
+    (finds_as_before _ _ (armed.stays.honest.0 safe.honest) (λ numbers. (armed.stays.found safe.honest numbers).0))
+    (rw armed.used (uses_as_before (m.host.log.state_of old.log) (m.host.log.state_of new.log) old.used (armed.stays.found safe.honest) safe.uses))
 
 -- the number that a host accepts was not accepted before
 accepts_fresh : {C L I : Type 0} (m : Meanings C L I) (old new : HostOf L I) (answers : List Frame) (bytes frame : List ℕ) (ksn : Serial) → OneReading → HostKeepsAccepted m old answers

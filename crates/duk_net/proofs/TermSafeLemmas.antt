@@ -100,7 +100,7 @@ armed_safe : {C L I : Type 0} (m : Meanings C L I) (books : Books) (t steps : �
 armed_safe m books t steps before after safe arms = record {
   honest = arms.stays.honest.0 safe.honest;
   state = subst (λ state. StateSafe books t state) (sym arms.state) safe.state;
-  kept = λ kept found. safe.kept kept ((arms.stays.found kept).0 found);
+  kept = λ kept found. safe.kept kept ((arms.stays.found safe.honest kept).0 found);
 }
 
 -- a terminal that is touched stays safe

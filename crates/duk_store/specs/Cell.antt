@@ -38,11 +38,12 @@ pub record PutStopped {C : Type 0} (meaning : CellMeaning C) (old new : C) (body
   pub stops : Stops (meaning.state_of old) (meaning.state_of new) (OldOrNew (meaning.state_of old) body)
   pub failure : (meaning.state_of new).failures ≢ (meaning.state_of old).failures
 
--- a write to a cell that can take no more, and runs on
+-- a write to a cell that can take no more, and runs on: all stays, and what was not calm is not calm
 pub record PutWorn {C : Type 0} (meaning : CellMeaning C) (old new : C) : Type 0 where
   pub was_running : (meaning.state_of old).running ≡ true
   pub is_worn : meaning.worn old
   pub stays : Stays (meaning.state_of old) (meaning.state_of new)
+  pub no_calmer : (meaning.state_of new).calm → (meaning.state_of old).calm
 
 -- why a body is not kept, and what that leaves
 abbrev pub PutFailed : {C : Type 0} → CellMeaning C → C → C → List ℕ → StoreFault → Type 0

@@ -1,7 +1,7 @@
 -- What a log of used numbers means, and what its calls do to that: this project's own.
-use Rattle.std.specs.Prelude.{◌≡◌, ◌≢◌, ◌⊎◌, ◌-◌, true, ℕ, List, [], ◌∷◌, ◌++◌, length, Some, slice_get, if◌then◌else◌}
+use Rattle.std.specs.Prelude.{◌≡◌, ◌≢◌, ◌⊎◌, ◌-◌, true, false, ℕ, List, [], ◌∷◌, ◌++◌, length, Some, slice_get, if◌then◌else◌}
 use Rattle.duk_tree.specs.Serial.{Serial}
-use Rattle.duk_store.specs.StoreState.{StoreState, FindsOnly, IsAlreadyStopped, KeepsNature, Stops, Stays}
+use Rattle.duk_store.specs.StoreState.{StoreState, FindsAsBefore, FindsOnly, IsAlreadyStopped, KeepsNature, Stops, Stays}
 use Rattle.duk_store.specs.Restart.{Restarted}
 use Rattle.duk_store.specs.declared.fault.StoreFault.{StoreFault}
 use Rattle.duk_store.specs.declared.fault.StoreFault.TheVariants.{Device, Stopped}
@@ -76,10 +76,13 @@ pub record IsRead {L : Type 0} (meaning : LogMeaning L) (old new : L) (place : �
   pub stays : Stays (meaning.state_of old) (meaning.state_of new)
   pub number_is : (meaning.state_of old).honest → StandsAt (meaning.state_of old) place number
 
--- a reading in which a device step failed
+-- a reading in which a device step failed: the log is stopped, and a restart may find what it could find before
 pub record ReadStopped {L : Type 0} (meaning : LogMeaning L) (old new : L) : Type 0 where
   pub was_running : (meaning.state_of old).running ≡ true
-  pub stops : Stops (meaning.state_of old) (meaning.state_of new) (meaning.state_of old).found
+  pub nature : KeepsNature (meaning.state_of old) (meaning.state_of new)
+  pub not_calm : ¬ (meaning.state_of old).calm
+  pub stopped : (meaning.state_of new).running ≡ false
+  pub found : FindsAsBefore (meaning.state_of old) (meaning.state_of new)
   pub failure : (meaning.state_of new).failures ≢ (meaning.state_of old).failures
 
 -- why a number is not read, and what that leaves

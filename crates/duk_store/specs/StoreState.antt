@@ -57,18 +57,22 @@ pub record Stops {V : Type 0} (old new : StoreState V) (values : V → Type 0) :
   pub within : old.honest → FindsWithin new values
   pub some : old.honest → old.sound → FindsSome new
 
--- a step that was not taken: all stays, and what was not calm is not calm
+-- of an honest store: a restart may find what it could find before
+abbrev pub FindsAsBefore : {V : Type 0} → StoreState V → StoreState V → Type 0
+FindsAsBefore old new = old.honest → (value : _) → new.found value ↔ old.found value
+
+-- a step that changes nothing of what is kept, nor whether the store runs
 pub record Stays {V : Type 0} (old new : StoreState V) : Type 0 where
   pub nature : KeepsNature old new
-  pub no_calmer : new.calm → old.calm
   pub no_failure : new.failures ≡ old.failures
   pub running : new.running ≡ old.running
-  pub found : (value : V) → new.found value ↔ old.found value
+  pub found : FindsAsBefore old new
 
--- a call of a store that is stopped: all stays
+-- a call of a store that is stopped: all stays, and what was not calm is not calm
 pub record IsAlreadyStopped {V : Type 0} (old new : StoreState V) : Type 0 where
   pub was_stopped : old.running ≡ false
   pub stays : Stays old new
+  pub no_calmer : new.calm → old.calm
 
 -- an armed store is as it was, but for calm
 pub record StaysButCalm {V : Type 0} (old new : StoreState V) : Type 0 where
@@ -76,4 +80,4 @@ pub record StaysButCalm {V : Type 0} (old new : StoreState V) : Type 0 where
   pub sound : old.honest → old.sound → new.sound
   pub no_failure : new.failures ≡ old.failures
   pub running : new.running ≡ old.running
-  pub found : (value : V) → new.found value ↔ old.found value
+  pub found : FindsAsBefore old new

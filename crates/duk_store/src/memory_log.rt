@@ -102,7 +102,17 @@ impl UsedLog for MemLog {
         }
     }
 
-    fn at(&mut self, place: u64) -> Result<Ksn, StoreFault> {
+    /// The number at a place of the list. This takes no device step, so that it is refused with `Stopped` alone.
+    fn at(&mut self, place: u64) -> Result<Ksn, StoreFault>
+        requires { self.old.device.running ≡ true → place < length self.old.numbers }
+        ensures read { IfOk result (IsRead memory_log_meaning self.old self.new place) }
+        ensures counted { IfOk result (λ _. length self.new.numbers ≡ length self.old.numbers) }
+        ensures capacity { self.new.capacity ≡ self.old.capacity }
+        ensures disarmed { memory_log_meaning.disarmed self.old → memory_log_meaning.disarmed self.new }
+        ensures failed { IfErr result (ReadFailed memory_log_meaning self.old self.new) }
+        ensures stopped { IfErr result (λ fault. fault ≡ StoreFault.Stopped) }
+        ensures same { self.new ≡ self.old }
+    {
         if !self.device.is_running() {
             return Err(StoreFault::Stopped);
         }
