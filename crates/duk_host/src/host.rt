@@ -135,9 +135,7 @@ impl<const N: usize, L: UsedLog, I: Issuer> Host<N, L, I> {
         let Some(used) = &mut self.used else {
             return Err(HostFault::Stopped);
         };
-        let Ok(_) = used.insert(ksn) else {
-            return Err(HostFault::NoMemory);
-        };
+        used.insert(ksn)?;
         if let Err(fault) = self.log.append(ksn) {
             self.used = None;
             return Err(HostFault::Store(fault));

@@ -60,9 +60,9 @@ fn take_in(used: &mut UsedNumbers, ksn: Ksn) -> Result<(), HostFault>
     if !usable(ksn.counter()) {
         return Err(HostFault::Store(StoreFault::Damaged));
     }
-    match used.insert(ksn) {
-        Ok(true) => Ok(()),
-        Ok(false) => Err(HostFault::Store(StoreFault::Damaged)),
-        Err(_) => Err(HostFault::NoMemory),
+    if used.insert(ksn)? {
+        Ok(())
+    } else {
+        Err(HostFault::Store(StoreFault::Damaged))
     }
 }

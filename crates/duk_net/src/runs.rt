@@ -102,7 +102,7 @@ fn run_system<const N: usize, C: Cell, L: UsedLog, I: Issuer>(
     for event in events {
         match step_into(system, event, out) {
             Ok(()) => done += 1,
-            Err(_) => return Err(NetFault::NoMemory { done }),
+            Err(AllocError) => return Err(NetFault::NoMemory { done }),
         }
     }
     Ok(())

@@ -44,14 +44,12 @@ impl MemLog {
         ensures refused { IfErr result (λ fault. fault ≡ StoreFault.NoMemory) }
     {
         let free = Ksn::from_bytes([0; 10]);
-        match vec![in alloc; free; capacity] {
-            Ok(places) => Ok(MemLog {
-                places,
-                len: 0,
-                device: MemoryDevice::new(),
-            }),
-            Err(_) => Err(StoreFault::NoMemory),
-        }
+        let places = vec![in alloc; free; capacity]?;
+        Ok(MemLog {
+            places,
+            len: 0,
+            device: MemoryDevice::new(),
+        })
     }
 
     /// Appends a number by its two device steps.

@@ -71,12 +71,9 @@ impl<C: Cell> Terminal<C> {
         };
         self.state = match kept {
             None => State::Empty,
-            Some(body) => match registers_in(&body) {
-                Some(registers) => State::Loaded {
-                    registers,
-                    pending: None,
-                },
-                None => return Err(TermFault::Store(StoreFault::Damaged)),
+            Some(body) => State::Loaded {
+                registers: registers_in(&body).ok_or(TermFault::Store(StoreFault::Damaged))?,
+                pending: None,
             },
         };
         Ok(())

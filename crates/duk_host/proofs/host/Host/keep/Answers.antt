@@ -10,7 +10,7 @@ invariant_of-self-in_default-append g c =
     let meaning = g.L.UsedLog.meaning in
     let holds : Holds (meaning.state_of c.self.inside.log) c.in-Some.used = subst (λ used. LogAgrees (meaning.state_of c.self.inside.log) used) c.in-Some.is c.self.invariant.holds in
     let fresh : ¬ IsUsed c.in-Some.used c.args.ksn = search rules in
-    let one_more : IsOneMore c.in-Some.used c.args.ksn c.insert.new.self = c.in-Ok.ensures.added in
+    let one_more : IsOneMore c.in-Some.used c.args.ksn c.insert.new.self = c.in_ok-insert.ensures.added in
     let taken : IsTakenIn c.in-Some.used c.args.ksn c.insert.new.self = record { serial = c.insert.ensures.serial; usable = c.requires.usable; fresh = fresh; one_more = one_more } in
     record {
       zone = c.self.invariant.zone;
@@ -19,7 +19,7 @@ invariant_of-self-in_default-append g c =
 
 pub returns-clause-kept : goal.returns-clause-kept
 returns-clause-kept g c =
-    let one_more : IsOneMore c.in-Some.used c.args.ksn c.insert.new.self = c.in-Ok.ensures.added in
+    let one_more : IsOneMore c.in-Some.used c.args.ksn c.insert.new.self = c.in_ok-insert.ensures.added in
     rw (← c.self.view_is) (record {
       used = c.in-Some.used;
       more = c.insert.new.self;
