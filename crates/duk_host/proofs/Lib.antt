@@ -1,6 +1,6 @@
-mod UsedLemmas
-mod ListLemmas
-mod ReadingLemmas
-mod HandleLemmas
-mod RestartLemmas
+mod UsedNumberSet
+mod OneNumberMore
+mod NumbersAreRead
+mod AcceptedIsAnswered
+mod RestartReadsAll
 mod JudgeLemmas

@@ -7,7 +7,8 @@ use duk_store::StoreFault;
 use std::alloc::AllocError;
 use thiserror::Error;
 
-/// Why a host does not do what it was asked. `Display` writes the name, and that of the fault inside it.
+/// Why a host does not do what it was asked. `Display` writes the name, and that of the fault
+/// inside it.
 #[derive(Debug, Clone, Copy, PartialEq, Eq, Error)]
 pub enum HostFault {
     /// Memory was refused.

@@ -2,13 +2,21 @@
 use Rattle.std.specs.Prelude.{◌≡◌, ℕ, List, [], None, All}
 use Rattle.duk_host.specs.Host.{HostOf}
 use Rattle.duk_store.specs.StoreState.{StoreState, FindsOnly}
-use Rattle.duk_term.specs.Terminal.{Term}
+use Rattle.duk_term.specs.Terminal.{TerminalOf}
 use Rattle.duk_term.specs.declared.state.State.TheVariants.{Stopped}
 use Rattle.duk_net.specs.World.{Meanings, WorldOf}
 
 -- the world of a host and terminals: nothing was sent, and nobody owns anything
-abbrev pub first_world : {C L I : Type 0} → HostOf L I → List ℕ → List (Term C) → WorldOf C L I
-first_world host loading terminals = record { host = host; loading = loading; terminals = terminals; requests = []; answers = []; owners = [] }
+abbrev pub first_world : {C L I : Type 0} → HostOf L I → List ℕ → List (TerminalOf C)
+    → WorldOf C L I
+first_world host loading terminals = record {
+  host = host;
+  loading = loading;
+  terminals = terminals;
+  requests = [];
+  answers = [];
+  owners = [];
+}
 
 -- an honest store in which nothing was ever kept: a restart finds this, which stands for nothing
 pub record IsUnused {V : Type 0} (store : StoreState V) (nothing : V) : Type 0 where
@@ -16,7 +24,8 @@ pub record IsUnused {V : Type 0} (store : StoreState V) (nothing : V) : Type 0 w
   pub finds : FindsOnly store nothing
 
 -- a terminal, newly made over an unused cell
-pub record IsNewTerminal {C L I : Type 0} (m : Meanings C L I) (terminal : Term C) : Type 0 where
+pub record IsNewTerminal
+    {C L I : Type 0} (m : Meanings C L I) (terminal : TerminalOf C) : Type 0 where
   pub stopped : terminal.state ≡ Stopped
   pub cell : IsUnused (m.cell.state_of terminal.cell) None
 

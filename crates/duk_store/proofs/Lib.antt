@@ -1,1 +1,1 @@
-pub mod MemoryLogLemmas
+pub mod MemoryLogMeaning

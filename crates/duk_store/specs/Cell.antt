@@ -32,13 +32,16 @@ abbrev pub OldOrNew : StoreState Kept → List ℕ → Kept → Type 0
 OldOrNew old body kept = old.found kept ⊎ (kept ≡ Some body)
 
 -- a write in which a device step failed
-pub record PutStopped {C : Type 0} (meaning : CellMeaning C) (old new : C) (body : List ℕ) : Type 0 where
+pub record PutStopped
+    {C : Type 0} (meaning : CellMeaning C) (old new : C) (body : List ℕ) : Type 0 where
   pub was_running : (meaning.state_of old).running ≡ true
   pub not_worn : ¬ meaning.worn old
-  pub stops : Stops (meaning.state_of old) (meaning.state_of new) (OldOrNew (meaning.state_of old) body)
+  pub stops : Stops (meaning.state_of old) (meaning.state_of new)
+      (OldOrNew (meaning.state_of old) body)
   pub failure : (meaning.state_of new).failures ≢ (meaning.state_of old).failures
 
--- a write to a cell that can take no more, and runs on: all stays, and what was not calm is not calm
+-- a write to a cell that can take no more, and runs on: all stays, and what was not calm is not
+-- calm
 pub record PutWorn {C : Type 0} (meaning : CellMeaning C) (old new : C) : Type 0 where
   pub was_running : (meaning.state_of old).running ≡ true
   pub is_worn : meaning.worn old
@@ -48,6 +51,7 @@ pub record PutWorn {C : Type 0} (meaning : CellMeaning C) (old new : C) : Type 0
 -- why a body is not kept, and what that leaves
 abbrev pub PutFailed : {C : Type 0} → CellMeaning C → C → C → List ℕ → StoreFault → Type 0
 PutFailed meaning old new body Device = PutStopped meaning old new body
-PutFailed meaning old new body Stopped = IsAlreadyStopped (meaning.state_of old) (meaning.state_of new)
+PutFailed meaning old new body Stopped =
+    IsAlreadyStopped (meaning.state_of old) (meaning.state_of new)
 PutFailed meaning old new body Worn = PutWorn meaning old new
 PutFailed meaning old new body _ = ⊥

@@ -34,7 +34,8 @@ restarted cell = record cell { device = started cell.device }
 abbrev pub armed_cell : ℕ → MemoryCell → MemoryCell
 armed_cell steps cell = record cell { device = armed steps cell.device }
 
--- what cells in memory mean: none is ever worn, and none promises anything more of itself after a write
+-- what cells in memory mean: none is ever worn, and none promises anything more of itself after a
+-- write
 abbrev pub memory_cell_meaning : CellMeaning MemoryCell
 memory_cell_meaning = record {
   state_of = memory_cell_state;

@@ -7,7 +7,8 @@ use Rattle.duk_store.specs.StoreState.{StoreState}
 use Rattle.duk_store.specs.declared.fault.StoreFault.{StoreFault}
 use Rattle.duk_store.specs.declared.fault.StoreFault.TheVariants as fault
 
--- what a log in memory is: the numbers that it keeps, for how many it has room in all, and its device
+-- what a log in memory is: the numbers that it keeps, for how many it has room in all, and its
+-- device
 pub record MemoryLog : Type 0 where
   pub numbers : Numbers
   pub capacity : ℕ
@@ -75,6 +76,7 @@ pub record IsSecondAppendStepDue (old new : MemoryLog) (number : Serial) : Type 
 
 -- why an append is not done
 abbrev pub MemoryAppendFailed : MemoryLog → MemoryLog → Serial → StoreFault → Type 0
-MemoryAppendFailed old new number fault.Device = IsFirstAppendStepDue old new ⊎ IsSecondAppendStepDue old new number
+MemoryAppendFailed old new number fault.Device =
+    IsFirstAppendStepDue old new ⊎ IsSecondAppendStepDue old new number
 MemoryAppendFailed old new number fault.Stopped = IsLogStopped old new
 MemoryAppendFailed old new number _ = ⊥

@@ -36,7 +36,8 @@ pub record IsNew {V : Type 0} (store : StoreState V) (value : V) : Type 0 where
   pub stopped : store.running ≡ false
   pub finds : FindsOnly store value
 
--- what no call changes: honesty stays, and so does the soundness of an honest store; calm ends by arming alone
+-- what no call changes: honesty stays, and so does the soundness of an honest store; calm ends by
+-- arming alone
 pub record KeepsNature {V : Type 0} (old new : StoreState V) : Type 0 where
   pub honest : old.honest ↔ new.honest
   pub sound : old.honest → old.sound → new.sound

@@ -15,23 +15,26 @@ pub type Body = [u8; BODY_LENGTH];
 
 /// A place for one body, which outlives a stop. It is made stopped, and `restart` brings it up.
 pub trait Cell: Drop {
-    /// What the cell means: its state, whether it is worn or disarmed, how `arm` leaves it, and what it promises of
-    /// itself after `put`.
+    /// What the cell means: its state, whether it is worn or disarmed, how `arm` leaves it, and
+    /// what it promises of itself after `put`.
     ghost meaning: { CellMeaning Self };
 
     /// Brings the cell up and tells what it keeps, a body or nothing yet. It disarms first.
     ///
-    /// Refused with `Device` where a device step failed, and with `Damaged` where the medium holds what no cell of this
-    /// kind leaves. The cell is stopped then.
+    /// Refused with `Device` where a device step failed, and with `Damaged` where the medium holds
+    /// what no cell of this kind leaves. The cell is stopped then.
     fn restart(&mut self) -> Result<Option<Body>, StoreFault>
-        ensures found { IfOk result (Restarted (meaning.state_of self.old) (meaning.state_of self.new)) }
-        ensures failed { IfErr result (RestartFailed (meaning.state_of self.old) (meaning.state_of self.new)) }
+        ensures found { IfOk result
+            (Restarted (meaning.state_of self.old) (meaning.state_of self.new)) }
+        ensures failed { IfErr result
+            (RestartFailed (meaning.state_of self.old) (meaning.state_of self.new)) }
         ensures disarmed { meaning.disarmed self.new };
 
     /// Keeps a body in place of what was kept.
     ///
-    /// Refused with `Stopped` where the cell is stopped, with `Worn` where it can take no further body, and both leave
-    /// it as it was; and with `Device` where a device step failed, which stops the cell.
+    /// Refused with `Stopped` where the cell is stopped, with `Worn` where it can take no further
+    /// body, and both leave it as it was; and with `Device` where a device step failed, which stops
+    /// the cell.
     fn put(&mut self, body: &Body) -> Result<(), StoreFault>
         ensures kept { IfOk result (λ _. IsPut meaning self.old self.new body.now) }
         ensures after_put { IfOk result (λ _. meaning.after_put self.new) }

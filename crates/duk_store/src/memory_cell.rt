@@ -11,8 +11,8 @@ use crate::device::MemoryDevice;
 use crate::fault::StoreFault;
 use std::marker::Model;
 
-/// A cell in memory, for trials: it can be told to fail at a device step. A write has two device steps: the first keeps
-/// the new body, the second acknowledges it.
+/// A cell in memory, for trials: it can be told to fail at a device step. A write has two device
+/// steps: the first keeps the new body, the second acknowledges it.
 #[derive(Drop)]
 pub struct MemCell {
     kept: Option<Body>,
@@ -42,8 +42,10 @@ impl Cell for MemCell {
     ghost meaning = { memory_cell_meaning };
 
     fn restart(&mut self) -> Result<Option<Body>, StoreFault>
-        ensures found { IfOk result (Restarted (memory_cell_state self.old) (memory_cell_state self.new)) }
-        ensures failed { IfErr result (RestartFailed (memory_cell_state self.old) (memory_cell_state self.new)) }
+        ensures found { IfOk result
+            (Restarted (memory_cell_state self.old) (memory_cell_state self.new)) }
+        ensures failed { IfErr result
+            (RestartFailed (memory_cell_state self.old) (memory_cell_state self.new)) }
         ensures disarmed { memory_cell_meaning.disarmed self.new }
         ensures kept { result ≡ Ok self.old.kept }
         ensures cell { self.new ≡ restarted self.old }

@@ -3,7 +3,7 @@
 ghost use Rattle.std.specs.Prelude.{◌≡◌, ◌+◌, ◌<◌, ◌≤◌, [], true, Ok, IfOk, IfErr, length};
 ghost use Rattle.duk_store.specs.StoreState.{IsNew, StaysButCalm};
 ghost use Rattle.duk_store.specs.Restart.{RestartFailed};
-ghost use Rattle.duk_store.specs.Log.{LogRestarted, IsAppended, AppendFailed, IsRead, ReadFailed, length_of, room_of};
+ghost use Rattle.duk_store.specs.Log.{LogRestarted, IsAppended, AppendFailed, IsReadAt, ReadFailed, length_of, room_of};
 ghost use Rattle.duk_store.specs.MemoryLog.{memory_log_meaning, memory_log_state, new_log, restarted_log, armed_log, IsMemoryAppended, MemoryAppendFailed};
 
 use crate::device::MemoryDevice;
@@ -13,8 +13,8 @@ use duk_tree::Ksn;
 use std::alloc::Global;
 use std::marker::Model;
 
-/// A log in memory, which can be told to fail at a device step. An append has two device steps: the first keeps the
-/// number, the second acknowledges it. Only `new` takes memory.
+/// A log in memory, which can be told to fail at a device step. An append has two device steps: the
+/// first keeps the number, the second acknowledges it. Only `new` takes memory.
 #[derive(Drop)]
 pub struct MemLog {
     /// The numbers kept, and behind them places that are free.
@@ -29,7 +29,11 @@ impl Model for MemLog {
 
     ghost Value = { MemoryLog };
 
-    ghost view = { λ log. record { numbers = take log.len log.places.items; capacity = length log.places.items; device = log.device } };
+    ghost view = { λ log. record {
+      numbers = take log.len log.places.items;
+      capacity = length log.places.items;
+      device = log.device;
+    } };
 
     ghost invariant = { λ log. log.len ≤ length log.places.items };
 }
@@ -75,7 +79,8 @@ impl UsedLog for MemLog {
         ensures found { IfOk result (LogRestarted memory_log_meaning self.old self.new) }
         ensures counted { IfOk result (λ found. length self.new.numbers ≡ found) }
         ensures capacity { self.new.capacity ≡ self.old.capacity }
-        ensures failed { IfErr result (RestartFailed (memory_log_state self.old) (memory_log_state self.new)) }
+        ensures failed { IfErr result
+            (RestartFailed (memory_log_state self.old) (memory_log_state self.new)) }
         ensures disarmed { memory_log_meaning.disarmed self.new }
         ensures kept { result ≡ Ok (length self.old.numbers) }
         ensures log { self.new ≡ restarted_log self.old }
@@ -100,13 +105,15 @@ impl UsedLog for MemLog {
         }
     }
 
-    /// The number at a place of the list. This takes no device step, so that it is refused with `Stopped` alone.
+    /// The number at a place of the list. This takes no device step, so that it is refused with
+    /// `Stopped` alone.
     fn at(&mut self, place: u64) -> Result<Ksn, StoreFault>
         requires { self.old.device.running ≡ true → place < length self.old.numbers }
-        ensures read { IfOk result (IsRead memory_log_meaning self.old self.new place) }
+        ensures read { IfOk result (IsReadAt memory_log_meaning self.old self.new place) }
         ensures counted { IfOk result (λ _. length self.new.numbers ≡ length self.old.numbers) }
         ensures capacity { self.new.capacity ≡ self.old.capacity }
-        ensures disarmed { memory_log_meaning.disarmed self.old → memory_log_meaning.disarmed self.new }
+        ensures disarmed { memory_log_meaning.disarmed self.old
+            → memory_log_meaning.disarmed self.new }
         ensures failed { IfErr result (ReadFailed memory_log_meaning self.old self.new) }
         ensures stopped { IfErr result (λ fault. fault ≡ StoreFault.Stopped) }
         ensures same { self.new ≡ self.old }
@@ -117,10 +124,11 @@ impl UsedLog for MemLog {
         Ok(self.places[place as usize])
     }
 
-    #[tactic(auto, using(crate::proofs::MemoryLogLemmas::appended_in_memory))]
+    #[tactic(auto, using(crate::proofs::MemoryLogMeaning::appended_in_memory))]
     fn append(&mut self, number: Ksn) -> Result<(), StoreFault>
         requires { self.old.device.running ≡ true → length self.old.numbers < self.old.capacity }
-        ensures appended { IfOk result (λ _. IsAppended memory_log_meaning self.old self.new number) }
+        ensures appended { IfOk result
+            (λ _. IsAppended memory_log_meaning self.old self.new number) }
         ensures counted { IfOk result (λ _. length self.new.numbers ≡ length self.old.numbers + 1) }
         ensures capacity { self.new.capacity ≡ self.old.capacity }
         ensures failed { IfErr result (AppendFailed memory_log_meaning self.old self.new number) }

@@ -7,12 +7,13 @@ use Rattle.duk_store.specs.StoreState.{FindsWithin}
 use Rattle.duk_store.specs.declared.fault.StoreFault.{StoreFault}
 use Rattle.duk_term.specs.Body.{body_bytes, IsFoundAgain}
 use Rattle.duk_term.specs.Loading.{WrapsInitialKey, WrapsOtherKey}
-use Rattle.duk_term.specs.Terminal.{Term, HasRegisters}
+use Rattle.duk_term.specs.Terminal.{TerminalOf, HasRegisters}
 use Rattle.duk_term.specs.declared.fault.TermFault.{TermFault}
 use Rattle.duk_term.specs.declared.fault.TermFault.TheVariants as fault
 use Rattle.duk_term.specs.declared.state.State.TheVariants.{Stopped, Empty, Loaded}
 
--- what a terminal is asked to load: a key block under a loading key, and an initial key serial number
+-- what a terminal is asked to load: a key block under a loading key, and an initial key serial
+-- number
 pub record Loading : Type 0 where
   pub loading_key : List ℕ
   pub block : List ℕ
@@ -31,7 +32,8 @@ pub record IsFirstSet (asked : Loading) (set : RegisterSet) : Type 0 where
   pub counter_is : set.counter ≡ 1
 
 -- a load that is done: the registers' image is kept
-pub record IsLoaded {C : Type 0} (meaning : CellMeaning C) (asked : Loading) (old new : Term C) : Type 0 where
+pub record IsTerminalLoaded
+    {C : Type 0} (meaning : CellMeaning C) (asked : Loading) (old new : TerminalOf C) : Type 0 where
   pub set : RegisterSet
   pub was_empty : old.state ≡ Empty
   pub set_is : IsFirstSet asked set
@@ -39,21 +41,28 @@ pub record IsLoaded {C : Type 0} (meaning : CellMeaning C) (asked : Loading) (ol
   pub state_is : new.state ≡ Loaded set None
   pub kept : IsPut meaning old.cell new.cell (body_bytes set)
 
--- a load whose image was not kept: the terminal is stopped, and a restart would find nothing, or that image
-pub record LoadStopped {C : Type 0} (meaning : CellMeaning C) (asked : Loading) (old new : Term C) (why : StoreFault) : Type 0 where
+-- a load whose image was not kept: the terminal is stopped, and a restart would find nothing, or
+-- that image
+pub record LoadStopped
+    {C : Type 0} (meaning : CellMeaning C) (asked : Loading) (old new : TerminalOf C)
+    (why : StoreFault) : Type 0 where
   pub set : RegisterSet
   pub was_empty : old.state ≡ Empty
   pub set_is : IsFirstSet asked set
   pub again : IsFoundAgain set
   pub stopped : new.state ≡ Stopped
   pub not_kept : PutFailed meaning old.cell new.cell (body_bytes set) why
-  pub within : (meaning.state_of old.cell).honest → FindsWithin (meaning.state_of new.cell) (λ kept. (kept ≡ None) ⊎ (kept ≡ Some (body_bytes set)))
+  pub within : (meaning.state_of old.cell).honest → FindsWithin (meaning.state_of new.cell)
+      (λ kept. (kept ≡ None) ⊎ (kept ≡ Some (body_bytes set)))
 
 -- why a load is refused, and what that leaves
-abbrev pub LoadRefused : {C : Type 0} → CellMeaning C → Loading → Term C → Term C → TermFault → Type 0
+abbrev pub LoadRefused : {C : Type 0} → CellMeaning C → Loading → TerminalOf C → TerminalOf C
+    → TermFault → Type 0
 LoadRefused meaning asked old new fault.Stopped = (old.state ≡ Stopped) × (new ≡ old)
 LoadRefused meaning asked old new fault.AlreadyLoaded = HasRegisters old.state × (new ≡ old)
-LoadRefused meaning asked old new (fault.Block why) = (old.state ≡ Empty) × IsFirstFault asked.block asked.loading_key why × (new ≡ old)
-LoadRefused meaning asked old new fault.WrongUse = (old.state ≡ Empty) × WrapsOtherKey asked.loading_key asked.block × (new ≡ old)
+LoadRefused meaning asked old new (fault.Block why) =
+    (old.state ≡ Empty) × IsFirstFault asked.block asked.loading_key why × (new ≡ old)
+LoadRefused meaning asked old new fault.WrongUse =
+    (old.state ≡ Empty) × WrapsOtherKey asked.loading_key asked.block × (new ≡ old)
 LoadRefused meaning asked old new (fault.Store why) = LoadStopped meaning asked old new why
 LoadRefused meaning asked old new _ = ⊥

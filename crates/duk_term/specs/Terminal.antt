@@ -13,9 +13,9 @@ use Rattle.duk_term.specs.declared.fault.TermFault.TheVariants as fault
 use Rattle.duk_term.specs.declared.state.State.{State}
 use Rattle.duk_term.specs.declared.state.State.TheVariants.{Stopped, Empty, Loaded}
 
--- a terminal: its cell, and its state, which is stopped, or running with nothing, or running with registers and perhaps a pending
--- transaction
-pub record Term (C : Type 0) : Type 0 where
+-- a terminal: its cell, and its state, which is stopped, or running with nothing, or running with
+-- registers and perhaps a pending transaction
+pub record TerminalOf (C : Type 0) : Type 0 where
   pub cell : C
   pub state : State
 
@@ -24,27 +24,30 @@ abbrev pub serial_of : RegisterSet → Serial
 serial_of set = record { iksn = set.iksn; counter = set.counter }
 
 -- the cell runs, and a restart would find this alone
-pub record Holds (cell : StoreState Kept) (kept : Kept) : Type 0 where
+pub record CellHolds (cell : StoreState Kept) (kept : Kept) : Type 0 where
   pub runs : cell.running ≡ true
   pub finds : cell.honest → FindsOnly cell kept
 
 -- what the cell of a running terminal holds: nothing, or the image of its registers
 abbrev pub Agrees : StoreState Kept → State → Type 0
 Agrees cell Stopped = Unit {0}
-Agrees cell Empty = Holds cell None
-Agrees cell (Loaded set pending) = Holds cell (Some (body_bytes set))
+Agrees cell Empty = CellHolds cell None
+Agrees cell (Loaded set pending) = CellHolds cell (Some (body_bytes set))
 
 -- what a terminal tells of its next number
 abbrev pub next_of : State → Next
 next_of Stopped = next.Stopped
 next_of Empty = next.Empty
-next_of (Loaded set pending) = if set.counter == spent_counter then next.Spent else next.At (serial_of set)
+next_of (Loaded set pending) =
+    if set.counter == spent_counter then next.Spent else next.At (serial_of set)
 
 -- a state with registers
 abbrev pub HasRegisters : State → Type 0
 HasRegisters state = (set : RegisterSet) × (pending : _) × (state ≡ Loaded set pending)
 
 -- an image that was not kept: the terminal is stopped
-abbrev pub IsNotKept : {C : Type 0} → CellMeaning C → List ℕ → Term C → Term C → TermFault → Type 0
-IsNotKept meaning body old new (fault.Store why) = (new.state ≡ Stopped) × PutFailed meaning old.cell new.cell body why
-IsNotKept meaning body old new _ = ⊥
+abbrev pub IsImageNotKept : {C : Type 0} → CellMeaning C → List ℕ → TerminalOf C → TerminalOf C
+    → TermFault → Type 0
+IsImageNotKept meaning body old new (fault.Store why) =
+    (new.state ≡ Stopped) × PutFailed meaning old.cell new.cell body why
+IsImageNotKept meaning body old new _ = ⊥

@@ -1,6 +1,6 @@
 use Rattle.std.proofs.Common.{◌<◌, rules, refl, ◌∙◌}
 use Rattle.std.proofs.lemmas.Result.{err_from_is_err_and}
-use Rattle.duk_host.proofs.ReadingLemmas.{next_reading, refused_reading, start_reading}
+use Rattle.duk_host.proofs.NumbersAreRead.{next_reading, refused_reading, start_reading}
 use Rattle.duk_host.proofs.reading.numbers_in.Goals as goal
 
 pub loop-place-init : goal.loop-place-init

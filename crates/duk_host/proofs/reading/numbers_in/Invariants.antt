@@ -1,5 +1,5 @@
 use Rattle.std.proofs.Common.{◌≡◌, true}
-use Rattle.duk_host.proofs.ReadingLemmas.{IsReading}
+use Rattle.duk_host.proofs.NumbersAreRead.{IsReading}
 use Rattle.duk_host.proofs.reading.numbers_in.Given as goal
 
 abbrev pub invariant-loop-place : goal.invariant-loop-place

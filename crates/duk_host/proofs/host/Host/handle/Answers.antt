@@ -1,7 +1,7 @@
 use Rattle.std.proofs.Common.{rules}
 use Rattle.duk_host.specs.Handle.{Answers, HandleRefused, IsReplied, IsToAccept, KeepRefused}
 use Rattle.duk_host.specs.Host.{HostOf, host_meaning_of}
-use Rattle.duk_host.proofs.HandleLemmas.{answers, if_err, if_ok, refuses, to_accept}
+use Rattle.duk_host.proofs.AcceptedIsAnswered.{answers, if_err, if_ok, refuses, to_accept}
 use Rattle.duk_host.proofs.host.Host.handle.Goals as goal
 
 pub accept-requires : goal.accept-requires

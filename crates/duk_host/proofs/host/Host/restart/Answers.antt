@@ -1,6 +1,6 @@
 use Rattle.std.proofs.Common.{refl}
 use Rattle.std.proofs.lemmas.Result.{err_from_is_err_and}
-use Rattle.duk_host.proofs.RestartLemmas.{holds_read, is_restarted, restart_refused}
+use Rattle.duk_host.proofs.RestartReadsAll.{holds_read, is_restarted, restart_refused}
 use Rattle.duk_host.proofs.host.Host.restart.Goals as goal
 
 pub returns-in_err-numbers_in-clause-refused : goal.returns-in_err-numbers_in-clause-refused

@@ -2,7 +2,7 @@ use Rattle.std.proofs.Common.{length, subst, take}
 use Rattle.std.proofs.lemmas.List.{length-take-le}
 use Rattle.duk_store.specs.Log.{LogRestarted}
 use Rattle.duk_store.specs.MemoryLog.{MemoryLog, memory_log_meaning}
-use Rattle.duk_store.proofs.MemoryLogLemmas.{restarted_in_memory}
+use Rattle.duk_store.proofs.MemoryLogMeaning.{restarted_in_memory}
 use Rattle.duk_store.proofs.memory_log.MemLogUsedLog.restart.Goals as goal
 
 pub returns-clause-found : goal.returns-clause-found
