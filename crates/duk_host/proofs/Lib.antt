@@ -4,3 +4,4 @@ mod NumbersAreRead
 mod AcceptedIsAnswered
 mod RestartReadsAll
 mod JudgeLemmas
+mod OneAnswer

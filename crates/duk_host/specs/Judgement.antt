@@ -149,3 +149,8 @@ pub record IsAccepted
   pub is_request : IsRequest bytes request
   pub acceptable : IsAcceptable basis request
   pub reply : IsReplyTo basis.keys basis.decides request frame
+
+-- the frame is the answer to the bytes: their refusal, or the reply to the request that they are
+abbrev pub IsAnswerTo : JudgementBasis → List ℕ → List ℕ → Type 0
+IsAnswerTo basis bytes frame =
+    IsRefusalFor basis bytes frame ⊎ ((request : Request) × IsAccepted basis bytes request frame)

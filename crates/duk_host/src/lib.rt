@@ -10,6 +10,7 @@ mod fault;
 mod host;
 mod issuer;
 mod judge;
+pub mod laws;
 mod reading;
 mod reason;
 mod reply;
