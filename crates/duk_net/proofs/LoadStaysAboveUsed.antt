@@ -75,9 +75,9 @@ stopped_safe cell books t iksn asked v why before after may safe is =
     let set : SetSafe now t is.set = first_safe books t iksn asked is.set v iksn may nothing is.set_is is.again in
     let follows = load_follows books t iksn t (came.TermFaulted v (fault.Store why)) may.owned in
     record {
-      honest = put_failed_honest cell before.cell after.cell (body_bytes is.set) why is.not_kept safe.honest;
-      state = subst (λ state. StateSafe now t state) (sym is.stopped) tt;
-      kept = λ kept found. elim (is.within safe.honest kept found) [
+      honest = put_failed_honest cell before.cell after.cell (body_bytes is.set) why is.stops.not_kept safe.honest;
+      state = subst (λ state. StateSafe now t state) (sym is.stops.stopped) tt;
+      kept = λ kept found. elim (is.stops.within safe.honest kept found) [
         | inl none ↦ subst (λ kept. KeptSafe now t kept) (sym none) (follows.nothing nothing)
         | inr some ↦ safe_body now t is.set kept set some
       ];

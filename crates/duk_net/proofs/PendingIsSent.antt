@@ -71,7 +71,7 @@ load_refused_subsides meaning asked before after fault.Stopped refused = same_su
 load_refused_subsides meaning asked before after fault.AlreadyLoaded refused = same_subsides before after refused.1
 load_refused_subsides meaning asked before after (fault.Block why) refused = same_subsides before after refused.2
 load_refused_subsides meaning asked before after fault.WrongUse refused = same_subsides before after refused.2
-load_refused_subsides meaning asked before after (fault.Store why) refused = λ pending waits. absurd (stopped_waits after.state pending refused.stopped waits)
+load_refused_subsides meaning asked before after (fault.Store why) refused = λ pending waits. absurd (stopped_waits after.state pending refused.stops.stopped waits)
 load_refused_subsides meaning asked before after _ refused = absurd refused
 
 -- a load makes nothing pending
@@ -86,7 +86,7 @@ begin_refused_subsides : {C : Type 0} (meaning : CellMeaning C) (before after : 
 begin_refused_subsides meaning before after fault.Stopped refused = same_subsides before after refused.1
 begin_refused_subsides meaning before after fault.NotLoaded refused = same_subsides before after refused.1
 begin_refused_subsides meaning before after fault.Spent refused = same_subsides before after refused.1
-begin_refused_subsides meaning before after (fault.Store why) refused = λ pending waits. absurd (stopped_waits after.state pending refused.stopped waits)
+begin_refused_subsides meaning before after (fault.Store why) refused = λ pending waits. absurd (stopped_waits after.state pending refused.stops.stopped waits)
 begin_refused_subsides meaning before after _ refused = absurd refused
 
 -- after a refused restart a terminal waits for nothing

@@ -42,9 +42,9 @@ begin_stopped_safe cell books t before after why fits safe stopped =
     let set = taken_from_safe books t before.state stopped.set stopped.left stopped.key stopped.takes safe.state in
     let left = left_is_safe books t stopped.set stopped.left stopped.key books.requests fits set stopped.takes.takes stopped.again (λ ksn used. inl used) in
     record {
-      honest = put_failed_honest cell before.cell after.cell (body_bytes stopped.left) why stopped.not_kept safe.honest;
-      state = subst (λ state. StateSafe books t state) (sym stopped.stopped) tt;
-      kept = λ kept found. elim (stopped.within safe.honest kept found) [
+      honest = put_failed_honest cell before.cell after.cell (body_bytes stopped.left) why stopped.stops.not_kept safe.honest;
+      state = subst (λ state. StateSafe books t state) (sym stopped.stops.stopped) tt;
+      kept = λ kept found. elim (stopped.stops.within safe.honest kept found) [
         | inl is ↦ safe_body books t stopped.set kept set is
         | inr is ↦ safe_body books t stopped.left kept left is
       ];

@@ -1,20 +1,19 @@
 -- Beginning a transaction: this project's own, over the transaction keys of ANSI X9.24-1:2009 annex
 -- A.
-use Rattle.std.specs.Prelude.{◌≡◌, ◌⊎◌, ℕ, List, Option, Some}
+use Rattle.std.specs.Prelude.{◌≡◌, ℕ, List, Option, Some}
 use Rattle.duk_frame.specs.Payment.{enciphered_pin, payment_request}
 use Rattle.duk_frame.specs.Request.{IsRequest, request_text}
 use Rattle.duk_frame.specs.declared.request.Request.{Request}
 use Rattle.duk_mac.specs.Retail.{retail_of}
 use Rattle.duk_pin.specs.PinBlock.{IsPinBlock, pin_block}
 use Rattle.duk_regs.specs.Registers.{RegisterSet, StandsFor, IsTaken}
-use Rattle.duk_store.specs.Cell.{CellMeaning, IsPut, PutFailed}
-use Rattle.duk_store.specs.StoreState.{FindsWithin}
+use Rattle.duk_store.specs.Cell.{CellMeaning, IsPut}
 use Rattle.duk_store.specs.declared.fault.StoreFault.{StoreFault}
 use Rattle.duk_tree.specs.Derivation.{request_key_of, response_key_of, transaction_key_of}
 use Rattle.duk_tree.specs.Next.{spent_counter}
 use Rattle.duk_tree.specs.Path.{IsUsable}
 use Rattle.duk_term.specs.Body.{body_bytes, IsFoundAgain}
-use Rattle.duk_term.specs.Terminal.{TerminalOf, serial_of}
+use Rattle.duk_term.specs.Terminal.{StopsBetween, TerminalOf, serial_of}
 use Rattle.duk_term.specs.declared.fault.TermFault.{TermFault}
 use Rattle.duk_term.specs.declared.fault.TermFault.TheVariants as fault
 use Rattle.duk_term.specs.declared.purchase.Purchase.{Purchase}
@@ -83,10 +82,7 @@ pub record BeginStopped
   pub left : RegisterSet
   pub takes : TakesFrom old.state set key left
   pub again : IsFoundAgain left
-  pub stopped : new.state ≡ Stopped
-  pub not_kept : PutFailed meaning old.cell new.cell (body_bytes left) why
-  pub within : (meaning.state_of old.cell).honest → FindsWithin (meaning.state_of new.cell)
-      (λ kept. (kept ≡ Some (body_bytes set)) ⊎ (kept ≡ Some (body_bytes left)))
+  pub stops : StopsBetween meaning (Some (body_bytes set)) left old new why
 
 -- a state whose registers have no number left
 abbrev pub IsSpent : State → Type 0

@@ -1,13 +1,12 @@
 -- Loading a terminal: this project's own.
-use Rattle.std.specs.Prelude.{◌≡◌, ◌⊎◌, ℕ, List, Some, None}
+use Rattle.std.specs.Prelude.{◌≡◌, ℕ, List, None}
 use Rattle.duk_block.specs.Faults.{IsFirstFault}
 use Rattle.duk_regs.specs.Registers.{RegisterSet, StandsFor}
-use Rattle.duk_store.specs.Cell.{CellMeaning, IsPut, PutFailed}
-use Rattle.duk_store.specs.StoreState.{FindsWithin}
+use Rattle.duk_store.specs.Cell.{CellMeaning, IsPut}
 use Rattle.duk_store.specs.declared.fault.StoreFault.{StoreFault}
 use Rattle.duk_term.specs.Body.{body_bytes, IsFoundAgain}
 use Rattle.duk_term.specs.Loading.{WrapsInitialKey, WrapsOtherKey}
-use Rattle.duk_term.specs.Terminal.{TerminalOf, HasRegisters}
+use Rattle.duk_term.specs.Terminal.{StopsBetween, TerminalOf, HasRegisters}
 use Rattle.duk_term.specs.declared.fault.TermFault.{TermFault}
 use Rattle.duk_term.specs.declared.fault.TermFault.TheVariants as fault
 use Rattle.duk_term.specs.declared.state.State.TheVariants.{Stopped, Empty, Loaded}
@@ -50,10 +49,7 @@ pub record LoadStopped
   pub was_empty : old.state ≡ Empty
   pub set_is : IsFirstSet asked set
   pub again : IsFoundAgain set
-  pub stopped : new.state ≡ Stopped
-  pub not_kept : PutFailed meaning old.cell new.cell (body_bytes set) why
-  pub within : (meaning.state_of old.cell).honest → FindsWithin (meaning.state_of new.cell)
-      (λ kept. (kept ≡ None) ⊎ (kept ≡ Some (body_bytes set)))
+  pub stops : StopsBetween meaning None set old new why
 
 -- why a load is refused, and what that leaves
 abbrev pub LoadRefused : {C : Type 0} → CellMeaning C → Loading → TerminalOf C → TerminalOf C

@@ -1,7 +1,8 @@
 -- A terminal: what it is, and what its store holds of it. This project's own.
-use Rattle.std.specs.Prelude.{◌≡◌, true, ℕ, List, Some, None, ◌==◌, if◌then◌else◌}
+use Rattle.std.specs.Prelude.{◌≡◌, ◌⊎◌, true, ℕ, List, Some, None, ◌==◌, if◌then◌else◌}
 use Rattle.duk_store.specs.Cell.{CellMeaning, Kept, PutFailed}
-use Rattle.duk_store.specs.StoreState.{StoreState, FindsOnly}
+use Rattle.duk_store.specs.declared.fault.StoreFault.{StoreFault}
+use Rattle.duk_store.specs.StoreState.{StoreState, FindsOnly, FindsWithin}
 use Rattle.duk_regs.specs.Registers.{RegisterSet}
 use Rattle.duk_tree.specs.Next.{spent_counter}
 use Rattle.duk_tree.specs.Serial.{Serial}
@@ -44,6 +45,16 @@ next_of (Loaded set pending) =
 -- a state with registers
 abbrev pub HasRegisters : State → Type 0
 HasRegisters state = (set : RegisterSet) × (pending : _) × (state ≡ Loaded set pending)
+
+-- the image of these registers was not kept: the terminal is stopped, and a restart would find what
+-- the cell held before, or that image
+pub record StopsBetween
+    {C : Type 0} (meaning : CellMeaning C) (held : Kept) (set : RegisterSet)
+    (old new : TerminalOf C) (why : StoreFault) : Type 0 where
+  pub stopped : new.state ≡ Stopped
+  pub not_kept : PutFailed meaning old.cell new.cell (body_bytes set) why
+  pub within : (meaning.state_of old.cell).honest → FindsWithin (meaning.state_of new.cell)
+      (λ kept. (kept ≡ held) ⊎ (kept ≡ Some (body_bytes set)))
 
 -- an image that was not kept: the terminal is stopped
 abbrev pub IsImageNotKept : {C : Type 0} → CellMeaning C → List ℕ → TerminalOf C → TerminalOf C
