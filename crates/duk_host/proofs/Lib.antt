@@ -1,6 +1,7 @@
-mod UsedLemmas
-mod ListLemmas
-mod ReadingLemmas
-mod HandleLemmas
-mod RestartLemmas
+mod UsedNumberSet
+mod OneNumberMore
+mod NumbersAreRead
+mod AcceptedIsAnswered
+mod RestartReadsAll
 mod JudgeLemmas
+mod OneAnswer

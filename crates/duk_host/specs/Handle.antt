@@ -5,78 +5,96 @@ use Rattle.duk_frame.specs.Request.{IsRequest}
 use Rattle.duk_store.specs.Log.{AppendFailed, IsAppended}
 use Rattle.duk_store.specs.declared.fault.StoreFault.{StoreFault}
 use Rattle.duk_tree.specs.Serial.{Serial}
-use Rattle.duk_host.specs.Host.{HostOf, Words, bench_of}
-use Rattle.duk_host.specs.Judgement.{IsAcceptable, IsAccepted, IsRefused, IsReplyTo}
+use Rattle.duk_host.specs.Host.{HostMeaning, HostOf, basis_of}
+use Rattle.duk_host.specs.Judgement.{IsAcceptable, IsAccepted, IsRefusalFor, IsReplyTo}
 use Rattle.duk_host.specs.Restart.{KeepsEnds}
 use Rattle.duk_host.specs.Used.{IsOneMore}
 use Rattle.duk_host.specs.declared.fault.HostFault.{HostFault}
 use Rattle.duk_host.specs.declared.fault.HostFault.TheVariants as fault
 
 -- a refusal: nothing changes
-pub record AnswersRefusal {L I : Type 0} (words : Words L I) (bytes : List ℕ) (old new : HostOf L I) (frame : List ℕ) : Type 0 where
+pub record AnswersRefusal
+    {L I : Type 0} (meaning : HostMeaning L I) (bytes : List ℕ) (old new : HostOf L I)
+    (frame : List ℕ) : Type 0 where
   pub used : List ℕ
   pub was_running : old.used ≡ Some used
-  pub refused : IsRefused (bench_of words old used) bytes frame
+  pub refused : IsRefusalFor (basis_of meaning old used) bytes frame
   pub same : new ≡ old
 
 -- the number is in the log, and is used
-pub record IsKept {L I : Type 0} (words : Words L I) (old new : HostOf L I) (ksn : Serial) : Type 0 where
+pub record IsNumberKept
+    {L I : Type 0} (meaning : HostMeaning L I) (old new : HostOf L I) (ksn : Serial) : Type 0 where
   pub used : List ℕ
   pub more : List ℕ
   pub were_used : old.used ≡ Some used
   pub ends : KeepsEnds old new
-  pub appended : IsAppended (words.meaning old.log) (words.meaning new.log) ksn
-  pub counted : words.count new.log ≡ words.count old.log + 1
-  pub capacity : words.capacity new.log ≡ words.capacity old.log
+  pub appended : IsAppended meaning.log old.log new.log ksn
+  pub counted : meaning.log.count new.log ≡ meaning.log.count old.log + 1
+  pub capacity : meaning.log.capacity new.log ≡ meaning.log.capacity old.log
   pub used_are : new.used ≡ Some more
   pub one_more : IsOneMore used ksn more
 
 -- a request against which a running host has no reason
-pub record IsToAccept {L I : Type 0} (words : Words L I) (old : HostOf L I) (request : Request) : Type 0 where
+pub record IsToAccept
+    {L I : Type 0} (meaning : HostMeaning L I) (old : HostOf L I) (request : Request) : Type 0 where
   pub used : List ℕ
   pub was_running : old.used ≡ Some used
-  pub acceptable : IsAcceptable (bench_of words old used) request
+  pub acceptable : IsAcceptable (basis_of meaning old used) request
 
 -- the number of a request is kept, and the frame is its reply
-pub record IsReplied {L I : Type 0} (words : Words L I) (old new : HostOf L I) (request : Request) (frame : List ℕ) : Type 0 where
-  pub kept : IsKept words old new request.ksn
-  pub reply : IsReplyTo old.keys (words.decides old.issuer) request frame
+pub record IsReplied
+    {L I : Type 0} (meaning : HostMeaning L I) (old new : HostOf L I) (request : Request)
+    (frame : List ℕ) : Type 0 where
+  pub kept : IsNumberKept meaning old new request.ksn
+  pub reply : IsReplyTo old.keys (meaning.decides old.issuer) request frame
 
 -- an accepted reply: its number is in the log before the reply goes out
-pub record AnswersReply {L I : Type 0} (words : Words L I) (bytes : List ℕ) (old new : HostOf L I) (frame : List ℕ) : Type 0 where
+pub record AnswersReply
+    {L I : Type 0} (meaning : HostMeaning L I) (bytes : List ℕ) (old new : HostOf L I)
+    (frame : List ℕ) : Type 0 where
   pub used : List ℕ
   pub request : Request
   pub was_running : old.used ≡ Some used
-  pub accepted : IsAccepted (bench_of words old used) bytes request frame
-  pub kept : IsKept words old new request.ksn
+  pub accepted : IsAccepted (basis_of meaning old used) bytes request frame
+  pub kept : IsNumberKept meaning old new request.ksn
 
 -- what a host answers
-abbrev pub Answers : {L I : Type 0} → Words L I → List ℕ → HostOf L I → HostOf L I → List ℕ → Type 0
-Answers words bytes old new frame = AnswersRefusal words bytes old new frame ⊎ AnswersReply words bytes old new frame
+abbrev pub Answers : {L I : Type 0} → HostMeaning L I → List ℕ → HostOf L I → HostOf L I → List ℕ
+    → Type 0
+Answers meaning bytes old new frame =
+    AnswersRefusal meaning bytes old new frame ⊎ AnswersReply meaning bytes old new frame
 
 -- the number was not kept: the host is stopped
-pub record IsNotKept {L I : Type 0} (words : Words L I) (old new : HostOf L I) (ksn : Serial) (why : StoreFault) : Type 0 where
+pub record IsNumberNotKept
+    {L I : Type 0} (meaning : HostMeaning L I) (old new : HostOf L I) (ksn : Serial)
+    (why : StoreFault) : Type 0 where
   pub ends : KeepsEnds old new
   pub stopped : new.used ≡ None
-  pub capacity : words.capacity new.log ≡ words.capacity old.log
-  pub not_appended : AppendFailed (words.meaning old.log) (words.meaning new.log) ksn why
+  pub capacity : meaning.log.capacity new.log ≡ meaning.log.capacity old.log
+  pub not_appended : AppendFailed meaning.log old.log new.log ksn why
 
 -- why a number is not kept, and what that leaves
-abbrev pub KeepRefused : {L I : Type 0} → Words L I → HostOf L I → HostOf L I → Serial → HostFault → Type 0
-KeepRefused words old new ksn fault.NoMemory = new ≡ old
-KeepRefused words old new ksn (fault.Store why) = IsNotKept words old new ksn why
-KeepRefused words old new ksn _ = ⊥
+abbrev pub KeepRefused : {L I : Type 0} → HostMeaning L I → HostOf L I → HostOf L I → Serial
+    → HostFault → Type 0
+KeepRefused meaning old new ksn fault.NoMemory = new ≡ old
+KeepRefused meaning old new ksn (fault.Store why) = IsNumberNotKept meaning old new ksn why
+KeepRefused meaning old new ksn _ = ⊥
 
 -- a request is to be accepted, and its number is not kept
-pub record AcceptFailed {L I : Type 0} (words : Words L I) (bytes : List ℕ) (old new : HostOf L I) (why : HostFault) : Type 0 where
+pub record AcceptFailed
+    {L I : Type 0} (meaning : HostMeaning L I) (bytes : List ℕ) (old new : HostOf L I)
+    (why : HostFault) : Type 0 where
   pub request : Request
   pub is_request : IsRequest bytes request
-  pub acceptable : IsToAccept words old request
-  pub not_kept : KeepRefused words old new request.ksn why
+  pub acceptable : IsToAccept meaning old request
+  pub not_kept : KeepRefused meaning old new request.ksn why
 
 -- why there is no answer, and what that leaves
-abbrev pub HandleRefused : {L I : Type 0} → Words L I → List ℕ → HostOf L I → HostOf L I → HostFault → Type 0
-HandleRefused words bytes old new fault.Stopped = (old.used ≡ None) × (new ≡ old)
-HandleRefused words bytes old new fault.NoMemory = AcceptFailed words bytes old new fault.NoMemory
-HandleRefused words bytes old new (fault.Store why) = AcceptFailed words bytes old new (fault.Store why)
-HandleRefused words bytes old new _ = ⊥
+abbrev pub HandleRefused : {L I : Type 0} → HostMeaning L I → List ℕ → HostOf L I → HostOf L I
+    → HostFault → Type 0
+HandleRefused meaning bytes old new fault.Stopped = (old.used ≡ None) × (new ≡ old)
+HandleRefused meaning bytes old new fault.NoMemory =
+    AcceptFailed meaning bytes old new fault.NoMemory
+HandleRefused meaning bytes old new (fault.Store why) =
+    AcceptFailed meaning bytes old new (fault.Store why)
+HandleRefused meaning bytes old new _ = ⊥

@@ -1,4 +1,5 @@
--- The judgement of a request: this project's own, over the transaction keys of ANSI X9.24-1:2009 annex A.
+-- The judgement of a request: this project's own, over the transaction keys of ANSI X9.24-1:2009
+-- annex A.
 use Rattle.std.specs.Prelude.{◌≡◌, ◌⊎◌, ◌<◌, ℕ, List, None, replicate}
 use Rattle.duk_frame.specs.Answer.{IsRefusal, IsReply, refusal_text}
 use Rattle.duk_frame.specs.Frame.{framed}
@@ -18,20 +19,23 @@ use Rattle.duk_host.specs.declared.reason.Reason.TheVariants as reason
 abbrev pub Decision : Type 0
 Decision = List ℕ → ℕ → List ℕ → Code
 
--- what requests are judged by: the keys that are held, the used numbers, for how many more there is room, and the issuer's decision
-pub record Bench : Type 1 where
+-- what requests are judged by: the keys that are held, the used numbers, for how many more there is
+-- room, and the issuer's decision
+pub record JudgementBasis : Type 1 where
   pub keys : HsmKeys
   pub used : Serial → Type 0
   pub room : ℕ
   pub decides : Decision
 
--- those things together, where the used numbers are given as the numbers that the ten bytes of key serial numbers spell
-abbrev pub bench_with : HsmKeys → List ℕ → ℕ → Decision → Bench
-bench_with keys used room decides = record { keys = keys; used = IsUsed used; room = room; decides = decides }
+-- those things together, where the used numbers are given as the numbers that the ten bytes of key
+-- serial numbers spell
+abbrev pub basis_with : HsmKeys → List ℕ → ℕ → Decision → JudgementBasis
+basis_with keys used room decides =
+    record { keys = keys; used = IsUsed used; room = room; decides = decides }
 
 -- the body of a request before its MAC
-abbrev pub text_of : Request → List ℕ
-text_of request = request_text request.ksn request.pan request.amount request.block
+abbrev pub authenticated_text : Request → List ℕ
+authenticated_text request = request_text request.ksn request.pan request.amount request.block
 
 -- the number of a reason in a refusal
 abbrev pub reason_number : Reason → ℕ
@@ -42,34 +46,37 @@ reason_number reason.BadMac = 4
 reason_number reason.Used = 5
 reason_number reason.LogFull = 6
 
--- the MAC of the request is that of its text under the transaction key's variant for requests. So its key set is held, and its counter
--- numbers a transaction
+-- the MAC of the request is that of its text under the transaction key's variant for requests. So
+-- its key set is held, and its counter numbers a transaction
 abbrev pub IsAuthentic : HsmKeys → Request → Type 0
-IsAuthentic keys request = IsRequestMac keys request.ksn (text_of request) request.mac
+IsAuthentic keys request = IsRequestMac keys request.ksn (authenticated_text request) request.mac
 
 -- the number is used
-pub record IsUsedAgain (bench : Bench) (request : Request) : Type 0 where
-  pub authentic : IsAuthentic bench.keys request
-  pub used : bench.used request.ksn
+pub record IsUsedAgain (basis : JudgementBasis) (request : Request) : Type 0 where
+  pub authentic : IsAuthentic basis.keys request
+  pub used : basis.used request.ksn
 
 -- there is no room for the number
-pub record HasNoRoom (bench : Bench) (request : Request) : Type 0 where
-  pub authentic : IsAuthentic bench.keys request
-  pub fresh : ¬ bench.used request.ksn
-  pub full : bench.room ≡ 0
+pub record HasNoRoom (basis : JudgementBasis) (request : Request) : Type 0 where
+  pub authentic : IsAuthentic basis.keys request
+  pub fresh : ¬ basis.used request.ksn
+  pub full : basis.room ≡ 0
 
 -- the least reason against the MAC of a request: each says that those before it do not hold
 abbrev pub IsReasonAgainstMac : HsmKeys → Request → Reason → Type 0
-IsReasonAgainstMac keys request reason.UnknownKeySet = key_set_of keys (prefix_of request.ksn) ≡ None
+IsReasonAgainstMac keys request reason.UnknownKeySet =
+    key_set_of keys (prefix_of request.ksn) ≡ None
 IsReasonAgainstMac keys request reason.BadCounter = HasBadCounter keys request.ksn
-IsReasonAgainstMac keys request reason.BadMac = IsOtherMac keys request.ksn (text_of request) request.mac
+IsReasonAgainstMac keys request reason.BadMac =
+    IsOtherMac keys request.ksn (authenticated_text request) request.mac
 IsReasonAgainstMac keys request _ = ⊥
 
--- the least reason against a request: one against its MAC, or else that its number is used, or else that there is no room for it
-abbrev pub IsReasonAgainst : Bench → Request → Reason → Type 0
-IsReasonAgainst bench request reason.Used = IsUsedAgain bench request
-IsReasonAgainst bench request reason.LogFull = HasNoRoom bench request
-IsReasonAgainst bench request why = IsReasonAgainstMac bench.keys request why
+-- the least reason against a request: one against its MAC, or else that its number is used, or else
+-- that there is no room for it
+abbrev pub IsReasonAgainst : JudgementBasis → Request → Reason → Type 0
+IsReasonAgainst basis request reason.Used = IsUsedAgain basis request
+IsReasonAgainst basis request reason.LogFull = HasNoRoom basis request
+IsReasonAgainst basis request why = IsReasonAgainstMac basis.keys request why
 
 -- the frame of a refusal
 abbrev pub refusal_frame : List ℕ → Reason → List ℕ
@@ -86,26 +93,27 @@ pub record IsMalformed (bytes frame : List ℕ) : Type 0 where
   pub frame_is : frame ≡ refusal_frame (replicate 10 0) reason.Malformed
 
 -- the bytes are a request that is refused
-pub record IsRefusedRequest (bench : Bench) (bytes frame : List ℕ) : Type 0 where
+pub record IsRefusedRequest (basis : JudgementBasis) (bytes frame : List ℕ) : Type 0 where
   pub request : Request
   pub reason : Reason
   pub is_request : IsRequest bytes request
-  pub refuses : IsReasonAgainst bench request reason
+  pub refuses : IsReasonAgainst basis request reason
   pub is_refusal : IsRefusal frame request.ksn (reason_number reason)
   pub frame_is : frame ≡ refusal_frame (serial_bytes request.ksn) reason
 
 -- the frame is the refusal of the bytes
-abbrev pub IsRefused : Bench → List ℕ → List ℕ → Type 0
-IsRefused bench bytes frame = IsMalformed bytes frame ⊎ IsRefusedRequest bench bytes frame
+abbrev pub IsRefusalFor : JudgementBasis → List ℕ → List ℕ → Type 0
+IsRefusalFor basis bytes frame = IsMalformed bytes frame ⊎ IsRefusedRequest basis bytes frame
 
 -- there is no reason against a request
-pub record IsAcceptable (bench : Bench) (request : Request) : Type 0 where
-  pub authentic : IsAuthentic bench.keys request
-  pub fresh : ¬ bench.used request.ksn
-  pub room : 0 < bench.room
+pub record IsAcceptable (basis : JudgementBasis) (request : Request) : Type 0 where
+  pub authentic : IsAuthentic basis.keys request
+  pub fresh : ¬ basis.used request.ksn
+  pub room : 0 < basis.room
 
 -- the issuer says this of the PIN block, under the zone key
-pub record IsDecided (keys : HsmKeys) (decides : Decision) (request : Request) (code : Code) : Type 0 where
+pub record IsDecided
+    (keys : HsmKeys) (decides : Decision) (request : Request) (code : Code) : Type 0 where
   pub block : List ℕ
   pub translated : IsTranslated keys request.ksn request.block request.pan block
   pub code_is : code ≡ decides request.pan request.amount block
@@ -117,7 +125,8 @@ pub record IsUnreadable (keys : HsmKeys) (request : Request) (code : Code) : Typ
 
 -- the code for a request
 abbrev pub IsCodeOf : HsmKeys → Decision → Request → Code → Type 0
-IsCodeOf keys decides request code = IsDecided keys decides request code ⊎ IsUnreadable keys request code
+IsCodeOf keys decides request code =
+    IsDecided keys decides request code ⊎ IsUnreadable keys request code
 
 -- the accepted reply with this code, under the transaction key of the number
 pub record IsReplyWith (keys : HsmKeys) (ksn : Serial) (code : Code) (frame : List ℕ) : Type 0 where
@@ -128,13 +137,20 @@ pub record IsReplyWith (keys : HsmKeys) (ksn : Serial) (code : Code) (frame : Li
   pub frame_is : frame ≡ payment_reply key ksn code
 
 -- the accepted reply to a request
-pub record IsReplyTo (keys : HsmKeys) (decides : Decision) (request : Request) (frame : List ℕ) : Type 0 where
+pub record IsReplyTo
+    (keys : HsmKeys) (decides : Decision) (request : Request) (frame : List ℕ) : Type 0 where
   pub code : Code
   pub code_is : IsCodeOf keys decides request code
   pub reply : IsReplyWith keys request.ksn code frame
 
 -- the bytes are a request that is accepted with this reply
-pub record IsAccepted (bench : Bench) (bytes : List ℕ) (request : Request) (frame : List ℕ) : Type 0 where
+pub record IsAccepted
+    (basis : JudgementBasis) (bytes : List ℕ) (request : Request) (frame : List ℕ) : Type 0 where
   pub is_request : IsRequest bytes request
-  pub acceptable : IsAcceptable bench request
-  pub reply : IsReplyTo bench.keys bench.decides request frame
+  pub acceptable : IsAcceptable basis request
+  pub reply : IsReplyTo basis.keys basis.decides request frame
+
+-- the frame is the answer to the bytes: their refusal, or the reply to the request that they are
+abbrev pub IsAnswerTo : JudgementBasis → List ℕ → List ℕ → Type 0
+IsAnswerTo basis bytes frame =
+    IsRefusalFor basis bytes frame ⊎ ((request : Request) × IsAccepted basis bytes request frame)

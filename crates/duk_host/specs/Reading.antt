@@ -1,7 +1,7 @@
 -- How a host reads the used numbers from its log: this project's own.
 use Rattle.std.specs.Prelude.{◌≡◌, ◌≤◌, ◌⊎◌, ℕ, List, length, take}
-use Rattle.duk_store.specs.Log.{Numbers, IsRead, ReadStopped}
-use Rattle.duk_store.specs.Meaning.{Meaning, Stays}
+use Rattle.duk_store.specs.Log.{LogMeaning, Numbers, IsReadAt, ReadStopped}
+use Rattle.duk_store.specs.StoreState.{Stays}
 use Rattle.duk_store.specs.declared.fault.StoreFault.TheVariants.{Device, Damaged}
 use Rattle.duk_tree.specs.Path.{IsUsable}
 use Rattle.duk_tree.specs.Serial.{Serial, IsSerial}
@@ -32,44 +32,56 @@ TakeInRefused used ksn (fault.Store why) = (why ≡ Damaged) × IsBadNumber used
 TakeInRefused used ksn _ = ⊥
 
 -- the number at a place of the log is read, and taken in
-pub record IsReadOne (old new : Meaning Numbers) (place : ℕ) (used more : List ℕ) : Type 0 where
+pub record IsReadOne
+    {L : Type 0} (meaning : LogMeaning L) (old new : L) (place : ℕ)
+    (used more : List ℕ) : Type 0 where
   pub number : Serial
-  pub read : IsRead old new place number
+  pub read : IsReadAt meaning old new place number
   pub taken : IsTakenIn used number more
 
 -- the number at a place of the log is read, and not to be used
-pub record IsBadPlace (old new : Meaning Numbers) (place : ℕ) (used : List ℕ) : Type 0 where
+pub record IsBadPlace
+    {L : Type 0} (meaning : LogMeaning L) (old new : L) (place : ℕ) (used : List ℕ) : Type 0 where
   pub number : Serial
-  pub read : IsRead old new place number
+  pub read : IsReadAt meaning old new place number
   pub bad : IsBadNumber used number
 
 -- why the number at a place is not taken in, and what that leaves
-abbrev pub ReadOneRefused : Meaning Numbers → Meaning Numbers → ℕ → List ℕ → HostFault → Type 0
-ReadOneRefused old new place used fault.NoMemory = Stays old new
-ReadOneRefused old new place used (fault.Store why) = ((why ≡ Device) × ReadStopped old new) ⊎ ((why ≡ Damaged) × IsBadPlace old new place used)
-ReadOneRefused old new place used _ = ⊥
+abbrev pub ReadOneRefused : {L : Type 0} → LogMeaning L → L → L → ℕ → List ℕ → HostFault → Type 0
+ReadOneRefused meaning old new place used fault.NoMemory =
+    Stays (meaning.state_of old) (meaning.state_of new)
+ReadOneRefused meaning old new place used (fault.Store why) =
+    ((why ≡ Device) × ReadStopped meaning old new)
+    ⊎ ((why ≡ Damaged) × IsBadPlace meaning old new place used)
+ReadOneRefused meaning old new place used _ = ⊥
 
 -- the first numbers of the log are these
-pub record IsReadUp (old new : Meaning Numbers) (seen : Numbers) : Type 0 where
-  pub stays : Stays old new
-  pub first : old.honest → (numbers : Numbers) → old.found numbers → take (length seen) numbers ≡ seen
+pub record IsReadUp
+    {L : Type 0} (meaning : LogMeaning L) (old new : L) (seen : Numbers) : Type 0 where
+  pub stays : Stays (meaning.state_of old) (meaning.state_of new)
+  pub first : (meaning.state_of old).honest → (numbers : Numbers)
+      → (meaning.state_of old).found numbers → take (length seen) numbers ≡ seen
 
 -- as many numbers of the log are read, and they are the used ones
-pub record AreRead (old new : Meaning Numbers) (count : ℕ) (used : List ℕ) : Type 0 where
+pub record AreRead
+    {L : Type 0} (meaning : LogMeaning L) (old new : L) (count : ℕ) (used : List ℕ) : Type 0 where
   pub seen : Numbers
-  pub read : IsReadUp old new seen
+  pub read : IsReadUp meaning old new seen
   pub counted : length seen ≡ count
   pub lists : Lists seen used
 
 -- the first numbers of the log, at most as many, are none that may be used
-pub record AreBad (old new : Meaning Numbers) (count : ℕ) : Type 0 where
+pub record AreBad {L : Type 0} (meaning : LogMeaning L) (old new : L) (count : ℕ) : Type 0 where
   pub seen : Numbers
-  pub read : IsReadUp old new seen
+  pub read : IsReadUp meaning old new seen
   pub counted : length seen ≤ count
   pub not_usable : ¬ AreUsable seen
 
 -- why the numbers of the log are not read, and what that leaves
-abbrev pub ReadRefused : Meaning Numbers → Meaning Numbers → ℕ → HostFault → Type 0
-ReadRefused old new count fault.NoMemory = Stays old new
-ReadRefused old new count (fault.Store why) = ((why ≡ Device) × ReadStopped old new) ⊎ ((why ≡ Damaged) × AreBad old new count)
-ReadRefused old new count _ = ⊥
+abbrev pub ReadAllRefused : {L : Type 0} → LogMeaning L → L → L → ℕ → HostFault → Type 0
+ReadAllRefused meaning old new count fault.NoMemory =
+    Stays (meaning.state_of old) (meaning.state_of new)
+ReadAllRefused meaning old new count (fault.Store why) =
+    ((why ≡ Device) × ReadStopped meaning old new)
+    ⊎ ((why ≡ Damaged) × AreBad meaning old new count)
+ReadAllRefused meaning old new count _ = ⊥

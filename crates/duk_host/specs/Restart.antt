@@ -1,7 +1,6 @@
 -- A host's restart: this project's own.
 use Rattle.std.specs.Prelude.{◌≡◌, ◌⊎◌, ℕ, List, Some, None, length}
-use Rattle.duk_store.specs.Log.{Numbers}
-use Rattle.duk_store.specs.Meaning.{Meaning}
+use Rattle.duk_store.specs.Log.{LogMeaning, Numbers}
 use Rattle.duk_store.specs.Restart.{Restarted, RestartFailed}
 use Rattle.duk_store.specs.declared.fault.StoreFault.{StoreFault}
 use Rattle.duk_store.specs.declared.fault.StoreFault.TheVariants.{Damaged}
@@ -15,37 +14,44 @@ pub record KeepsEnds {L I : Type 0} (old new : HostOf L I) : Type 0 where
   pub keys : new.keys ≡ old.keys
   pub issuer : new.issuer ≡ old.issuer
 
--- a restart that is done: the log's restart is, and the used numbers are those of the list that it found
-pub record IsRestarted {L I : Type 0} (meaning : L → Meaning Numbers) (old new : HostOf L I) (found : ℕ) : Type 0 where
+-- a restart that is done: the log's restart is, and the used numbers are those of the list that it
+-- found
+pub record IsHostRestarted
+    {L I : Type 0} (meaning : LogMeaning L) (old new : HostOf L I) (found : ℕ) : Type 0 where
   pub numbers : Numbers
   pub used : List ℕ
   pub ends : KeepsEnds old new
-  pub log : Restarted (meaning old.log) (meaning new.log) numbers
-  pub counted : (meaning old.log).honest → length numbers ≡ found
+  pub log : Restarted (meaning.state_of old.log) (meaning.state_of new.log) numbers
+  pub counted : (meaning.state_of old.log).honest → length numbers ≡ found
   pub used_are : new.used ≡ Some used
-  pub lists : (meaning old.log).honest → Lists numbers used
+  pub lists : (meaning.state_of old.log).honest → Lists numbers used
 
 -- the log kept a list in which a number occurs twice, or one that numbers no transaction
-pub record FoundUnusable {L I : Type 0} (meaning : L → Meaning Numbers) (old new : HostOf L I) : Type 0 where
+pub record FoundUnusable
+    {L I : Type 0} (meaning : LogMeaning L) (old new : HostOf L I) : Type 0 where
   pub numbers : Numbers
-  pub log : Restarted (meaning old.log) (meaning new.log) numbers
-  pub not_usable : (meaning old.log).honest → ¬ AreUsable numbers
+  pub log : Restarted (meaning.state_of old.log) (meaning.state_of new.log) numbers
+  pub not_usable : (meaning.state_of old.log).honest → ¬ AreUsable numbers
 
 -- a restart that failed: the host is stopped, since its log failed, or found such a list
-pub record RestartStopped {L I : Type 0} (meaning : L → Meaning Numbers) (old new : HostOf L I) (why : StoreFault) : Type 0 where
+pub record HostRestartStopped
+    {L I : Type 0} (meaning : LogMeaning L) (old new : HostOf L I) (why : StoreFault) : Type 0 where
   pub ends : KeepsEnds old new
   pub stopped : new.used ≡ None
-  pub cause : RestartFailed (meaning old.log) (meaning new.log) why ⊎ ((why ≡ Damaged) × FoundUnusable meaning old new)
+  pub cause : RestartFailed (meaning.state_of old.log) (meaning.state_of new.log) why
+      ⊎ ((why ≡ Damaged) × FoundUnusable meaning old new)
 
 -- a restart that was refused memory: the host is stopped, and its log's restart is done
-pub record RestartNoMemory {L I : Type 0} (meaning : L → Meaning Numbers) (old new : HostOf L I) : Type 0 where
+pub record HostRestartNoMemory
+    {L I : Type 0} (meaning : LogMeaning L) (old new : HostOf L I) : Type 0 where
   pub numbers : Numbers
   pub ends : KeepsEnds old new
   pub stopped : new.used ≡ None
-  pub log : Restarted (meaning old.log) (meaning new.log) numbers
+  pub log : Restarted (meaning.state_of old.log) (meaning.state_of new.log) numbers
 
 -- why a restart is refused
-abbrev pub RestartRefused : {L I : Type 0} → (L → Meaning Numbers) → HostOf L I → HostOf L I → HostFault → Type 0
-RestartRefused meaning old new (fault.Store why) = RestartStopped meaning old new why
-RestartRefused meaning old new fault.NoMemory = RestartNoMemory meaning old new
-RestartRefused meaning old new _ = ⊥
+abbrev pub HostRestartRefused : {L I : Type 0} → LogMeaning L → HostOf L I → HostOf L I → HostFault
+    → Type 0
+HostRestartRefused meaning old new (fault.Store why) = HostRestartStopped meaning old new why
+HostRestartRefused meaning old new fault.NoMemory = HostRestartNoMemory meaning old new
+HostRestartRefused meaning old new _ = ⊥

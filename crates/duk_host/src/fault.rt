@@ -1,9 +1,14 @@
 //! Why a host refuses.
 
+ghost use Rattle.std.specs.Prelude.{◌≡◌};
+ghost use Rattle.duk_host.specs.declared.fault.HostFault.TheVariants.{NoMemory};
+
 use duk_store::StoreFault;
+use std::alloc::AllocError;
 use thiserror::Error;
 
-/// Why a host does not do what it was asked. `Display` writes the name, and that of the fault inside it.
+/// Why a host does not do what it was asked. `Display` writes the name, and that of the fault
+/// inside it.
 #[derive(Debug, Clone, Copy, PartialEq, Eq, Error)]
 pub enum HostFault {
     /// Memory was refused.
@@ -27,4 +32,12 @@ pub enum HostFault {
     /// A frame is longer than any may be.
     #[error("TooLong")]
     TooLong,
+}
+
+impl From<AllocError> for HostFault {
+    ghost from_gives = { λ _ fault. fault ≡ NoMemory };
+
+    fn from(_refused: AllocError) -> HostFault {
+        HostFault::NoMemory
+    }
 }

@@ -1,12 +1,12 @@
 //! A host over its log.
 
 ghost use Rattle.std.specs.Prelude.{◌≡◌, ◌↔◌, ◌<◌, ◌-◌, None, IfOk, IfErr, IsSome, IsTrue};
-ghost use Rattle.duk_store.specs.Meaning.{StaysButCalm};
+ghost use Rattle.duk_store.specs.StoreState.{StaysButCalm};
 ghost use Rattle.duk_hsm.specs.Commands.{HasTransactionKey};
-ghost use Rattle.duk_host.specs.Handle.{Answers, HandleRefused, IsKept, IsReplied, IsToAccept, KeepRefused};
+ghost use Rattle.duk_host.specs.Handle.{Answers, HandleRefused, IsNumberKept, IsReplied, IsToAccept, KeepRefused};
 ghost use Rattle.duk_host.specs.Judgement.{IsReplyTo};
-ghost use Rattle.duk_host.specs.Host.{words_of};
-ghost use Rattle.duk_host.specs.Restart.{IsRestarted, KeepsEnds, RestartRefused};
+ghost use Rattle.duk_host.specs.Host.{host_meaning_of};
+ghost use Rattle.duk_host.specs.Restart.{IsHostRestarted, KeepsEnds, HostRestartRefused};
 ghost use Rattle.duk_host.specs.Used.{IsFreshIn, IsUsedIn};
 ghost use Rattle.duk_tree.specs.Path.{IsUsable};
 
@@ -23,8 +23,8 @@ use duk_tree::Ksn;
 use std::alloc::Global;
 use std::marker::Model;
 
-/// A host: a security module, the issuer of the cards, and the log of the used numbers. It is made stopped. While it
-/// runs, an index of the used numbers is in memory.
+/// A host: a security module, the issuer of the cards, and the log of the used numbers. It is made
+/// stopped. While it runs, an index of the used numbers is in memory.
 #[derive(Drop)]
 pub struct Host<const N: usize, L: UsedLog, I: Issuer> {
     alloc: Global,
@@ -39,13 +39,19 @@ impl<const N: usize, L: UsedLog, I: Issuer> Model for Host<N, L, I> {
 
     ghost Value = { HostOf L I };
 
-    ghost view = { λ host. record { keys = host.hsm; issuer = host.issuer; log = host.log; used = host.used } };
+    ghost view = { λ host. record {
+      keys = host.hsm;
+      issuer = host.issuer;
+      log = host.log;
+      used = host.used;
+    } };
 
-    ghost invariant = { λ host. AgreesWithLog host.hsm (L.meaning host.log) host.used };
+    ghost invariant = { λ host. AgreesWithLog host.hsm (L.meaning.state_of host.log) host.used };
 }
 
 impl<const N: usize, L: UsedLog, I: Issuer> Host<N, L, I> {
-    /// A stopped host. Its security module holds a zone key, which `has_zone` tells. This takes no memory.
+    /// A stopped host. Its security module holds a zone key, which `has_zone` tells. This takes no
+    /// memory.
     pub fn new(alloc: Global, hsm: Hsm<N>, issuer: I, log: L) -> Self
         requires zone { IsSome hsm.zone }
         ensures { result ≡ record { keys = hsm.entry; issuer = issuer; log = log; used = None } }
@@ -61,14 +67,15 @@ impl<const N: usize, L: UsedLog, I: Issuer> Host<N, L, I> {
 
     /// Brings log and host up, reads the used numbers from the log, and tells how many there are.
     ///
-    /// Refused with `Store`: of the log's fault, or with `Damaged` where a number that it keeps occurs twice or numbers
-    /// no transaction; and with `NoMemory`. The host is stopped after either.
+    /// Refused with `Store`: of the log's fault, or with `Damaged` where a number that it keeps
+    /// occurs twice or numbers no transaction; and with `NoMemory`. The host is stopped after
+    /// either.
     pub fn restart(&mut self) -> Result<u64, HostFault>
-        ensures restarted { IfOk result (IsRestarted L.meaning self.old self.new) }
-        ensures refused { IfErr result (RestartRefused L.meaning self.old self.new) }
-        ensures disarmed { L.disarmed self.new.log }
-        ensures counted { IfOk result (λ found. L.count self.new.log ≡ found) }
-        ensures capacity { L.capacity self.new.log ≡ L.capacity self.old.log }
+        ensures restarted { IfOk result (IsHostRestarted L.meaning self.old self.new) }
+        ensures refused { IfErr result (HostRestartRefused L.meaning self.old self.new) }
+        ensures disarmed { L.meaning.disarmed self.new.log }
+        ensures counted { IfOk result (λ found. L.meaning.count self.new.log ≡ found) }
+        ensures capacity { L.meaning.capacity self.new.log ≡ L.meaning.capacity self.old.log }
     {
         self.used = None;
         let kept = match self.log.restart() {
@@ -81,17 +88,20 @@ impl<const N: usize, L: UsedLog, I: Issuer> Host<N, L, I> {
 
     /// Judges the bytes of a request, and answers with a refusal or with an accepted reply.
     ///
-    /// A refusal has the least reason that holds: 1 where the bytes are no request's frame, and then its key serial
-    /// number is ten zero bytes; 2 where no key set for the key serial number is held; 3 where the counter numbers no
-    /// transaction; 4 where the MAC is not that of the request; 5 where the number is used; 6 where the log has no room.
-    /// It changes nothing and takes no memory. Else the number goes into the log before the reply is handed out, with
-    /// code 30 where the PIN block is that of no PIN, or with what the issuer says.
+    /// A refusal has the least reason that holds: 1 where the bytes are no request's frame, and
+    /// then its key serial number is ten zero bytes; 2 where no key set for the key serial number
+    /// is held; 3 where the counter numbers no transaction; 4 where the MAC is not that of the
+    /// request; 5 where the number is used; 6 where the log has no room. It changes nothing and
+    /// takes no memory. Else the number goes into the log before the reply is handed out, with code
+    /// 30 where the PIN block is that of no PIN, or with what the issuer says.
     ///
-    /// Refused with, in this order: `Stopped`; and where the request is to be accepted, `NoMemory`, which changes
-    /// nothing, and `Store`, after which the host is stopped.
+    /// Refused with, in this order: `Stopped`; and where the request is to be accepted, `NoMemory`,
+    /// which changes nothing, and `Store`, after which the host is stopped.
     pub fn handle(&mut self, bytes: &[u8]) -> Result<Frame, HostFault>
-        ensures answered { IfOk result (λ frame. Answers (words_of L.meaning L.count L.capacity I.decides) bytes.now self.old self.new frame.items) }
-        ensures refused { IfErr result (HandleRefused (words_of L.meaning L.count L.capacity I.decides) bytes.now self.old self.new) }
+        ensures answered { IfOk result (λ frame.
+            Answers (host_meaning_of L.meaning I.decides) bytes.now self.old self.new frame.items) }
+        ensures refused { IfErr result
+            (HandleRefused (host_meaning_of L.meaning I.decides) bytes.now self.old self.new) }
     {
         let Some(used) = &self.used else {
             return Err(HostFault::Stopped);
@@ -104,11 +114,12 @@ impl<const N: usize, L: UsedLog, I: Issuer> Host<N, L, I> {
 
     /// Keeps the number of a request against which there is no reason, and then replies to it.
     fn accept(&mut self, request: &Request) -> Result<Frame, HostFault>
-        requires acceptable { IsToAccept (words_of L.meaning L.count L.capacity I.decides) self.old request.now }
-        ensures replied { IfOk result
-            (λ frame. IsReplied (words_of L.meaning L.count L.capacity I.decides) self.old self.new request.now frame.items) }
+        requires acceptable { IsToAccept
+            (host_meaning_of L.meaning I.decides) self.old request.now }
+        ensures replied { IfOk result (λ frame. IsReplied
+            (host_meaning_of L.meaning I.decides) self.old self.new request.now frame.items) }
         ensures refused { IfErr result
-            (KeepRefused (words_of L.meaning L.count L.capacity I.decides) self.old self.new request.now.ksn) }
+            (KeepRefused (host_meaning_of L.meaning I.decides) self.old self.new request.now.ksn) }
     {
         self.keep(request.ksn)?;
         Ok(self.reply(request))
@@ -123,21 +134,21 @@ impl<const N: usize, L: UsedLog, I: Issuer> Host<N, L, I> {
         reply_frame(&self.hsm, request.ksn, code)
     }
 
-    /// Takes a number in as used, and appends it to the log. Where the log fails, the host is stopped.
+    /// Takes a number in as used, and appends it to the log. Where the log fails, the host is
+    /// stopped.
     fn keep(&mut self, ksn: Ksn) -> Result<(), HostFault>
         requires fresh { IsFreshIn self.old.used ksn }
         requires usable { IsUsable ksn.counter }
-        requires room { 0 < L.capacity self.old.log - L.count self.old.log }
-        ensures kept { IfOk result (λ _. IsKept (words_of L.meaning L.count L.capacity I.decides) self.old self.new ksn) }
+        requires room { 0 < L.meaning.capacity self.old.log - L.meaning.count self.old.log }
+        ensures kept { IfOk result
+            (λ _. IsNumberKept (host_meaning_of L.meaning I.decides) self.old self.new ksn) }
         ensures refused { IfErr result
-            (KeepRefused (words_of L.meaning L.count L.capacity I.decides) self.old self.new ksn) }
+            (KeepRefused (host_meaning_of L.meaning I.decides) self.old self.new ksn) }
     {
         let Some(used) = &mut self.used else {
             return Err(HostFault::Stopped);
         };
-        let Ok(_) = used.insert(ksn) else {
-            return Err(HostFault::NoMemory);
-        };
+        used.insert(ksn)?;
         if let Err(fault) = self.log.append(ksn) {
             self.used = None;
             return Err(HostFault::Store(fault));
@@ -164,10 +175,11 @@ impl<const N: usize, L: UsedLog, I: Issuer> Host<N, L, I> {
 
     /// Lets the next `steps` device steps of the log pass and each later one fail, until a restart.
     pub fn arm(&mut self, steps: u32)
-        ensures armed { L.arms self.old.log steps self.new.log }
-        ensures stays { StaysButCalm (L.meaning self.old.log) (L.meaning self.new.log) }
-        ensures counted { L.count self.new.log ≡ L.count self.old.log }
-        ensures capacity { L.capacity self.new.log ≡ L.capacity self.old.log }
+        ensures armed { L.meaning.arms self.old.log steps self.new.log }
+        ensures stays { StaysButCalm
+            (L.meaning.state_of self.old.log) (L.meaning.state_of self.new.log) }
+        ensures counted { L.meaning.count self.new.log ≡ L.meaning.count self.old.log }
+        ensures capacity { L.meaning.capacity self.new.log ≡ L.meaning.capacity self.old.log }
         ensures ends { KeepsEnds self.old self.new }
         ensures used { self.new.used ≡ self.old.used }
     {

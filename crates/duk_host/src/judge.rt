@@ -3,7 +3,7 @@
 ghost use Rattle.std.specs.Prelude.{◌≡◌, ◌≤◌, ℕ, List, IfOk, IfErr, MatchOption, length};
 ghost use Rattle.duk_frame.specs.Frame.{mac_text_of};
 ghost use Rattle.duk_frame.specs.Request.{IsRequest};
-ghost use Rattle.duk_host.specs.Judgement.{Decision, IsAcceptable, IsAuthentic, IsRefused, IsReasonAgainstMac, IsReasonAgainst, bench_with, text_of};
+ghost use Rattle.duk_host.specs.Judgement.{Decision, IsAcceptable, IsAuthentic, IsRefusalFor, IsReasonAgainstMac, IsReasonAgainst, basis_with, authenticated_text};
 
 use crate::reason::Reason;
 use crate::used::UsedNumbers;
@@ -19,10 +19,10 @@ pub(crate) fn judge<const N: usize>(
     bytes: &[u8],
 ) -> Result<Request, Frame>
     ensures acceptable { (decides : Decision)
-        → IfOk result (IsAcceptable (bench_with hsm.now used.now room decides)) }
+        → IfOk result (IsAcceptable (basis_with hsm.now used.now room decides)) }
     ensures request { IfOk result (IsRequest bytes.now) }
     ensures refused { (decides : Decision) → IfErr result
-        (λ frame. IsRefused (bench_with hsm.now used.now room decides) bytes.now frame.items) }
+        (λ frame. IsRefusalFor (basis_with hsm.now used.now room decides) bytes.now frame.items) }
 {
     let Some(request) = read_request(bytes) else {
         return Err(Reason::Malformed.frame([0; 10]));
@@ -42,10 +42,10 @@ fn reason_against<const N: usize>(
     request: &Request,
     text: &[u8],
 ) -> Option<Reason>
-    requires text { text.now ≡ text_of request.now }
+    requires text { text.now ≡ authenticated_text request.now }
     ensures { (decides : Decision) → MatchOption result
-        (IsAcceptable (bench_with hsm.now used.now room decides) request.now)
-        (IsReasonAgainst (bench_with hsm.now used.now room decides) request.now) }
+        (IsAcceptable (basis_with hsm.now used.now room decides) request.now)
+        (IsReasonAgainst (basis_with hsm.now used.now room decides) request.now) }
 {
     let reason = reason_against_mac(hsm, request, text);
     if reason.is_some() {
@@ -65,7 +65,7 @@ fn reason_against_mac<const N: usize>(
     request: &Request,
     text: &[u8],
 ) -> Option<Reason>
-    requires text { text.now ≡ text_of request.now }
+    requires text { text.now ≡ authenticated_text request.now }
     ensures { MatchOption result
         (IsAuthentic hsm.now request.now) (IsReasonAgainstMac hsm.now request.now) }
 {

@@ -1,14 +1,16 @@
 //! A payment host, keyed by TDES DUKPT (ANSI X9.24-1:2009 annex A).
 //!
-//! It judges each request by the keys of its security module and by the numbers that were used. The number of a request
-//! that is accepted is in the log before the reply goes out, so that a stop at any moment never lets a number be
-//! accepted twice. What the card's issuer says is asked of an `Issuer`.
+//! It judges each request by the keys of its security module and by the numbers that were used. The
+//! number of a request that is accepted is in the log before the reply goes out, so that a stop at
+//! any moment never lets a number be accepted twice. What the card's issuer says is asked of an
+//! `Issuer`.
 #![tactic(auto)]
 
 mod fault;
 mod host;
 mod issuer;
 mod judge;
+pub mod laws;
 mod reading;
 mod reason;
 mod reply;

@@ -3,7 +3,7 @@
 ghost use Rattle.std.specs.Prelude.{◌≡◌, ◌↔◌, [], IsTrue, IfOk, OnErr};
 ghost use Rattle.std.specs.Bool.{MatchBool};
 ghost use Rattle.duk_tree.specs.Serial.{IsSerial};
-ghost use Rattle.duk_host.specs.Used.{IsOneMore, IsUsed, number_of};
+ghost use Rattle.duk_host.specs.Used.{IsOneMore, IsUsed, serial_number};
 
 use byteorder::{BigEndian, ByteOrder};
 use duk_tree::Ksn;
@@ -45,7 +45,8 @@ impl UsedNumbers {
     /// Adds a key serial number, and tells whether it was not used before.
     pub(crate) fn insert(&mut self, ksn: Ksn) -> Result<bool, AllocError>
         ensures added { IfOk result (λ _. IsOneMore self.old ksn self.new) }
-        ensures fresh { IfOk result (λ fresh. MatchBool fresh (¬ IsUsed self.old ksn) (IsUsed self.old ksn)) }
+        ensures fresh { IfOk result
+            (λ fresh. MatchBool fresh (¬ IsUsed self.old ksn) (IsUsed self.old ksn)) }
         ensures serial { IsSerial ksn }
         ensures same { OnErr result (self.new ≡ self.old) }
     {
@@ -55,9 +56,9 @@ impl UsedNumbers {
 }
 
 /// The number that the ten bytes of a key serial number spell.
-#[tactic(auto, unfolding(crate::specs::Used::number_of))]
+#[tactic(auto, unfolding(crate::specs::Used::serial_number))]
 fn number(ksn: Ksn) -> u128
-    ensures value { result ≡ number_of ksn }
+    ensures value { result ≡ serial_number ksn }
     ensures serial { IsSerial ksn }
 {
     BigEndian::read_uint128(&ksn.bytes(), 10)

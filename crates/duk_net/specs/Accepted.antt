@@ -36,4 +36,5 @@ pub record AcceptsOnce (answers : List Frame) (outcomes : List Outcome) : Type 0
 -- each number that was accepted stands in every list that a restart of the host may find
 abbrev pub KeepsAccepted : {C L I : Type 0} → Meanings C L I → WorldOf C L I → Type 0
 KeepsAccepted m world =
-    (numbers : Numbers) → (m.host.meaning world.host.log).found numbers → (ksn : Serial) → IsAcceptedNumber world.answers ksn → Contains numbers ksn
+    (numbers : Numbers) → (m.host.log.state_of world.host.log).found numbers
+    → (ksn : Serial) → IsAcceptedNumber world.answers ksn → Contains numbers ksn

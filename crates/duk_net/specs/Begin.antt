@@ -1,35 +1,41 @@
 -- A terminal of a world begins a transaction: this project's own.
 use Rattle.std.specs.Prelude.{◌≡◌, ◌+◌, ◌++◌, ◌∷◌, [], ℕ, length}
-use Rattle.duk_store.specs.Cell.{Kept}
-use Rattle.duk_store.specs.Meaning.{Meaning}
+use Rattle.duk_store.specs.Cell.{CellMeaning}
 use Rattle.duk_term.specs.Begin.{BeginRefused, IsBegun}
-use Rattle.duk_term.specs.Terminal.{Term, serial_of}
+use Rattle.duk_term.specs.Terminal.{TerminalOf, serial_of}
 use Rattle.duk_term.specs.declared.fault.TermFault.{TermFault}
 use Rattle.duk_term.specs.declared.purchase.Purchase.{Purchase}
 use Rattle.duk_tree.specs.Serial.{Serial}
-use Rattle.duk_net.specs.World.{Acts, Frame, HasNone, Meanings, TerminalGoes, WorldOf}
+use Rattle.duk_net.specs.World.{ChangesOnly, Frame, HasNone, Meanings, ChangesTerminal, WorldOf}
 use Rattle.duk_net.specs.declared.outcome.Outcome.{Outcome}
 use Rattle.duk_net.specs.declared.outcome.Outcome.TheVariants as outcome
 
 -- a terminal hands out this frame, which is the request of this number
-pub record HandsOut {C : Type 0} (meaning : C → Meaning Kept) (worn : C → Type 0) (purchase : Purchase) (frame : Frame) (ksn : Serial) (before after : Term C) : Type 0 where
-  pub begun : IsBegun meaning worn purchase before after frame.items
+pub record HandsOut
+    {C : Type 0} (meaning : CellMeaning C) (purchase : Purchase) (frame : Frame) (ksn : Serial)
+    (before after : TerminalOf C) : Type 0 where
+  pub begun : IsBegun meaning purchase before after frame.items
   pub ksn_is : ksn ≡ serial_of begun.set
 
 -- a request is sent
-pub record IsSent {C L I : Type 0} (m : Meanings C L I) (old : WorldOf C L I) (t : ℕ) (purchase : Purchase) (k : ℕ) (ksn : Serial) (new : WorldOf C L I) : Type 0 where
+pub record IsSent
+    {C L I : Type 0} (m : Meanings C L I) (old : WorldOf C L I) (t : ℕ) (purchase : Purchase)
+    (k : ℕ) (ksn : Serial) (new : WorldOf C L I) : Type 0 where
   pub frame : Frame
-  pub terminal : Acts t (HandsOut m.cell m.worn purchase frame ksn) old.terminals new.terminals
+  pub terminal : ChangesOnly t (HandsOut m.cell purchase frame ksn) old.terminals new.terminals
   pub number : k ≡ length old.requests + 1
   pub rest : new ≡ record old { terminals = new.terminals; requests = old.requests ++ frame ∷ [] }
 
 -- the terminal refuses to begin
-abbrev pub RefusesBegin : {C : Type 0} → (C → Meaning Kept) → (C → Type 0) → TermFault → Term C → Term C → Type 0
-RefusesBegin meaning worn why before after = BeginRefused meaning worn before after why
+abbrev pub RefusesBegin : {C : Type 0} → CellMeaning C → TermFault → TerminalOf C → TerminalOf C
+    → Type 0
+RefusesBegin meaning why before after = BeginRefused meaning before after why
 
 -- what comes of a begin
-abbrev pub Begins : {C L I : Type 0} → Meanings C L I → WorldOf C L I → ℕ → Purchase → Outcome → WorldOf C L I → Type 0
+abbrev pub Begins : {C L I : Type 0} → Meanings C L I → WorldOf C L I → ℕ → Purchase → Outcome
+    → WorldOf C L I → Type 0
 Begins m old t purchase outcome.NoSuchTerminal new = HasNone old.terminals t × (new ≡ old)
 Begins m old t purchase (outcome.Sent u k ksn) new = (u ≡ t) × IsSent m old t purchase k ksn new
-Begins m old t purchase (outcome.TermFaulted u why) new = (u ≡ t) × TerminalGoes t (RefusesBegin m.cell m.worn why) old new
+Begins m old t purchase (outcome.TermFaulted u why) new =
+    (u ≡ t) × ChangesTerminal t (RefusesBegin m.cell why) old new
 Begins m old t purchase _ new = ⊥

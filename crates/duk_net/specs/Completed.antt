@@ -2,7 +2,7 @@
 use Rattle.std.specs.Prelude.{◌≡◌, ◌⊎◌, ◌++◌, ◌∷◌, ℕ, List, AllPairs, Any}
 use Rattle.duk_frame.specs.declared.code.Code.{Code}
 use Rattle.duk_term.specs.Reply.{IsPending}
-use Rattle.duk_term.specs.Terminal.{Term}
+use Rattle.duk_term.specs.Terminal.{TerminalOf}
 use Rattle.duk_term.specs.declared.state.Pending.{Pending}
 use Rattle.duk_tree.specs.Serial.{Serial}
 use Rattle.duk_net.specs.Accepted.{HasReply}
@@ -14,15 +14,16 @@ use Rattle.duk_net.specs.declared.outcome.Outcome.{Outcome}
 use Rattle.duk_net.specs.declared.outcome.Outcome.TheVariants as outcome
 
 -- the terminal of this number waits for the reply to the transaction of a key serial number
-pub record IsPendingAt {C : Type 0} (terminals : List (Term C)) (t : ℕ) (ksn : Serial) : Type 0 where
-  pub terminal : Term C
+pub record IsPendingAt
+    {C : Type 0} (terminals : List (TerminalOf C)) (t : ℕ) (ksn : Serial) : Type 0 where
+  pub terminal : TerminalOf C
   pub pending : Pending
   pub at : IsAt terminals t terminal
   pub is_pending : IsPending terminal.state pending
   pub ksn_is : ksn ≡ pending.ksn
 
 -- some terminal waits for it
-abbrev pub IsPendingIn : {C : Type 0} → List (Term C) → Serial → Type 0
+abbrev pub IsPendingIn : {C : Type 0} → List (TerminalOf C) → Serial → Type 0
 IsPendingIn terminals ksn = (t : ℕ) × IsPendingAt terminals t ksn
 
 -- the outcome is that the transaction of this number is done
@@ -45,36 +46,49 @@ abbrev pub CompleteOtherNumbers : Outcome → Outcome → Type 0
 CompleteOtherNumbers one other = (ksn : Serial) → Completes ksn one → ¬ Completes ksn other
 
 -- what is pending at a terminal was so before these outcomes, or was sent in them
-abbrev pub CameToBePending : {C : Type 0} → List (Term C) → List Outcome → ℕ → Serial → Type 0
+abbrev pub CameToBePending : {C : Type 0} → List (TerminalOf C) → List Outcome → ℕ → Serial → Type 0
 CameToBePending terminals outcomes t ksn = IsPendingAt terminals t ksn ⊎ Any (Sends t ksn) outcomes
 
--- the host's acceptance put a reply with this code among the answers: that reply stood there before these outcomes, or the acceptance is one
--- of them
+-- the host's acceptance put a reply with this code among the answers: that reply stood there before
+-- these outcomes, or the acceptance is one of them
 abbrev pub CameToBeReplied : List Frame → List Outcome → Serial → Code → Type 0
-CameToBeReplied answers outcomes ksn code = HasReply answers ksn code ⊎ Any (AcceptsWith ksn code) outcomes
+CameToBeReplied answers outcomes ksn code =
+    HasReply answers ksn code ⊎ Any (AcceptsWith ksn code) outcomes
 
--- a terminal waits for the reply to the transaction of a key serial number, and an accepted reply with this code stands among the answers
-pub record HasItsReply {C L I : Type 0} (world : WorldOf C L I) (t : ℕ) (ksn : Serial) (code : Code) : Type 0 where
+-- a terminal waits for the reply to the transaction of a key serial number, and an accepted reply
+-- with this code stands among the answers
+pub record HasItsReply
+    {C L I : Type 0} (world : WorldOf C L I) (t : ℕ) (ksn : Serial) (code : Code) : Type 0 where
   pub pending : IsPendingAt world.terminals t ksn
   pub replied : HasReply world.answers ksn code
 
--- a terminal is done with a code: in the world just before, its pending transaction had this number, and the reply with this code stood
--- among the answers; and the host's acceptance had put it there
-pub record IsCompletedByHost {C L I : Type 0} (m : Meanings C L I) (old : WorldOf C L I) (earlier : List Outcome) (t : ℕ) (ksn : Serial) (code : Code) : Type 0 where
-  pub just_before : (events : List Event) (event : Event) (before after : WorldOf C L I) → Run m old events earlier before → Step m before event (outcome.Done t ksn code) after
+-- a terminal is done with a code: in the world just before, its pending transaction had this
+-- number, and the reply with this code stood among the answers; and the host's acceptance had put
+-- it there
+pub record IsCompletedByHost
+    {C L I : Type 0} (m : Meanings C L I) (old : WorldOf C L I) (earlier : List Outcome) (t : ℕ)
+    (ksn : Serial) (code : Code) : Type 0 where
+  pub just_before : (events : List Event) (event : Event) (before after : WorldOf C L I)
+      → Run m old events earlier before → Step m before event (outcome.Done t ksn code) after
       → HasItsReply before t ksn code
   pub accepted : CameToBeReplied old.answers earlier ksn code
 
--- a terminal completes only with the host's reply to the number that was pending, whose acceptance came before
-abbrev pub CompleteByHost : {C L I : Type 0} → Meanings C L I → WorldOf C L I → List Outcome → Type 0
+-- a terminal completes only with the host's reply to the number that was pending, whose acceptance
+-- came before
+abbrev pub CompleteByHost : {C L I : Type 0} → Meanings C L I → WorldOf C L I → List Outcome
+    → Type 0
 CompleteByHost m old outcomes =
-    (earlier later : List Outcome) (t : ℕ) (ksn : Serial) (code : Code) → outcomes ≡ earlier ++ outcome.Done t ksn code ∷ later
+    (earlier later : List Outcome) (t : ℕ) (ksn : Serial) (code : Code)
+    → outcomes ≡ earlier ++ outcome.Done t ksn code ∷ later
     → IsCompletedByHost m old earlier t ksn code
 
--- how the transactions of a call end: each once and by the host's reply, none of those that are done is pending at its end, and what is
--- pending was so at its start or was sent in it
-pub record Completed {C L I : Type 0} (m : Meanings C L I) (old : WorldOf C L I) (after : List (Term C)) (outcomes : List Outcome) : Type 0 where
+-- how the transactions of a call end: each once and by the host's reply, none of those that are
+-- done is pending at its end, and what is pending was so at its start or was sent in it
+pub record Completed
+    {C L I : Type 0} (m : Meanings C L I) (old : WorldOf C L I) (after : List (TerminalOf C))
+    (outcomes : List Outcome) : Type 0 where
   pub by_host : CompleteByHost m old outcomes
   pub once : AllPairs CompleteOtherNumbers outcomes
   pub over : (ksn : Serial) → Any (Completes ksn) outcomes → ¬ IsPendingIn after ksn
-  pub pending : (t : ℕ) (ksn : Serial) → IsPendingAt after t ksn → CameToBePending old.terminals outcomes t ksn
+  pub pending : (t : ℕ) (ksn : Serial) → IsPendingAt after t ksn
+      → CameToBePending old.terminals outcomes t ksn

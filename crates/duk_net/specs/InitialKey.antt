@@ -1,4 +1,5 @@
--- The initial key of a terminal (ANSI X9.24-1:2009 annex A), from the keys that a host security module holds.
+-- The initial key of a terminal (ANSI X9.24-1:2009 annex A), from the keys that a host security
+-- module holds.
 use Rattle.std.specs.Prelude.{◌≡◌, ℕ, List, Some}
 use Rattle.duk_hsm.specs.Keys.{HsmKeys, key_set_of}
 use Rattle.duk_tree.specs.Serial.{iksn_prefix_of}

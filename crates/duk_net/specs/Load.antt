@@ -3,69 +3,85 @@ use Rattle.std.specs.Prelude.{◌≡◌, ◌⊎◌, ℕ, List, None, replicate}
 use Rattle.duk_hsm.specs.Commands.{IsIssued}
 use Rattle.duk_hsm.specs.Keys.{key_set_of}
 use Rattle.duk_tree.specs.Serial.{iksn_prefix_of}
-use Rattle.duk_store.specs.Cell.{Kept}
-use Rattle.duk_store.specs.Meaning.{Meaning}
-use Rattle.duk_term.specs.Load.{IsLoaded, LoadRefused, Loading, loading_of}
+use Rattle.duk_store.specs.Cell.{CellMeaning}
+use Rattle.duk_term.specs.Load.{IsTerminalLoaded, LoadRefused, Loading, loading_of}
 use Rattle.duk_term.specs.Loading.{WrapsInitialKey}
-use Rattle.duk_term.specs.Terminal.{Term}
+use Rattle.duk_term.specs.Terminal.{TerminalOf}
 use Rattle.duk_term.specs.declared.fault.TermFault.TheVariants.{Store}
 use Rattle.duk_net.specs.InitialKey.{IsInitialKeyOf}
 use Rattle.duk_net.specs.Owner.{IsElsewhere, owned_by}
-use Rattle.duk_net.specs.World.{Acts, FindsNoTerminal, Has, Meanings, WorldOf}
+use Rattle.duk_net.specs.World.{ChangesOnly, FindsNoTerminal, HasOne, Meanings, WorldOf}
 use Rattle.duk_net.specs.declared.owner.Owner.{Owner}
 use Rattle.duk_net.specs.declared.outcome.Outcome.{Outcome}
 use Rattle.duk_net.specs.declared.outcome.Outcome.TheVariants as came
 
 -- the terminal is there, and no other one owns the initial key serial number
 pub record MayLoad {C L I : Type 0} (old : WorldOf C L I) (t iksn : ℕ) : Type 0 where
-  pub there : Has old.terminals t
+  pub there : HasOne old.terminals t
   pub not_elsewhere : ¬ IsElsewhere old.owners iksn t
 
--- what the terminal is given: the key block that the host's security module issues under the loading key, with six zero bytes of padding.
--- A terminal finds no other key in it than its own initial key
-pub record IsIssuedFor {C L I : Type 0} (old : WorldOf C L I) (iksn : ℕ) (asked : Loading) : Type 0 where
+-- what the terminal is given: the key block that the host's security module issues under the
+-- loading key, with six zero bytes of padding. A terminal finds no other key in it than its own
+-- initial key
+pub record IsIssuedFor
+    {C L I : Type 0} (old : WorldOf C L I) (iksn : ℕ) (asked : Loading) : Type 0 where
   pub block : List ℕ
   pub issued : IsIssued old.host.keys iksn old.loading (replicate 6 0) block
   pub asked_is : asked ≡ loading_of old.loading block iksn
-  pub own_key : (initial : List ℕ) → WrapsInitialKey old.loading block initial → IsInitialKeyOf old.host.keys iksn initial
+  pub own_key : (initial : List ℕ) → WrapsInitialKey old.loading block initial
+      → IsInitialKeyOf old.host.keys iksn initial
 
 -- what the terminal makes of it
-abbrev pub TakesLoad : {C : Type 0} → (C → Meaning Kept) → (C → Type 0) → ℕ → Loading → Outcome → Term C → Term C → Type 0
-TakesLoad meaning worn t asked (came.Loaded u iksn) before after = (u ≡ t) × (iksn ≡ asked.iksn) × IsLoaded meaning worn asked before after
-TakesLoad meaning worn t asked (came.TermFaulted u why) before after = (u ≡ t) × LoadRefused meaning worn asked before after why
-TakesLoad meaning worn t asked _ before after = ⊥
+abbrev pub TakesLoad : {C : Type 0} → CellMeaning C → ℕ → Loading → Outcome → TerminalOf C
+    → TerminalOf C → Type 0
+TakesLoad meaning t asked (came.Loaded u iksn) before after =
+    (u ≡ t) × (iksn ≡ asked.iksn) × IsTerminalLoaded meaning asked before after
+TakesLoad meaning t asked (came.TermFaulted u why) before after =
+    (u ≡ t) × LoadRefused meaning asked before after why
+TakesLoad meaning t asked _ before after = ⊥
 
--- the owners then: the terminal owns the initial key serial number where it was loaded, or where its store failed, since that may have kept
--- the image
-abbrev pub owners_once : Outcome → List Owner → ℕ → ℕ → List Owner
-owners_once (came.Loaded u loaded) owners iksn t = owned_by owners iksn t
-owners_once (came.TermFaulted u (Store why)) owners iksn t = owned_by owners iksn t
-owners_once _ owners iksn t = owners
+-- the owners then: the terminal owns the initial key serial number where it was loaded, or where
+-- its store failed, since that may have kept the image
+abbrev pub owners_after_load : Outcome → List Owner → ℕ → ℕ → List Owner
+owners_after_load (came.Loaded u loaded) owners iksn t = owned_by owners iksn t
+owners_after_load (came.TermFaulted u (Store why)) owners iksn t = owned_by owners iksn t
+owners_after_load _ owners iksn t = owners
 
 -- the terminal is given what was issued for it
-pub record IsGiven {C L I : Type 0} (m : Meanings C L I) (old : WorldOf C L I) (t iksn : ℕ) (outcome : Outcome) (new : WorldOf C L I) : Type 0 where
+pub record IsGiven
+    {C L I : Type 0} (m : Meanings C L I) (old : WorldOf C L I) (t iksn : ℕ) (outcome : Outcome)
+    (new : WorldOf C L I) : Type 0 where
   pub asked : Loading
   pub may : MayLoad old t iksn
   pub issued : IsIssuedFor old iksn asked
-  pub terminal : Acts t (TakesLoad m.cell m.worn t asked outcome) old.terminals new.terminals
-  pub rest : new ≡ record old { terminals = new.terminals; owners = owners_once outcome old.owners iksn t }
+  pub terminal : ChangesOnly t (TakesLoad m.cell t asked outcome) old.terminals new.terminals
+  pub rest : new ≡ record old {
+    terminals = new.terminals;
+    owners = owners_after_load outcome old.owners iksn t;
+  }
 
 -- another terminal owns the initial key serial number
-pub record IsOwnedByOther {C L I : Type 0} (old : WorldOf C L I) (t iksn : ℕ) (outcome : Outcome) (new : WorldOf C L I) : Type 0 where
-  pub there : Has old.terminals t
+pub record IsOwnedByOther
+    {C L I : Type 0} (old : WorldOf C L I) (t iksn : ℕ) (outcome : Outcome)
+    (new : WorldOf C L I) : Type 0 where
+  pub there : HasOne old.terminals t
   pub elsewhere : IsElsewhere old.owners iksn t
   pub outcome_is : outcome ≡ came.IksnElsewhere t
   pub same : new ≡ old
 
 -- the host's security module has no key set for the initial key serial number
-pub record HasNoKeySet {C L I : Type 0} (old : WorldOf C L I) (t iksn : ℕ) (outcome : Outcome) (new : WorldOf C L I) : Type 0 where
+pub record HasNoKeySet
+    {C L I : Type 0} (old : WorldOf C L I) (t iksn : ℕ) (outcome : Outcome)
+    (new : WorldOf C L I) : Type 0 where
   pub may : MayLoad old t iksn
   pub no_key_set : key_set_of old.host.keys (iksn_prefix_of iksn) ≡ None
   pub outcome_is : outcome ≡ came.NoKeySet t
   pub same : new ≡ old
 
 -- what comes of a load
-abbrev pub Loads : {C L I : Type 0} → Meanings C L I → WorldOf C L I → ℕ → ℕ → Outcome → WorldOf C L I → Type 0
+abbrev pub Loads : {C L I : Type 0} → Meanings C L I → WorldOf C L I → ℕ → ℕ → Outcome
+    → WorldOf C L I → Type 0
 Loads m old t iksn outcome new =
     FindsNoTerminal old t outcome new
-    ⊎ (IsOwnedByOther old t iksn outcome new ⊎ (HasNoKeySet old t iksn outcome new ⊎ IsGiven m old t iksn outcome new))
+    ⊎ (IsOwnedByOther old t iksn outcome new
+    ⊎ (HasNoKeySet old t iksn outcome new ⊎ IsGiven m old t iksn outcome new))

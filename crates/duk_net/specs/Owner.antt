@@ -14,10 +14,10 @@ pub record IsElsewhere (owners : List Owner) (iksn t : ℕ) : Type 0 where
   pub other : owner ≢ t
 
 -- the owners, and this terminal for an initial key serial number that was owned by none
-abbrev pub recorded : Option ℕ → List Owner → ℕ → ℕ → List Owner
-recorded None owners iksn t = owners ++ record { iksn = iksn; t = t } ∷ []
-recorded (Some owner) owners iksn t = owners
+abbrev pub owners_with : Option ℕ → List Owner → ℕ → ℕ → List Owner
+owners_with None owners iksn t = owners ++ record { iksn = iksn; t = t } ∷ []
+owners_with (Some owner) owners iksn t = owners
 
 -- the owners once this terminal was loaded with an initial key serial number
 abbrev pub owned_by : List Owner → ℕ → ℕ → List Owner
-owned_by owners iksn t = recorded (owner_of owners iksn) owners iksn t
+owned_by owners iksn t = owners_with (owner_of owners iksn) owners iksn t

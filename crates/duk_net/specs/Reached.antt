@@ -21,14 +21,18 @@ Moves m old new = Happens m old new ⊎ IsHostLeft m old new
 -- after so many moves from a world in which nothing had happened yet
 abbrev pub IsReachedBy : {C L I : Type 0} → Meanings C L I → ℕ → WorldOf C L I → Type 0
 IsReachedBy m zero world = IsFirst m world
-IsReachedBy {C} {L} {I} m (suc moves) world = (before : WorldOf C L I) × IsReachedBy m moves before × Moves m before world
+IsReachedBy {C} {L} {I} m (suc moves) world =
+    (before : WorldOf C L I) × IsReachedBy m moves before × Moves m before world
 
 -- a world that was new once, and then moved on by events alone
 abbrev pub Reached : {C L I : Type 0} → Meanings C L I → WorldOf C L I → Type 0
 Reached m world = (moves : ℕ) × IsReachedBy m moves world
 
--- how a call leads from a world to another: events happened, with these outcomes, and then perhaps a restart of the host was refused memory
-pub record CallLeads {C L I : Type 0} (m : Meanings C L I) (old : WorldOf C L I) (outcomes : List Outcome) (new : WorldOf C L I) : Type 0 where
+-- how a call leads from a world to another: events happened, with these outcomes, and then perhaps
+-- a restart of the host was refused memory
+pub record CallLeads
+    {C L I : Type 0} (m : Meanings C L I) (old : WorldOf C L I) (outcomes : List Outcome)
+    (new : WorldOf C L I) : Type 0 where
   pub events : List Event
   pub mid : WorldOf C L I
   pub run : Run m old events outcomes mid

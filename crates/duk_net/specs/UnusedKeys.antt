@@ -4,7 +4,7 @@ use Rattle.duk_hsm.specs.Keys.{HsmKeys}
 use Rattle.duk_regs.specs.Registers.{RegisterSet, StandsFor, empty_register, register_at}
 use Rattle.duk_store.specs.Cell.{Kept}
 use Rattle.duk_term.specs.Body.{IsTerminalBody, body_bytes, set_of_body}
-use Rattle.duk_term.specs.Terminal.{Term}
+use Rattle.duk_term.specs.Terminal.{TerminalOf}
 use Rattle.duk_term.specs.declared.state.State.{State}
 use Rattle.duk_term.specs.declared.state.State.TheVariants.{Stopped, Empty, Loaded}
 use Rattle.duk_tree.specs.Derivation.{transaction_key_of}
@@ -18,10 +18,13 @@ use Rattle.duk_net.specs.World.{Frame, Meanings}
 
 -- the counter is above every used one under this initial key serial number
 abbrev pub IsAboveUsed : List Frame → ℕ → ℕ → Type 0
-IsAboveUsed requests iksn counter = (ksn : Serial) → IsUsedNumber requests ksn → ksn.iksn ≡ iksn → ksn.counter < counter
+IsAboveUsed requests iksn counter =
+    (ksn : Serial) → IsUsedNumber requests ksn → ksn.iksn ≡ iksn → ksn.counter < counter
 
--- registers that stand for the terminal's own initial key, at a counter, or spent, above every used one
-pub record StandsAboveUsed (keys : HsmKeys) (requests : List Frame) (set : RegisterSet) : Type 0 where
+-- registers that stand for the terminal's own initial key, at a counter, or spent, above every used
+-- one
+pub record StandsAboveUsed
+    (keys : HsmKeys) (requests : List Frame) (set : RegisterSet) : Type 0 where
   pub initial : List ℕ
   pub initial_is : IsInitialKeyOf keys set.iksn initial
   pub counter_is : IsUsable set.counter ⊎ (set.counter ≡ spent_counter)
@@ -31,19 +34,23 @@ pub record StandsAboveUsed (keys : HsmKeys) (requests : List Frame) (set : Regis
 -- a usable node, and so not the root, that is neither a used number nor an ancestor of one
 pub record IsUnusedNode (requests : List Frame) (iksn node : ℕ) : Type 0 where
   pub usable : IsUsable node
-  pub unused : (ksn : Serial) → IsUsedNumber requests ksn → ksn.iksn ≡ iksn → ¬ IsAncestorOrSelf node ksn.counter
+  pub unused : (ksn : Serial) → IsUsedNumber requests ksn → ksn.iksn ≡ iksn
+      → ¬ IsAncestorOrSelf node ksn.counter
 
 -- a register holds the key of such a node
-pub record HoldsUnusedNode (requests : List Frame) (initial : List ℕ) (set : RegisterSet) (place : ℕ) : Type 0 where
+pub record HoldsUnusedNode
+    (requests : List Frame) (initial : List ℕ) (set : RegisterSet) (place : ℕ) : Type 0 where
   pub node : ℕ
   pub unused : IsUnusedNode requests set.iksn node
   pub holds : register_at set.registers place ≡ transaction_key_of initial set.iksn node
 
 -- a register holds no key, or that of such a node
 abbrev pub HoldsNoUsedNode : List Frame → List ℕ → RegisterSet → ℕ → Type 0
-HoldsNoUsedNode requests initial set place = (register_at set.registers place ≡ empty_register) ⊎ HoldsUnusedNode requests initial set place
+HoldsNoUsedNode requests initial set place =
+    (register_at set.registers place ≡ empty_register) ⊎ HoldsUnusedNode requests initial set place
 
--- none of the 21 registers holds the key of a used number or of an ancestor of one, the root among these
+-- none of the 21 registers holds the key of a used number or of an ancestor of one, the root among
+-- these
 pub record HoldNoUsedKey (keys : HsmKeys) (requests : List Frame) (set : RegisterSet) : Type 0 where
   pub initial : List ℕ
   pub initial_is : IsInitialKeyOf keys set.iksn initial
@@ -56,7 +63,8 @@ HoldsOfState P Stopped = Unit {0}
 HoldsOfState P Empty = Unit {0}
 HoldsOfState P (Loaded set pending) = P set
 
--- the body is an image with its zeros behind it, which has no byte but those of its registers, and this holds of them
+-- the body is an image with its zeros behind it, which has no byte but those of its registers, and
+-- this holds of them
 pub record HoldsOfImage (P : RegisterSet → Type 0) (body : List ℕ) : Type 0 where
   pub is_body : IsTerminalBody body
   pub body_is : body ≡ body_bytes (set_of_body body)
@@ -67,7 +75,10 @@ abbrev pub HoldsOfKept : (RegisterSet → Type 0) → Kept → Type 0
 HoldsOfKept P None = Unit {0}
 HoldsOfKept P (Some body) = HoldsOfImage P body
 
--- this holds of the registers of a terminal, if it runs, and of each image that its cell may find after a stop
-pub record HoldsOfTerminal {C L I : Type 0} (m : Meanings C L I) (P : RegisterSet → Type 0) (terminal : Term C) : Type 0 where
+-- this holds of the registers of a terminal, if it runs, and of each image that its cell may find
+-- after a stop
+pub record HoldsOfTerminal
+    {C L I : Type 0} (m : Meanings C L I) (P : RegisterSet → Type 0)
+    (terminal : TerminalOf C) : Type 0 where
   pub registers : HoldsOfState P terminal.state
-  pub images : (kept : Kept) → (m.cell terminal.cell).found kept → HoldsOfKept P kept
+  pub images : (kept : Kept) → (m.cell.state_of terminal.cell).found kept → HoldsOfKept P kept

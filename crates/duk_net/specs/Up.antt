@@ -5,7 +5,7 @@ use Rattle.duk_frame.specs.declared.answer.AnswerFrame.{AnswerFrame}
 use Rattle.duk_frame.specs.declared.answer.AnswerFrame.TheVariants.{Refusal, Reply}
 use Rattle.duk_frame.specs.declared.code.Code.{Code}
 use Rattle.duk_host.specs.Handle.{AnswersRefusal, AnswersReply, HandleRefused}
-use Rattle.duk_host.specs.Host.{HostOf, Words}
+use Rattle.duk_host.specs.Host.{HostMeaning, HostOf}
 use Rattle.duk_host.specs.declared.fault.HostFault.{HostFault}
 use Rattle.duk_host.specs.declared.fault.HostFault.TheVariants.{NoMemory}
 use Rattle.duk_tree.specs.Serial.{Serial}
@@ -19,17 +19,24 @@ answer_outcome n (Reply ksn code mac) = outcome.Accepted n ksn code
 answer_outcome n (Refusal ksn reason) = outcome.Refused n ksn reason
 
 -- the host accepts the request by this frame, where it is an accepted reply, and else refuses it
-abbrev pub AnswersAs : {L I : Type 0} → Words L I → List ℕ → HostOf L I → HostOf L I → List ℕ → AnswerFrame → Type 0
-AnswersAs words bytes old new frame (Reply ksn code mac) = AnswersReply words bytes old new frame
-AnswersAs words bytes old new frame (Refusal ksn reason) = AnswersRefusal words bytes old new frame
+abbrev pub AnswersAs : {L I : Type 0} → HostMeaning L I → List ℕ → HostOf L I → HostOf L I → List ℕ
+    → AnswerFrame → Type 0
+AnswersAs meaning bytes old new frame (Reply ksn code mac) =
+    AnswersReply meaning bytes old new frame
+AnswersAs meaning bytes old new frame (Refusal ksn reason) =
+    AnswersRefusal meaning bytes old new frame
 
 -- the host answers, and the answer is sent
-pub record IsAnswered {C L I : Type 0} (old : WorldOf C L I) (n : ℕ) (frame : Frame) (new : WorldOf C L I) : Type 0 where
+pub record IsAnswered
+    {C L I : Type 0} (old : WorldOf C L I) (n : ℕ) (frame : Frame)
+    (new : WorldOf C L I) : Type 0 where
   pub number : n ≡ length old.answers + 1
   pub rest : new ≡ record old { host = new.host; answers = old.answers ++ frame ∷ [] }
 
 -- the host accepts the request of this number, and the answer is the accepted reply with this code
-pub record UpAccepted {C L I : Type 0} (m : Meanings C L I) (old : WorldOf C L I) (k n : ℕ) (ksn : Serial) (code : Code) (new : WorldOf C L I) : Type 0 where
+pub record UpAccepted
+    {C L I : Type 0} (m : Meanings C L I) (old : WorldOf C L I) (k n : ℕ) (ksn : Serial)
+    (code : Code) (new : WorldOf C L I) : Type 0 where
   pub request : Frame
   pub frame : Frame
   pub mac : List ℕ
@@ -39,7 +46,9 @@ pub record UpAccepted {C L I : Type 0} (m : Meanings C L I) (old : WorldOf C L I
   pub answered : IsAnswered old n frame new
 
 -- the host refuses the request of this number for this reason
-pub record UpRefused {C L I : Type 0} (m : Meanings C L I) (old : WorldOf C L I) (k n : ℕ) (ksn : Serial) (reason : ℕ) (new : WorldOf C L I) : Type 0 where
+pub record UpRefused
+    {C L I : Type 0} (m : Meanings C L I) (old : WorldOf C L I) (k n : ℕ) (ksn : Serial)
+    (reason : ℕ) (new : WorldOf C L I) : Type 0 where
   pub request : Frame
   pub frame : Frame
   pub sent : IsAt old.requests k request
@@ -48,7 +57,9 @@ pub record UpRefused {C L I : Type 0} (m : Meanings C L I) (old : WorldOf C L I)
   pub answered : IsAnswered old n frame new
 
 -- the host does not answer, for another fault than want of memory
-pub record UpFaulted {C L I : Type 0} (m : Meanings C L I) (old : WorldOf C L I) (k : ℕ) (why : HostFault) (new : WorldOf C L I) : Type 0 where
+pub record UpFaulted
+    {C L I : Type 0} (m : Meanings C L I) (old : WorldOf C L I) (k : ℕ) (why : HostFault)
+    (new : WorldOf C L I) : Type 0 where
   pub request : Frame
   pub sent : IsAt old.requests k request
   pub not_memory : why ≢ NoMemory
@@ -56,9 +67,10 @@ pub record UpFaulted {C L I : Type 0} (m : Meanings C L I) (old : WorldOf C L I)
   pub rest : new ≡ record old { host = new.host }
 
 -- what comes of a request that reaches the host
-abbrev pub Ups : {C L I : Type 0} → Meanings C L I → WorldOf C L I → ℕ → Outcome → WorldOf C L I → Type 0
-Ups m old k outcome.NoSuchFrame new = HasNone old.requests k × (new ≡ old)
-Ups m old k (outcome.Accepted n ksn code) new = UpAccepted m old k n ksn code new
-Ups m old k (outcome.Refused n ksn reason) new = UpRefused m old k n ksn reason new
-Ups m old k (outcome.HostFaulted why) new = UpFaulted m old k why new
-Ups m old k _ new = ⊥
+abbrev pub ReachesHost : {C L I : Type 0} → Meanings C L I → WorldOf C L I → ℕ → Outcome
+    → WorldOf C L I → Type 0
+ReachesHost m old k outcome.NoSuchFrame new = HasNone old.requests k × (new ≡ old)
+ReachesHost m old k (outcome.Accepted n ksn code) new = UpAccepted m old k n ksn code new
+ReachesHost m old k (outcome.Refused n ksn reason) new = UpRefused m old k n ksn reason new
+ReachesHost m old k (outcome.HostFaulted why) new = UpFaulted m old k why new
+ReachesHost m old k _ new = ⊥

@@ -1,4 +1,5 @@
--- The numbers of transactions: this project's own, over the key serial numbers of ANSI X9.24-1:2009 annex A.
+-- The numbers of transactions: this project's own, over the key serial numbers of ANSI X9.24-1:2009
+-- annex A.
 use Rattle.std.specs.Prelude.{◌≡◌, List, Some, All, AllPairs, Contains}
 use Rattle.duk_frame.specs.Request.{IsRequest}
 use Rattle.duk_frame.specs.declared.request.Request.{Request}
@@ -32,7 +33,8 @@ pub record HasUsableNumber (frame : Frame) : Type 0 where
 abbrev pub HaveOtherNumbers : Frame → Frame → Type 0
 HaveOtherNumbers one other = (ksn : Serial) → HasNumber one ksn → ¬ HasNumber other ksn
 
--- no two use one number: each request that was ever sent has a usable number, and no two of them have one number
+-- no two use one number: each request that was ever sent has a usable number, and no two of them
+-- have one number
 pub record NoneTwice (requests : List Frame) : Type 0 where
   pub usable : All HasUsableNumber requests
   pub different : AllPairs HaveOtherNumbers requests

@@ -1,10 +1,11 @@
 -- Terminals, host and network together: this project's own.
 use Rattle.std.specs.Prelude.{◌≡◌, ◌+◌, ◌⊎◌, ◌<◌, ℕ, List, Some, length, slice_get, slice_set}
 use Rattle.arrayvec.specs.ArrayVec.{ArrayVec}
-use Rattle.duk_host.specs.Host.{HostOf, Words}
-use Rattle.duk_store.specs.Cell.{Kept}
-use Rattle.duk_store.specs.Meaning.{Meaning}
-use Rattle.duk_term.specs.Terminal.{Term}
+use Rattle.duk_host.specs.Host.{HostMeaning, HostOf, host_meaning_of}
+use Rattle.duk_host.specs.Judgement.{Decision}
+use Rattle.duk_store.specs.Cell.{CellMeaning}
+use Rattle.duk_store.specs.Log.{LogMeaning}
+use Rattle.duk_term.specs.Terminal.{TerminalOf}
 use Rattle.duk_net.specs.declared.outcome.Outcome.{Outcome}
 use Rattle.duk_net.specs.declared.outcome.Outcome.TheVariants.{NoSuchTerminal}
 use Rattle.duk_net.specs.declared.owner.Owner.{Owner}
@@ -13,27 +14,26 @@ use Rattle.duk_net.specs.declared.owner.Owner.{Owner}
 abbrev pub Frame : Type 0
 Frame = ArrayVec ℕ
 
--- what a world is: the host, the key under which terminals are loaded, the terminals, the frames of all requests and of all answers that
--- were ever sent, and which terminal owns which initial key serial number
+-- what a world is: the host, the key under which terminals are loaded, the terminals, the frames of
+-- all requests and of all answers that were ever sent, and which terminal owns which initial key
+-- serial number
 pub record WorldOf (C L I : Type 0) : Type 0 where
   pub host : HostOf L I
   pub loading : List ℕ
-  pub terminals : List (Term C)
+  pub terminals : List (TerminalOf C)
   pub requests : List Frame
   pub answers : List Frame
   pub owners : List Owner
 
--- what its cells, its log and its issuer mean, and what arming does to them
+-- what the cells of its terminals, and the log and the issuer of its host mean
 pub record Meanings (C L I : Type 0) : Type 1 where
-  pub cell : C → Meaning Kept
-  pub worn : C → Type 0
-  pub arms_cell : C → ℕ → C → Type 0
-  pub host : Words L I
-  pub arms_log : L → ℕ → L → Type 0
+  pub cell : CellMeaning C
+  pub host : HostMeaning L I
 
--- those meanings
-abbrev pub meanings_of : {C L I : Type 0} → (C → Meaning Kept) → (C → Type 0) → (C → ℕ → C → Type 0) → Words L I → (L → ℕ → L → Type 0) → Meanings C L I
-meanings_of cell worn arms_cell host arms_log = record { cell = cell; worn = worn; arms_cell = arms_cell; host = host; arms_log = arms_log }
+-- those meanings together
+abbrev pub meanings_of : {C L I : Type 0} → CellMeaning C → LogMeaning L → (I → Decision)
+    → Meanings C L I
+meanings_of cell log decides = record { cell = cell; host = host_meaning_of log decides }
 
 -- a thing of this number, counted from 1, stands at a place of a list
 pub record IsAt {A : Type 0} (things : List A) (number : ℕ) (thing : A) : Type 0 where
@@ -46,28 +46,34 @@ abbrev pub HasNone : {A : Type 0} → List A → ℕ → Type 0
 HasNone things number = (number ≡ 0) ⊎ (length things < number)
 
 -- a list has one of this number
-pub record Has {A : Type 0} (things : List A) (number : ℕ) : Type 0 where
+pub record HasOne {A : Type 0} (things : List A) (number : ℕ) : Type 0 where
   pub place : ℕ
   pub number_is : number ≡ place + 1
   pub within : place < length things
 
 -- the terminal of a number goes on in this way, and the others stay as they are
-pub record Acts {C : Type 0} (t : ℕ) (goes : Term C → Term C → Type 0) (old new : List (Term C)) : Type 0 where
+pub record ChangesOnly
+    {C : Type 0} (t : ℕ) (change : TerminalOf C → TerminalOf C → Type 0)
+    (old new : List (TerminalOf C)) : Type 0 where
   pub place : ℕ
-  pub before : Term C
-  pub after : Term C
+  pub before : TerminalOf C
+  pub after : TerminalOf C
   pub number_is : t ≡ place + 1
   pub was : slice_get old place ≡ Some before
-  pub goes_on : goes before after
+  pub changed : change before after
   pub others : new ≡ slice_set old place after
 
 -- a terminal goes on in this way, and all else stays
-pub record TerminalGoes {C L I : Type 0} (t : ℕ) (goes : Term C → Term C → Type 0) (old new : WorldOf C L I) : Type 0 where
-  pub terminal : Acts t goes old.terminals new.terminals
+pub record ChangesTerminal
+    {C L I : Type 0} (t : ℕ) (change : TerminalOf C → TerminalOf C → Type 0)
+    (old new : WorldOf C L I) : Type 0 where
+  pub terminal : ChangesOnly t change old.terminals new.terminals
   pub rest : new ≡ record old { terminals = new.terminals }
 
 -- there is no terminal of this number
-pub record FindsNoTerminal {C L I : Type 0} (old : WorldOf C L I) (t : ℕ) (outcome : Outcome) (new : WorldOf C L I) : Type 0 where
+pub record FindsNoTerminal
+    {C L I : Type 0} (old : WorldOf C L I) (t : ℕ) (outcome : Outcome)
+    (new : WorldOf C L I) : Type 0 where
   pub none : HasNone old.terminals t
   pub outcome_is : outcome ≡ NoSuchTerminal
   pub same : new ≡ old

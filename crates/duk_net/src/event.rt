@@ -12,8 +12,8 @@ pub enum End {
     Term(u32),
 }
 
-/// What may happen. Terminals `t` and frames `k` are counted from 1. It has no `Debug`, so that no PIN is printed by
-/// chance.
+/// What may happen. Terminals `t` and frames `k` are counted from 1. It has no `Debug`, so that no
+/// PIN is printed by chance.
 #[derive(Clone, Copy)]
 pub enum Event {
     /// A terminal is loaded with the initial key that the host's security module issues for `iksn`.
@@ -49,7 +49,8 @@ pub enum Event {
     },
     /// The host is restarted.
     RestartHost,
-    /// The store of an end is told to let `n` device steps pass and then to fail, until its restart.
+    /// The store of an end is told to let `n` device steps pass and then to fail, until its
+    /// restart.
     Arm {
         /// The end.
         end: End,

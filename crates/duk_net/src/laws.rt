@@ -1,8 +1,7 @@
-//! The laws of worlds, each the contract of a function that does nothing: what holds of every world that was new once and
-//! then moved on by events alone, and of what came of every call.
+//! The laws of worlds, each the contract of a function that does nothing: what holds of every world
+//! that was new once and then moved on by events alone, and of what came of every call.
 
 ghost use Rattle.std.specs.Prelude.{◌≡◌, ℕ, All, List, Some};
-ghost use Rattle.duk_host.specs.Host.{words_of};
 ghost use Rattle.duk_net.specs.Accepted.{AcceptsOnce, KeepsAccepted};
 ghost use Rattle.duk_net.specs.Completed.{Completed};
 ghost use Rattle.duk_net.specs.declared.outcome.Outcome.{Outcome};
@@ -16,32 +15,31 @@ ghost use Rattle.duk_net.specs.World.{WorldOf, meanings_of};
 use duk_host::Issuer;
 use duk_store::{Cell, UsedLog};
 
-/// No two transactions use one number, and a terminal sends none but under an initial key serial number that it owns.
+/// No two transactions use one number, and a terminal sends none but under an initial key serial
+/// number that it owns.
 pub fn no_number_twice<C: Cell, L: UsedLog, I: Issuer>()
     ensures none_twice { (world : WorldOf C L I)
-        → Reached (meanings_of C.meaning C.worn C.arms (words_of L.meaning L.count L.capacity I.decides) L.arms) world
+        → Reached (meanings_of C.meaning L.meaning I.decides) world
         → NoneTwice world.requests }
     ensures by_owner { (old new : WorldOf C L I) (outcomes : List Outcome)
-        → Reached (meanings_of C.meaning C.worn C.arms (words_of L.meaning L.count L.capacity I.decides) L.arms) old
-        → CallLeads (meanings_of C.meaning C.worn C.arms (words_of L.meaning L.count L.capacity I.decides) L.arms)
-        old outcomes new
+        → Reached (meanings_of C.meaning L.meaning I.decides) old
+        → CallLeads (meanings_of C.meaning L.meaning I.decides) old outcomes new
         → All (IsSentByOwner new.owners) outcomes }
 {
     duk_frame::laws::one_reading();
     duk_tree::laws::bits();
 }
 
-/// No register and no image that a terminal's cell may find holds the key of a used number or of an ancestor of one.
+/// No register and no image that a terminal's cell may find holds the key of a used number or of an
+/// ancestor of one.
 pub fn no_used_key<C: Cell, L: UsedLog, I: Issuer>()
     ensures above { (world : WorldOf C L I)
-        → Reached (meanings_of C.meaning C.worn C.arms (words_of L.meaning L.count L.capacity I.decides) L.arms) world
-        → All (HoldsOfTerminal
-        (meanings_of C.meaning C.worn C.arms (words_of L.meaning L.count L.capacity I.decides) L.arms)
+        → Reached (meanings_of C.meaning L.meaning I.decides) world
+        → All (HoldsOfTerminal (meanings_of C.meaning L.meaning I.decides)
         (StandsAboveUsed world.host.keys world.requests)) world.terminals }
     ensures no_used_key { (world : WorldOf C L I)
-        → Reached (meanings_of C.meaning C.worn C.arms (words_of L.meaning L.count L.capacity I.decides) L.arms) world
-        → All (HoldsOfTerminal
-        (meanings_of C.meaning C.worn C.arms (words_of L.meaning L.count L.capacity I.decides) L.arms)
+        → Reached (meanings_of C.meaning L.meaning I.decides) world
+        → All (HoldsOfTerminal (meanings_of C.meaning L.meaning I.decides)
         (HoldNoUsedKey world.host.keys world.requests)) world.terminals }
 {
     duk_frame::laws::one_reading();
@@ -50,35 +48,33 @@ pub fn no_used_key<C: Cell, L: UsedLog, I: Issuer>()
     duk_regs::laws::uniqueness();
 }
 
-/// The host accepts each number at most once, and each number that it accepted stands in every list that a restart may
-/// find.
-pub fn accepted_once<C: Cell, L: UsedLog, I: Issuer>()
+/// The host accepts each number at most once, and each number that it accepted stands in every list
+/// that a restart may find.
+pub fn one_acceptance<C: Cell, L: UsedLog, I: Issuer>()
     ensures kept { (world : WorldOf C L I)
-        → Reached (meanings_of C.meaning C.worn C.arms (words_of L.meaning L.count L.capacity I.decides) L.arms) world
-        → KeepsAccepted
-        (meanings_of C.meaning C.worn C.arms (words_of L.meaning L.count L.capacity I.decides) L.arms) world }
+        → Reached (meanings_of C.meaning L.meaning I.decides) world
+        → KeepsAccepted (meanings_of C.meaning L.meaning I.decides) world }
     ensures once { (old new : WorldOf C L I) (outcomes : List Outcome)
-        → Reached (meanings_of C.meaning C.worn C.arms (words_of L.meaning L.count L.capacity I.decides) L.arms) old
-        → CallLeads (meanings_of C.meaning C.worn C.arms (words_of L.meaning L.count L.capacity I.decides) L.arms)
-        old outcomes new
+        → Reached (meanings_of C.meaning L.meaning I.decides) old
+        → CallLeads (meanings_of C.meaning L.meaning I.decides) old outcomes new
         → AcceptsOnce old.answers outcomes }
 {
     duk_frame::laws::one_reading();
 }
 
-/// Each request and each accepted reply is made under the transaction key of its number, from the terminal's own initial
-/// key, and a running host refuses no request that was sent but because its number is used or the log is full.
+/// Each request and each accepted reply is made under the transaction key of its number, from the
+/// terminal's own initial key, and a running host refuses no request that was sent but because its
+/// number is used or the log is full.
 pub fn own_key<C: Cell, L: UsedLog, I: Issuer>()
     ensures requests { (world : WorldOf C L I)
-        → Reached (meanings_of C.meaning C.worn C.arms (words_of L.meaning L.count L.capacity I.decides) L.arms) world
+        → Reached (meanings_of C.meaning L.meaning I.decides) world
         → All (IsOwnRequest world.host.keys) world.requests }
     ensures replies { (world : WorldOf C L I)
-        → Reached (meanings_of C.meaning C.worn C.arms (words_of L.meaning L.count L.capacity I.decides) L.arms) world
+        → Reached (meanings_of C.meaning L.meaning I.decides) world
         → All (IsOwnReply world.host.keys) world.answers }
     ensures refused { (old new : WorldOf C L I) (outcomes : List Outcome)
-        → Reached (meanings_of C.meaning C.worn C.arms (words_of L.meaning L.count L.capacity I.decides) L.arms) old
-        → CallLeads (meanings_of C.meaning C.worn C.arms (words_of L.meaning L.count L.capacity I.decides) L.arms)
-        old outcomes new
+        → Reached (meanings_of C.meaning L.meaning I.decides) old
+        → CallLeads (meanings_of C.meaning L.meaning I.decides) old outcomes new
         → All IsRefusedAsUsedOrFull outcomes }
 {
     no_used_key::<C, L, I>();
@@ -89,15 +85,13 @@ pub fn own_key<C: Cell, L: UsedLog, I: Issuer>()
     duk_tdes::laws::inverse();
 }
 
-/// A terminal completes only with the host's reply to the number that was pending, and each number at most once.
-pub fn completed<C: Cell, L: UsedLog, I: Issuer>()
+/// A terminal completes only with the host's reply to the number that was pending, and each number
+/// at most once.
+pub fn completion_by_host<C: Cell, L: UsedLog, I: Issuer>()
     ensures { (old new : WorldOf C L I) (outcomes : List Outcome)
-        → Reached (meanings_of C.meaning C.worn C.arms (words_of L.meaning L.count L.capacity I.decides) L.arms) old
-        → CallLeads (meanings_of C.meaning C.worn C.arms (words_of L.meaning L.count L.capacity I.decides) L.arms)
-        old outcomes new
-        → Completed
-        (meanings_of C.meaning C.worn C.arms (words_of L.meaning L.count L.capacity I.decides) L.arms)
-        old new.terminals outcomes }
+        → Reached (meanings_of C.meaning L.meaning I.decides) old
+        → CallLeads (meanings_of C.meaning L.meaning I.decides) old outcomes new
+        → Completed (meanings_of C.meaning L.meaning I.decides) old new.terminals outcomes }
 {
     no_number_twice::<C, L, I>();
     duk_frame::laws::one_reading();
@@ -106,13 +100,11 @@ pub fn completed<C: Cell, L: UsedLog, I: Issuer>()
 /// Who owns an initial key serial number owns it for good, and the security module keeps its keys.
 pub fn what_stays<C: Cell, L: UsedLog, I: Issuer>()
     ensures owners { (old new : WorldOf C L I) (outcomes : List Outcome)
-        → Reached (meanings_of C.meaning C.worn C.arms (words_of L.meaning L.count L.capacity I.decides) L.arms) old
-        → CallLeads (meanings_of C.meaning C.worn C.arms (words_of L.meaning L.count L.capacity I.decides) L.arms)
-        old outcomes new
+        → Reached (meanings_of C.meaning L.meaning I.decides) old
+        → CallLeads (meanings_of C.meaning L.meaning I.decides) old outcomes new
         → (iksn t : ℕ) → owner_of old.owners iksn ≡ Some t → owner_of new.owners iksn ≡ Some t }
     ensures keys { (old new : WorldOf C L I) (outcomes : List Outcome)
-        → Reached (meanings_of C.meaning C.worn C.arms (words_of L.meaning L.count L.capacity I.decides) L.arms) old
-        → CallLeads (meanings_of C.meaning C.worn C.arms (words_of L.meaning L.count L.capacity I.decides) L.arms)
-        old outcomes new
+        → Reached (meanings_of C.meaning L.meaning I.decides) old
+        → CallLeads (meanings_of C.meaning L.meaning I.decides) old outcomes new
         → new.host.keys ≡ old.host.keys }
 {}

@@ -1,19 +1,18 @@
 //! Terminals, one host and the network between them, under any list of events.
 //!
-//! The network keeps every frame that was ever sent, and an event names the one that it delivers: so frames may be lost,
-//! come again, late, or in any order. A stop is a store that was armed to fail, followed by a restart.
+//! The network keeps every frame that was ever sent, and an event names the one that it delivers:
+//! so frames may be lost, come again, late, or in any order. A stop is a store that was armed to
+//! fail, followed by a restart.
 #![tactic(auto)]
 
 mod event;
-mod host_events;
+mod frames;
 pub mod laws;
 mod outcome;
 mod owner;
 mod places;
 mod runs;
 mod system;
-mod terminal_events;
-mod told;
 mod world;
 
 pub use event::{End, Event};

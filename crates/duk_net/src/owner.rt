@@ -2,7 +2,7 @@
 
 ghost use Rattle.std.specs.Prelude.{◌≡◌, ◌<◌, ◌↔◌, IsTrue};
 ghost use Rattle.std.specs.Vec.{vec_capacity, vec_len};
-ghost use Rattle.duk_net.specs.Load.{owners_once};
+ghost use Rattle.duk_net.specs.Load.{owners_after_load};
 ghost use Rattle.duk_net.specs.Owner.{IsElsewhere, owned_by, owner_of};
 
 use crate::outcome::Outcome;
@@ -10,8 +10,8 @@ use crate::places::push_within;
 use duk_term::TermFault;
 use duk_tree::Iksn;
 
-/// An initial key serial number, and the terminal that owns it: the one that was loaded with it, or whose store failed in
-/// that load.
+/// An initial key serial number, and the terminal that owns it: the one that was loaded with it, or
+/// whose store failed in that load.
 #[derive(Clone, Copy, Debug, PartialEq, Eq)]
 pub struct Owner {
     /// The initial key serial number.
@@ -20,11 +20,11 @@ pub struct Owner {
     pub t: u32,
 }
 
-/// Records what comes of a load: terminal `t` owns the initial key serial number from then on, where it was loaded or
-/// its store failed.
+/// Records what comes of a load: terminal `t` owns the initial key serial number from then on,
+/// where it was loaded or its store failed.
 pub(crate) fn record_owner(owners: &mut Vec<Owner>, outcome: &Outcome, iksn: Iksn, t: u32)
     requires { vec_len owners.old < vec_capacity owners.old }
-    ensures { owners.new.items ≡ owners_once outcome.now owners.old.items iksn t }
+    ensures { owners.new.items ≡ owners_after_load outcome.now owners.old.items iksn t }
 {
     match outcome {
         Outcome::Loaded { .. }

@@ -1,7 +1,6 @@
 //! Runs of events.
 
 ghost use Rattle.std.specs.Prelude.{◌≡◌, ◌++◌, ◌∷◌, [], ℕ, All, Some, IfOk, IfErr, OnErr};
-ghost use Rattle.duk_host.specs.Host.{words_of};
 ghost use Rattle.duk_net.specs.Accepted.{AcceptsOnce, KeepsAccepted};
 ghost use Rattle.duk_net.specs.Completed.{Completed};
 ghost use Rattle.duk_net.specs.Gained.{EachGained, HoldsOfGained};
@@ -27,8 +26,8 @@ use thiserror::Error;
 /// Why a run of events ends before its last.
 #[derive(Debug, Clone, Copy, PartialEq, Eq, Error)]
 pub enum NetFault {
-    /// Memory was refused to an event: those before it are done, and it is not. A run from that event on goes on from
-    /// there. Only where it restarts the host, the host may be left stopped.
+    /// Memory was refused to an event: those before it are done, and it is not. A run from that
+    /// event on goes on from there. Only where it restarts the host, the host may be left stopped.
     #[error("NoMemory after {done}")]
     NoMemory {
         /// How many events are done.
@@ -36,52 +35,58 @@ pub enum NetFault {
     },
 }
 
-/// Lets the events happen to a world, one after the other, and puts what comes of each at the end of `out`.
+/// Lets the events happen to a world, one after the other, and puts what comes of each at the end
+/// of `out`.
 ///
-/// What holds of a world and of this call, whatever the events are and however it ends: no two transactions use one
-/// number; the host accepts each number at most once, and each request and reply is made under the terminal's own key; a
-/// terminal completes only with the host's reply to its number; and no terminal holds, or may find after a stop, the key
-/// of a used number or of an ancestor of one.
+/// What holds of a world and of this call, whatever the events are and however it ends: no two
+/// transactions use one number; the host accepts each number at most once, and each request and
+/// reply is made under the terminal's own key; a terminal completes only with the host's reply to
+/// its number; and no terminal holds, or may find after a stop, the key of a used number or of an
+/// ancestor of one.
 pub fn run<const N: usize, C: Cell, L: UsedLog, I: Issuer>(
     world: &mut World<N, C, L, I>,
     events: &[Event],
     out: &mut Vec<Outcome>,
 ) -> Result<(), NetFault>
+    // What the call does.
     ensures run { IfOk result (λ _. IsRun
-        (meanings_of C.meaning C.worn C.arms (words_of L.meaning L.count L.capacity I.decides) L.arms)
+        (meanings_of C.meaning L.meaning I.decides)
         world.old events.now out.old.items out.new.items world.new) }
     ensures refused { IfErr result (RunRefused
-        (meanings_of C.meaning C.worn C.arms (words_of L.meaning L.count L.capacity I.decides) L.arms)
+        (meanings_of C.meaning L.meaning I.decides)
         world.old events.now out.old.items out.new.items world.new) }
-    ensures none_twice { NoneTwice world.new.requests }
+    // What stays: who owns an initial key serial number, and the keys of the security module.
     ensures owners_stay { (iksn t : ℕ)
         → owner_of world.old.owners iksn ≡ Some t → owner_of world.new.owners iksn ≡ Some t }
     ensures keys_stay { world.new.host.keys ≡ world.old.host.keys }
+    // No two transactions use one number.
+    ensures none_twice { NoneTwice world.new.requests }
     ensures by_owner { EachGained (IsSentByOwner world.new.owners) out.old.items out.new.items }
-    ensures accepted_once { HoldsOfGained (AcceptsOnce world.old.answers) out.old.items out.new.items }
-    ensures accepted_is_kept { KeepsAccepted
-        (meanings_of C.meaning C.worn C.arms (words_of L.meaning L.count L.capacity I.decides) L.arms)
-        world.new }
+    // The host accepts each number at most once.
+    ensures accepted_once { HoldsOfGained
+        (AcceptsOnce world.old.answers) out.old.items out.new.items }
+    ensures accepted_is_kept { KeepsAccepted (meanings_of C.meaning L.meaning I.decides) world.new }
+    // Each request and each reply is made under the terminal's own key.
     ensures own_requests { All (IsOwnRequest world.new.host.keys) world.new.requests }
     ensures own_replies { All (IsOwnReply world.new.host.keys) world.new.answers }
     ensures refusals { EachGained IsRefusedAsUsedOrFull out.old.items out.new.items }
+    // A terminal completes only with the host's reply to its number.
     ensures completed { HoldsOfGained
-        (Completed
-        (meanings_of C.meaning C.worn C.arms (words_of L.meaning L.count L.capacity I.decides) L.arms)
-        world.old world.new.terminals)
+        (Completed (meanings_of C.meaning L.meaning I.decides) world.old world.new.terminals)
         out.old.items out.new.items }
-    ensures above_used { All (HoldsOfTerminal
-        (meanings_of C.meaning C.worn C.arms (words_of L.meaning L.count L.capacity I.decides) L.arms)
+    // No terminal holds the key of a used number or of its ancestors, nor finds it after a stop.
+    ensures above_used { All
+        (HoldsOfTerminal (meanings_of C.meaning L.meaning I.decides)
         (StandsAboveUsed world.new.host.keys world.new.requests)) world.new.terminals }
-    ensures no_used_key { All (HoldsOfTerminal
-        (meanings_of C.meaning C.worn C.arms (words_of L.meaning L.count L.capacity I.decides) L.arms)
+    ensures no_used_key { All
+        (HoldsOfTerminal (meanings_of C.meaning L.meaning I.decides)
         (HoldNoUsedKey world.new.host.keys world.new.requests)) world.new.terminals }
 {
     laws::no_number_twice::<C, L, I>();
     laws::no_used_key::<C, L, I>();
-    laws::accepted_once::<C, L, I>();
+    laws::one_acceptance::<C, L, I>();
     laws::own_key::<C, L, I>();
-    laws::completed::<C, L, I>();
+    laws::completion_by_host::<C, L, I>();
     laws::what_stays::<C, L, I>();
     run_system(&mut world.system, events, out)
 }
@@ -92,18 +97,16 @@ fn run_system<const N: usize, C: Cell, L: UsedLog, I: Issuer>(
     events: &[Event],
     out: &mut Vec<Outcome>,
 ) -> Result<(), NetFault>
-    ensures run { IfOk result (λ _. IsRun
-        (meanings_of C.meaning C.worn C.arms (words_of L.meaning L.count L.capacity I.decides) L.arms)
+    ensures run { IfOk result (λ _. IsRun (meanings_of C.meaning L.meaning I.decides)
         system.old events.now out.old.items out.new.items system.new) }
-    ensures refused { IfErr result (RunRefused
-        (meanings_of C.meaning C.worn C.arms (words_of L.meaning L.count L.capacity I.decides) L.arms)
+    ensures refused { IfErr result (RunRefused (meanings_of C.meaning L.meaning I.decides)
         system.old events.now out.old.items out.new.items system.new) }
 {
     let mut done = 0;
     for event in events {
         match step_into(system, event, out) {
             Ok(()) => done += 1,
-            Err(_) => return Err(NetFault::NoMemory { done }),
+            Err(AllocError) => return Err(NetFault::NoMemory { done }),
         }
     }
     Ok(())
@@ -115,13 +118,11 @@ fn step_into<const N: usize, C: Cell, L: UsedLog, I: Issuer>(
     event: &Event,
     out: &mut Vec<Outcome>,
 ) -> Result<(), AllocError>
-    ensures step { IfOk result (λ _. IsStepInto
-        (meanings_of C.meaning C.worn C.arms (words_of L.meaning L.count L.capacity I.decides) L.arms)
+    ensures step { IfOk result (λ _. IsStepInto (meanings_of C.meaning L.meaning I.decides)
         system.old event.now out.old.items out.new.items system.new) }
     ensures out { OnErr result (out.new.items ≡ out.old.items) }
     ensures left { OnErr result (IsLeft
-        (meanings_of C.meaning C.worn C.arms (words_of L.meaning L.count L.capacity I.decides) L.arms)
-        system.old event.now system.new) }
+        (meanings_of C.meaning L.meaning I.decides) system.old event.now system.new) }
 {
     out.reserve(1)?;
     let outcome = step(system, event)?;
@@ -135,11 +136,9 @@ fn step<const N: usize, C: Cell, L: UsedLog, I: Issuer>(
     event: &Event,
 ) -> Result<Outcome, AllocError>
     ensures step { IfOk result (λ outcome. Step
-        (meanings_of C.meaning C.worn C.arms (words_of L.meaning L.count L.capacity I.decides) L.arms)
-        system.old event.now outcome system.new) }
+        (meanings_of C.meaning L.meaning I.decides) system.old event.now outcome system.new) }
     ensures left { OnErr result (IsLeft
-        (meanings_of C.meaning C.worn C.arms (words_of L.meaning L.count L.capacity I.decides) L.arms)
-        system.old event.now system.new) }
+        (meanings_of C.meaning L.meaning I.decides) system.old event.now system.new) }
 {
     match *event {
         Event::Load { t, iksn } => system.load(t, iksn),

@@ -1,7 +1,6 @@
 //! A world of terminals and one host.
 
 ghost use Rattle.std.specs.Prelude.{◌≡◌, All};
-ghost use Rattle.duk_host.specs.Host.{words_of};
 ghost use Rattle.duk_net.specs.Accepted.{KeepsAccepted};
 ghost use Rattle.duk_net.specs.First.{IsNewHost, IsNewTerminal, first_world};
 ghost use Rattle.duk_net.specs.UsedNumbers.{NoneTwice};
@@ -20,15 +19,14 @@ use duk_term::Terminal;
 use std::alloc::Global;
 use std::marker::Model;
 
-/// Terminals and one host, and a network between them that keeps every frame which was ever sent. Any frame may be
-/// delivered at any time, again, late or never.
+/// Terminals and one host, and a network between them that keeps every frame which was ever sent.
+/// Any frame may be delivered at any time, again, late or never.
 #[derive(Drop)]
 pub struct World<const N: usize, C: Cell, L: UsedLog, I: Issuer> {
     pub(crate) system: System<N, C, L, I>,
 }
 
 impl<const N: usize, C: Cell, L: UsedLog, I: Issuer> Model for World<N, C, L, I> {
-    ghost use Rattle.duk_host.specs.Host.{words_of};
     ghost use Rattle.duk_net.specs.Reached.{Reached};
     ghost use Rattle.duk_net.specs.World.{WorldOf, meanings_of};
 
@@ -36,43 +34,36 @@ impl<const N: usize, C: Cell, L: UsedLog, I: Issuer> Model for World<N, C, L, I>
 
     ghost view = { λ world. world.system };
 
-    ghost invariant = { λ world. Reached
-        (meanings_of C.meaning C.worn C.arms (words_of L.meaning L.count L.capacity I.decides) L.arms)
-        world.system };
+    ghost invariant = { λ world. Reached (meanings_of C.meaning L.meaning I.decides) world.system };
 }
 
 impl<const N: usize, C: Cell, L: UsedLog, I: Issuer> World<N, C, L, I> {
-    /// A world of this host and these terminals, all of them newly made over stores in which nothing was ever kept.
-    /// `loading` is the key under which the host's security module issues initial keys to terminals. This takes no
-    /// memory.
+    /// A world of this host and these terminals, all of them newly made over stores in which
+    /// nothing was ever kept. `loading` is the key under which the host's security module issues
+    /// initial keys to terminals. This takes no memory.
     pub fn new(
         alloc: Global,
         host: Host<N, L, I>,
         loading: Key<16>,
         terminals: Vec<Terminal<C>>,
     ) -> Self
-        requires host { IsNewHost
-            (meanings_of C.meaning C.worn C.arms (words_of L.meaning L.count L.capacity I.decides) L.arms) host }
-        requires terminals { All (IsNewTerminal
-            (meanings_of C.meaning C.worn C.arms (words_of L.meaning L.count L.capacity I.decides) L.arms))
+        requires host { IsNewHost (meanings_of C.meaning L.meaning I.decides) host }
+        requires terminals { All (IsNewTerminal (meanings_of C.meaning L.meaning I.decides))
             terminals.items }
         ensures first { result ≡ first_world host loading terminals.items }
         ensures none_twice { NoneTwice result.requests }
         ensures accepted_is_kept { KeepsAccepted
-            (meanings_of C.meaning C.worn C.arms (words_of L.meaning L.count L.capacity I.decides) L.arms)
-            result }
+            (meanings_of C.meaning L.meaning I.decides) result }
         ensures own_requests { All (IsOwnRequest result.host.keys) result.requests }
         ensures own_replies { All (IsOwnReply result.host.keys) result.answers }
-        ensures above_used { All (HoldsOfTerminal
-            (meanings_of C.meaning C.worn C.arms (words_of L.meaning L.count L.capacity I.decides) L.arms)
+        ensures above_used { All (HoldsOfTerminal (meanings_of C.meaning L.meaning I.decides)
             (StandsAboveUsed result.host.keys result.requests)) result.terminals }
-        ensures no_used_key { All (HoldsOfTerminal
-            (meanings_of C.meaning C.worn C.arms (words_of L.meaning L.count L.capacity I.decides) L.arms)
+        ensures no_used_key { All (HoldsOfTerminal (meanings_of C.meaning L.meaning I.decides)
             (HoldNoUsedKey result.host.keys result.requests)) result.terminals }
     {
         laws::no_number_twice::<C, L, I>();
         laws::no_used_key::<C, L, I>();
-        laws::accepted_once::<C, L, I>();
+        laws::one_acceptance::<C, L, I>();
         laws::own_key::<C, L, I>();
         World {
             system: System {
@@ -100,8 +91,8 @@ impl<const N: usize, C: Cell, L: UsedLog, I: Issuer> World<N, C, L, I> {
         self.system.answers.as_slice()
     }
 
-    /// Which terminal owns which initial key serial number: the one that was loaded with it, or whose store failed in that
-    /// load, whatever was restarted since.
+    /// Which terminal owns which initial key serial number: the one that was loaded with it, or
+    /// whose store failed in that load, whatever was restarted since.
     pub fn owners(&self) -> &[Owner]
         ensures { result.now ≡ self.now.owners }
     {

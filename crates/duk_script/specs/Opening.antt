@@ -1,8 +1,8 @@
 -- The world of a configuration, over stores in memory: this project's own.
-use Rattle.std.specs.Prelude.{◌≡◌, ◌+◌, ◌++◌, ◌∷◌, zero, suc, ℕ, List, [], None, length, replicate}
+use Rattle.std.specs.Prelude.{◌≡◌, ◌+◌, ◌++◌, ◌∷◌, zero, suc, ℕ, List, [], None, replicate}
 use Rattle.duk_config.specs.Opened.{keys_for}
 use Rattle.duk_config.specs.Settings.{Settings}
-use Rattle.duk_host.specs.Host.{HostOf, words_of}
+use Rattle.duk_host.specs.Host.{HostOf}
 use Rattle.duk_host.specs.Table.{CardTable, table_decision}
 use Rattle.duk_net.specs.First.{first_world}
 use Rattle.duk_net.specs.Run.{Run}
@@ -10,10 +10,10 @@ use Rattle.duk_net.specs.World.{Meanings, WorldOf, meanings_of}
 use Rattle.duk_net.specs.declared.event.Event.{Event}
 use Rattle.duk_net.specs.declared.event.Event.TheVariants.{RestartHost, RestartTerm}
 use Rattle.duk_net.specs.declared.outcome.Outcome.{Outcome}
-use Rattle.duk_store.specs.MemoryCell.{MemoryCell, armed_cell, memory_meaning, new_cell}
-use Rattle.duk_store.specs.MemoryLog.{MemoryLog, armed_log, log_meaning, new_log}
+use Rattle.duk_store.specs.MemoryCell.{MemoryCell, memory_cell_meaning, new_cell}
+use Rattle.duk_store.specs.MemoryLog.{MemoryLog, memory_log_meaning, new_log}
 use Rattle.duk_tdes.specs.KeyBytes.{bytes_of}
-use Rattle.duk_term.specs.Terminal.{Term}
+use Rattle.duk_term.specs.Terminal.{TerminalOf}
 use Rattle.duk_term.specs.declared.state.State.TheVariants.{Stopped}
 
 -- a world over stores in memory, with a table of cards
@@ -22,12 +22,10 @@ MemoryWorld = WorldOf MemoryCell MemoryLog CardTable
 
 -- what its stores and its issuer mean
 abbrev pub in_memory : Meanings MemoryCell MemoryLog CardTable
-in_memory = meanings_of memory_meaning (λ cell. ⊥) (λ old steps new. new ≡ armed_cell steps old)
-    (words_of log_meaning (λ log. length log.numbers) (λ log. log.capacity) table_decision)
-    (λ old steps new. new ≡ armed_log steps old)
+in_memory = meanings_of memory_cell_meaning memory_log_meaning table_decision
 
 -- a terminal as it is made over a new cell
-abbrev pub new_terminal : Term MemoryCell
+abbrev pub new_terminal : TerminalOf MemoryCell
 new_terminal = record { cell = new_cell; state = Stopped }
 
 -- the host of a configuration, as it is made

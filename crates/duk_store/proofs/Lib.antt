@@ -1,1 +1,1 @@
-pub mod LogLemmas
+pub mod MemoryLogMeaning

@@ -1,7 +1,8 @@
 -- The device under a store in memory: this project's own.
 use Rattle.std.specs.Prelude.{◌≡◌, ◌≢◌, ◌+◌, ◌%◌, ◌^◌, ℕ, Bool, true, false, Option, Some, None}
 
--- whether the store runs, how many device steps pass before one fails, if any is to fail, and how many have failed
+-- whether the store runs, how many device steps pass before one fails, if any is to fail, and how
+-- many have failed
 pub record Device : Type 0 where
   pub running : Bool
   pub passes : Option ℕ
@@ -25,7 +26,8 @@ one_more failures = (failures + 1) % 2 ^ 64
 
 -- a step has failed, and the store is stopped
 abbrev pub failed : Device → Device
-failed device = record device { running = false; passes = Some 0; failures = one_more device.failures }
+failed device =
+    record device { running = false; passes = Some 0; failures = one_more device.failures }
 
 -- how many steps are to pass after one
 abbrev pub after_one : Option ℕ → Option ℕ → Type 0

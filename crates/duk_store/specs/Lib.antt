@@ -1,4 +1,4 @@
-pub mod Meaning
+pub mod StoreState
 pub mod Restart
 pub mod Cell
 pub mod Log

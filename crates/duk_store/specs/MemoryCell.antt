@@ -1,8 +1,8 @@
 -- A cell in memory: this project's own.
 use Rattle.std.specs.Prelude.{◌≡◌, ◌⊎◌, ℕ, false, List, Some, None}
-use Rattle.duk_store.specs.Cell.{Kept}
+use Rattle.duk_store.specs.Cell.{CellMeaning, Kept}
 use Rattle.duk_store.specs.Device.{Device, HavePassed, IsDueAt, armed, new_device, started}
-use Rattle.duk_store.specs.Meaning.{Meaning}
+use Rattle.duk_store.specs.StoreState.{StoreState}
 use Rattle.duk_store.specs.declared.fault.StoreFault.{StoreFault}
 use Rattle.duk_store.specs.declared.fault.StoreFault.TheVariants as fault
 
@@ -15,9 +15,9 @@ pub record MemoryCell : Type 0 where
 abbrev pub new_cell : MemoryCell
 new_cell = record { kept = None; device = new_device }
 
--- what it means: a restart finds what it keeps, and it is calm where no step is to fail
-abbrev pub memory_meaning : MemoryCell → Meaning Kept
-memory_meaning cell = record {
+-- its state: a restart finds what it keeps, and it is calm where no step is to fail
+abbrev pub memory_cell_state : MemoryCell → StoreState Kept
+memory_cell_state cell = record {
   honest = Unit {0};
   sound = Unit {0};
   calm = cell.device.passes ≡ None;
@@ -33,6 +33,17 @@ restarted cell = record cell { device = started cell.device }
 -- the cell, told how many steps are to pass
 abbrev pub armed_cell : ℕ → MemoryCell → MemoryCell
 armed_cell steps cell = record cell { device = armed steps cell.device }
+
+-- what cells in memory mean: none is ever worn, and none promises anything more of itself after a
+-- write
+abbrev pub memory_cell_meaning : CellMeaning MemoryCell
+memory_cell_meaning = record {
+  state_of = memory_cell_state;
+  worn = λ cell. ⊥;
+  disarmed = λ cell. cell.device.passes ≡ None;
+  arms = λ old steps new. new ≡ armed_cell steps old;
+  after_put = λ cell. Unit {0};
+}
 
 -- a write is done: both of its steps pass, and the new body is kept
 pub record IsMemoryPut (old new : MemoryCell) (body : List ℕ) : Type 0 where

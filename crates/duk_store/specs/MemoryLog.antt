@@ -1,13 +1,14 @@
 -- A log of used numbers in memory: this project's own.
-use Rattle.std.specs.Prelude.{◌≡◌, ◌⊎◌, ℕ, false, [], ◌∷◌, ◌++◌, None}
+use Rattle.std.specs.Prelude.{◌≡◌, ◌⊎◌, ℕ, false, [], ◌∷◌, ◌++◌, None, length}
 use Rattle.duk_tree.specs.Serial.{Serial}
 use Rattle.duk_store.specs.Device.{Device, HavePassed, IsDueAt, armed, new_device, started}
-use Rattle.duk_store.specs.Log.{Numbers}
-use Rattle.duk_store.specs.Meaning.{Meaning}
+use Rattle.duk_store.specs.Log.{LogMeaning, Numbers}
+use Rattle.duk_store.specs.StoreState.{StoreState}
 use Rattle.duk_store.specs.declared.fault.StoreFault.{StoreFault}
 use Rattle.duk_store.specs.declared.fault.StoreFault.TheVariants as fault
 
--- what a log in memory is: the numbers that it keeps, for how many it has room in all, and its device
+-- what a log in memory is: the numbers that it keeps, for how many it has room in all, and its
+-- device
 pub record MemoryLog : Type 0 where
   pub numbers : Numbers
   pub capacity : ℕ
@@ -17,9 +18,9 @@ pub record MemoryLog : Type 0 where
 abbrev pub new_log : ℕ → MemoryLog
 new_log capacity = record { numbers = []; capacity = capacity; device = new_device }
 
--- what it means: a restart finds the numbers that it keeps, and it is calm where no step is to fail
-abbrev pub log_meaning : MemoryLog → Meaning Numbers
-log_meaning log = record {
+-- its state: a restart finds the numbers that it keeps, and it is calm where no step is to fail
+abbrev pub memory_log_state : MemoryLog → StoreState Numbers
+memory_log_state log = record {
   honest = Unit {0};
   sound = Unit {0};
   calm = log.device.passes ≡ None;
@@ -35,6 +36,16 @@ restarted_log log = record log { device = started log.device }
 -- the log, told how many steps are to pass
 abbrev pub armed_log : ℕ → MemoryLog → MemoryLog
 armed_log steps log = record log { device = armed steps log.device }
+
+-- what logs in memory mean
+abbrev pub memory_log_meaning : LogMeaning MemoryLog
+memory_log_meaning = record {
+  state_of = memory_log_state;
+  count = λ log. length log.numbers;
+  capacity = λ log. log.capacity;
+  disarmed = λ log. log.device.passes ≡ None;
+  arms = λ old steps new. new ≡ armed_log steps old;
+}
 
 -- the numbers with one more at their end
 abbrev pub with_number : MemoryLog → Serial → Numbers
@@ -65,6 +76,7 @@ pub record IsSecondAppendStepDue (old new : MemoryLog) (number : Serial) : Type 
 
 -- why an append is not done
 abbrev pub MemoryAppendFailed : MemoryLog → MemoryLog → Serial → StoreFault → Type 0
-MemoryAppendFailed old new number fault.Device = IsFirstAppendStepDue old new ⊎ IsSecondAppendStepDue old new number
+MemoryAppendFailed old new number fault.Device =
+    IsFirstAppendStepDue old new ⊎ IsSecondAppendStepDue old new number
 MemoryAppendFailed old new number fault.Stopped = IsLogStopped old new
 MemoryAppendFailed old new number _ = ⊥

@@ -19,7 +19,11 @@ impl Model for MemoryDevice {
 
     ghost Value = { Device };
 
-    ghost view = { λ device. record { running = device.running; passes = device.passes; failures = device.failures } };
+    ghost view = { λ device. record {
+      running = device.running;
+      passes = device.passes;
+      failures = device.failures;
+    } };
 }
 
 impl MemoryDevice {
@@ -59,7 +63,8 @@ impl MemoryDevice {
     /// A device step: it passes, or fails where it comes due, and then the store is stopped.
     pub fn step(&mut self) -> Result<(), StoreFault>
         ensures passed { IfOk result (λ _. HasPassed self.old self.new) }
-        ensures due { IfErr result (λ fault. (fault ≡ StoreFault.Device) × IsStepDue self.old self.new) }
+        ensures due { IfErr result
+            (λ fault. (fault ≡ StoreFault.Device) × IsStepDue self.old self.new) }
     {
         match self.passes {
             None => Ok(()),

@@ -1,5 +1,9 @@
 //! Why a store refuses.
 
+ghost use Rattle.std.specs.Prelude.{◌≡◌};
+ghost use Rattle.duk_store.specs.declared.fault.StoreFault.TheVariants.{NoMemory};
+
+use std::alloc::AllocError;
 use thiserror::Error;
 
 /// Why a store does not do what it was asked. `Display` writes the name.
@@ -20,4 +24,12 @@ pub enum StoreFault {
     /// Memory was refused.
     #[error("NoMemory")]
     NoMemory,
+}
+
+impl From<AllocError> for StoreFault {
+    ghost from_gives = { λ _ fault. fault ≡ NoMemory };
+
+    fn from(_refused: AllocError) -> StoreFault {
+        StoreFault::NoMemory
+    }
 }

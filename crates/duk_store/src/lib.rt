@@ -1,8 +1,9 @@
-//! What must outlive a stop: a cell for the one body of a terminal, and a log for the used numbers of a host.
+//! What must outlive a stop: a cell for the one body of a terminal, and a log for the used numbers
+//! of a host.
 //!
-//! A store is made stopped and brought up by a restart. What a restart may find is part of its meaning: after a write
-//! that was acknowledged the new value alone, after one that failed the old or the new. Every store tells its failures
-//! by a count, so that no fault is told without cause.
+//! A store is made stopped and brought up by a restart. What a restart may find is part of its
+//! meaning: after a write that was acknowledged the new value alone, after one that failed the old
+//! or the new. Every store tells its failures by a count, so that no fault is told without cause.
 #![tactic(auto)]
 
 mod cell;

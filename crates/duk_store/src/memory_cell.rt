@@ -1,18 +1,18 @@
 //! A cell in memory.
 
 ghost use Rattle.std.specs.Prelude.{◌≡◌, None, Ok, IfOk, IfErr};
-ghost use Rattle.duk_store.specs.Meaning.{IsNew, StaysButCalm};
+ghost use Rattle.duk_store.specs.StoreState.{IsNew, StaysButCalm};
 ghost use Rattle.duk_store.specs.Cell.{IsPut, PutFailed};
 ghost use Rattle.duk_store.specs.Restart.{Restarted, RestartFailed};
-ghost use Rattle.duk_store.specs.MemoryCell.{MemoryCell, memory_meaning, new_cell, restarted, armed_cell, IsMemoryPut, MemoryPutFailed};
+ghost use Rattle.duk_store.specs.MemoryCell.{MemoryCell, memory_cell_meaning, memory_cell_state, new_cell, restarted, armed_cell, IsMemoryPut, MemoryPutFailed};
 
 use crate::cell::{Body, Cell};
 use crate::device::MemoryDevice;
 use crate::fault::StoreFault;
 use std::marker::Model;
 
-/// A cell in memory, for trials: it can be told to fail at a device step. A write has two device steps: the first keeps
-/// the new body, the second acknowledges it.
+/// A cell in memory, for trials: it can be told to fail at a device step. A write has two device
+/// steps: the first keeps the new body, the second acknowledges it.
 #[derive(Drop)]
 pub struct MemCell {
     kept: Option<Body>,
@@ -29,7 +29,7 @@ impl MemCell {
     /// A cell with nothing kept, stopped, in which no step is to fail.
     pub fn new() -> MemCell
         ensures cell { result ≡ new_cell }
-        ensures new { IsNew (memory_meaning result) None }
+        ensures new { IsNew (memory_cell_state result) None }
     {
         MemCell {
             kept: None,
@@ -39,18 +39,14 @@ impl MemCell {
 }
 
 impl Cell for MemCell {
-    ghost meaning = { memory_meaning };
-
-    ghost worn = { λ _. ⊥ };
-
-    ghost disarmed = { λ cell. (memory_meaning cell).calm };
-
-    ghost arms = { λ old steps new. new ≡ armed_cell steps old };
+    ghost meaning = { memory_cell_meaning };
 
     fn restart(&mut self) -> Result<Option<Body>, StoreFault>
-        ensures found { IfOk result (Restarted (memory_meaning self.old) (memory_meaning self.new)) }
-        ensures failed { IfErr result (RestartFailed (memory_meaning self.old) (memory_meaning self.new)) }
-        ensures disarmed { (memory_meaning self.new).calm }
+        ensures found { IfOk result
+            (Restarted (memory_cell_state self.old) (memory_cell_state self.new)) }
+        ensures failed { IfErr result
+            (RestartFailed (memory_cell_state self.old) (memory_cell_state self.new)) }
+        ensures disarmed { memory_cell_meaning.disarmed self.new }
         ensures kept { result ≡ Ok self.old.kept }
         ensures cell { self.new ≡ restarted self.old }
     {
@@ -59,10 +55,9 @@ impl Cell for MemCell {
     }
 
     fn put(&mut self, body: &Body) -> Result<(), StoreFault>
-        ensures kept { IfOk result
-            (λ _. IsPut (memory_meaning self.old) ⊥ (memory_meaning self.new) body.now) }
-        ensures failed { IfErr result
-            (PutFailed (memory_meaning self.old) ⊥ (memory_meaning self.new) body.now) }
+        ensures kept { IfOk result (λ _. IsPut memory_cell_meaning self.old self.new body.now) }
+        ensures after_put { IfOk result (λ _. memory_cell_meaning.after_put self.new) }
+        ensures failed { IfErr result (PutFailed memory_cell_meaning self.old self.new body.now) }
         ensures done { IfOk result (λ _. IsMemoryPut self.old self.new body.now) }
         ensures not_done { IfErr result (MemoryPutFailed self.old self.new body.now) }
     {
@@ -75,7 +70,7 @@ impl Cell for MemCell {
     }
 
     fn arm(&mut self, steps: u32)
-        ensures stays { StaysButCalm (memory_meaning self.old) (memory_meaning self.new) }
+        ensures stays { StaysButCalm (memory_cell_state self.old) (memory_cell_state self.new) }
         ensures armed { self.new ≡ armed_cell steps self.old }
     {
         self.device.arm(steps);

@@ -1,10 +1,10 @@
 //! A log of used numbers in memory.
 
 ghost use Rattle.std.specs.Prelude.{◌≡◌, ◌+◌, ◌<◌, ◌≤◌, [], true, Ok, IfOk, IfErr, length};
-ghost use Rattle.duk_store.specs.Meaning.{IsNew, StaysButCalm};
+ghost use Rattle.duk_store.specs.StoreState.{IsNew, StaysButCalm};
 ghost use Rattle.duk_store.specs.Restart.{RestartFailed};
-ghost use Rattle.duk_store.specs.Log.{LogRestarted, IsAppended, AppendFailed, IsRead, ReadFailed, told_length, told_room};
-ghost use Rattle.duk_store.specs.MemoryLog.{log_meaning, new_log, restarted_log, armed_log, IsMemoryAppended, MemoryAppendFailed};
+ghost use Rattle.duk_store.specs.Log.{LogRestarted, IsAppended, AppendFailed, IsReadAt, ReadFailed, length_of, room_of};
+ghost use Rattle.duk_store.specs.MemoryLog.{memory_log_meaning, memory_log_state, new_log, restarted_log, armed_log, IsMemoryAppended, MemoryAppendFailed};
 
 use crate::device::MemoryDevice;
 use crate::fault::StoreFault;
@@ -13,8 +13,8 @@ use duk_tree::Ksn;
 use std::alloc::Global;
 use std::marker::Model;
 
-/// A log in memory, which can be told to fail at a device step. An append has two device steps: the first keeps the
-/// number, the second acknowledges it. Only `new` takes memory.
+/// A log in memory, which can be told to fail at a device step. An append has two device steps: the
+/// first keeps the number, the second acknowledges it. Only `new` takes memory.
 #[derive(Drop)]
 pub struct MemLog {
     /// The numbers kept, and behind them places that are free.
@@ -29,7 +29,11 @@ impl Model for MemLog {
 
     ghost Value = { MemoryLog };
 
-    ghost view = { λ log. record { numbers = take log.len log.places.items; capacity = length log.places.items; device = log.device } };
+    ghost view = { λ log. record {
+      numbers = take log.len log.places.items;
+      capacity = length log.places.items;
+      device = log.device;
+    } };
 
     ghost invariant = { λ log. log.len ≤ length log.places.items };
 }
@@ -40,18 +44,16 @@ impl MemLog {
     /// Refused with `NoMemory` where the memory for all of them is.
     pub fn new(alloc: Global, capacity: usize) -> Result<MemLog, StoreFault>
         ensures log { IfOk result (λ log. log ≡ new_log capacity) }
-        ensures new { IfOk result (λ log. IsNew (log_meaning log) []) }
+        ensures new { IfOk result (λ log. IsNew (memory_log_state log) []) }
         ensures refused { IfErr result (λ fault. fault ≡ StoreFault.NoMemory) }
     {
         let free = Ksn::from_bytes([0; 10]);
-        match vec![in alloc; free; capacity] {
-            Ok(places) => Ok(MemLog {
-                places,
-                len: 0,
-                device: MemoryDevice::new(),
-            }),
-            Err(_) => Err(StoreFault::NoMemory),
-        }
+        let places = vec![in alloc; free; capacity]?;
+        Ok(MemLog {
+            places,
+            len: 0,
+            device: MemoryDevice::new(),
+        })
     }
 
     /// Appends a number by its two device steps.
@@ -71,22 +73,15 @@ impl MemLog {
 }
 
 impl UsedLog for MemLog {
-    ghost meaning = { log_meaning };
-
-    ghost count = { λ log. length log.numbers };
-
-    ghost capacity = { λ log. log.capacity };
-
-    ghost disarmed = { λ log. (log_meaning log).calm };
-
-    ghost arms = { λ old steps new. new ≡ armed_log steps old };
+    ghost meaning = { memory_log_meaning };
 
     fn restart(&mut self) -> Result<u64, StoreFault>
-        ensures found { IfOk result (LogRestarted (log_meaning self.old) (log_meaning self.new)) }
+        ensures found { IfOk result (LogRestarted memory_log_meaning self.old self.new) }
         ensures counted { IfOk result (λ found. length self.new.numbers ≡ found) }
         ensures capacity { self.new.capacity ≡ self.old.capacity }
-        ensures failed { IfErr result (RestartFailed (log_meaning self.old) (log_meaning self.new)) }
-        ensures disarmed { (log_meaning self.new).calm }
+        ensures failed { IfErr result
+            (RestartFailed (memory_log_state self.old) (memory_log_state self.new)) }
+        ensures disarmed { memory_log_meaning.disarmed self.new }
         ensures kept { result ≡ Ok (length self.old.numbers) }
         ensures log { self.new ≡ restarted_log self.old }
     {
@@ -110,20 +105,33 @@ impl UsedLog for MemLog {
         }
     }
 
-    fn at(&mut self, place: u64) -> Result<Ksn, StoreFault> {
+    /// The number at a place of the list. This takes no device step, so that it is refused with
+    /// `Stopped` alone.
+    fn at(&mut self, place: u64) -> Result<Ksn, StoreFault>
+        requires { self.old.device.running ≡ true → place < length self.old.numbers }
+        ensures read { IfOk result (IsReadAt memory_log_meaning self.old self.new place) }
+        ensures counted { IfOk result (λ _. length self.new.numbers ≡ length self.old.numbers) }
+        ensures capacity { self.new.capacity ≡ self.old.capacity }
+        ensures disarmed { memory_log_meaning.disarmed self.old
+            → memory_log_meaning.disarmed self.new }
+        ensures failed { IfErr result (ReadFailed memory_log_meaning self.old self.new) }
+        ensures stopped { IfErr result (λ fault. fault ≡ StoreFault.Stopped) }
+        ensures same { self.new ≡ self.old }
+    {
         if !self.device.is_running() {
             return Err(StoreFault::Stopped);
         }
         Ok(self.places[place as usize])
     }
 
-    #[tactic(auto, using(crate::proofs::LogLemmas::appended_in_memory))]
+    #[tactic(auto, using(crate::proofs::MemoryLogMeaning::appended_in_memory))]
     fn append(&mut self, number: Ksn) -> Result<(), StoreFault>
         requires { self.old.device.running ≡ true → length self.old.numbers < self.old.capacity }
-        ensures appended { IfOk result (λ _. IsAppended (log_meaning self.old) (log_meaning self.new) number) }
+        ensures appended { IfOk result
+            (λ _. IsAppended memory_log_meaning self.old self.new number) }
         ensures counted { IfOk result (λ _. length self.new.numbers ≡ length self.old.numbers + 1) }
         ensures capacity { self.new.capacity ≡ self.old.capacity }
-        ensures failed { IfErr result (AppendFailed (log_meaning self.old) (log_meaning self.new) number) }
+        ensures failed { IfErr result (AppendFailed memory_log_meaning self.old self.new number) }
         ensures done { IfOk result (λ _. IsMemoryAppended self.old self.new number) }
         ensures not_done { IfErr result (MemoryAppendFailed self.old self.new number) }
     {
@@ -131,7 +139,7 @@ impl UsedLog for MemLog {
     }
 
     fn arm(&mut self, steps: u32)
-        ensures stays { StaysButCalm (log_meaning self.old) (log_meaning self.new) }
+        ensures stays { StaysButCalm (memory_log_state self.old) (memory_log_state self.new) }
         ensures counted { length self.new.numbers ≡ length self.old.numbers }
         ensures capacity { self.new.capacity ≡ self.old.capacity }
         ensures armed { self.new ≡ armed_log steps self.old }

@@ -1,1 +1,1 @@
-pub mod BodyLemmas
+pub mod BodyIsFoundAgain

@@ -1,19 +1,19 @@
--- Beginning a transaction: this project's own, over the transaction keys of ANSI X9.24-1:2009 annex A.
-use Rattle.std.specs.Prelude.{◌≡◌, ◌⊎◌, ℕ, List, Option, Some}
+-- Beginning a transaction: this project's own, over the transaction keys of ANSI X9.24-1:2009 annex
+-- A.
+use Rattle.std.specs.Prelude.{◌≡◌, ℕ, List, Option, Some}
 use Rattle.duk_frame.specs.Payment.{enciphered_pin, payment_request}
 use Rattle.duk_frame.specs.Request.{IsRequest, request_text}
 use Rattle.duk_frame.specs.declared.request.Request.{Request}
 use Rattle.duk_mac.specs.Retail.{retail_of}
 use Rattle.duk_pin.specs.PinBlock.{IsPinBlock, pin_block}
 use Rattle.duk_regs.specs.Registers.{RegisterSet, StandsFor, IsTaken}
-use Rattle.duk_store.specs.Cell.{Kept, IsPut, PutFailed}
-use Rattle.duk_store.specs.Meaning.{Meaning, FindsWithin}
+use Rattle.duk_store.specs.Cell.{CellMeaning, IsPut}
 use Rattle.duk_store.specs.declared.fault.StoreFault.{StoreFault}
 use Rattle.duk_tree.specs.Derivation.{request_key_of, response_key_of, transaction_key_of}
 use Rattle.duk_tree.specs.Next.{spent_counter}
 use Rattle.duk_tree.specs.Path.{IsUsable}
 use Rattle.duk_term.specs.Body.{body_bytes, IsFoundAgain}
-use Rattle.duk_term.specs.Terminal.{Term, serial_of}
+use Rattle.duk_term.specs.Terminal.{StopsBetween, TerminalOf, serial_of}
 use Rattle.duk_term.specs.declared.fault.TermFault.{TermFault}
 use Rattle.duk_term.specs.declared.fault.TermFault.TheVariants as fault
 use Rattle.duk_term.specs.declared.purchase.Purchase.{Purchase}
@@ -21,8 +21,9 @@ use Rattle.duk_term.specs.declared.state.Pending.{Pending}
 use Rattle.duk_term.specs.declared.state.State.{State}
 use Rattle.duk_term.specs.declared.state.State.TheVariants.{Stopped, Empty, Loaded}
 
--- the next number is taken: its key comes out of these registers and leaves those, and of registers that stand for an initial key it is the
--- key of the number's node, and those that are left stand for the same initial key
+-- the next number is taken: its key comes out of these registers and leaves those, and of registers
+-- that stand for an initial key it is the key of the number's node, and those that are left stand
+-- for the same initial key
 pub record TakesNumber (set : RegisterSet) (key : List ℕ) (left : RegisterSet) : Type 0 where
   pub usable : IsUsable set.counter
   pub taken : IsTaken set key left
@@ -30,12 +31,14 @@ pub record TakesNumber (set : RegisterSet) (key : List ℕ) (left : RegisterSet)
       → (key ≡ transaction_key_of initial set.iksn set.counter) × StandsFor initial left
 
 -- the state has these registers, and the next number is taken from them
-pub record TakesFrom (state : State) (set : RegisterSet) (key : List ℕ) (left : RegisterSet) : Type 0 where
+pub record TakesFrom
+    (state : State) (set : RegisterSet) (key : List ℕ) (left : RegisterSet) : Type 0 where
   pub pending : Option Pending
   pub had : state ≡ Loaded set pending
   pub takes : TakesNumber set key left
 
--- the pending transaction of a number: its key serial number, and its transaction key's variant for responses
+-- the pending transaction of a number: its key serial number, and its transaction key's variant for
+-- responses
 abbrev pub pending_of : RegisterSet → List ℕ → Pending
 pending_of set key = record { ksn = serial_of set; response_key = response_key_of key }
 
@@ -52,8 +55,11 @@ requested set key purchase =
       mac = retail_of (request_key_of key) (request_text ksn purchase.pan purchase.amount block);
     }
 
--- a request goes out: it is that of the number taken, and the image of the registers that are left is kept
-pub record IsBegun {C : Type 0} (meaning : C → Meaning Kept) (worn : C → Type 0) (purchase : Purchase) (old new : Term C) (frame : List ℕ) : Type 0 where
+-- a request goes out: it is that of the number taken, and the image of the registers that are left
+-- is kept
+pub record IsBegun
+    {C : Type 0} (meaning : CellMeaning C) (purchase : Purchase) (old new : TerminalOf C)
+    (frame : List ℕ) : Type 0 where
   pub set : RegisterSet
   pub key : List ℕ
   pub left : RegisterSet
@@ -61,34 +67,37 @@ pub record IsBegun {C : Type 0} (meaning : C → Meaning Kept) (worn : C → Typ
   pub again : IsFoundAgain left
   pub request : IsRequest frame (requested set key purchase)
   pub pin_is_readable : IsPinBlock purchase.pin purchase.pan (pin_block purchase.pin purchase.pan)
-  pub frame_is : frame ≡ payment_request key (serial_of set) purchase.pan purchase.pin purchase.amount
+  pub frame_is : frame
+      ≡ payment_request key (serial_of set) purchase.pan purchase.pin purchase.amount
   pub state_is : new.state ≡ Loaded left (Some (pending_of set key))
-  pub kept : IsPut (meaning old.cell) (worn old.cell) (meaning new.cell) (body_bytes left)
+  pub kept : IsPut meaning old.cell new.cell (body_bytes left)
 
--- no request goes out, since the image was not kept: the terminal is stopped, and a restart would find the image of the registers before
--- the number was taken, or after
-pub record BeginStopped {C : Type 0} (meaning : C → Meaning Kept) (worn : C → Type 0) (old new : Term C) (why : StoreFault) : Type 0 where
+-- no request goes out, since the image was not kept: the terminal is stopped, and a restart would
+-- find the image of the registers before the number was taken, or after
+pub record BeginStopped
+    {C : Type 0} (meaning : CellMeaning C) (old new : TerminalOf C)
+    (why : StoreFault) : Type 0 where
   pub set : RegisterSet
   pub key : List ℕ
   pub left : RegisterSet
   pub takes : TakesFrom old.state set key left
   pub again : IsFoundAgain left
-  pub stopped : new.state ≡ Stopped
-  pub not_kept : PutFailed (meaning old.cell) (worn old.cell) (meaning new.cell) (body_bytes left) why
-  pub within : (meaning old.cell).honest
-      → FindsWithin (meaning new.cell) (λ kept. (kept ≡ Some (body_bytes set)) ⊎ (kept ≡ Some (body_bytes left)))
+  pub stops : StopsBetween meaning (Some (body_bytes set)) left old new why
 
 -- a state whose registers have no number left
 abbrev pub IsSpent : State → Type 0
-IsSpent state = (set : RegisterSet) × (pending : _) × (state ≡ Loaded set pending) × (set.counter ≡ spent_counter)
+IsSpent state =
+    (set : RegisterSet) × (pending : _) × (state ≡ Loaded set pending)
+    × (set.counter ≡ spent_counter)
 
 -- why no request goes out, and what that leaves
-abbrev pub BeginRefused : {C : Type 0} → (C → Meaning Kept) → (C → Type 0) → Term C → Term C → TermFault → Type 0
-BeginRefused meaning worn old new fault.Stopped = (old.state ≡ Stopped) × (new ≡ old)
-BeginRefused meaning worn old new fault.NotLoaded = (old.state ≡ Empty) × (new ≡ old)
-BeginRefused meaning worn old new fault.Spent = IsSpent old.state × (new ≡ old)
-BeginRefused meaning worn old new (fault.Store why) = BeginStopped meaning worn old new why
-BeginRefused meaning worn old new _ = ⊥
+abbrev pub BeginRefused : {C : Type 0} → CellMeaning C → TerminalOf C → TerminalOf C → TermFault
+    → Type 0
+BeginRefused meaning old new fault.Stopped = (old.state ≡ Stopped) × (new ≡ old)
+BeginRefused meaning old new fault.NotLoaded = (old.state ≡ Empty) × (new ≡ old)
+BeginRefused meaning old new fault.Spent = IsSpent old.state × (new ≡ old)
+BeginRefused meaning old new (fault.Store why) = BeginStopped meaning old new why
+BeginRefused meaning old new _ = ⊥
 
 -- why no number is taken from a state
 abbrev pub IsNotTaken : State → TermFault → Type 0

@@ -1,7 +1,8 @@
 -- A terminal: what it is, and what its store holds of it. This project's own.
-use Rattle.std.specs.Prelude.{◌≡◌, true, ℕ, List, Some, None, ◌==◌, if◌then◌else◌}
-use Rattle.duk_store.specs.Cell.{Kept, PutFailed}
-use Rattle.duk_store.specs.Meaning.{Meaning, FindsOnly}
+use Rattle.std.specs.Prelude.{◌≡◌, ◌⊎◌, true, ℕ, List, Some, None, ◌==◌, if◌then◌else◌}
+use Rattle.duk_store.specs.Cell.{CellMeaning, Kept, PutFailed}
+use Rattle.duk_store.specs.declared.fault.StoreFault.{StoreFault}
+use Rattle.duk_store.specs.StoreState.{StoreState, FindsOnly, FindsWithin}
 use Rattle.duk_regs.specs.Registers.{RegisterSet}
 use Rattle.duk_tree.specs.Next.{spent_counter}
 use Rattle.duk_tree.specs.Serial.{Serial}
@@ -13,9 +14,9 @@ use Rattle.duk_term.specs.declared.fault.TermFault.TheVariants as fault
 use Rattle.duk_term.specs.declared.state.State.{State}
 use Rattle.duk_term.specs.declared.state.State.TheVariants.{Stopped, Empty, Loaded}
 
--- a terminal: its cell, and its state, which is stopped, or running with nothing, or running with registers and perhaps a pending
--- transaction
-pub record Term (C : Type 0) : Type 0 where
+-- a terminal: its cell, and its state, which is stopped, or running with nothing, or running with
+-- registers and perhaps a pending transaction
+pub record TerminalOf (C : Type 0) : Type 0 where
   pub cell : C
   pub state : State
 
@@ -24,27 +25,40 @@ abbrev pub serial_of : RegisterSet → Serial
 serial_of set = record { iksn = set.iksn; counter = set.counter }
 
 -- the cell runs, and a restart would find this alone
-pub record Holds (cell : Meaning Kept) (kept : Kept) : Type 0 where
+pub record CellHolds (cell : StoreState Kept) (kept : Kept) : Type 0 where
   pub runs : cell.running ≡ true
   pub finds : cell.honest → FindsOnly cell kept
 
 -- what the cell of a running terminal holds: nothing, or the image of its registers
-abbrev pub Agrees : Meaning Kept → State → Type 0
+abbrev pub Agrees : StoreState Kept → State → Type 0
 Agrees cell Stopped = Unit {0}
-Agrees cell Empty = Holds cell None
-Agrees cell (Loaded set pending) = Holds cell (Some (body_bytes set))
+Agrees cell Empty = CellHolds cell None
+Agrees cell (Loaded set pending) = CellHolds cell (Some (body_bytes set))
 
 -- what a terminal tells of its next number
 abbrev pub next_of : State → Next
 next_of Stopped = next.Stopped
 next_of Empty = next.Empty
-next_of (Loaded set pending) = if set.counter == spent_counter then next.Spent else next.At (serial_of set)
+next_of (Loaded set pending) =
+    if set.counter == spent_counter then next.Spent else next.At (serial_of set)
 
 -- a state with registers
 abbrev pub HasRegisters : State → Type 0
 HasRegisters state = (set : RegisterSet) × (pending : _) × (state ≡ Loaded set pending)
 
+-- the image of these registers was not kept: the terminal is stopped, and a restart would find what
+-- the cell held before, or that image
+pub record StopsBetween
+    {C : Type 0} (meaning : CellMeaning C) (held : Kept) (set : RegisterSet)
+    (old new : TerminalOf C) (why : StoreFault) : Type 0 where
+  pub stopped : new.state ≡ Stopped
+  pub not_kept : PutFailed meaning old.cell new.cell (body_bytes set) why
+  pub within : (meaning.state_of old.cell).honest → FindsWithin (meaning.state_of new.cell)
+      (λ kept. (kept ≡ held) ⊎ (kept ≡ Some (body_bytes set)))
+
 -- an image that was not kept: the terminal is stopped
-abbrev pub IsNotKept : {C : Type 0} → (C → Meaning Kept) → (C → Type 0) → List ℕ → Term C → Term C → TermFault → Type 0
-IsNotKept meaning worn body old new (fault.Store why) = (new.state ≡ Stopped) × PutFailed (meaning old.cell) (worn old.cell) (meaning new.cell) body why
-IsNotKept meaning worn body old new _ = ⊥
+abbrev pub IsImageNotKept : {C : Type 0} → CellMeaning C → List ℕ → TerminalOf C → TerminalOf C
+    → TermFault → Type 0
+IsImageNotKept meaning body old new (fault.Store why) =
+    (new.state ≡ Stopped) × PutFailed meaning old.cell new.cell body why
+IsImageNotKept meaning body old new _ = ⊥

@@ -7,7 +7,7 @@ use duk_regs::{IMAGE_LENGTH, Registers};
 use duk_store::{BODY_LENGTH, Body};
 
 /// The body of these registers: their image, with zero bytes behind it.
-#[tactic(auto, using(crate::proofs::BodyLemmas::found_again))]
+#[tactic(auto, using(crate::proofs::BodyIsFoundAgain::found_again))]
 pub(crate) fn body_of(registers: &Registers) -> Body
     ensures body { result ≡ body_bytes registers.now }
     ensures again { IsFoundAgain registers.now }

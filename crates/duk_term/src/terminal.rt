@@ -1,15 +1,15 @@
 //! A terminal over its cell.
 
 ghost use Rattle.std.specs.Prelude.{◌≡◌, ℕ, IfOk, IfErr};
-ghost use Rattle.duk_store.specs.Meaning.{StaysButCalm};
+ghost use Rattle.duk_store.specs.StoreState.{StaysButCalm};
 ghost use Rattle.duk_tdes.specs.Tdes.{IsTdesLength};
 ghost use Rattle.duk_term.specs.Begin.{BeginRefused, IsBegun};
 ghost use Rattle.duk_term.specs.Body.{IsFoundAgain, body_bytes};
 ghost use Rattle.duk_store.specs.Cell.{IsPut};
-ghost use Rattle.duk_term.specs.Load.{IsLoaded, LoadRefused, loading_of};
+ghost use Rattle.duk_term.specs.Load.{IsTerminalLoaded, LoadRefused, loading_of};
 ghost use Rattle.duk_term.specs.Reply.{IsTold, ReplyRefused, after_answer};
-ghost use Rattle.duk_term.specs.Restart.{IsRestarted, RestartRefused};
-ghost use Rattle.duk_term.specs.Terminal.{IsNotKept, next_of};
+ghost use Rattle.duk_term.specs.Restart.{IsTerminalRestarted, TerminalRestartRefused};
+ghost use Rattle.duk_term.specs.Terminal.{IsImageNotKept, next_of};
 ghost use Rattle.duk_term.specs.declared.state.State.TheVariants as state;
 
 use crate::answer::{Answer, Next};
@@ -33,13 +33,13 @@ pub struct Terminal<C: Cell> {
 }
 
 impl<C: Cell> Model for Terminal<C> {
-    ghost use Rattle.duk_term.specs.Terminal.{Term, Agrees};
+    ghost use Rattle.duk_term.specs.Terminal.{TerminalOf, Agrees};
 
-    ghost Value = { Term C };
+    ghost Value = { TerminalOf C };
 
     ghost view = { λ terminal. record { cell = terminal.cell; state = terminal.state } };
 
-    ghost invariant = { λ terminal. Agrees (C.meaning terminal.cell) terminal.state };
+    ghost invariant = { λ terminal. Agrees (C.meaning.state_of terminal.cell) terminal.state };
 }
 
 impl<C: Cell> Terminal<C> {
@@ -53,15 +53,15 @@ impl<C: Cell> Terminal<C> {
         }
     }
 
-    /// Brings cell and terminal up, with the registers whose image the cell keeps, if it keeps one. What was pending is
-    /// given up.
+    /// Brings cell and terminal up, with the registers whose image the cell keeps, if it keeps one.
+    /// What was pending is given up.
     ///
-    /// Refused with `Store`: of the cell's fault, or with `Damaged` where it keeps bytes that are no image with zeros
-    /// behind it. The terminal is stopped then.
+    /// Refused with `Store`: of the cell's fault, or with `Damaged` where it keeps bytes that are
+    /// no image with zeros behind it. The terminal is stopped then.
     pub fn restart(&mut self) -> Result<(), TermFault>
-        ensures restarted { IfOk result (λ _. IsRestarted C.meaning self.old self.new) }
-        ensures refused { IfErr result (RestartRefused C.meaning self.old self.new) }
-        ensures disarmed { C.disarmed self.new.cell }
+        ensures restarted { IfOk result (λ _. IsTerminalRestarted C.meaning self.old self.new) }
+        ensures refused { IfErr result (TerminalRestartRefused C.meaning self.old self.new) }
+        ensures disarmed { C.meaning.disarmed self.new.cell }
     {
         self.state = State::Stopped;
         let kept = match self.cell.restart() {
@@ -70,12 +70,9 @@ impl<C: Cell> Terminal<C> {
         };
         self.state = match kept {
             None => State::Empty,
-            Some(body) => match registers_in(&body) {
-                Some(registers) => State::Loaded {
-                    registers,
-                    pending: None,
-                },
-                None => return Err(TermFault::Store(StoreFault::Damaged)),
+            Some(body) => State::Loaded {
+                registers: registers_in(&body).ok_or(TermFault::Store(StoreFault::Damaged))?,
+                pending: None,
             },
         };
         Ok(())
@@ -88,13 +85,14 @@ impl<C: Cell> Terminal<C> {
         self.state.next()
     }
 
-    /// Loads the terminal with the initial key in a key block of version B under the loading key (`M` is 16 or 24), at
-    /// the first number of `iksn`. The block is to have usage `B1`, algorithm `T`, mode `X` or `N`, and a key of 16
-    /// bytes.
+    /// Loads the terminal with the initial key in a key block of version B under the loading key
+    /// (`M` is 16 or 24), at the first number of `iksn`. The block is to have usage `B1`, algorithm
+    /// `T`, mode `X` or `N`, and a key of 16 bytes.
     ///
-    /// Refused with, in this order: `Stopped`; `AlreadyLoaded`, also where the terminal is spent; `Block`, where the
-    /// text is no key block; `WrongUse`, where its key is for another use; `Store`, where the image could not be kept,
-    /// and then the terminal is stopped. The others change nothing.
+    /// Refused with, in this order: `Stopped`; `AlreadyLoaded`, also where the terminal is spent;
+    /// `Block`, where the text is no key block; `WrongUse`, where its key is for another use;
+    /// `Store`, where the image could not be kept, and then the terminal is stopped. The others
+    /// change nothing.
     pub fn load<const M: usize>(
         &mut self,
         loading: &Key<M>,
@@ -102,10 +100,11 @@ impl<C: Cell> Terminal<C> {
         iksn: Iksn,
     ) -> Result<(), TermFault>
         requires { IsTdesLength M }
-        ensures loaded { IfOk result
-            (λ _. IsLoaded C.meaning C.worn (loading_of loading.now block.now iksn) self.old self.new) }
+        ensures loaded { IfOk result (λ _.
+            IsTerminalLoaded C.meaning (loading_of loading.now block.now iksn) self.old self.new) }
+        ensures after_put { IfOk result (λ _. C.meaning.after_put self.new.cell) }
         ensures refused { IfErr result
-            (LoadRefused C.meaning C.worn (loading_of loading.now block.now iksn) self.old self.new) }
+            (LoadRefused C.meaning (loading_of loading.now block.now iksn) self.old self.new) }
     {
         match self.state {
             State::Stopped => return Err(TermFault::Stopped),
@@ -116,14 +115,17 @@ impl<C: Cell> Terminal<C> {
         self.keep(Registers::load(initial, iksn), None)
     }
 
-    /// Begins a transaction: takes the next number, keeps the image of the registers that are left, and only then hands
-    /// out the request's frame. What was pending is given up, and this transaction is pending.
+    /// Begins a transaction: takes the next number, keeps the image of the registers that are left,
+    /// and only then hands out the request's frame. What was pending is given up, and this
+    /// transaction is pending.
     ///
-    /// Refused with, in this order: `Stopped`; `NotLoaded`; `Spent`; `Store`, where the image could not be kept, and
-    /// then the terminal is stopped. The others change nothing.
+    /// Refused with, in this order: `Stopped`; `NotLoaded`; `Spent`; `Store`, where the image could
+    /// not be kept, and then the terminal is stopped. The others change nothing.
     pub fn begin(&mut self, purchase: &Purchase) -> Result<Frame, TermFault>
-        ensures begun { IfOk result (λ frame. IsBegun C.meaning C.worn purchase.now self.old self.new frame.items) }
-        ensures refused { IfErr result (BeginRefused C.meaning C.worn self.old self.new) }
+        ensures begun { IfOk result
+            (λ frame. IsBegun C.meaning purchase.now self.old self.new frame.items) }
+        ensures after_put { IfOk result (λ _. C.meaning.after_put self.new.cell) }
+        ensures refused { IfErr result (BeginRefused C.meaning self.old self.new) }
     {
         let (key, ksn, left) = self.state.take_number()?;
         let Purchase { pan, pin, amount } = purchase;
@@ -136,12 +138,16 @@ impl<C: Cell> Terminal<C> {
         Ok(request)
     }
 
-    /// Keeps the image of these registers and goes on with them. Where the cell fails, the terminal is stopped.
+    /// Keeps the image of these registers and goes on with them. Where the cell fails, the terminal
+    /// is stopped.
     fn keep(&mut self, registers: Registers, pending: Option<Pending>) -> Result<(), TermFault>
-        ensures kept { IfOk result (λ _. IsPut (C.meaning self.old.cell) (C.worn self.old.cell) (C.meaning self.new.cell) (body_bytes registers)) }
+        ensures kept { IfOk result
+            (λ _. IsPut C.meaning self.old.cell self.new.cell (body_bytes registers)) }
         ensures state { IfOk result (λ _. self.new.state ≡ state.Loaded registers pending) }
+        ensures after_put { IfOk result (λ _. C.meaning.after_put self.new.cell) }
         ensures again { IsFoundAgain registers }
-        ensures refused { IfErr result (IsNotKept C.meaning C.worn (body_bytes registers) self.old self.new) }
+        ensures refused { IfErr result
+            (IsImageNotKept C.meaning (body_bytes registers) self.old self.new) }
     {
         self.state = State::Stopped;
         if let Err(fault) = self.cell.put(&body_of(&registers)) {
@@ -151,14 +157,16 @@ impl<C: Cell> Terminal<C> {
         Ok(())
     }
 
-    /// Takes what came back: the accepted reply to the pending transaction ends it, and a refusal leaves it pending.
+    /// Takes what came back: the accepted reply to the pending transaction ends it, and a refusal
+    /// leaves it pending.
     ///
-    /// Refused with, in this order, and nothing changes: `Stopped`; `Malformed`, where the bytes are no answer's frame;
-    /// `NotPending`; `NotMine`, where the answer has another key serial number; `BadMac`, of a reply.
+    /// Refused with, in this order, and nothing changes: `Stopped`; `Malformed`, where the bytes
+    /// are no answer's frame; `NotPending`; `NotMine`, where the answer has another key serial
+    /// number; `BadMac`, of a reply.
     pub fn reply(&mut self, bytes: &[u8]) -> Result<Answer, TermFault>
         ensures told { IfOk result (IsTold self.old.state bytes.now) }
-        ensures answered { IfOk result
-            (λ answer. self.new ≡ record { cell = self.old.cell; state = after_answer self.old.state answer }) }
+        ensures answered { IfOk result (λ answer. self.new
+            ≡ record { cell = self.old.cell; state = after_answer self.old.state answer }) }
         ensures refused { IfErr result (ReplyRefused self.old.state bytes.now) }
         ensures same { IfErr result (λ _. self.new ≡ self.old) }
     {
@@ -169,10 +177,12 @@ impl<C: Cell> Terminal<C> {
         Ok(answer)
     }
 
-    /// Lets the next `steps` device steps of the cell pass and each later one fail, until a restart.
+    /// Lets the next `steps` device steps of the cell pass and each later one fail, until a
+    /// restart.
     pub fn arm(&mut self, steps: u32)
-        ensures armed { C.arms self.old.cell steps self.new.cell }
-        ensures stays { StaysButCalm (C.meaning self.old.cell) (C.meaning self.new.cell) }
+        ensures armed { C.meaning.arms self.old.cell steps self.new.cell }
+        ensures stays { StaysButCalm
+            (C.meaning.state_of self.old.cell) (C.meaning.state_of self.new.cell) }
         ensures state { self.new.state ≡ self.old.state }
     {
         self.cell.arm(steps);

@@ -1,4 +1,4 @@
-use Rattle.duk_net.proofs.WorldSafeLemmas.{leads_by_owner, reached_is_safe}
+use Rattle.duk_net.proofs.WorldStaysAboveUsed.{leads_by_owner, reached_is_safe}
 use Rattle.duk_net.proofs.laws.no_number_twice.Goals as goal
 
 pub returns-clause-none_twice : goal.returns-clause-none_twice

@@ -1,5 +1,5 @@
-use Rattle.duk_net.proofs.SafeLemmas.{books_of}
-use Rattle.duk_net.proofs.UnusedLemmas.{hold_no_used_key, terminals_hold}
+use Rattle.duk_net.proofs.AboveUsed.{books_of}
+use Rattle.duk_net.proofs.UsedKeysAreGone.{hold_no_used_key, terminals_hold}
 use Rattle.duk_net.proofs.laws.no_used_key.Goals as goal
 
 pub returns-clause-above : goal.returns-clause-above

@@ -1,12 +1,11 @@
 use Rattle.std.proofs.Common.{inl, refl}
-use Rattle.duk_host.specs.Host.{words_of}
 use Rattle.duk_pin.specs.PinBlock.{pin_block}
 use Rattle.duk_net.specs.World.{meanings_of}
-use Rattle.duk_net.proofs.OwnKeyLemmas.{KeyLaws, leads_refuses, reached_own}
+use Rattle.duk_net.proofs.FramesUnderOwnKeys.{KeyLaws, leads_refuses, reached_own}
 use Rattle.duk_net.proofs.laws.own_key.Goals as goal
 use Rattle.duk_net.proofs.laws.own_key.Goals.{After-inverse}
 
-laws_of : (g : _) → After-inverse g → KeyLaws (meanings_of g.C.Cell.meaning g.C.Cell.worn g.C.Cell.arms (words_of g.L.UsedLog.meaning g.L.UsedLog.count g.L.UsedLog.capacity g.I.Issuer.decides) g.L.UsedLog.arms)
+laws_of : (g : _) → After-inverse g → KeyLaws (meanings_of g.C.Cell.meaning g.L.UsedLog.meaning g.I.Issuer.decides)
 laws_of g c = record {
   stands = c.no_used_key.ensures.above;
   one_request = c.one_reading.ensures.request;

@@ -1,4 +1,4 @@
-use Rattle.duk_net.proofs.WorldSafeLemmas.{leads_keys_stay, leads_owners_stay}
+use Rattle.duk_net.proofs.WorldStaysAboveUsed.{leads_keys_stay, leads_owners_stay}
 use Rattle.duk_net.proofs.laws.what_stays.Goals as goal
 
 pub returns-clause-owners : goal.returns-clause-owners

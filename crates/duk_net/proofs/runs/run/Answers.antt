@@ -1,17 +1,16 @@
-use Rattle.duk_host.specs.Host.{words_of}
 use Rattle.duk_net.specs.Gained.{HoldsOfGained}
 use Rattle.duk_net.specs.Reached.{CallLeads, Reached}
 use Rattle.duk_net.specs.World.{meanings_of}
-use Rattle.duk_net.proofs.ReachLemmas.{call_leads, gained_so, reached_leads}
+use Rattle.duk_net.proofs.ReachedByMoves.{call_leads, gained_so, reached_leads}
 use Rattle.duk_net.proofs.runs.run.Goals as goal
 
 -- what the call leads from and to
 leads : (g : _) (c : goal.After-run_system g)
-    → HoldsOfGained (λ outcomes. CallLeads (meanings_of g.C.Cell.meaning g.C.Cell.worn g.C.Cell.arms (words_of g.L.UsedLog.meaning g.L.UsedLog.count g.L.UsedLog.capacity g.I.Issuer.decides) g.L.UsedLog.arms) c.world.inside.system outcomes c.run_system.new.system) c.args.out.now.items c.run_system.new.out.items
+    → HoldsOfGained (λ outcomes. CallLeads (meanings_of g.C.Cell.meaning g.L.UsedLog.meaning g.I.Issuer.decides) c.world.inside.system outcomes c.run_system.new.system) c.args.out.now.items c.run_system.new.out.items
 leads g c = call_leads _ c.world.inside.system c.args.events.now c.args.out.now.items c.run_system.new.out.items c.run_system.new.system c.run_system.result c.run_system.ensures.run c.run_system.ensures.refused
 
 reached : (g : _) (c : goal.After-run_system g)
-    → Reached (meanings_of g.C.Cell.meaning g.C.Cell.worn g.C.Cell.arms (words_of g.L.UsedLog.meaning g.L.UsedLog.count g.L.UsedLog.capacity g.I.Issuer.decides) g.L.UsedLog.arms) c.run_system.new.system
+    → Reached (meanings_of g.C.Cell.meaning g.L.UsedLog.meaning g.I.Issuer.decides) c.run_system.new.system
 reached g c = let led = leads g c in reached_leads _ c.world.inside.system c.run_system.new.system led.outcomes c.world.invariant led.holds
 
 pub invariant_of-world : goal.invariant_of-world
@@ -26,10 +25,10 @@ returns-clause-by_owner g c =
 
 pub returns-clause-accepted_once : goal.returns-clause-accepted_once
 returns-clause-accepted_once g c =
-    rw (← c.world.view_is) (gained_so _ _ c.args.out.now.items c.run_system.new.out.items (λ outcomes. c.accepted_once.ensures.once c.world.inside.system c.run_system.new.system outcomes c.world.invariant) (leads g c))
+    rw (← c.world.view_is) (gained_so _ _ c.args.out.now.items c.run_system.new.out.items (λ outcomes. c.one_acceptance.ensures.once c.world.inside.system c.run_system.new.system outcomes c.world.invariant) (leads g c))
 
 pub returns-clause-accepted_is_kept : goal.returns-clause-accepted_is_kept
-returns-clause-accepted_is_kept g c = c.accepted_once.ensures.kept c.run_system.new.system (reached g c)
+returns-clause-accepted_is_kept g c = c.one_acceptance.ensures.kept c.run_system.new.system (reached g c)
 
 pub returns-clause-own_requests : goal.returns-clause-own_requests
 returns-clause-own_requests g c = c.own_key.ensures.requests c.run_system.new.system (reached g c)
@@ -43,7 +42,7 @@ returns-clause-refusals g c =
 
 pub returns-clause-completed : goal.returns-clause-completed
 returns-clause-completed g c =
-    rw (← c.world.view_is) (gained_so _ _ c.args.out.now.items c.run_system.new.out.items (λ outcomes. c.completed.ensures c.world.inside.system c.run_system.new.system outcomes c.world.invariant) (leads g c))
+    rw (← c.world.view_is) (gained_so _ _ c.args.out.now.items c.run_system.new.out.items (λ outcomes. c.completion_by_host.ensures c.world.inside.system c.run_system.new.system outcomes c.world.invariant) (leads g c))
 
 pub returns-clause-above_used : goal.returns-clause-above_used
 returns-clause-above_used g c = c.no_used_key.ensures.above c.run_system.new.system (reached g c)

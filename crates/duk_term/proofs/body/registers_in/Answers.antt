@@ -1,7 +1,7 @@
 use Rattle.std.proofs.Common.{◌≡◌, rules, arith, subst, sym, ap, ◌∙◌, drop, replicate, length}
 use Rattle.duk_regs.specs.Image.{IsImage, image_bytes}
 use Rattle.duk_term.specs.Body.{body_bytes}
-use Rattle.duk_term.proofs.BodyLemmas.{if_found, image_and_zeros}
+use Rattle.duk_term.proofs.BodyIsFoundAgain.{if_found, image_and_zeros}
 use Rattle.duk_term.proofs.body.registers_in.Goals as goal
 
 zeros : (c : goal.After-from_image) → drop 350 c.args.body.now ≡ replicate 153 0

@@ -1,25 +1,25 @@
 use Rattle.std.proofs.Common.{rules, refl, subst}
 use Rattle.duk_host.specs.Reading.{IsTakenIn}
-use Rattle.duk_host.specs.Host.{Holds, LogAgrees}
+use Rattle.duk_host.specs.Host.{LogHolds, LogAgrees}
 use Rattle.duk_host.specs.Used.{IsOneMore, IsUsed}
-use Rattle.duk_host.proofs.ListLemmas.{holds_more}
+use Rattle.duk_host.proofs.OneNumberMore.{holds_more}
 use Rattle.duk_host.proofs.host.Host.keep.Goals as goal
 
 pub invariant_of-self-in_default-append : goal.invariant_of-self-in_default-append
 invariant_of-self-in_default-append g c =
     let meaning = g.L.UsedLog.meaning in
-    let holds : Holds (meaning c.self.inside.log) c.in-Some.used = subst (λ used. LogAgrees (meaning c.self.inside.log) used) c.in-Some.is c.self.invariant.holds in
+    let holds : LogHolds (meaning.state_of c.self.inside.log) c.in-Some.used = subst (λ used. LogAgrees (meaning.state_of c.self.inside.log) used) c.in-Some.is c.self.invariant.holds in
     let fresh : ¬ IsUsed c.in-Some.used c.args.ksn = search rules in
-    let one_more : IsOneMore c.in-Some.used c.args.ksn c.insert.new.self = c.in-Ok.ensures.added in
+    let one_more : IsOneMore c.in-Some.used c.args.ksn c.insert.new.self = c.in_ok-insert.ensures.added in
     let taken : IsTakenIn c.in-Some.used c.args.ksn c.insert.new.self = record { serial = c.insert.ensures.serial; usable = c.requires.usable; fresh = fresh; one_more = one_more } in
     record {
       zone = c.self.invariant.zone;
-      holds = holds_more (meaning c.self.inside.log) (meaning c.append.new.self) c.in-Some.used c.args.ksn c.insert.new.self holds c.in_default-append.ensures.appended taken;
+      holds = holds_more meaning c.self.inside.log c.append.new.self c.in-Some.used c.args.ksn c.insert.new.self holds c.in_default-append.ensures.appended taken;
     }
 
 pub returns-clause-kept : goal.returns-clause-kept
 returns-clause-kept g c =
-    let one_more : IsOneMore c.in-Some.used c.args.ksn c.insert.new.self = c.in-Ok.ensures.added in
+    let one_more : IsOneMore c.in-Some.used c.args.ksn c.insert.new.self = c.in_ok-insert.ensures.added in
     rw (← c.self.view_is) (record {
       used = c.in-Some.used;
       more = c.insert.new.self;

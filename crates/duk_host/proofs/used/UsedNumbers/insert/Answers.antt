@@ -1,8 +1,8 @@
 use Rattle.std.proofs.Common.{◌≡◌, ℕ, true, cond, not, subst}
 use Rattle.std.specs.BTreeSet.{contains}
 use Rattle.std.specs.Ordering.{eq_by_cmp, nat_cmp}
-use Rattle.duk_host.specs.Used.{IsUsed, number_of}
-use Rattle.duk_host.proofs.UsedLemmas.{match_fresh, set_contains, set_one_more}
+use Rattle.duk_host.specs.Used.{IsUsed, serial_number}
+use Rattle.duk_host.proofs.UsedNumberSet.{match_fresh, set_contains, set_one_more}
 use Rattle.duk_host.proofs.used.UsedNumbers.insert.Goals as goal
 
 pub returns-clause-added : goal.returns-clause-added
@@ -18,6 +18,6 @@ pub returns-clause-fresh : goal.returns-clause-fresh
 returns-clause-fresh c =
     let old = c.self.inside.numbers in
     let ksn = c.args.ksn in
-    let added : c.in_ok-insert.field-0 ≡ not (contains nat_cmp old (number_of ksn)) =
+    let added : c.in_ok-insert.field-0 ≡ not (contains nat_cmp old (serial_number ksn)) =
     subst (λ n. c.in_ok-insert.field-0 ≡ not (contains nat_cmp old n)) c.number.ensures.value c.in_ok-insert.ensures.added in
-    rw (← c.self.view_is, added) (match_fresh (contains nat_cmp old (number_of ksn)) (IsUsed old.keys ksn) (set_contains old (number_of ksn)))
+    rw (← c.self.view_is, added) (match_fresh (contains nat_cmp old (serial_number ksn)) (IsUsed old.keys ksn) (set_contains old (serial_number ksn)))

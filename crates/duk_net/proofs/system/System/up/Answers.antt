@@ -1,9 +1,9 @@
 use Rattle.std.proofs.Common.{◌+◌, length, refl, ap, subst, ◌∙◌}
 use Rattle.duk_host.specs.Handle.{AcceptFailed, HandleRefused}
-use Rattle.duk_host.specs.Host.{words_of}
+use Rattle.duk_host.specs.Host.{host_meaning_of}
 use Rattle.duk_host.specs.declared.fault.HostFault.TheVariants.{NoMemory}
-use Rattle.duk_net.proofs.PlaceLemmas.{is_at}
-use Rattle.duk_net.proofs.UpLemmas.{if_ok, on_err, up_answered}
+use Rattle.duk_net.proofs.PlacesInLists.{is_at}
+use Rattle.duk_net.proofs.HostAnswers.{if_ok, on_err, up_answered}
 use Rattle.duk_net.proofs.system.System.up.Goals as goal
 
 pub returns-in-Ok-clause-outcome : goal.returns-in-Ok-clause-outcome
@@ -26,12 +26,12 @@ returns-in-Err-clause-outcome g c =
       not_memory = told.1;
       faulted = c.in-Err.ensures.refused;
       rest = rw c.reserve.ensures.items refl;
-    })) c.refused.result c.refused.ensures.other)
+    })) c.outcome_of_fault.result c.outcome_of_fault.ensures.other)
 
 pub returns-in-Err-clause-same : goal.returns-in-Err-clause-same
 returns-in-Err-clause-same g c =
-    let words = words_of g.L.UsedLog.meaning g.L.UsedLog.count g.L.UsedLog.capacity g.I.Issuer.decides in
+    let meaning = host_meaning_of g.L.UsedLog.meaning g.I.Issuer.decides in
     on_err _ _ (λ is.
-    let failed : AcceptFailed words c.index.result.now.items c.self.inside.host c.answer_to.new.host NoMemory =
-    subst (λ why. HandleRefused words c.index.result.now.items c.self.inside.host c.answer_to.new.host why) is c.in-Err.ensures.refused in
-    rw (← c.self.view_is, failed.not_kept, c.reserve.ensures.items) refl) c.refused.result c.refused.ensures.memory
+    let failed : AcceptFailed meaning c.index.result.now.items c.self.inside.host c.answer_to.new.host NoMemory =
+    subst (λ why. HandleRefused meaning c.index.result.now.items c.self.inside.host c.answer_to.new.host why) is c.in-Err.ensures.refused in
+    rw (← c.self.view_is, failed.not_kept, c.reserve.ensures.items) refl) c.outcome_of_fault.result c.outcome_of_fault.ensures.memory

@@ -1,8 +1,8 @@
 use Rattle.std.proofs.Common.{length, subst, take}
 use Rattle.std.proofs.lemmas.List.{length-take-le}
 use Rattle.duk_store.specs.Log.{LogRestarted}
-use Rattle.duk_store.specs.MemoryLog.{MemoryLog}
-use Rattle.duk_store.proofs.LogLemmas.{restarted_in_memory}
+use Rattle.duk_store.specs.MemoryLog.{MemoryLog, memory_log_meaning}
+use Rattle.duk_store.proofs.MemoryLogMeaning.{restarted_in_memory}
 use Rattle.duk_store.proofs.memory_log.MemLogUsedLog.restart.Goals as goal
 
 pub returns-clause-found : goal.returns-clause-found
@@ -14,4 +14,4 @@ returns-clause-found c =
       device = inside.device;
     } in
     rw (← c.self.view_is, c.start.ensures)
-    (subst (LogRestarted _ _) (length-take-le inside.len inside.places.items c.self.invariant) (restarted_in_memory log))
+    (subst (LogRestarted memory_log_meaning _ _) (length-take-le inside.len inside.places.items c.self.invariant) (restarted_in_memory log))

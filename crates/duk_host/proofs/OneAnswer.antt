@@ -1,0 +1,160 @@
+-- Judged by one set of keys, used numbers, room and issuer, bytes have one answer.
+use Rattle.std.proofs.Common.{◌≡◌, ℕ, List, Option, Some, None, IsSome, inl, inr, refl, sym, ap, subst, ◌∙◌, arith}
+use Rattle.duk_frame.specs.Payment.{payment_reply}
+use Rattle.duk_frame.specs.Request.{IsRequest}
+use Rattle.duk_frame.specs.declared.code.Code.{Code}
+use Rattle.duk_frame.specs.declared.request.Request.{Request}
+use Rattle.duk_hsm.specs.Commands.{HasNoPin, IsOtherMac, IsPinOf, IsRequestMac, IsTransactionKey, IsTranslated}
+use Rattle.duk_hsm.specs.Keys.{HsmKeys, key_set_of, prefix_of}
+use Rattle.duk_pin.specs.PinBlock.{IsPinBlock, pin_block}
+use Rattle.duk_tdes.specs.Tdes.{tdes_encrypted}
+use Rattle.duk_tree.specs.Derivation.{derived_key_of}
+use Rattle.duk_tree.specs.Serial.{Serial, serial_bytes}
+use Rattle.duk_host.specs.Judgement.{Decision, IsAcceptable, IsAccepted, IsAnswerTo, IsCodeOf, IsReasonAgainst, IsRefusedRequest, IsReplyTo, basis_with, refusal_frame}
+use Rattle.duk_host.specs.declared.reason.Reason.{Reason}
+use Rattle.duk_host.specs.declared.reason.Reason.TheVariants as reason
+
+one_value : {A : Type 0} (found : Option A) (one other : A) → found ≡ Some one → found ≡ Some other → one ≡ other
+one_value found one other is same = cc
+
+-- a key serial number has at most one transaction key
+one_key : (keys : HsmKeys) (ksn : Serial) (key other : List ℕ) → IsTransactionKey keys ksn key → IsTransactionKey keys ksn other → key ≡ other
+one_key keys ksn key other one two =
+    one.key_is ∙ ap (λ bdk. derived_key_of bdk ksn) (one_value (key_set_of keys (prefix_of ksn)) one.bdk two.bdk one.held two.held) ∙ sym two.key_is
+
+not_held : {A : Type 0} (found : Option A) → found ≡ None → IsSome found → ⊥
+not_held None is some = cc
+not_held (Some value) is some = cc
+
+no_key : (keys : HsmKeys) (ksn : Serial) (key : List ℕ) → key_set_of keys (prefix_of ksn) ≡ None → IsTransactionKey keys ksn key → ⊥
+no_key keys ksn key none is = let held = is.held in cc
+
+-- no text has two MACs for requests
+no_other_mac : (keys : HsmKeys) (ksn : Serial) (text mac : List ℕ) → IsOtherMac keys ksn text mac → IsRequestMac keys ksn text mac → ⊥
+no_other_mac keys ksn text mac other is =
+    other.mac_is_other (rw (one_key keys ksn is.key other.key is.key_is other.key_is) at is.mac_is)
+
+-- what is said of a request: the least reason against it, or that there is none
+abbrev Says : HsmKeys → List ℕ → ℕ → Decision → Request → Option Reason → Type 0
+Says keys used room decides request None = IsAcceptable (basis_with keys used room decides) request
+Says keys used room decides request (Some why) = IsReasonAgainst (basis_with keys used room decides) request why
+
+-- no two things are said of a request
+one_verdict : (keys : HsmKeys) (used : List ℕ) (room : ℕ) (decides : Decision) (request : Request) (verdict other : Option Reason)
+    → Says keys used room decides request verdict → Says keys used room decides request other → verdict ≡ other
+one_verdict keys used room decides request (Some reason.Malformed) other one two = absurd one
+one_verdict keys used room decides request (Some reason.UnknownKeySet) (Some reason.Malformed) one two = absurd two
+one_verdict keys used room decides request (Some reason.UnknownKeySet) (Some reason.UnknownKeySet) one two = refl
+one_verdict keys used room decides request (Some reason.UnknownKeySet) (Some reason.BadCounter) one two = absurd (not_held _ one two.held)
+one_verdict keys used room decides request (Some reason.UnknownKeySet) (Some reason.BadMac) one two = absurd (no_key keys request.ksn _ one two.key_is)
+one_verdict keys used room decides request (Some reason.UnknownKeySet) (Some reason.Used) one two = absurd (no_key keys request.ksn _ one two.authentic.key_is)
+one_verdict keys used room decides request (Some reason.UnknownKeySet) (Some reason.LogFull) one two = absurd (no_key keys request.ksn _ one two.authentic.key_is)
+one_verdict keys used room decides request (Some reason.UnknownKeySet) None one two = absurd (no_key keys request.ksn _ one two.authentic.key_is)
+one_verdict keys used room decides request (Some reason.BadCounter) (Some reason.Malformed) one two = absurd two
+one_verdict keys used room decides request (Some reason.BadCounter) (Some reason.UnknownKeySet) one two = absurd (not_held _ two one.held)
+one_verdict keys used room decides request (Some reason.BadCounter) (Some reason.BadCounter) one two = refl
+one_verdict keys used room decides request (Some reason.BadCounter) (Some reason.BadMac) one two = absurd (one.unusable two.key_is.usable)
+one_verdict keys used room decides request (Some reason.BadCounter) (Some reason.Used) one two = absurd (one.unusable two.authentic.key_is.usable)
+one_verdict keys used room decides request (Some reason.BadCounter) (Some reason.LogFull) one two = absurd (one.unusable two.authentic.key_is.usable)
+one_verdict keys used room decides request (Some reason.BadCounter) None one two = absurd (one.unusable two.authentic.key_is.usable)
+one_verdict keys used room decides request (Some reason.BadMac) (Some reason.Malformed) one two = absurd two
+one_verdict keys used room decides request (Some reason.BadMac) (Some reason.UnknownKeySet) one two = absurd (no_key keys request.ksn _ two one.key_is)
+one_verdict keys used room decides request (Some reason.BadMac) (Some reason.BadCounter) one two = absurd (two.unusable one.key_is.usable)
+one_verdict keys used room decides request (Some reason.BadMac) (Some reason.BadMac) one two = refl
+one_verdict keys used room decides request (Some reason.BadMac) (Some reason.Used) one two = absurd (no_other_mac keys request.ksn _ _ one two.authentic)
+one_verdict keys used room decides request (Some reason.BadMac) (Some reason.LogFull) one two = absurd (no_other_mac keys request.ksn _ _ one two.authentic)
+one_verdict keys used room decides request (Some reason.BadMac) None one two = absurd (no_other_mac keys request.ksn _ _ one two.authentic)
+one_verdict keys used room decides request (Some reason.Used) (Some reason.Malformed) one two = absurd two
+one_verdict keys used room decides request (Some reason.Used) (Some reason.UnknownKeySet) one two = absurd (no_key keys request.ksn _ two one.authentic.key_is)
+one_verdict keys used room decides request (Some reason.Used) (Some reason.BadCounter) one two = absurd (two.unusable one.authentic.key_is.usable)
+one_verdict keys used room decides request (Some reason.Used) (Some reason.BadMac) one two = absurd (no_other_mac keys request.ksn _ _ two one.authentic)
+one_verdict keys used room decides request (Some reason.Used) (Some reason.Used) one two = refl
+one_verdict keys used room decides request (Some reason.Used) (Some reason.LogFull) one two = absurd (two.fresh one.used)
+one_verdict keys used room decides request (Some reason.Used) None one two = absurd (two.fresh one.used)
+one_verdict keys used room decides request (Some reason.LogFull) (Some reason.Malformed) one two = absurd two
+one_verdict keys used room decides request (Some reason.LogFull) (Some reason.UnknownKeySet) one two = absurd (no_key keys request.ksn _ two one.authentic.key_is)
+one_verdict keys used room decides request (Some reason.LogFull) (Some reason.BadCounter) one two = absurd (two.unusable one.authentic.key_is.usable)
+one_verdict keys used room decides request (Some reason.LogFull) (Some reason.BadMac) one two = absurd (no_other_mac keys request.ksn _ _ two one.authentic)
+one_verdict keys used room decides request (Some reason.LogFull) (Some reason.Used) one two = absurd (one.fresh two.used)
+one_verdict keys used room decides request (Some reason.LogFull) (Some reason.LogFull) one two = refl
+one_verdict keys used room decides request (Some reason.LogFull) None one two = absurd (omega (arith, one.full, two.room))
+one_verdict keys used room decides request None (Some reason.Malformed) one two = absurd two
+one_verdict keys used room decides request None (Some reason.UnknownKeySet) one two = absurd (no_key keys request.ksn _ two one.authentic.key_is)
+one_verdict keys used room decides request None (Some reason.BadCounter) one two = absurd (two.unusable one.authentic.key_is.usable)
+one_verdict keys used room decides request None (Some reason.BadMac) one two = absurd (no_other_mac keys request.ksn _ _ two one.authentic)
+one_verdict keys used room decides request None (Some reason.Used) one two = absurd (one.fresh two.used)
+one_verdict keys used room decides request None (Some reason.LogFull) one two = absurd (omega (arith, two.full, one.room))
+one_verdict keys used room decides request None None one two = refl
+
+-- under one PAN a block is that of at most one PIN
+abbrev OnePin : Type 0
+OnePin = (pin other pan block : List ℕ) → IsPinBlock pin pan block → IsPinBlock other pan block → pin ≡ other
+
+-- a PIN block is translated into at most one
+one_translation : (keys : HsmKeys) (ksn : Serial) (block pan translated other : List ℕ) → OnePin
+    → IsTranslated keys ksn block pan translated → IsTranslated keys ksn block pan other → translated ≡ other
+one_translation keys ksn block pan translated other one_pin one two =
+    let key : one.key ≡ two.key = one_key keys ksn one.key two.key one.key_is two.key_is in
+    let zone : one.zone ≡ two.zone = one_value keys.zone one.zone two.zone one.zone_is two.zone_is in
+    let pin : one.pin ≡ two.pin = one_pin one.pin two.pin pan _ (subst (λ key. IsPinOf key block pan one.pin) key one.pin_is) two.pin_is in
+    one.translated_is ∙ ap (λ zone. tdes_encrypted zone (pin_block one.pin pan)) zone ∙ ap (λ pin. tdes_encrypted two.zone (pin_block pin pan)) pin ∙ sym two.translated_is
+
+-- where a block is that of no PIN, it is not translated
+not_translated : (keys : HsmKeys) (ksn : Serial) (block pan translated : List ℕ) → HasNoPin keys ksn block pan → IsTranslated keys ksn block pan translated → ⊥
+not_translated keys ksn block pan translated none is =
+    none.no_pin is.pin (subst (λ key. IsPinOf key block pan is.pin) (one_key keys ksn is.key none.key is.key_is none.key_is) is.pin_is)
+
+-- a request has at most one code
+one_code : (keys : HsmKeys) (decides : Decision) (request : Request) (code other : Code) → OnePin → IsCodeOf keys decides request code → IsCodeOf keys decides request other → code ≡ other
+one_code keys decides request code other one_pin (inl one) (inl two) =
+    one.code_is ∙ ap (λ block. decides request.pan request.amount block) (one_translation keys request.ksn request.block request.pan one.block two.block one_pin one.translated two.translated) ∙ sym two.code_is
+one_code keys decides request code other one_pin (inl one) (inr two) = absurd (not_translated keys request.ksn request.block request.pan one.block two.no_pin one.translated)
+one_code keys decides request code other one_pin (inr one) (inl two) = absurd (not_translated keys request.ksn request.block request.pan two.block one.no_pin two.translated)
+one_code keys decides request code other one_pin (inr one) (inr two) = one.code_is ∙ sym two.code_is
+
+-- a request has at most one accepted reply
+one_reply : (keys : HsmKeys) (decides : Decision) (request : Request) (frame other : List ℕ) → OnePin → IsReplyTo keys decides request frame → IsReplyTo keys decides request other → frame ≡ other
+one_reply keys decides request frame other one_pin one two =
+    let ksn = request.ksn in
+    let key = one_key keys ksn one.reply.key two.reply.key one.reply.key_is two.reply.key_is in
+    let code = one_code keys decides request one.code two.code one_pin one.code_is two.code_is in
+    one.reply.frame_is ∙ ap (λ key. payment_reply key ksn one.code) key ∙ ap (λ code. payment_reply two.reply.key ksn code) code ∙ sym two.reply.frame_is
+
+-- bytes are at most one request
+abbrev OneRequest : Type 0
+OneRequest = (bytes : List ℕ) (request other : Request) → IsRequest bytes request → IsRequest bytes other → request ≡ other
+
+some_reason : (why other : Reason) → Some why ≡ Some other → why ≡ other
+some_reason why other is = cc
+
+-- the frame of a refused request, and that of an accepted one
+module _ (keys : HsmKeys) (used : List ℕ) (room : ℕ) (decides : Decision) (one_request : OneRequest) (one_pin : OnePin) where
+  one_refusal : (bytes frame other : List ℕ) → IsRefusedRequest (basis_with keys used room decides) bytes frame → IsRefusedRequest (basis_with keys used room decides) bytes other → frame ≡ other
+  one_refusal bytes frame other one two =
+      let same : one.request ≡ two.request = one_request bytes one.request two.request one.is_request two.is_request in
+      let refuses : IsReasonAgainst (basis_with keys used room decides) two.request one.reason = subst (λ request. IsReasonAgainst (basis_with keys used room decides) request one.reason) same one.refuses in
+      let why = some_reason one.reason two.reason (one_verdict keys used room decides two.request (Some one.reason) (Some two.reason) refuses two.refuses) in
+      one.frame_is ∙ ap (λ request. refusal_frame (serial_bytes request.ksn) one.reason) same ∙ ap (λ why. refusal_frame (serial_bytes two.request.ksn) why) why ∙ sym two.frame_is
+
+  not_both : (bytes frame other : List ℕ) (request : Request) → IsRefusedRequest (basis_with keys used room decides) bytes frame → IsAccepted (basis_with keys used room decides) bytes request other → ⊥
+  not_both bytes frame other request refused accepted =
+      let same : refused.request ≡ request = one_request bytes refused.request request refused.is_request accepted.is_request in
+      let refuses : IsReasonAgainst (basis_with keys used room decides) request refused.reason = subst (λ request. IsReasonAgainst (basis_with keys used room decides) request refused.reason) same refused.refuses in
+      let verdict = one_verdict keys used room decides request (Some refused.reason) None refuses accepted.acceptable in cc
+
+  one_acceptance : (bytes frame other : List ℕ) (request again : Request) → IsAccepted (basis_with keys used room decides) bytes request frame → IsAccepted (basis_with keys used room decides) bytes again other → frame ≡ other
+  one_acceptance bytes frame other request again one two =
+      let same : request ≡ again = one_request bytes request again one.is_request two.is_request in
+      one_reply keys decides again frame other one_pin (subst (λ request. IsReplyTo keys decides request frame) same one.reply) two.reply
+
+  -- bytes have at most one answer
+  pub one_answer : (bytes frame other : List ℕ) → IsAnswerTo (basis_with keys used room decides) bytes frame → IsAnswerTo (basis_with keys used room decides) bytes other → frame ≡ other
+  one_answer bytes frame other (inl (inl one)) (inl (inl two)) = one.frame_is ∙ sym two.frame_is
+  one_answer bytes frame other (inl (inl one)) (inl (inr two)) = absurd (one.no_request two.request two.is_request)
+  one_answer bytes frame other (inl (inl one)) (inr (request, two)) = absurd (one.no_request request two.is_request)
+  one_answer bytes frame other (inl (inr one)) (inl (inl two)) = absurd (two.no_request one.request one.is_request)
+  one_answer bytes frame other (inl (inr one)) (inl (inr two)) = one_refusal bytes frame other one two
+  one_answer bytes frame other (inl (inr one)) (inr (request, two)) = absurd (not_both bytes frame other request one two)
+  one_answer bytes frame other (inr (request, one)) (inl (inl two)) = absurd (two.no_request request one.is_request)
+  one_answer bytes frame other (inr (request, one)) (inl (inr two)) = absurd (not_both bytes other frame request two one)
+  one_answer bytes frame other (inr (request, one)) (inr (again, two)) = one_acceptance bytes frame other request again one two

@@ -1,0 +1,158 @@
+-- What holds of the terminals of every world that is reached: what they keep is above every used number.
+use Rattle.std.proofs.Common.{◌≡◌, ◌≢◌, ◌⊎◌, ◌<◌, ◌≤◌, ◌^◌, ◌++◌, ◌∷◌, [], ℕ, List, Some, None, length, inl, inr, sym, ap, subst, ◌∙◌, arith}
+use Rattle.std.proofs.lemmas.List.Elements.{Contains-push_cases}
+use Rattle.duk_frame.specs.Request.{IsRequest}
+use Rattle.duk_frame.specs.declared.request.Request.{Request}
+use Rattle.duk_hsm.specs.Keys.{HsmKeys}
+use Rattle.duk_regs.specs.Registers.{RegisterSet}
+use Rattle.duk_store.specs.Cell.{CellMeaning, Kept}
+use Rattle.duk_term.specs.Begin.{TakesNumber}
+use Rattle.duk_term.specs.Body.{IsFoundAgain, body_bytes}
+use Rattle.duk_term.specs.Terminal.{TerminalOf, serial_of}
+use Rattle.duk_term.specs.declared.state.State.{State}
+use Rattle.duk_term.specs.declared.state.State.TheVariants.{Stopped, Empty, Loaded}
+use Rattle.duk_tree.specs.Next.{ComesAfter, spent_counter}
+use Rattle.duk_tree.specs.Path.{IsUsable, path_of}
+use Rattle.duk_tree.specs.Serial.{Serial}
+use Rattle.duk_net.specs.UsedNumbers.{HasNumber, IsUsedNumber, NoneTwice}
+use Rattle.duk_net.specs.Owner.{owner_of}
+use Rattle.duk_net.specs.UnusedKeys.{StandsAboveUsed}
+use Rattle.duk_net.specs.World.{Frame, IsAt, Meanings, WorldOf}
+use Rattle.duk_net.specs.declared.owner.Owner.{Owner}
+use Rattle.duk_net.proofs.OwnersStay.{one_owner}
+
+-- what the rest of a world is to a terminal: the host's keys, the requests that were sent, and the owners
+pub record Books : Type 0 where
+  pub keys : HsmKeys
+  pub requests : List Frame
+  pub owners : List Owner
+
+abbrev pub books_of : {C L I : Type 0} → WorldOf C L I → Books
+books_of world = record { keys = world.host.keys; requests = world.requests; owners = world.owners }
+
+-- no request was sent under an initial key serial number that the terminal owns
+abbrev pub HasSentNothing : Books → ℕ → Type 0
+HasSentNothing books t = (ksn : Serial) → IsUsedNumber books.requests ksn → owner_of books.owners ksn.iksn ≢ Some t
+
+-- the terminal owns the registers' initial key serial number, and they stand above every used number
+pub record SetSafe (books : Books) (t : ℕ) (set : RegisterSet) : Type 0 where
+  pub owned : owner_of books.owners set.iksn ≡ Some t
+  pub stands : StandsAboveUsed books.keys books.requests set
+  pub again : IsFoundAgain set
+
+abbrev pub StateSafe : Books → ℕ → State → Type 0
+StateSafe books t Stopped = Unit {0}
+StateSafe books t Empty = HasSentNothing books t
+StateSafe books t (Loaded set pending) = SetSafe books t set
+
+pub record BodySafe (books : Books) (t : ℕ) (body : List ℕ) : Type 0 where
+  pub set : RegisterSet
+  pub body_is : body ≡ body_bytes set
+  pub safe : SetSafe books t set
+
+abbrev pub KeptSafe : Books → ℕ → Kept → Type 0
+KeptSafe books t None = HasSentNothing books t
+KeptSafe books t (Some body) = BodySafe books t body
+
+pub record TermSafe {C : Type 0} (cell : CellMeaning C) (books : Books) (t : ℕ) (terminal : TerminalOf C) : Type 0 where
+  pub honest : (cell.state_of terminal.cell).honest
+  pub state : StateSafe books t terminal.state
+  pub kept : (kept : Kept) → (cell.state_of terminal.cell).found kept → KeptSafe books t kept
+
+-- each used number is owned
+abbrev pub AreOwned : Books → Type 0
+AreOwned books = (ksn : Serial) → IsUsedNumber books.requests ksn → (t : ℕ) × (owner_of books.owners ksn.iksn ≡ Some t)
+
+pub record WorldSafe {C L I : Type 0} (m : Meanings C L I) (world : WorldOf C L I) : Type 0 where
+  pub terminals : (t : ℕ) (terminal : TerminalOf C) → IsAt world.terminals t terminal → TermSafe m.cell (books_of world) t terminal
+  pub owned : AreOwned (books_of world)
+  pub none_twice : NoneTwice world.requests
+
+-- where the books are others, but what is safe in the old ones is so in the new ones, a terminal stays safe
+pub record Follows (old : Books) (t : ℕ) (new : Books) : Type 0 where
+  pub nothing : HasSentNothing old t → HasSentNothing new t
+  pub set : (set : RegisterSet) → SetSafe old t set → SetSafe new t set
+
+state_follows : (old : Books) (t : ℕ) (new : Books) (state : State) → Follows old t new → StateSafe old t state → StateSafe new t state
+state_follows old t new Stopped follows safe = tt
+state_follows old t new Empty follows safe = follows.nothing safe
+state_follows old t new (Loaded set pending) follows safe = follows.set set safe
+
+kept_follows : (old : Books) (t : ℕ) (new : Books) (kept : Kept) → Follows old t new → KeptSafe old t kept → KeptSafe new t kept
+kept_follows old t new None follows safe = follows.nothing safe
+kept_follows old t new (Some body) follows safe = record { set = safe.set; body_is = safe.body_is; safe = follows.set safe.set safe.safe }
+
+pub term_follows : {C : Type 0} (cell : CellMeaning C) (old : Books) (t : ℕ) (new : Books) (terminal : TerminalOf C) → Follows old t new → TermSafe cell old t terminal → TermSafe cell new t terminal
+term_follows cell old t new terminal follows safe = record {
+  honest = safe.honest;
+  state = state_follows old t new terminal.state follows safe.state;
+  kept = λ kept found. kept_follows old t new kept follows (safe.kept kept found);
+}
+
+-- owners that stay, and no request more
+pub owners_follow : (old : Books) (t : ℕ) (new : Books) → new.keys ≡ old.keys → new.requests ≡ old.requests
+    → ((iksn u : ℕ) → owner_of old.owners iksn ≡ Some u → owner_of new.owners iksn ≡ Some u) → AreOwned old → Follows old t new
+owners_follow old t new keys requests stays owned = record {
+  nothing = λ nothing ksn used owner.
+      let was = subst (λ list. IsUsedNumber list ksn) requests used in
+      let had = owned ksn was in
+      nothing ksn was (had.1 ∙ ap Some (one_owner new.owners ksn.iksn had.0 t (stays ksn.iksn had.0 had.1) owner));
+  set = λ set safe. record {
+    owned = stays set.iksn t safe.owned;
+    stands = subst (λ list. StandsAboveUsed new.keys list set) (sym requests) (subst (λ keys. StandsAboveUsed keys old.requests set) (sym keys) safe.stands);
+    again = safe.again;
+  };
+}
+
+-- a used number of the requests and one more is one of them, or that of the new one
+pub used_before : (requests : List Frame) (frame : Frame) (ksn : Serial) → IsUsedNumber (requests ++ frame ∷ []) ksn → IsUsedNumber requests ksn ⊎ HasNumber frame ksn
+used_before requests frame ksn used = elim (Contains-push_cases requests frame used.frame used.sent) [
+  | inl sent ↦ inl (record { frame = used.frame; sent = sent; number = used.number })
+  | inr is ↦ inr (subst (λ frame. HasNumber frame ksn) (sym is) used.number)
+]
+
+-- a frame has one number at most
+abbrev pub OneRequest : Type 0
+OneRequest = (bytes : List ℕ) (request other : Request) → IsRequest bytes request → IsRequest bytes other → request ≡ other
+
+pub one_number : (frame : Frame) (one other : Serial) → OneRequest → HasNumber frame one → HasNumber frame other → one ≡ other
+one_number frame one other reading a b = a.ksn_is ∙ ap (λ request. request.ksn) (reading frame.items a.request b.request a.is_request b.is_request) ∙ sym b.ksn_is
+
+-- a counter of 21 bits
+abbrev pub UsableFits : Type 0
+UsableFits = (counter : ℕ) → IsUsable counter → (counter < 2 ^ 21) × (1 ≤ length (path_of counter)) × (length (path_of counter) ≤ 10)
+
+-- the next counter is above
+pub next_is_above : (counter next : ℕ) → UsableFits → IsUsable counter → ComesAfter counter next → counter < next
+next_is_above counter next fits usable after =
+    let below = (fits counter usable).0 in
+    elim after [
+      | inl next ↦ next.is_above
+      | inr last ↦ omega (arith, below, last.1)
+    ]
+
+-- the counter of registers that are found again is usable, or spent
+pub again_counter : (set : RegisterSet) → IsFoundAgain set → IsUsable set.counter ⊎ (set.counter ≡ spent_counter)
+again_counter set again = subst (λ counter. IsUsable counter ⊎ (counter ≡ spent_counter)) (ap (λ set. set.counter) again.same) again.is_body.image.counter_is
+
+-- a number is taken: what is left is safe with the request of that number among the sent ones
+pub left_is_safe : (books : Books) (t : ℕ) (set left : RegisterSet) (key : List ℕ) (requests : List Frame) → UsableFits → SetSafe books t set → TakesNumber set key left → IsFoundAgain left
+    → ((ksn : Serial) → IsUsedNumber requests ksn → IsUsedNumber books.requests ksn ⊎ (ksn ≡ serial_of set))
+    → SetSafe (record books { requests = requests }) t left
+left_is_safe books t set left key requests fits safe takes again used =
+    let iksn = takes.taken.same_iksn in
+    let above = next_is_above set.counter left.counter fits takes.usable takes.taken.next_counter in
+    record {
+      owned = ap (λ iksn. owner_of books.owners iksn) iksn ∙ safe.owned;
+      stands = record {
+        initial = safe.stands.initial;
+        initial_is = rw iksn safe.stands.initial_is;
+        counter_is = again_counter left again;
+        stands = (takes.stands safe.stands.initial safe.stands.stands).1;
+        above = λ ksn is same. elim (used ksn is) [
+          | inl before ↦ let below = safe.stands.above ksn before (same ∙ iksn) in omega (arith, below, above)
+          | inr new ↦ subst (λ ksn. ksn.counter < left.counter) (sym new) above
+        ];
+      };
+      again = again;
+    }

@@ -1,0 +1,159 @@
+-- The keys of the requests and the accepted replies that were sent, and why a host refuses a request.
+use Rattle.std.proofs.Common.{◌≡◌, ◌⊎◌, ℕ, List, Some, All, inl, inr, refl, sym, ap, subst, ◌∙◌, arith}
+use Rattle.std.specs.List.{slice_get}
+use Rattle.std.proofs.lemmas.List.Elements.{All-nil, All-push}
+use Rattle.std.proofs.lemmas.Option.{get_or_from_slice_get, slice_get_within}
+use Rattle.duk_frame.specs.Answer.{IsAnswer}
+use Rattle.duk_frame.specs.Request.{IsRequest}
+use Rattle.duk_frame.specs.declared.answer.AnswerFrame.{AnswerFrame}
+use Rattle.duk_frame.specs.declared.answer.AnswerFrame.TheVariants.{Refusal, Reply}
+use Rattle.duk_frame.specs.declared.request.Request.{Request}
+use Rattle.duk_host.specs.Host.{basis_of}
+use Rattle.duk_host.specs.Judgement.{JudgementBasis, IsAuthentic, IsReplyWith, IsReasonAgainst, reason_number}
+use Rattle.duk_hsm.specs.Keys.{HsmKeys, key_set_of}
+use Rattle.duk_pin.specs.PinBlock.{IsPinBlock, pin_block}
+use Rattle.duk_tdes.specs.Key.{IsKey}
+use Rattle.duk_tdes.specs.Tdes.{tdes_decrypted, tdes_encrypted}
+use Rattle.duk_term.specs.Begin.{IsBegun, requested}
+use Rattle.duk_term.specs.Terminal.{TerminalOf, serial_of}
+use Rattle.duk_term.specs.declared.purchase.Purchase.{Purchase}
+use Rattle.duk_tree.specs.Derivation.{node_key, pin_key_of, transaction_key_of}
+use Rattle.duk_tree.specs.Path.{path_of}
+use Rattle.duk_tree.specs.Serial.{IsSerial, Serial, iksn_prefix_of, prefix_of}
+use Rattle.duk_net.specs.OwnKey.{IsOwnReply, IsOwnRequest, IsRefusedAsUsedOrFull}
+use Rattle.duk_net.specs.Reached.{CallLeads, Moves, Reached}
+use Rattle.duk_net.specs.UnusedKeys.{HoldsOfState, HoldsOfTerminal, StandsAboveUsed}
+use Rattle.duk_net.specs.Up.{UpRefused, answer_outcome}
+use Rattle.duk_net.specs.World.{Frame, Meanings, WorldOf}
+use Rattle.duk_net.specs.declared.outcome.Outcome.{Outcome}
+use Rattle.duk_net.specs.declared.outcome.Outcome.TheVariants as came
+use Rattle.duk_net.proofs.ReachedByMoves.{leads_all, reached_all}
+use Rattle.duk_net.proofs.StepChanges.{IsQuiet, View, left_touches, step_view, touched_keys}
+use Rattle.duk_net.proofs.StepChanges as shape
+
+-- what the laws of the crates below say of keys and frames, and that the registers of each terminal stand for its own initial key
+pub record KeyLaws {C L I : Type 0} (m : Meanings C L I) : Type 0 where
+  pub stands : (world : WorldOf C L I) → Reached m world → All (HoldsOfTerminal m (StandsAboveUsed world.host.keys world.requests)) world.terminals
+  pub one_request : (bytes : List ℕ) (request other : Request) → IsRequest bytes request → IsRequest bytes other → request ≡ other
+  pub one_answer : (bytes : List ℕ) (answer other : AnswerFrame) → IsAnswer bytes answer → IsAnswer bytes other → answer ≡ other
+  pub prefixes : (ksn : Serial) → IsSerial ksn → prefix_of ksn ≡ iksn_prefix_of ksn.iksn
+  pub node : (initial : List ℕ) (iksn : ℕ) (path : List ℕ) → IsKey 16 initial → IsKey 16 (node_key initial iksn path)
+  pub pin_key : (key : List ℕ) → IsKey 16 key → IsKey 16 (pin_key_of key)
+  pub deciphered : (key pin pan : List ℕ) → IsKey 16 key → IsPinBlock pin pan (pin_block pin pan) → tdes_decrypted key (tdes_encrypted key (pin_block pin pan)) ≡ pin_block pin pan
+
+-- what holds of each thing of a list holds of the one at a place
+all_at : {A : Type 0} (P : A → Type 0) (things : List A) (place : ℕ) (thing : A) → All P things → slice_get things place ≡ Some thing → P thing
+all_at P things place thing all is = subst P (get_or_from_slice_get things place thing thing is) (all place thing (slice_get_within things place thing is))
+
+-- against an authentic request there is no reason but that its number is used or that the log is full
+used_or_full : (basis : JudgementBasis) (request : Request) (why : _) → IsAuthentic basis.keys request → IsReasonAgainst basis request why → (reason_number why ≡ 5) ⊎ (reason_number why ≡ 6)
+used_or_full basis request why authentic refuses = grind arith
+
+-- a quiet outcome is no refusal
+quiet_refusal : (outcome : Outcome) → IsQuiet outcome → IsRefusedAsUsedOrFull outcome
+quiet_refusal outcome quiet = grind arith
+
+-- where the frame of an answer is an accepted reply, it is the one under the transaction key of its number
+abbrev IsOwnAnswer : HsmKeys → List ℕ → AnswerFrame → Type 0
+IsOwnAnswer keys bytes (Reply ksn code mac) = IsReplyWith keys ksn code bytes
+IsOwnAnswer keys bytes (Refusal ksn reason) = Unit {0}
+
+-- all requests and all accepted replies that were sent are made under the transaction keys of their numbers
+abbrev IsOwn : {C L I : Type 0} → WorldOf C L I → Type 0
+IsOwn world = All (IsOwnRequest world.host.keys) world.requests × All (IsOwnReply world.host.keys) world.answers
+
+module _ {C L I : Type 0} (m : Meanings C L I) (laws : KeyLaws m) where
+  -- registers that stand for the terminal's own initial key give a request under the transaction key of its number
+  own_request : (keys : HsmKeys) (requests : List Frame) (purchase : Purchase) (before after : TerminalOf C) (frame : Frame) (begun : IsBegun m.cell purchase before after frame.items)
+      → StandsAboveUsed keys requests begun.set → IsOwnRequest keys frame
+  own_request keys requests purchase before after frame begun stands =
+      let set = begun.set in
+      let key = begun.key in
+      let initial = stands.initial_is in
+      let taken = (begun.takes.takes.stands stands.initial stands.stands).0 in
+      let is_key : IsKey 16 key = subst (IsKey 16) (sym taken) (laws.node stands.initial set.iksn (path_of set.counter) initial.is_key) in
+      record {
+        request = requested set key purchase;
+        pin = purchase.pin;
+        is_request = begun.request;
+        authentic = record {
+          key = key;
+          key_is = record {
+            bdk = initial.bdk;
+            held = ap (key_set_of keys) (laws.prefixes (serial_of set) begun.request.fields.ksn_is) ∙ initial.held;
+            usable = begun.takes.takes.usable;
+            key_is = taken ∙ ap (λ root. transaction_key_of root set.iksn set.counter) initial.initial_is;
+          };
+          mac_is = refl;
+        };
+        frame_is = begun.frame_is;
+        pin_is_found = subst (IsPinBlock purchase.pin purchase.pan)
+            (sym (laws.deciphered (pin_key_of key) purchase.pin purchase.pan (laws.pin_key key is_key) begun.pin_is_readable))
+            begun.pin_is_readable;
+      }
+
+  -- an accepted reply under the transaction key of its number has no other reading, and a refusal none as an accepted reply
+  own_reply : (keys : HsmKeys) (frame : Frame) (answer : AnswerFrame) → IsAnswer frame.items answer → IsOwnAnswer keys frame.items answer → IsOwnReply keys frame
+  own_reply keys frame answer told own ksn code mac is = subst (IsOwnAnswer keys frame.items) (laws.one_answer frame.items answer (Reply ksn code mac) told is) own
+
+  -- what a step sends is made under the transaction key of its number, and the host keeps its keys
+  step_own : (old new : WorldOf C L I) (outcome : Outcome) → Reached m old → IsOwn old → View m old outcome new → IsOwn new
+  step_own old new outcome reached own (shape.nothing same quiet) = rw same own
+  step_own old new outcome reached own (shape.load t iksn given quiet) = rw given.rest own
+  step_own old new outcome reached own (shape.send t k purchase ksn is sent) =
+      let acts = sent.terminal in
+      let begun = acts.changed.begun in
+      let holds = all_at (HoldsOfTerminal m (StandsAboveUsed old.host.keys old.requests)) old.terminals acts.place acts.before (laws.stands old reached) acts.was in
+      let stands : StandsAboveUsed old.host.keys old.requests begun.set = subst (HoldsOfState (StandsAboveUsed old.host.keys old.requests)) begun.takes.had holds.registers in
+      rw sent.rest (All-push (IsOwnRequest old.host.keys) old.requests sent.frame own.0 (own_request old.host.keys old.requests purchase acts.before acts.after sent.frame begun stands), own.1)
+  step_own old new outcome reached own (shape.terminal t change quiet) = rw change.rest own
+  step_own old new outcome reached own (shape.accept k n ksn code is up) =
+      let reply = up.accepted.accepted.reply.reply in
+      rw (up.answered.rest, up.accepted.kept.ends.keys) (own.0, All-push (IsOwnReply old.host.keys) old.answers up.frame own.1 (own_reply old.host.keys up.frame (Reply _ _ reply.mac) reply.is_reply reply))
+  step_own old new outcome reached own (shape.refuse k n ksn reason is up) =
+      rw (up.answered.rest, up.refused.same) (own.0, All-push (IsOwnReply old.host.keys) old.answers up.frame own.1 (own_reply old.host.keys up.frame (Refusal ksn reason) up.told tt))
+  step_own old new outcome reached own (shape.done k t frame ksn code is at change) = rw change.rest own
+  step_own old new outcome reached own (shape.host touches same quiet) = rw (same, touched_keys m old.host new.host touches) own
+
+  -- a move leaves all that was sent made under the transaction keys of its numbers
+  moves_own : (old new : WorldOf C L I) → Reached m old → IsOwn old → Moves m old new → IsOwn new
+  moves_own old new reached own (inl happens) = step_own old new happens.outcome reached own (step_view m old happens.event happens.outcome new happens.step)
+  moves_own old new reached own (inr left) = rw (left.rest, touched_keys m old.host new.host (left_touches m old new left)) own
+
+  -- in every world that is reached all that was sent is made under the transaction keys of its numbers
+  pub reached_own : (world : WorldOf C L I) → Reached m world → IsOwn world
+  reached_own world reached =
+      reached_all m (λ world. IsOwn world)
+      (λ world first. rw (first.no_requests, first.no_answers) (All-nil _, All-nil _))
+      moves_own world reached
+
+  -- a request that was sent is refused only because its number is used or the log is full
+  request_refused : (old new : WorldOf C L I) (k n : ℕ) (ksn : Serial) (reason : ℕ) → Reached m old → UpRefused m old k n ksn reason new → IsRefusedAsUsedOrFull (came.Refused n ksn reason)
+  request_refused old new k n ksn reason reached up =
+      let own = all_at (IsOwnRequest old.host.keys) old.requests up.sent.place up.request (reached_own old reached).0 up.sent.thing_is in
+      elim up.refused.refused [
+        | inl malformed ↦ absurd (malformed.no_request own.request own.is_request)
+        | inr refused ↦
+            let same = laws.one_request up.request.items own.request refused.request own.is_request refused.is_request in
+            let reason_is = used_or_full (basis_of m.host old.host up.refused.used) refused.request refused.reason (subst (IsAuthentic old.host.keys) same own.authentic) refused.refuses in
+            subst (λ answer. IsRefusedAsUsedOrFull (answer_outcome n answer)) (laws.one_answer up.frame.items (Refusal _ _) (Refusal ksn reason) refused.is_refusal up.told) reason_is
+      ]
+
+  -- a step refuses no request that was sent but because its number is used or the log is full
+  step_refuses : (old new : WorldOf C L I) (outcome : Outcome) → Reached m old → View m old outcome new → IsRefusedAsUsedOrFull outcome
+  step_refuses old new outcome reached (shape.nothing same quiet) = quiet_refusal outcome quiet
+  step_refuses old new outcome reached (shape.load t iksn given quiet) = quiet_refusal outcome quiet
+  step_refuses old new outcome reached (shape.send t k purchase ksn is sent) = rw is tt
+  step_refuses old new outcome reached (shape.terminal t change quiet) = quiet_refusal outcome quiet
+  step_refuses old new outcome reached (shape.accept k n ksn code is up) = rw is tt
+  step_refuses old new outcome reached (shape.refuse k n ksn reason is up) = rw is (request_refused old new k n ksn reason reached up)
+  step_refuses old new outcome reached (shape.done k t frame ksn code is at change) = rw is tt
+  step_refuses old new outcome reached (shape.host touches same quiet) = quiet_refusal outcome quiet
+
+  -- a call refuses no request that was sent but because its number is used or the log is full
+  pub leads_refuses : (old new : WorldOf C L I) (outcomes : List Outcome) → Reached m old → CallLeads m old outcomes new → All IsRefusedAsUsedOrFull outcomes
+  leads_refuses old new outcomes reached leads =
+      leads_all m (λ outcomes world. All IsRefusedAsUsedOrFull outcomes)
+      (λ outcomes old new event outcome reached refused step. All-push IsRefusedAsUsedOrFull outcomes outcome refused (step_refuses old new outcome reached (step_view m old event outcome new step)))
+      (λ outcomes old new reached refused left. refused)
+      old new outcomes reached (All-nil _) leads

@@ -1,0 +1,313 @@
+-- What is pending at the terminals of a world, as the world moves on.
+use Rattle.std.proofs.Common.{◌≡◌, ◌≢◌, ◌⊎◌, ◌++◌, ◌∷◌, [], ℕ, List, All, Contains, Some, None, inl, inr, refl, sym, ap, subst, ◌∙◌}
+use Rattle.std.proofs.lemmas.List.Elements.{All-contains, All-head, Contains-append_left, Contains-push}
+use Rattle.duk_store.specs.Cell.{CellMeaning, Kept}
+use Rattle.duk_term.specs.Begin.{BeginRefused, pending_of}
+use Rattle.duk_term.specs.Load.{LoadRefused, Loading}
+use Rattle.duk_term.specs.Reply.{IsPending, completed}
+use Rattle.duk_term.specs.Restart.{Opens, TerminalRestartRefused}
+use Rattle.duk_term.specs.Terminal.{TerminalOf}
+use Rattle.duk_term.specs.declared.answer.Answer.TheVariants.{Done}
+use Rattle.duk_term.specs.declared.fault.TermFault.{TermFault}
+use Rattle.duk_term.specs.declared.fault.TermFault.TheVariants as fault
+use Rattle.duk_term.specs.declared.purchase.Purchase.{Purchase}
+use Rattle.duk_term.specs.declared.state.Pending.{Pending}
+use Rattle.duk_term.specs.declared.state.State.{State}
+use Rattle.duk_term.specs.declared.state.State.TheVariants.{Loaded, Stopped}
+use Rattle.duk_tree.specs.Serial.{Serial}
+use Rattle.duk_frame.specs.Answer.{IsReply}
+use Rattle.duk_frame.specs.declared.code.Code.{Code}
+use Rattle.duk_net.specs.Accepted.{HasReply}
+use Rattle.duk_net.specs.Begin.{HandsOut, IsSent}
+use Rattle.duk_net.specs.Completed.{IsPendingAt, IsPendingIn, Sends}
+use Rattle.duk_net.specs.Down.{IsToldOf}
+use Rattle.duk_net.specs.First.{IsFirst, IsNewTerminal}
+use Rattle.duk_net.specs.Load.{TakesLoad}
+use Rattle.duk_net.specs.UsedNumbers.{HasNumber, IsSentByOwner, IsUsedNumber}
+use Rattle.duk_net.specs.Owner.{owner_of}
+use Rattle.duk_net.specs.Reached.{CallLeads, Moves, Reached}
+use Rattle.duk_net.specs.World.{ChangesOnly, Frame, IsAt, Meanings, ChangesTerminal, WorldOf}
+use Rattle.duk_net.specs.declared.outcome.Outcome.{Outcome}
+use Rattle.duk_net.specs.declared.outcome.Outcome.TheVariants as came
+use Rattle.duk_net.specs.declared.owner.Owner.{Owner}
+use Rattle.duk_net.proofs.TerminalsAfterwards.{after_acts, at_contains, before_acts}
+use Rattle.duk_net.proofs.ReachedByMoves.{reached_all}
+use Rattle.duk_net.proofs.WorldStaysAboveUsed.{step_owners_stay}
+use Rattle.duk_net.proofs.StepChanges.{IsQuiet, Touches, View, step_view}
+use Rattle.duk_net.proofs.StepChanges as step
+
+-- a stopped terminal waits for nothing
+stopped_waits : (state : State) (pending : Pending) → state ≡ Stopped → ¬ IsPending state pending
+stopped_waits state pending is waits = let had = waits.1 in cc
+
+-- a terminal with nothing pending waits for nothing
+idle_waits : (state : State) (set : _) (pending : Pending) → state ≡ Loaded set None → ¬ IsPending state pending
+idle_waits state set pending is waits = let had = waits.1 in cc
+
+-- after a restart a terminal waits for nothing
+opened_waits : (kept : Kept) (state : State) (pending : Pending) → Opens kept state → ¬ IsPending state pending
+opened_waits None state pending opens waits = let had = waits.1 in cc
+opened_waits (Some body) state pending opens waits = idle_waits state _ pending opens.1 waits
+
+-- a terminal waits for one reply at most
+one_pending : (state : State) (pending other : Pending) → IsPending state pending → IsPending state other → pending ≡ other
+one_pending state pending other is as_well =
+    let one = is.1 in
+    let two = as_well.1 in
+    cc
+
+-- a terminal waits for nothing that it did not wait for
+abbrev Subsides : {C : Type 0} → TerminalOf C → TerminalOf C → Type 0
+Subsides before after = (pending : Pending) → IsPending after.state pending → IsPending before.state pending
+
+-- a terminal that stays as it was waits for nothing new
+same_subsides : {C : Type 0} (before after : TerminalOf C) → after ≡ before → Subsides before after
+same_subsides before after same pending waits = subst (λ terminal. IsPending terminal.state pending) same waits
+
+-- a refused load makes nothing pending
+load_refused_subsides : {C : Type 0} (meaning : CellMeaning C) (asked : Loading) (before after : TerminalOf C) (why : TermFault)
+    → LoadRefused meaning asked before after why → Subsides before after
+load_refused_subsides meaning asked before after fault.Stopped refused = same_subsides before after refused.1
+load_refused_subsides meaning asked before after fault.AlreadyLoaded refused = same_subsides before after refused.1
+load_refused_subsides meaning asked before after (fault.Block why) refused = same_subsides before after refused.2
+load_refused_subsides meaning asked before after fault.WrongUse refused = same_subsides before after refused.2
+load_refused_subsides meaning asked before after (fault.Store why) refused = λ pending waits. absurd (stopped_waits after.state pending refused.stops.stopped waits)
+load_refused_subsides meaning asked before after _ refused = absurd refused
+
+-- a load makes nothing pending
+load_subsides : {C : Type 0} (meaning : CellMeaning C) (t : ℕ) (asked : Loading) (outcome : Outcome) (before after : TerminalOf C)
+    → TakesLoad meaning t asked outcome before after → Subsides before after
+load_subsides meaning t asked (came.Loaded u iksn) before after takes = λ pending waits. absurd (idle_waits after.state takes.2.set pending takes.2.state_is waits)
+load_subsides meaning t asked (came.TermFaulted u why) before after takes = load_refused_subsides meaning asked before after why takes.1
+load_subsides meaning t asked _ before after takes = absurd takes
+
+-- a refused begin makes nothing pending
+begin_refused_subsides : {C : Type 0} (meaning : CellMeaning C) (before after : TerminalOf C) (why : TermFault) → BeginRefused meaning before after why → Subsides before after
+begin_refused_subsides meaning before after fault.Stopped refused = same_subsides before after refused.1
+begin_refused_subsides meaning before after fault.NotLoaded refused = same_subsides before after refused.1
+begin_refused_subsides meaning before after fault.Spent refused = same_subsides before after refused.1
+begin_refused_subsides meaning before after (fault.Store why) refused = λ pending waits. absurd (stopped_waits after.state pending refused.stops.stopped waits)
+begin_refused_subsides meaning before after _ refused = absurd refused
+
+-- after a refused restart a terminal waits for nothing
+restart_refused_waits : {C : Type 0} (meaning : CellMeaning C) (before after : TerminalOf C) (why : TermFault) (pending : Pending) → TerminalRestartRefused meaning before after why → ¬ IsPending after.state pending
+restart_refused_waits meaning before after (fault.Store why) pending refused waits = stopped_waits after.state pending refused.stopped waits
+restart_refused_waits meaning before after _ pending refused waits = refused
+
+-- where no request goes out nothing becomes pending
+touches_subsides : {C L I : Type 0} (m : Meanings C L I) (before after : TerminalOf C) → Touches m before after → Subsides before after
+touches_subsides m before after (step.begin_refused why refused) = begin_refused_subsides m.cell before after why refused
+touches_subsides m before after (step.restarted restarted) = λ pending waits. absurd (opened_waits restarted.kept after.state pending restarted.opens waits)
+touches_subsides m before after (step.restart_refused why refused) = λ pending waits. absurd (restart_refused_waits m.cell before after why pending refused waits)
+touches_subsides m before after (step.armed steps armed) = λ pending waits. subst (λ state. IsPending state pending) armed.state waits
+
+-- a terminal that is done waits for nothing
+done_waits : {C : Type 0} (frame : Frame) (ksn : Serial) (code : Code) (before after : TerminalOf C) (pending : Pending) → IsToldOf frame ksn (Done code) before after → ¬ IsPending after.state pending
+done_waits frame ksn code before after pending told waits =
+    idle_waits after.state told.was_pending.0 pending (ap (λ terminal. terminal.state) told.after_is ∙ ap completed told.was_pending.1) waits
+
+-- a terminal waits for the reply to the transaction of a key serial number
+record Waits {C : Type 0} (terminal : TerminalOf C) (ksn : Serial) : Type 0 where
+  pending : Pending
+  is_pending : IsPending terminal.state pending
+  ksn_is : ksn ≡ pending.ksn
+
+-- a terminal that hands out a request waits for the reply to that
+begun_waits : {C : Type 0} (meaning : CellMeaning C) (purchase : Purchase) (frame : Frame) (sent ksn : Serial) (before after : TerminalOf C)
+    → HandsOut meaning purchase frame sent before after → Waits after ksn → sent ≡ ksn
+begun_waits meaning purchase frame sent ksn before after hands waits =
+    let begun = hands.begun in
+    let same = one_pending after.state (pending_of begun.set begun.key) waits.pending (begun.left, begun.state_is) waits.is_pending in
+    hands.ksn_is ∙ ap (λ pending. pending.ksn) same ∙ sym waits.ksn_is
+
+-- what is pending where a terminal went on is pending there, or was so at another
+acts_cases : {C : Type 0} (t : ℕ) (change : TerminalOf C → TerminalOf C → Type 0) (old new : List (TerminalOf C)) (acts : ChangesOnly t change old new) (u : ℕ) (ksn : Serial) → IsPendingAt new u ksn
+    → ((u ≢ t) × IsPendingAt old u ksn) ⊎ ((u ≡ t) × Waits acts.after ksn)
+acts_cases t change old new acts u ksn waits = elim (after_acts t change old new acts u waits.terminal waits.at) [
+  | inl here ↦ inr (
+    here.0,
+    record {
+      pending = waits.pending;
+      is_pending = subst (λ terminal. IsPending terminal.state waits.pending) here.1 waits.is_pending;
+      ksn_is = waits.ksn_is;
+    },
+  )
+  | inr elsewhere ↦ inl (elsewhere.0, record { terminal = waits.terminal; pending = waits.pending; at = elsewhere.1; is_pending = waits.is_pending; ksn_is = waits.ksn_is })
+]
+
+-- what the terminal waits for before it goes on is pending at it
+acts_before : {C : Type 0} (t : ℕ) (change : TerminalOf C → TerminalOf C → Type 0) (old new : List (TerminalOf C)) (acts : ChangesOnly t change old new) (ksn : Serial) → Waits acts.before ksn → IsPendingAt old t ksn
+acts_before t change old new acts ksn waits = record {
+  terminal = acts.before;
+  pending = waits.pending;
+  at = before_acts t change old new acts;
+  is_pending = waits.is_pending;
+  ksn_is = waits.ksn_is;
+}
+
+-- where the terminal that goes on waits for nothing new, what is pending was so before
+acts_subside : {C : Type 0} (t : ℕ) (change : TerminalOf C → TerminalOf C → Type 0) (old new : List (TerminalOf C)) → ((before after : TerminalOf C) → change before after → Subsides before after) → ChangesOnly t change old new
+    → (u : ℕ) (ksn : Serial) → IsPendingAt new u ksn → IsPendingAt old u ksn
+acts_subside t change old new subsides acts u ksn waits = elim (acts_cases t change old new acts u ksn waits) [
+  | inl elsewhere ↦ elsewhere.1
+  | inr here ↦ subst (λ n. IsPendingAt old n ksn) (sym here.0) (acts_before t change old new acts ksn (record {
+    pending = here.1.pending;
+    is_pending = subsides acts.before acts.after acts.changed here.1.pending here.1.is_pending;
+    ksn_is = here.1.ksn_is;
+  }))
+]
+
+-- what is pending after a step was so before, or is sent in it
+pub pending_comes : {C L I : Type 0} (m : Meanings C L I) (old : WorldOf C L I) (outcome : Outcome) (new : WorldOf C L I) (u : ℕ) (ksn : Serial)
+    → View m old outcome new → IsPendingAt new.terminals u ksn → IsPendingAt old.terminals u ksn ⊎ Sends u ksn outcome
+pending_comes m old outcome new u ksn (step.nothing same quiet) waits = inl (subst (λ world. IsPendingAt world.terminals u ksn) same waits)
+pending_comes m old outcome new u ksn (step.load t iksn given quiet) waits =
+    inl (acts_subside t _ old.terminals new.terminals (load_subsides m.cell t given.asked outcome) given.terminal u ksn waits)
+pending_comes m old outcome new u ksn (step.send t k purchase sent is begins) waits = elim (acts_cases t _ old.terminals new.terminals begins.terminal u ksn waits) [
+  | inl elsewhere ↦ inl elsewhere.1
+  | inr here ↦
+      let begun = begun_waits m.cell purchase begins.frame sent ksn begins.terminal.before begins.terminal.after begins.terminal.changed here.1 in
+      inr (subst (λ outcome. Sends u ksn outcome) (sym is) (sym here.0, begun))
+]
+pending_comes m old outcome new u ksn (step.terminal t change quiet) waits = inl (acts_subside t _ old.terminals new.terminals (touches_subsides m) change.terminal u ksn waits)
+pending_comes m old outcome new u ksn (step.accept k n sent code is up) waits = inl (subst (λ terminals. IsPendingAt terminals u ksn) (ap (λ world. world.terminals) up.answered.rest) waits)
+pending_comes m old outcome new u ksn (step.refuse k n sent reason is up) waits = inl (subst (λ terminals. IsPendingAt terminals u ksn) (ap (λ world. world.terminals) up.answered.rest) waits)
+pending_comes m old outcome new u ksn (step.done k t frame sent code is at change) waits =
+    inl (acts_subside t _ old.terminals new.terminals (λ before after told pending waits. absurd (done_waits frame sent code before after pending told waits)) change.terminal u ksn waits)
+pending_comes m old outcome new u ksn (step.host touched rest quiet) waits = inl (subst (λ terminals. IsPendingAt terminals u ksn) (ap (λ world. world.terminals) rest) waits)
+
+-- the requests that were sent stay in a step
+pub requests_stay : {C L I : Type 0} (m : Meanings C L I) (old : WorldOf C L I) (outcome : Outcome) (new : WorldOf C L I) (frame : Frame)
+    → View m old outcome new → Contains old.requests frame → Contains new.requests frame
+requests_stay m old outcome new frame (step.nothing same quiet) sent = subst (λ world. Contains world.requests frame) (sym same) sent
+requests_stay m old outcome new frame (step.load t iksn given quiet) sent = subst (λ world. Contains world.requests frame) (sym given.rest) sent
+requests_stay m old outcome new frame (step.send t k purchase ksn is begins) sent =
+    subst (λ world. Contains world.requests frame) (sym begins.rest) (Contains-append_left old.requests (begins.frame ∷ []) frame sent)
+requests_stay m old outcome new frame (step.terminal t change quiet) sent = subst (λ world. Contains world.requests frame) (sym change.rest) sent
+requests_stay m old outcome new frame (step.accept k n ksn code is up) sent = subst (λ world. Contains world.requests frame) (sym up.answered.rest) sent
+requests_stay m old outcome new frame (step.refuse k n ksn reason is up) sent = subst (λ world. Contains world.requests frame) (sym up.answered.rest) sent
+requests_stay m old outcome new frame (step.done k t told ksn code is at change) sent = subst (λ world. Contains world.requests frame) (sym change.rest) sent
+requests_stay m old outcome new frame (step.host touched rest quiet) sent = subst (λ world. Contains world.requests frame) (sym rest) sent
+
+-- a used number stays used in a step
+pub used_stays : {C L I : Type 0} (m : Meanings C L I) (old : WorldOf C L I) (outcome : Outcome) (new : WorldOf C L I) (ksn : Serial)
+    → View m old outcome new → IsUsedNumber old.requests ksn → IsUsedNumber new.requests ksn
+used_stays m old outcome new ksn view used = record { frame = used.frame; sent = requests_stay m old outcome new used.frame view used.sent; number = used.number }
+
+-- what a step's outcome tells where a request is sent, or a terminal is done
+abbrev pub Tells : {C L I : Type 0} → Meanings C L I → WorldOf C L I → Outcome → WorldOf C L I → Type 0
+Tells m old (came.Sent t k ksn) new = (purchase : Purchase) × IsSent m old t purchase k ksn new
+Tells m old (came.Done t ksn code) new = (k : ℕ) × (frame : Frame) × IsAt old.answers k frame × ChangesTerminal t (IsToldOf frame ksn (Done code)) old new
+Tells m old _ new = Unit {0}
+
+-- a quiet outcome is none of these
+quiet_tells : {C L I : Type 0} (m : Meanings C L I) (old : WorldOf C L I) (outcome : Outcome) (new : WorldOf C L I) → IsQuiet outcome → Tells m old outcome new
+quiet_tells m old (came.Sent t k ksn) new quiet = absurd quiet
+quiet_tells m old (came.Done t ksn code) new quiet = absurd quiet
+quiet_tells m old _ new quiet = tt
+
+-- each step's outcome tells that
+pub step_tells : {C L I : Type 0} (m : Meanings C L I) (old : WorldOf C L I) (outcome : Outcome) (new : WorldOf C L I) → View m old outcome new → Tells m old outcome new
+step_tells m old outcome new (step.nothing same quiet) = quiet_tells m old outcome new quiet
+step_tells m old outcome new (step.load t iksn given quiet) = quiet_tells m old outcome new quiet
+step_tells m old outcome new (step.send t k purchase ksn is begins) = subst (λ outcome. Tells m old outcome new) (sym is) (purchase, begins)
+step_tells m old outcome new (step.terminal t change quiet) = quiet_tells m old outcome new quiet
+step_tells m old outcome new (step.accept k n ksn code is up) = subst (λ outcome. Tells m old outcome new) (sym is) tt
+step_tells m old outcome new (step.refuse k n ksn reason is up) = subst (λ outcome. Tells m old outcome new) (sym is) tt
+step_tells m old outcome new (step.done k t frame ksn code is at change) = subst (λ outcome. Tells m old outcome new) (sym is) (k, frame, at, change)
+step_tells m old outcome new (step.host touched rest quiet) = quiet_tells m old outcome new quiet
+
+-- one request more is sent, with this number
+pub record SendsNumber {C L I : Type 0} (old new : WorldOf C L I) (ksn : Serial) : Type 0 where
+  pub frame : Frame
+  pub requests : new.requests ≡ old.requests ++ frame ∷ []
+  pub number : HasNumber frame ksn
+
+-- where a request is sent, it is one more
+pub sends_number : {C L I : Type 0} (m : Meanings C L I) (old : WorldOf C L I) (outcome : Outcome) (new : WorldOf C L I) (t : ℕ) (ksn : Serial)
+    → Tells m old outcome new → Sends t ksn outcome → SendsNumber old new ksn
+sends_number m old (came.Sent u k sent) new t ksn tells sends =
+    let hands = tells.1.terminal.changed in record {
+      frame = tells.1.frame;
+      requests = ap (λ world. world.requests) tells.1.rest;
+      number = record { request = _; is_request = hands.begun.request; ksn_is = sym sends.1 ∙ hands.ksn_is };
+    }
+sends_number m old _ new t ksn tells sends = absurd sends
+
+-- a terminal that sends owns the initial key serial number
+sends_by_owner : (owners : List Owner) (outcome : Outcome) (t : ℕ) (ksn : Serial) → IsSentByOwner owners outcome → Sends t ksn outcome → owner_of owners ksn.iksn ≡ Some t
+sends_by_owner owners (came.Sent u k sent) t ksn owns sends =
+    subst (λ n. owner_of owners ksn.iksn ≡ Some n) sends.0 (subst (λ serial. owner_of owners serial.iksn ≡ Some u) sends.1 owns)
+sends_by_owner owners _ t ksn owns sends = absurd sends
+
+-- each number that is pending was sent, by the terminal that owns its initial key serial number
+abbrev pub OwnPending : {C L I : Type 0} → WorldOf C L I → Type 0
+OwnPending world = (t : ℕ) (ksn : Serial) → IsPendingAt world.terminals t ksn → IsUsedNumber world.requests ksn × (owner_of world.owners ksn.iksn ≡ Some t)
+
+-- a terminal sends none but under an initial key serial number that it owns
+abbrev pub SentByOwners : {C L I : Type 0} → Meanings C L I → Type 0
+SentByOwners {C} {L} {I} m = (old new : WorldOf C L I) (outcomes : List Outcome) → Reached m old → CallLeads m old outcomes new → All (IsSentByOwner new.owners) outcomes
+
+-- in a world in which nothing happened nothing is pending
+first_safe : {C L I : Type 0} (m : Meanings C L I) (world : WorldOf C L I) → IsFirst m world → OwnPending world
+first_safe m world first t ksn waits =
+    let stands = at_contains world.terminals t waits.terminal waits.at in
+    let stopped = (All-contains (IsNewTerminal m) world.terminals waits.terminal first.terminals stands).stopped in
+    absurd (stopped_waits waits.terminal.state waits.pending stopped waits.is_pending)
+
+-- a step leaves no other number pending than such ones
+step_safe : {C L I : Type 0} (m : Meanings C L I) (old : WorldOf C L I) (outcome : Outcome) (new : WorldOf C L I)
+    → OwnPending old → View m old outcome new → IsSentByOwner new.owners outcome → OwnPending new
+step_safe m old outcome new safe view owned t ksn waits = elim (pending_comes m old outcome new t ksn view waits) [
+  | inl before ↦
+      let was = safe t ksn before in
+      (used_stays m old outcome new ksn view was.0, step_owners_stay m old new outcome view ksn.iksn t was.1)
+  | inr sends ↦
+      let sent = sends_number m old outcome new t ksn (step_tells m old outcome new view) sends in
+      let stands : Contains new.requests sent.frame = subst (λ requests. Contains requests sent.frame) (sym sent.requests) (Contains-push old.requests sent.frame) in
+      (record { frame = sent.frame; sent = stands; number = sent.number }, sends_by_owner new.owners outcome t ksn owned sends)
+]
+
+-- so it is as a world moves on
+moves_safe : {C L I : Type 0} (m : Meanings C L I) → SentByOwners m → (old new : WorldOf C L I) → Reached m old → OwnPending old → Moves m old new → OwnPending new
+moves_safe m owners old new reached safe moves = elim moves [
+  | inl happens ↦
+      let led : CallLeads m old (happens.outcome ∷ []) new = record { events = happens.event ∷ []; mid = new; run = (new, happens.step, refl); left = inl refl } in
+      let owned = owners old new (happens.outcome ∷ []) reached led in
+      step_safe m old happens.outcome new safe (step_view m old happens.event happens.outcome new happens.step) (All-head (IsSentByOwner new.owners) happens.outcome [] owned)
+  | inr left ↦ subst (λ world. OwnPending world) (sym left.rest) safe
+]
+
+-- so it is in each world that is reached
+pub pending_safe : {C L I : Type 0} (m : Meanings C L I) → SentByOwners m → (world : WorldOf C L I) → Reached m world → OwnPending world
+pending_safe m owners world reached = reached_all m OwnPending (first_safe m) (moves_safe m owners) world reached
+
+-- a transaction that is done was pending, and the accepted reply to it was sent
+pub done_by_host : {C L I : Type 0} (m : Meanings C L I) (old : WorldOf C L I) (t : ℕ) (ksn : Serial) (code : Code) (new : WorldOf C L I)
+    → Tells m old (came.Done t ksn code) new → IsPendingAt old.terminals t ksn × HasReply old.answers ksn code
+done_by_host m old t ksn code new (k, frame, at, change) =
+    let acts = change.terminal in
+    let of = acts.changed in
+    let told = of.told in
+    let same : told.0.ksn ≡ ksn = ap (λ pending. pending.ksn) (one_pending acts.before.state told.0 of.pending told.1 of.was_pending) ∙ sym of.ksn_is in (
+      acts_before t _ old.terminals new.terminals acts ksn (record { pending = of.pending; is_pending = of.was_pending; ksn_is = of.ksn_is }),
+      record {
+        frame = frame;
+        mac = told.2.mac;
+        sent = at_contains old.answers k frame at;
+        reply = subst (λ serial. IsReply frame.items serial code told.2.mac) same told.2.reply;
+      },
+    )
+
+-- of a transaction that is done, nothing stays pending
+pub done_is_over : {C L I : Type 0} (m : Meanings C L I) (old : WorldOf C L I) (t : ℕ) (ksn : Serial) (code : Code) (new : WorldOf C L I)
+    → OwnPending old → Tells m old (came.Done t ksn code) new → ¬ IsPendingIn new.terminals ksn
+done_is_over m old t ksn code new safe tells (u, waits) =
+    let acts = tells.3.terminal in
+    elim (acts_cases t _ old.terminals new.terminals acts u ksn waits) [
+      | inl elsewhere ↦
+          let one = (safe t ksn (done_by_host m old t ksn code new tells).0).1 in
+          let other = (safe u ksn elsewhere.1).1 in
+          elsewhere.0 cc
+      | inr here ↦ done_waits tells.1 ksn code acts.before acts.after here.1.pending acts.changed here.1.is_pending
+    ]

@@ -1,0 +1,94 @@
+-- Registers that stand above every used number hold the key of no used number, nor of an ancestor of one.
+use Rattle.std.proofs.Common.{pow_pos, ◌≡◌, ◌⊎◌, ◌<◌, ◌≤◌, ◌+◌, ◌^◌, [], ◌∷◌, ℕ, List, Some, None, All, length, get_or, inl, inr, refl, sym, ap, subst, ◌∙◌, arith}
+use Rattle.std.proofs.lemmas.Option.{slice_get-get_or}
+use Rattle.duk_regs.specs.Registers.{HoldsNode, RegisterSet, StandsFor, empty_register, register_at}
+use Rattle.duk_store.specs.Cell.{Kept}
+use Rattle.duk_term.specs.Body.{IsFoundAgain, IsTerminalBody, body_bytes, set_of_body}
+use Rattle.duk_term.specs.declared.state.State.{State}
+use Rattle.duk_term.specs.declared.state.State.TheVariants.{Stopped, Empty, Loaded}
+use Rattle.duk_tree.specs.Frontier.{IsAncestorOrSelf, IsHeld}
+use Rattle.duk_tree.specs.Path.{IsUsable, value_of}
+use Rattle.duk_net.specs.Reached.{Reached}
+use Rattle.duk_net.specs.UnusedKeys.{HoldNoUsedKey, HoldsNoUsedNode, HoldsOfKept, HoldsOfState, HoldsOfTerminal}
+use Rattle.duk_net.specs.World.{IsAt, Meanings, WorldOf}
+use Rattle.duk_net.proofs.AboveUsed.{again_counter, Books, KeptSafe, OneRequest, SetSafe, StateSafe, UsableFits, books_of}
+use Rattle.duk_net.proofs.WorldStaysAboveUsed.{reached_is_safe}
+
+state_holds : (books : Books) (t : ℕ) (P : RegisterSet → Type 0) (state : State) → ((set : RegisterSet) → SetSafe books t set → P set) → StateSafe books t state → HoldsOfState P state
+state_holds books t P Stopped follows safe = tt
+state_holds books t P Empty follows safe = tt
+state_holds books t P (Loaded set pending) follows safe = follows set safe
+
+kept_holds : (books : Books) (t : ℕ) (P : RegisterSet → Type 0) (kept : Kept) → ((set : RegisterSet) → SetSafe books t set → P set) → KeptSafe books t kept → HoldsOfKept P kept
+kept_holds books t P None follows safe = tt
+kept_holds books t P (Some body) follows safe =
+    let same : set_of_body body ≡ safe.set = ap set_of_body safe.body_is ∙ safe.safe.again.same in
+    record {
+      is_body = subst (λ body. IsTerminalBody body) (sym safe.body_is) safe.safe.again.is_body;
+      body_is = safe.body_is ∙ ap body_bytes (sym same);
+      holds = subst P (sym same) (follows safe.set safe.safe);
+    }
+
+-- what holds of safe registers holds of all that the terminals of a reached world keep
+pub terminals_hold : {C L I : Type 0} (m : Meanings C L I) (world : WorldOf C L I) (P : RegisterSet → Type 0) → UsableFits → OneRequest → Reached m world
+    → ((t : ℕ) (set : RegisterSet) → SetSafe (books_of world) t set → P set) → All (HoldsOfTerminal m P) world.terminals
+terminals_hold m world P fits reading reached follows k d within =
+    let terminal = get_or world.terminals k d in
+    let at : IsAt world.terminals (k + 1) terminal = record { place = k; number_is = refl; thing_is = slice_get-get_or world.terminals k d within } in
+    let safe = (reached_is_safe m world fits reading reached).terminals (k + 1) terminal at in
+    record {
+      registers = state_holds (books_of world) (k + 1) P terminal.state (follows (k + 1)) safe.state;
+      images = λ kept found. kept_holds (books_of world) (k + 1) P kept (follows (k + 1)) (safe.kept kept found);
+    }
+
+-- the frontier at a counter has no used number, nor an ancestor of one
+abbrev pub NoneUsed : Type 0
+NoneUsed = (counter held node : ℕ) → counter ≤ 2 ^ 21 → IsHeld counter held → node < counter → ¬ IsAncestorOrSelf held node
+
+-- each register is empty or holds the key of a node of the frontier
+abbrev pub EachRegister : Type 0
+EachRegister = (initial : List ℕ) (set : RegisterSet) (place : ℕ) → 1 ≤ set.counter → StandsFor initial set → place < 21
+    → (register_at set.registers place ≡ empty_register) ⊎ HoldsNode initial set place
+
+path_above_zero : (counter : ℕ) (path : List ℕ) → value_of path ≡ counter → 1 ≤ length path → 1 ≤ counter
+path_above_zero counter [] is some = grind (arith, some)
+path_above_zero counter (place ∷ parent) is some = let above = pow_pos place in omega (arith, is, above)
+
+-- a usable counter is above zero
+usable_above_zero : (counter : ℕ) → IsUsable counter → 1 ≤ counter
+usable_above_zero counter usable = path_above_zero counter usable.path usable.value_is usable.not_the_root
+
+-- the counter of registers that are found again is from one to spent
+counter_fits : (set : RegisterSet) → UsableFits → IsFoundAgain set → (1 ≤ set.counter) × (set.counter ≤ 2 ^ 21)
+counter_fits set fits again =
+    elim (again_counter set again) [
+      | inl usable ↦ let below = (fits set.counter usable).0 in (usable_above_zero set.counter usable, omega (arith, below))
+      | inr spent ↦ (omega (arith, spent), omega (arith, spent))
+    ]
+
+-- each register is empty or holds the key of an unused node
+holds_no_used_node : (books : Books) (t : ℕ) (set : RegisterSet) → UsableFits → NoneUsed → EachRegister → (safe : SetSafe books t set) → (place : ℕ) → place < 21
+    → HoldsNoUsedNode books.requests safe.stands.initial set place
+holds_no_used_node books t set fits unused each safe place within =
+    let counter = counter_fits set fits safe.again in
+    elim (each safe.stands.initial set place counter.0 safe.stands.stands within) [
+      | inl empty ↦ inl empty
+      | inr held ↦
+          inr (record {
+            node = held.node;
+            unused = record {
+              usable = held.is_held.is_usable;
+              unused = λ ksn used same. unused set.counter held.node ksn.counter counter.1 held.is_held (safe.stands.above ksn used same);
+            };
+            holds = held.holds;
+          })
+    ]
+
+-- safe registers hold no key of a used number, nor of an ancestor of one
+pub hold_no_used_key : (books : Books) (t : ℕ) (set : RegisterSet) → UsableFits → NoneUsed → EachRegister → SetSafe books t set → HoldNoUsedKey books.keys books.requests set
+hold_no_used_key books t set fits unused each safe = record {
+  initial = safe.stands.initial;
+  initial_is = safe.stands.initial_is;
+  are_21 = safe.stands.stands.are_21;
+  registers = holds_no_used_node books t set fits unused each safe;
+}

@@ -1,8 +1,0 @@
-use Rattle.duk_net.proofs.AcceptedLemmas.{leads_once, reached_safe}
-use Rattle.duk_net.proofs.laws.accepted_once.Goals as goal
-
-pub returns-clause-kept : goal.returns-clause-kept
-returns-clause-kept g c world reached = (reached_safe _ c.one_reading.ensures.answer world reached).keeps
-
-pub returns-clause-once : goal.returns-clause-once
-returns-clause-once g c = leads_once _ c.one_reading.ensures.answer

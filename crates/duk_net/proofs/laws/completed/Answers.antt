@@ -1,5 +1,0 @@
-use Rattle.duk_net.proofs.CompletedLemmas.{completed_by_call}
-use Rattle.duk_net.proofs.laws.completed.Goals as goal
-
-pub returns : goal.returns
-returns g c = completed_by_call _ c.one_reading.ensures.answer c.no_number_twice.ensures.none_twice c.no_number_twice.ensures.by_owner

@@ -1,6 +1,0 @@
-use Rattle.duk_net.proofs.terminal_events.begin.Goals as goal
-
-pub returns-clause-sent : goal.returns-clause-sent
-returns-clause-sent g c =
-    let begun = c.in_ok-frame.ensures.begun in
-    record { begun = begun; ksn_is = c.ksn_of_request-ksn.ensures _ begun.request }

@@ -1,0 +1,39 @@
+//! What the frames on the network say.
+
+ghost use Rattle.std.specs.Prelude.{◌≡◌, List, ℕ};
+ghost use Rattle.duk_frame.specs.Answer.{IsAnswer};
+ghost use Rattle.duk_frame.specs.Request.{IsRequest};
+ghost use Rattle.duk_term.specs.Reply.{ksn_in};
+ghost use Rattle.duk_net.specs.Up.{answer_outcome};
+
+use crate::outcome::Outcome;
+use duk_frame::{AnswerFrame, Frame, Request, read_answer, read_request};
+use duk_tree::Ksn;
+
+/// The key serial number in a request.
+pub(crate) fn ksn_of_request(frame: &Frame) -> Ksn
+    requires { (request : Request) × IsRequest frame.now.items request }
+    ensures { (request : Request) → IsRequest frame.now.items request → result ≡ request.ksn }
+{
+    read_request(frame.as_slice()).unwrap().ksn
+}
+
+/// The key serial number in an answer.
+pub(crate) fn ksn_of_answer(frame: &Frame) -> Ksn
+    requires { (answer : AnswerFrame) × IsAnswer frame.now.items answer }
+    ensures { (answer : AnswerFrame) → IsAnswer frame.now.items answer → result ≡ ksn_in answer }
+{
+    match read_answer(frame.as_slice()).unwrap() {
+        AnswerFrame::Reply { ksn, .. } | AnswerFrame::Refusal { ksn, .. } => ksn,
+    }
+}
+
+/// What comes of a request that the host answers so, in answer `k`.
+pub(crate) fn outcome_of(k: u64, answer: &AnswerFrame) -> Outcome
+    ensures { result ≡ answer_outcome k answer.now }
+{
+    match *answer {
+        AnswerFrame::Reply { ksn, code, .. } => Outcome::Accepted { k, ksn, code },
+        AnswerFrame::Refusal { ksn, reason } => Outcome::Refused { k, ksn, reason },
+    }
+}
