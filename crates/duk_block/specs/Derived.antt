@@ -29,4 +29,5 @@ counters size = if size == 16 then 1 ∷ 2 ∷ [] else 1 ∷ 2 ∷ 3 ∷ []
 unfoldable pub derived_key : List ℕ → List ℕ → List ℕ
 derived_key usage protection_key =
     let size = length protection_key in
-    flat_map (λ counter. cmac_of protection_key (derivation_data counter usage size)) (counters size)
+    flat_map (λ counter. cmac_of protection_key (derivation_data counter usage size))
+    (counters size)

@@ -31,7 +31,8 @@ pub fn one_reading()
     duk_tdes::laws::cbc_inverse();
 }
 
-/// A text that wraps a key under a protection key has no fault under it. So what was wrapped is not refused.
+/// A text that wraps a key under a protection key has no fault under it. So what was wrapped is not
+/// refused.
 pub fn no_fault()
     ensures { (protection_key text : List ℕ) (header : Header) (key : List ℕ) (fault : BlockFault)
         → IsTdesKey protection_key

@@ -13,7 +13,8 @@ use crate::text::{BlockText, MAX_TEXT};
 use duk_io::append_hex;
 use duk_tdes::Key;
 
-/// Padding of zeros behind a key of 16 or 24 bytes: with it, the key and the two bytes of its length fill whole blocks.
+/// Padding of zeros behind a key of 16 or 24 bytes: with it, the key and the two bytes of its
+/// length fill whole blocks.
 pub const ZERO_PADDING: [u8; 6] = [0; 6];
 
 /// The most bytes of a payload: two characters each, with the 16 of a header and the 16 of a MAC.

@@ -6,8 +6,8 @@ use Rattle.duk_commands.specs.Fault.{line_of}
 use Rattle.duk_commands.specs.declared.fault.Fault.{Fault}
 use Rattle.duk_commands.specs.declared.fault.Fault.TheVariants.{WriteFailed}
 
--- what a command makes of its words: the texts that they ask it to write, the texts that it may have
--- begun to write where a write failed, and the faults for which they are refused
+-- what a command makes of its words: the texts that they ask it to write, the texts that it may
+-- have begun to write where a write failed, and the faults for which they are refused
 pub record Command : Type 1 where
   pub writes : List ℕ → Type 0
   pub begins : List ℕ → Type 0

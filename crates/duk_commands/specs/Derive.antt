@@ -19,7 +19,8 @@ abbrev pub IsDeriveRefused : List ℕ → List ℕ → Fault → Type 0
 IsDeriveRefused bdk ksn BdkRefused = double_key_of_text bdk ≡ None
 IsDeriveRefused bdk ksn KsnRefused = IsSome (double_key_of_text bdk) × (ksn_of_text ksn ≡ None)
 IsDeriveRefused bdk ksn CounterRefused =
-    (key : List ℕ) × (serial : Serial) × AreDeriveWords bdk ksn key serial × ¬ IsUsable serial.counter
+    (key : List ℕ) × (serial : Serial) × AreDeriveWords bdk ksn key serial
+    × ¬ IsUsable serial.counter
 IsDeriveRefused bdk ksn _ = ⊥
 
 -- the three lines: the initial key, the transaction key and its PIN variant

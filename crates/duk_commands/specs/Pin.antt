@@ -28,8 +28,10 @@ IsKeyWordRefused (Some text) = double_key_of_text text ≡ None
 abbrev pub IsPinRefused : List ℕ → List ℕ → Option (List ℕ) → Fault → Type 0
 IsPinRefused pin pan word (PinRefused PinLength) = (length pin < 4) ⊎ (12 < length pin)
 IsPinRefused pin pan word (PinRefused PinDigit) = HasPinLength pin × Any IsNotAsciiDigit pin
-IsPinRefused pin pan word (PinRefused PanLength) = IsPin pin × ((length pan < 12) ⊎ (19 < length pan))
-IsPinRefused pin pan word (PinRefused PanDigit) = IsPin pin × HasPanLength pan × Any IsNotAsciiDigit pan
+IsPinRefused pin pan word (PinRefused PanLength) =
+    IsPin pin × ((length pan < 12) ⊎ (19 < length pan))
+IsPinRefused pin pan word (PinRefused PanDigit) =
+    IsPin pin × HasPanLength pan × Any IsNotAsciiDigit pan
 IsPinRefused pin pan word KeyRefused = IsPin pin × IsPan pan × IsKeyWordRefused word
 IsPinRefused pin pan word _ = ⊥
 

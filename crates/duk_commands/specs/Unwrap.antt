@@ -27,10 +27,11 @@ IsUnwrapRefused kbpk block _ = ⊥
 
 -- the lines: the fields of the header, and the key
 abbrev pub unwrapped_lines : Header → List ℕ → List ℕ
-unwrapped_lines header key = text_line (codes "fields") (fields header) ++ named_line (codes "key") key
+unwrapped_lines header key =
+    text_line (codes "fields") (fields header) ++ named_line (codes "key") key
 
--- the words are a protection key and a text that wraps this header and key under it, and this is the
--- text of their lines
+-- the words are a protection key and a text that wraps this header and key under it, and this is
+-- the text of their lines
 pub record IsUnwrapText (kbpk block text : List ℕ) : Type 0 where
   pub protection_key : KeyBytes
   pub header : Header

@@ -66,7 +66,8 @@ pub record Asked : Type 0 where
   pub count : ℕ
 
 -- the words are read
-pub record AreWalkWords (bdk iksn count : List ℕ) (skip : Option (List ℕ)) (asked : Asked) : Type 0 where
+pub record AreWalkWords (bdk iksn count : List ℕ) (skip : Option (List ℕ)) (asked : Asked)
+    : Type 0 where
   pub key : List ℕ
   pub key_read : double_key_of_text bdk ≡ Some key
   pub iksn_read : iksn_of_text iksn ≡ Some asked.iksn
@@ -86,19 +87,21 @@ IsWalkRefused bdk iksn count skip _ = ⊥
 -- the line of a number: its key serial number and, unless that alone is asked for, its key
 abbrev pub number_text : Serial → List ℕ → Bool → List ℕ
 number_text serial key alone =
-    encode_upper (serial_bytes serial) ++ (if alone then [] else codes " " ++ encode_upper key) ++ line_end
+    encode_upper (serial_bytes serial) ++ (if alone then [] else codes " " ++ encode_upper key)
+    ++ line_end
 
 -- the line of a counter, of the terminal with this initial key and initial key serial number
 abbrev pub number_line : List ℕ → ℕ → Bool → ℕ → List ℕ
 number_line initial iksn alone counter =
-    number_text (record { iksn = iksn; counter = counter }) (transaction_key_of initial iksn counter) alone
+    number_text (record { iksn = iksn; counter = counter })
+    (transaction_key_of initial iksn counter) alone
 
 -- the line where a number is to be taken and none is left
 abbrev pub spent_line : List ℕ
 spent_line = codes "spent" ++ line_end
 
--- the lines of so many numbers from a counter on: that of a usable counter, then the rest; or `spent`
--- where the terminal is spent
+-- the lines of so many numbers from a counter on: that of a usable counter, then the rest; or
+-- `spent` where the terminal is spent
 abbrev pub IsPrinted : (ℕ → List ℕ) → ℕ → ℕ → List ℕ → Type 0
 IsPrinted line counter zero text = text ≡ []
 IsPrinted line counter (suc count) text =
@@ -106,20 +109,21 @@ IsPrinted line counter (suc count) text =
     ⊎ ((next : ℕ) × (rest : List ℕ) × IsUsable counter × ComesAfter counter next
     × IsPrinted line next count rest × (text ≡ line counter ++ rest))
 
--- the same after so many numbers that are passed and not printed: a usable counter, then the rest; or
--- `spent` where the terminal is spent
+-- the same after so many numbers that are passed and not printed: a usable counter, then the rest;
+-- or `spent` where the terminal is spent
 abbrev pub IsPassed : (ℕ → List ℕ) → ℕ → ℕ → ℕ → List ℕ → Type 0
 IsPassed line counter zero count text = IsPrinted line counter count text
 IsPassed line counter (suc skip) count text =
     ((counter ≡ spent_counter) × (text ≡ spent_line))
     ⊎ ((next : ℕ) × IsUsable counter × ComesAfter counter next × IsPassed line next skip count text)
 
--- a terminal that has passed so many numbers: it is the same terminal, and its lines go on where they
--- were
+-- a terminal that has passed so many numbers: it is the same terminal, and its lines go on where
+-- they were
 pub record Passes (old : RegisterSet) (skip : ℕ) (new : RegisterSet) : Type 0 where
   pub same_iksn : new.iksn ≡ old.iksn
   pub stands : (initial : List ℕ) → StandsFor initial old → StandsFor initial new
-  pub lines : (line : ℕ → List ℕ) (count : ℕ) (text : List ℕ) → IsPrinted line new.counter count text
+  pub lines : (line : ℕ → List ℕ) (count : ℕ) (text : List ℕ)
+      → IsPrinted line new.counter count text
       → IsPassed line old.counter skip count text
 
 -- a terminal that is spent before it has passed so many numbers
@@ -137,7 +141,8 @@ HasPrinted initial alone old count output output' =
 abbrev pub HasPrintedInPart : List ℕ → Bool → RegisterSet → ℕ → Known → Known → Type 0
 HasPrintedInPart initial alone old count output output' =
     (reached : ℕ) × (text : List ℕ) × (reached ≤ count)
-    × IsPrinted (number_line initial old.iksn alone) old.counter reached text × IsCut output output' text
+    × IsPrinted (number_line initial old.iksn alone) old.counter reached text
+    × IsCut output output' text
 
 -- the same behind numbers that are passed
 abbrev pub HasWalked : List ℕ → Bool → RegisterSet → ℕ → ℕ → Known → Known → Type 0
@@ -163,7 +168,8 @@ pub record IsLoaded (asked : Asked) (registers : RegisterSet) (skip count : ℕ)
 pub record IsWalkText (words : WalkWords) (text : List ℕ) : Type 0 where
   pub asked : Asked
   pub read : AreWalkWords words.bdk words.iksn words.count words.skip asked
-  pub lines : IsPassed (number_line asked.initial asked.iksn words.alone) 1 asked.skip asked.count text
+  pub lines : IsPassed (number_line asked.initial asked.iksn words.alone) 1 asked.skip asked.count
+      text
 
 -- the words are read, and this is the text of the lines of so many of those numbers as were reached
 pub record IsWalkStart (words : WalkWords) (text : List ℕ) : Type 0 where

@@ -56,11 +56,12 @@ IsNoPadText text = (padding : List ℕ) → ¬ IsHexadecimal text padding
 -- the text of this key block, if there is one
 pub record IsWrapping (asked : Wrapping) (text : List ℕ) : Type 0 where
   pub limits : IsWithinLimits text
-  pub block : IsWrittenKeyBlock text (bytes_of asked.protection_key) asked.header (bytes_of asked.key)
+  pub block : IsWrittenKeyBlock text (bytes_of asked.protection_key) asked.header
+      (bytes_of asked.key)
       asked.padding
 
--- why a key block is not written, of a key and padding of these lengths: a field that cannot be printed,
--- and then padding that does not fit
+-- why a key block is not written, of a key and padding of these lengths: a field that cannot be
+-- printed, and then padding that does not fit
 abbrev pub IsWrapFault : Header → ℕ → ℕ → BlockFault → Type 0
 IsWrapFault header key padding HeaderField = ¬ IsHeader header
 IsWrapFault header key padding PadLength = IsHeader header × ¬ FitsKeyBlock key padding

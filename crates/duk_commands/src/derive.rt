@@ -11,18 +11,20 @@ use duk_io::Sink;
 use duk_tdes::Key;
 use duk_tree::{Ksn, derive, initial_key, pin_key, usable};
 
-/// Writes the initial key, the transaction key and the PIN key of a key serial number, a line each (ANSI X9.24-1:2009 annex
-/// A), and gives the status: 0, or 1 with a line on `fault`.
+/// Writes the initial key, the transaction key and the PIN key of a key serial number, a line each
+/// (ANSI X9.24-1:2009 annex A), and gives the status: 0, or 1 with a line on `fault`.
 ///
-/// `bdk` is to be 32 hexadecimal digits of either case, `ksn` 20. The faults, in this order: `BDK refused`, `KSN refused`,
-/// `counter refused` (zero, or more than ten one bits); then `write failed`, where a write to `output` failed or took no
-/// byte.
+/// `bdk` is to be 32 hexadecimal digits of either case, `ksn` 20. The faults, in this order: `BDK
+/// refused`, `KSN refused`, `counter refused` (zero, or more than ten one bits); then `write
+/// failed`, where a write to `output` failed or took no byte.
 pub fn derive_command<W: Sink, F: Sink>(bdk: &str, ksn: &str, output: &mut W, fault: &mut F) -> u8
     ensures status { (result ≡ 0) ⊎ (result ≡ 1) }
     ensures done { result ≡ 0 → IsDone (derive_of bdk.now ksn.now)
-        (streams (W.known output.old) (W.known output.new) (F.known fault.old) (F.known fault.new)) }
+        (streams (W.known output.old) (W.known output.new)
+        (F.known fault.old) (F.known fault.new)) }
     ensures not_done { result ≡ 1 → IsNotDone (derive_of bdk.now ksn.now)
-        (streams (W.known output.old) (W.known output.new) (F.known fault.old) (F.known fault.new)) }
+        (streams (W.known output.old) (W.known output.new)
+        (F.known fault.old) (F.known fault.new)) }
 {
     finish(derive_lines(bdk, ksn), output, fault)
 }

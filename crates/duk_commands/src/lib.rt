@@ -1,5 +1,5 @@
-//! The commands over keys, PINs and key blocks, each over the words that it is given: what it reads of them, the lines
-//! that it writes, and the faults that it tells.
+//! The commands over keys, PINs and key blocks, each over the words that it is given: what it reads
+//! of them, the lines that it writes, and the faults that it tells.
 #![tactic(auto)]
 
 mod answer;

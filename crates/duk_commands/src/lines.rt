@@ -1,4 +1,5 @@
-//! Lines of output: those that name some bytes, in upper-case hexadecimal, and those that name a text.
+//! Lines of output: those that name some bytes, in upper-case hexadecimal, and those that name a
+//! text.
 
 ghost use Rattle.std.specs.Prelude.{◌≡◌, ◌+◌, ◌*◌, ◌++◌, ◌≤◌, ◌<◌, length};
 ghost use Rattle.arrayvec.specs.ArrayVec.{array_vec_len};

@@ -12,12 +12,12 @@ use duk_io::Sink;
 use duk_pin::{Pan, Pin, encode};
 use duk_tdes::{Key, tdes_encrypt};
 
-/// Writes the PIN block of a PIN and a PAN (ISO 9564-1 format 0) and, where a key is given, the block enciphered under it, a
-/// line each, and gives the status: 0, or 1 with a line on `fault`.
+/// Writes the PIN block of a PIN and a PAN (ISO 9564-1 format 0) and, where a key is given, the
+/// block enciphered under it, a line each, and gives the status: 0, or 1 with a line on `fault`.
 ///
-/// `key` is to be 32 hexadecimal digits of either case. The faults, in this order: that of the PIN (`PinLength`,
-/// `PinDigit`), that of the PAN (`PanLength`, `PanDigit`), `key refused`; then `write failed`, where a write to `output`
-/// failed or took no byte.
+/// `key` is to be 32 hexadecimal digits of either case. The faults, in this order: that of the PIN
+/// (`PinLength`, `PinDigit`), that of the PAN (`PanLength`, `PanDigit`), `key refused`; then `write
+/// failed`, where a write to `output` failed or took no byte.
 pub fn pin_command<W: Sink, F: Sink>(
     pin: &str,
     pan: &str,
@@ -27,9 +27,11 @@ pub fn pin_command<W: Sink, F: Sink>(
 ) -> u8
     ensures status { (result ≡ 0) ⊎ (result ≡ 1) }
     ensures done { result ≡ 0 → IsDone (pin_of pin.now pan.now (option_copied key.entry))
-        (streams (W.known output.old) (W.known output.new) (F.known fault.old) (F.known fault.new)) }
+        (streams (W.known output.old) (W.known output.new)
+        (F.known fault.old) (F.known fault.new)) }
     ensures not_done { result ≡ 1 → IsNotDone (pin_of pin.now pan.now (option_copied key.entry))
-        (streams (W.known output.old) (W.known output.new) (F.known fault.old) (F.known fault.new)) }
+        (streams (W.known output.old) (W.known output.new)
+        (F.known fault.old) (F.known fault.new)) }
 {
     finish(pin_lines(pin, pan, key), output, fault)
 }

@@ -14,12 +14,13 @@ use duk_block::{BlockFault, Header, unwrap};
 use duk_io::Sink;
 use duk_tdes::KeyBytes;
 
-/// Writes the header fields and the key of a key block (ANSI X9.143), a line each, and gives the status: 0, or 1 with a
-/// line on `fault`.
+/// Writes the header fields and the key of a key block (ANSI X9.143), a line each, and gives the
+/// status: 0, or 1 with a line on `fault`.
 ///
-/// `kbpk` is to be the key block protection key, 32 or 48 hexadecimal digits of either case. The faults, in this order:
-/// `KBPK refused`; the block's first of `Length`, `Version`, `HeaderField`, `OptionalBlock`, `Hex`, `Mac` and `Payload`;
-/// then `write failed`, where a write to `output` failed or took no byte.
+/// `kbpk` is to be the key block protection key, 32 or 48 hexadecimal digits of either case. The
+/// faults, in this order: `KBPK refused`; the block's first of `Length`, `Version`, `HeaderField`,
+/// `OptionalBlock`, `Hex`, `Mac` and `Payload`; then `write failed`, where a write to `output`
+/// failed or took no byte.
 pub fn unwrap_command<W: Sink, F: Sink>(
     kbpk: &str,
     block: &str,
@@ -28,9 +29,11 @@ pub fn unwrap_command<W: Sink, F: Sink>(
 ) -> u8
     ensures status { (result ≡ 0) ⊎ (result ≡ 1) }
     ensures done { result ≡ 0 → IsDone (unwrap_of kbpk.now block.now)
-        (streams (W.known output.old) (W.known output.new) (F.known fault.old) (F.known fault.new)) }
+        (streams (W.known output.old) (W.known output.new)
+        (F.known fault.old) (F.known fault.new)) }
     ensures not_done { result ≡ 1 → IsNotDone (unwrap_of kbpk.now block.now)
-        (streams (W.known output.old) (W.known output.new) (F.known fault.old) (F.known fault.new)) }
+        (streams (W.known output.old) (W.known output.new)
+        (F.known fault.old) (F.known fault.new)) }
 {
     finish(unwrap_lines(kbpk, block), output, fault)
 }

@@ -27,13 +27,14 @@ struct Walk {
     count: u32,
 }
 
-/// Loads a terminal with the initial key of its initial key serial number, takes `skip` numbers and then writes up to
-/// `count`, a line each: the key serial number and, unless `alone`, the key that `take` gave. The line `spent` comes where a
-/// number is to be taken and none is left. Gives the status: 0, or 1 with a line on `fault`.
+/// Loads a terminal with the initial key of its initial key serial number, takes `skip` numbers and
+/// then writes up to `count`, a line each: the key serial number and, unless `alone`, the key that
+/// `take` gave. The line `spent` comes where a number is to be taken and none is left. Gives the
+/// status: 0, or 1 with a line on `fault`.
 ///
-/// `bdk` is to be 32 hexadecimal digits of either case, `iksn` 20 with a counter of zero, `count` and `skip` decimal digits
-/// with a value of at most 1,048,576. The faults, in this order: `BDK refused`, `IKSN refused`, `count refused` (of either
-/// number); then `write failed`.
+/// `bdk` is to be 32 hexadecimal digits of either case, `iksn` 20 with a counter of zero, `count`
+/// and `skip` decimal digits with a value of at most 1,048,576. The faults, in this order: `BDK
+/// refused`, `IKSN refused`, `count refused` (of either number); then `write failed`.
 pub fn walk_command<W: Sink, F: Sink>(
     bdk: &str,
     iksn: &str,
@@ -46,10 +47,13 @@ pub fn walk_command<W: Sink, F: Sink>(
     ensures status { (result ≡ 0) ⊎ (result ≡ 1) }
     ensures done { result ≡ 0
         → IsDone (walk_of (walk_words bdk.now iksn.now count.now (option_copied skip.entry) alone))
-        (streams (W.known output.old) (W.known output.new) (F.known fault.old) (F.known fault.new)) }
+        (streams (W.known output.old) (W.known output.new)
+        (F.known fault.old) (F.known fault.new)) }
     ensures not_done { result ≡ 1
-        → IsNotDone (walk_of (walk_words bdk.now iksn.now count.now (option_copied skip.entry) alone))
-        (streams (W.known output.old) (W.known output.new) (F.known fault.old) (F.known fault.new)) }
+        → IsNotDone (walk_of
+        (walk_words bdk.now iksn.now count.now (option_copied skip.entry) alone))
+        (streams (W.known output.old) (W.known output.new)
+        (F.known fault.old) (F.known fault.new)) }
 {
     duk_io::laws::writes();
     let walk = match read_walk(bdk, iksn, count, skip) {

@@ -20,12 +20,14 @@ use duk_tdes::{Key, KeyBytes, array_of};
 /// The most bytes that the payload of a key block of 512 characters has: longer padding fits none.
 const MOST_PADDING: usize = 240;
 
-/// Writes the key block (ANSI X9.143) of a key, a line, and gives the status: 0, or 1 with a line on `fault`.
+/// Writes the key block (ANSI X9.143) of a key, a line, and gives the status: 0, or 1 with a line
+/// on `fault`.
 ///
-/// `kbpk` is to be the key block protection key and `key` the key, each 32 or 48 hexadecimal digits of either case; `fields`
-/// the usage, algorithm, mode, version and exportability; `pad` the padding in hexadecimal. The faults, in this order:
-/// `KBPK refused`, `fields refused` (not 7 bytes), `key refused`, `pad refused`, then `HeaderField` and `PadLength` of the
-/// block; then `write failed`, where a write to `output` failed or took no byte.
+/// `kbpk` is to be the key block protection key and `key` the key, each 32 or 48 hexadecimal digits
+/// of either case; `fields` the usage, algorithm, mode, version and exportability; `pad` the
+/// padding in hexadecimal. The faults, in this order: `KBPK refused`, `fields refused` (not 7
+/// bytes), `key refused`, `pad refused`, then `HeaderField` and `PadLength` of the block; then
+/// `write failed`, where a write to `output` failed or took no byte.
 pub fn wrap_command<W: Sink, F: Sink>(
     kbpk: &str,
     fields: &str,
@@ -36,10 +38,12 @@ pub fn wrap_command<W: Sink, F: Sink>(
 ) -> u8
     ensures status { (result ≡ 0) ⊎ (result ≡ 1) }
     ensures done { result ≡ 0 → IsDone (wrap_of (wrap_words kbpk.now fields.now key.now pad.now))
-        (streams (W.known output.old) (W.known output.new) (F.known fault.old) (F.known fault.new)) }
+        (streams (W.known output.old) (W.known output.new)
+        (F.known fault.old) (F.known fault.new)) }
     ensures not_done { result ≡ 1
         → IsNotDone (wrap_of (wrap_words kbpk.now fields.now key.now pad.now))
-        (streams (W.known output.old) (W.known output.new) (F.known fault.old) (F.known fault.new)) }
+        (streams (W.known output.old) (W.known output.new)
+        (F.known fault.old) (F.known fault.new)) }
 {
     finish(wrap_line(kbpk, fields, key, pad), output, fault)
 }

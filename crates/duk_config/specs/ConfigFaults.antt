@@ -35,10 +35,15 @@ IsWrong document key.Stores = disk_in document ≡ None
 IsWrong document key.Bdk = bdk_values document ≡ None
 IsWrong document key.Card = card_values document ≡ None
 
--- the key has values, and this one of them, counted from 1, is the first that states no entry or a repeated one
+-- the key has values, and this one of them, counted from 1, is the first that states no entry or a
+-- repeated one
 abbrev pub HasBadEntry : Members → ConfigKey → ℕ → Type 0
-HasBadEntry document key.Bdk place = (values : List Data) × (bdk_values document ≡ Some values) × IsFirstBadEntry StatesBaseKey HaveOnePrefix values place
-HasBadEntry document key.Card place = (values : List Data) × (card_values document ≡ Some values) × IsFirstBadEntry StatesCard HaveOnePan values place
+HasBadEntry document key.Bdk place =
+    (values : List Data) × (bdk_values document ≡ Some values)
+    × IsFirstBadEntry StatesBaseKey HaveOnePrefix values place
+HasBadEntry document key.Card place =
+    (values : List Data) × (card_values document ≡ Some values)
+    × IsFirstBadEntry StatesCard HaveOnePan values place
 HasBadEntry document _ place = ⊥
 
 -- the order in which the keys are told
@@ -59,9 +64,11 @@ pub record IsRightBefore (document : Members) (key : ConfigKey) : Type 0 where
 
 -- the first fault of a table; any may be refused for want of memory
 abbrev pub IsFirstFault : Members → ScriptFault → Type 0
-IsFirstFault document (fault.UnknownKey name) = IsFirstUnknown is_config_key document (string_bytes name)
+IsFirstFault document (fault.UnknownKey name) =
+    IsFirstUnknown is_config_key document (string_bytes name)
 IsFirstFault document (fault.BadKey key) = IsRightBefore document key × IsWrong document key
-IsFirstFault document (fault.BadEntry key place) = IsRightBefore document key × HasBadEntry document key place
+IsFirstFault document (fault.BadEntry key place) =
+    IsRightBefore document key × HasBadEntry document key place
 IsFirstFault document fault.NoMemory = Unit {0}
 IsFirstFault document _ = ⊥
 

@@ -34,7 +34,8 @@ pub record HasTableFault (bytes : List ℕ) (why : ScriptFault) : Type 0 where
 -- the first fault of a file
 abbrev pub IsConfigFault : List ℕ → ScriptFault → Type 0
 IsConfigFault bytes fault.ConfigTooLong = longest_file < length bytes
-IsConfigFault bytes fault.NotToml = (length bytes ≤ longest_file) × ((document : Members) → ¬ IsToml bytes document)
+IsConfigFault bytes fault.NotToml =
+    (length bytes ≤ longest_file) × ((document : Members) → ¬ IsToml bytes document)
 IsConfigFault bytes (fault.UnknownKey name) = HasTableFault bytes (fault.UnknownKey name)
 IsConfigFault bytes (fault.BadKey key) = HasTableFault bytes (fault.BadKey key)
 IsConfigFault bytes (fault.BadEntry key place) = HasTableFault bytes (fault.BadEntry key place)

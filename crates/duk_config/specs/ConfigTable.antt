@@ -18,11 +18,14 @@ values_or_none (Some value) = option_map values_of (as_array value)
 
 -- the values, if there are at least and at most so many
 abbrev pub counted : ℕ → ℕ → List Data → Option (List Data)
-counted least most values = if nat_le least (length values) && nat_le (length values) most then Some values else None
+counted least most values =
+    if nat_le least (length values) && nat_le (length values) most then Some values else None
 
--- the values of the array at a key, or none where the key is not there, if they are at least and at most so many
+-- the values of the array at a key, or none where the key is not there, if they are at least and at
+-- most so many
 abbrev pub values_at : ℕ → ℕ → List ℕ → Members → Option (List Data)
-values_at least most name document = option_and_then (counted least most) (values_or_none (get_member name document))
+values_at least most name document =
+    option_and_then (counted least most) (values_or_none (get_member name document))
 
 -- whether stores of this name are disks: so far there are stores in memory alone
 abbrev pub disk_of_text : List ℕ → Option Bool

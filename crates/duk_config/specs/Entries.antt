@@ -15,8 +15,8 @@ abbrev pub values_of : Items → List Data
 values_of no_items = []
 values_of (item value values) = value ∷ values_of values
 
--- the value is a table that states this base derivation key, and nothing else: a prefix of ten hexadecimal digits, and a
--- key of 32
+-- the value is a table that states this base derivation key, and nothing else: a prefix of ten
+-- hexadecimal digits, and a key of 32
 pub record StatesBaseKey (value : Data) (bdk : BaseKey) : Type 0 where
   pub members : Members
   pub is_table : value ≡ table members
@@ -24,7 +24,8 @@ pub record StatesBaseKey (value : Data) (bdk : BaseKey) : Type 0 where
   pub prefix : prefix_at (codes "prefix") members ≡ Some bdk.prefix
   pub key : double_key_at (codes "key") members ≡ Some bdk.key
 
--- the value is a table that states this card, and nothing else: its account number, its PIN, and a limit
+-- the value is a table that states this card, and nothing else: its account number, its PIN, and a
+-- limit
 pub record StatesCard (value : Data) (card : Card) : Type 0 where
   pub members : Members
   pub is_table : value ≡ table members
@@ -70,7 +71,8 @@ module _ {Entry : Type 0} (States : Data → Entry → Type 0) (Repeats : Entry 
     pub earlier_are : AreEntries before earlier
     pub bad : IsBadAfter earlier value
 
-  -- the value states this entry, which repeats none of these: what a private function of `read_config` answers
+  -- the value states this entry, which repeats none of these: what a private function of
+  -- `read_config` answers
   pub record IsNextEntry (earlier : List Entry) (value : Data) (entry : Entry) : Type 0 where
     pub stated : States value entry
     pub new : All (λ other. ¬ Repeats other entry) earlier

@@ -16,7 +16,9 @@ abbrev pub has_only : (List ℕ → Bool) → Members → Bool
 has_only is_known members = list_all is_known (names members)
 
 -- the first name, in byte order, that is none of these
-pub record IsFirstUnknown (is_known : List ℕ → Bool) (members : Members) (name : List ℕ) : Type 0 where
+pub record IsFirstUnknown (is_known : List ℕ → Bool) (members : Members) (name : List ℕ)
+    : Type 0 where
   pub there : Contains (names members) name
   pub unknown : is_known name ≡ false
-  pub first : (other : List ℕ) → Contains (names members) other → is_known other ≡ false → slice_cmp nat_cmp other name ≢ Less
+  pub first : (other : List ℕ) → Contains (names members) other → is_known other ≡ false
+      → slice_cmp nat_cmp other name ≢ Less

@@ -20,7 +20,8 @@ abbrev pub keys_for : List ℕ → Settings → HsmKeys
 keys_for lmk config =
     record { lmk = lmk; zone = Some (bytes_of config.zone); key_sets = key_sets_of config.bdks }
 
--- the text wraps this header and this key alone, and has no fault: what a private function of `open_hsm` answers
+-- the text wraps this header and this key alone, and has no fault: what a private function of
+-- `open_hsm` answers
 pub record WrapsAlone (lmk text : List ℕ) (header : Header) (key : List ℕ) : Type 0 where
   pub wraps : Wraps lmk text header key
   pub alone : (other_header : Header) (other_key : List ℕ) → Wraps lmk text other_header other_key

@@ -4,8 +4,8 @@ use Rattle.duk_host.specs.declared.table.Card.{Card}
 use Rattle.duk_tdes.specs.declared.key.KeyBytes.{KeyBytes}
 use Rattle.duk_config.specs.declared.base_key.BaseKey.{BaseKey}
 
--- the local master key, the loading key, the zone key, the number of terminals, the room of the log, whether the stores
--- are disks, the base derivation keys and the cards
+-- the local master key, the loading key, the zone key, the number of terminals, the room of the
+-- log, whether the stores are disks, the base derivation keys and the cards
 pub record Settings : Type 0 where
   pub lmk : KeyBytes
   pub loading : List ℕ
@@ -16,9 +16,19 @@ pub record Settings : Type 0 where
   pub bdks : List BaseKey
   pub cards : List Card
 
-abbrev pub settings : KeyBytes → List ℕ → KeyBytes → ℕ → ℕ → Bool → List BaseKey → List Card → Settings
+abbrev pub settings : KeyBytes → List ℕ → KeyBytes → ℕ → ℕ → Bool → List BaseKey → List Card
+    → Settings
 settings lmk loading zone terminals log disk bdks cards =
-    record { lmk = lmk; loading = loading; zone = zone; terminals = terminals; log = log; disk = disk; bdks = bdks; cards = cards }
+    record {
+      lmk = lmk;
+      loading = loading;
+      zone = zone;
+      terminals = terminals;
+      log = log;
+      disk = disk;
+      bdks = bdks;
+      cards = cards;
+    }
 
 -- no two of the base derivation keys have one prefix
 abbrev pub HaveDistinctPrefixes : List BaseKey → Type 0

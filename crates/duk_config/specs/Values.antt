@@ -36,4 +36,5 @@ number_within least most (negsuc _) = None
 -- the whole number at a key, if it lies within these bounds
 abbrev pub number_at : ℕ → ℕ → List ℕ → Members → Option ℕ
 number_at least most name members =
-    option_and_then (number_within least most) (option_and_then as_integer (get_member name members))
+    option_and_then (number_within least most)
+    (option_and_then as_integer (get_member name members))

@@ -2,8 +2,8 @@
 
 use duk_tdes::Key;
 
-/// A base derivation key, and the five bytes with which the key serial numbers begin that it is for. It has no `Debug`,
-/// so that no key is printed by chance.
+/// A base derivation key, and the five bytes with which the key serial numbers begin that it is
+/// for. It has no `Debug`, so that no key is printed by chance.
 #[derive(Clone, Copy)]
 pub struct BaseKey {
     /// The first five bytes of the key serial numbers.

@@ -5,7 +5,8 @@ use duk_host::Card;
 use duk_tdes::{Key, KeyBytes};
 use std::marker::Model;
 
-/// The configuration of a payment network. It has no `Debug`, so that no key and no PIN is printed by chance.
+/// The configuration of a payment network. It has no `Debug`, so that no key and no PIN is printed
+/// by chance.
 #[derive(Drop)]
 pub struct Config {
     /// The local master key of the security module.

@@ -53,8 +53,8 @@ impl fmt::Display for ConfigKey {
     }
 }
 
-/// Why a configuration or a script is refused, or its outcomes are not written. `Display` writes the fault's line, with
-/// no line feed.
+/// Why a configuration or a script is refused, or its outcomes are not written. `Display` writes
+/// the fault's line, with no line feed.
 #[derive(Debug, PartialEq, Eq, Drop, Error)]
 pub enum ScriptFault {
     /// The configuration has more than 1,048,576 bytes.
@@ -69,7 +69,8 @@ pub enum ScriptFault {
     /// The value of a key is missing or wrong, or has a wrong number of entries.
     #[error("config: bad {0}")]
     BadKey(ConfigKey),
-    /// An entry of a key has a missing, unknown, wrong or repeated value. Entries are counted from 1.
+    /// An entry of a key has a missing, unknown, wrong or repeated value. Entries are counted from
+    /// 1.
     #[error("config: bad {0} {1}")]
     BadEntry(ConfigKey, u64),
     /// The script's file cannot be opened, or a read of it failed.

@@ -16,8 +16,9 @@ use duk_block::{KeyUse, ZERO_PADDING, wrap};
 use duk_hsm::{Hsm, HsmFault};
 use duk_tdes::{Key, KeyBytes};
 
-/// A host security module that holds a configuration's base derivation keys, in their order, and its zone key. Each is
-/// wrapped under the local master key of `N` bytes (16 or 24) with zeros as padding, and loaded.
+/// A host security module that holds a configuration's base derivation keys, in their order, and
+/// its zone key. Each is wrapped under the local master key of `N` bytes (16 or 24) with zeros as
+/// padding, and loaded.
 ///
 /// Every configuration is loaded: no key of it is refused.
 pub fn open_hsm<const N: usize>(lmk: &Key<N>, config: &Config) -> Result<Hsm<N>, HsmFault>
@@ -69,7 +70,8 @@ fn load_zone_key<const N: usize>(
 /// Wraps a zone key of either length.
 fn wrap_zone_key<const N: usize>(lmk: &Key<N>, zone: &KeyBytes) -> ArrayVec<u8, 512>
     requires { IsTdesLength N }
-    ensures { WrapsAlone lmk.now result.items (header_for KeyUse.PinEncryption) (bytes_of zone.now) }
+    ensures { WrapsAlone lmk.now result.items (header_for KeyUse.PinEncryption)
+        (bytes_of zone.now) }
 {
     match zone {
         KeyBytes::Double(key) => wrap_key(lmk, KeyUse::PinEncryption, key),
@@ -77,7 +79,8 @@ fn wrap_zone_key<const N: usize>(lmk: &Key<N>, zone: &KeyBytes) -> ArrayVec<u8, 
     }
 }
 
-/// Wraps a key for a use under the local master key with zeros as padding. The block is read, and as this key alone.
+/// Wraps a key for a use under the local master key with zeros as padding. The block is read, and
+/// as this key alone.
 fn wrap_key<const N: usize, const M: usize>(
     lmk: &Key<N>,
     key_use: KeyUse,

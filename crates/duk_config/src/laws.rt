@@ -7,9 +7,9 @@ ghost use Rattle.duk_config.specs.ConfigFaults.{AreOneFault};
 ghost use Rattle.duk_config.specs.ConfigFile.{IsConfigFault, IsConfigFile};
 ghost use Rattle.duk_config.specs.Settings.{Settings};
 
-/// A file states at most one configuration, and one that does has no fault. So `read_config` gives the configuration of
-/// each file that states one, unless memory is refused. A file has at most one fault, but that memory may be refused in
-/// place of it.
+/// A file states at most one configuration, and one that does has no fault. So `read_config` gives
+/// the configuration of each file that states one, unless memory is refused. A file has at most one
+/// fault, but that memory may be refused in place of it.
 pub fn one_configuration()
     ensures one { (bytes : List ℕ) (config other : Settings) → IsConfigFile bytes config
         → IsConfigFile bytes other → config ≡ other }

@@ -1,4 +1,5 @@
-//! Configurations of payment networks from their files, and the host security modules that they open.
+//! Configurations of payment networks from their files, and the host security modules that they
+//! open.
 #![tactic(auto)]
 
 mod base_key;

@@ -23,11 +23,12 @@ pub const LONGEST_FILE: usize = 1_048_576;
 
 /// Reads a configuration.
 ///
-/// Refused with the first of these: `ConfigTooLong`, above 1,048,576 bytes; `NotToml`, for what is no UTF-8 or no TOML;
-/// `UnknownKey`, the first in byte order; then, in the order lmk, zone, loading, terminals, log, stores, bdk, card,
-/// `BadKey` for a key that is missing or has a wrong value or a wrong number of entries, and `BadEntry` for its first
-/// entry, counted from 1, with a missing, unknown, wrong or repeated value. `stores` and `card` may be missing.
-/// `NoMemory` where memory was refused.
+/// Refused with the first of these: `ConfigTooLong`, above 1,048,576 bytes; `NotToml`, for what is
+/// no UTF-8 or no TOML; `UnknownKey`, the first in byte order; then, in the order lmk, zone,
+/// loading, terminals, log, stores, bdk, card, `BadKey` for a key that is missing or has a wrong
+/// value or a wrong number of entries, and `BadEntry` for its first entry, counted from 1, with a
+/// missing, unknown, wrong or repeated value. `stores` and `card` may be missing. `NoMemory` where
+/// memory was refused.
 pub fn read_config(alloc: Global, bytes: &[u8]) -> Result<Config, ScriptFault>
     ensures read { IfOk result (IsConfigFile bytes.now) }
     ensures refused { IfErr result (IsConfigFault bytes.now) }

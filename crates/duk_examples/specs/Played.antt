@@ -11,8 +11,8 @@ use Rattle.duk_config.specs.Settings.{Settings}
 use Rattle.duk_config.specs.declared.fault.ScriptFault.{ScriptFault}
 use Rattle.duk_io.specs.Known.{Known}
 
--- the files with these bytes are a configuration and a script, and these are the lines of what comes of
--- its events
+-- the files with these bytes are a configuration and a script, and these are the lines of what
+-- comes of its events
 pub record Writes (config script lines : List ℕ) : Type 0 where
   pub settings : Settings
   pub events : List Event

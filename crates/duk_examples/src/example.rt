@@ -6,8 +6,8 @@ ghost use Rattle.duk_examples.specs.Played.{IsRefusedUnder, Writes};
 use duk_script::{ScriptFault, run_script};
 use std::alloc::Global;
 
-/// What a script writes that is played under a configuration, from its first event to its last. Refused as `run_script`
-/// refuses.
+/// What a script writes that is played under a configuration, from its first event to its last.
+/// Refused as `run_script` refuses.
 pub fn play(alloc: Global, config: &[u8], script: &[u8]) -> Result<Vec<u8>, ScriptFault>
     ensures lines { IfOk result (λ lines. Writes config.now script.now lines.items) }
     ensures refused { IfErr result (IsRefusedUnder config.now script.now) }

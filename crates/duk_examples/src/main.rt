@@ -1,4 +1,5 @@
-//! Plays the example scripts, prints what each writes, and compares it with what stands beside the script.
+//! Plays the example scripts, prints what each writes, and compares it with what stands beside the
+//! script.
 #![tactic(auto)]
 
 pub mod example;
@@ -27,7 +28,8 @@ fn main(rt: HostRuntime) -> ExitCode {
     ExitCode::SUCCESS
 }
 
-/// Plays an example, prints its name and what it writes, and compares that with what stands beside it.
+/// Plays an example, prints its name and what it writes, and compares that with what stands beside
+/// it.
 fn show(rt: &(impl Files + Print + AllocGlobal), name: &str) -> Result<(), Fault> {
     let config = fs::read(rt, CONFIG)?;
     let script = fs::read(rt, format!(in rt.alloc(); "{name}.script")?)?;

@@ -14,7 +14,8 @@ pub const BUFFER_ROOM: usize = 4096;
 /// Text on its way to a writer.
 pub type Buffer = ArrayVec<u8, BUFFER_ROOM>;
 
-/// Makes room in the buffer for so many bytes, at most 4,096: where there is none, what it holds is written.
+/// Makes room in the buffer for so many bytes, at most 4,096: where there is none, what it holds is
+/// written.
 pub fn make_room<S: Sink>(
     buffer: &mut Buffer,
     count: usize,
@@ -35,7 +36,8 @@ pub fn make_room<S: Sink>(
 
 /// Writes what the buffer holds, which is nothing afterwards.
 pub fn write_out<S: Sink>(buffer: &mut Buffer, sink: &mut S) -> Result<(), WriteFailed>
-    ensures written { OnOk result (IsWritten (S.known sink.old) (S.known sink.new) buffer.old.items) }
+    ensures written { OnOk result
+        (IsWritten (S.known sink.old) (S.known sink.new) buffer.old.items) }
     ensures empty { OnOk result (buffer.new.items ≡ []) }
     ensures cut { OnErr result (IsCut (S.known sink.old) (S.known sink.new) buffer.old.items) }
 {

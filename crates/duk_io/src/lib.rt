@@ -1,5 +1,5 @@
-//! Text and bytes in and out: writers that take text, readers that give bytes, a buffer before a writer, and bytes in
-//! hexadecimal.
+//! Text and bytes in and out: writers that take text, readers that give bytes, a buffer before a
+//! writer, and bytes in hexadecimal.
 #![tactic(auto)]
 
 mod buffer;

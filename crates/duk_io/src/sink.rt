@@ -9,12 +9,15 @@ ghost use Rattle.duk_io.specs.Sink.{CountsFailure, IsWritten, IsCut};
 use std::io;
 use std::io::Write;
 
-/// A writer that may make known, for contracts to say, which bytes it holds and how often it failed.
+/// A writer that may make known, for contracts to say, which bytes it holds and how often it
+/// failed.
 ///
-/// Each `Write` is one: it makes its bytes known where its type does, and never its failures, of which
-/// the contract of `write` says nothing. A type that makes them known has this trait in place of `Write`.
+/// Each `Write` is one: it makes its bytes known where its type does, and never its failures, of
+/// which the contract of `write` says nothing. A type that makes them known has this trait in place
+/// of `Write`.
 pub trait Sink {
-    /// The bytes that the writer holds and how many writes and flushes failed, where it makes them known.
+    /// The bytes that the writer holds and how many writes and flushes failed, where it makes them
+    /// known.
     ghost known: { Self → Known };
 
     /// One write, of some bytes. It answers how many were taken; to take none is a failure.

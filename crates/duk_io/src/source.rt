@@ -8,15 +8,17 @@ ghost use Rattle.duk_io.specs.Known.{Known, Rose, Stayed};
 use std::io;
 use std::io::Read;
 
-/// A reader that may make known, for contracts to say, which bytes it has left and how often it failed.
+/// A reader that may make known, for contracts to say, which bytes it has left and how often it
+/// failed.
 ///
-/// Each `Read` is one: it makes its bytes known where its type does, and never its failures. A type that
-/// makes them known has this trait in place of `Read`.
+/// Each `Read` is one: it makes its bytes known where its type does, and never its failures. A type
+/// that makes them known has this trait in place of `Read`.
 pub trait Source {
     /// The bytes that reads will give and how many reads failed, where the reader makes them known.
     ghost known: { Self → Known };
 
-    /// One read, into the front of `buffer`. It answers how many bytes it gave: none only at the end.
+    /// One read, into the front of `buffer`. It answers how many bytes it gave: none only at the
+    /// end.
     fn get(&mut self, buffer: &mut [u8]) -> io::Result<usize>
         requires { 0 < length buffer.old }
         ensures bound { ReadsAtMost result buffer.new }

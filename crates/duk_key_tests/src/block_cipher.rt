@@ -1,4 +1,5 @@
-//! Known answers, computed with an independent implementation. The kinds are those of NIST SP 800-17.
+//! Known answers, computed with an independent implementation. The kinds are those of NIST SP
+//! 800-17.
 
 use duk_des::{decrypt_block, encrypt_block};
 

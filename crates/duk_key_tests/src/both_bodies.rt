@@ -2,7 +2,8 @@
 
 use duk_des::{decrypt_block, encrypt_block, plain};
 
-/// The cipher block of a block, where both bodies give the same one and decipher it to the block again.
+/// The cipher block of a block, where both bodies give the same one and decipher it to the block
+/// again.
 fn agreed(key: &[u8; 8], block: u64) -> Option<u64> {
     let cipher = u64::from_be_bytes(encrypt_block(key, block.to_be_bytes()));
     let plain_cipher = u64::from_be_bytes(plain::encrypt_block(key, block.to_be_bytes()));
@@ -15,8 +16,8 @@ fn agreed(key: &[u8; 8], block: u64) -> Option<u64> {
     }
 }
 
-/// The last of so many blocks, each the cipher block of the one before under a key of its own, where the bodies agree on
-/// each of them.
+/// The last of so many blocks, each the cipher block of the one before under a key of its own,
+/// where the bodies agree on each of them.
 fn last_agreed(count: u32) -> Option<u64> {
     let mut key: u64 = 0x0123456789abcdef;
     let mut block = 0;

@@ -83,7 +83,8 @@ struct Ended {
 }
 
 impl Ended {
-    /// Whether all of these lines are written, or as many bytes of them as there was room for and then that a write failed.
+    /// Whether all of these lines are written, or as many bytes of them as there was room for and
+    /// then that a write failed.
     fn has_written(&self, lines: &[u8]) -> bool {
         let held = self.output.held.as_slice();
         if self.room < lines.len() {

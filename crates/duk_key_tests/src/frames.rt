@@ -92,7 +92,8 @@ fn refusals(rt: HostRuntime) {
 
 const MAC: [u8; 8] = [7; 8];
 
-/// Whether the reply of this code has these digits behind its number, and its MAC is over what stands before it.
+/// Whether the reply of this code has these digits behind its number, and its MAC is over what
+/// stands before it.
 fn has_digits(code: Code, digits: &[u8; 2]) -> bool {
     let reply = write_reply(Ksn::from_bytes(ELEVEN_ONES), code, MAC);
     let bytes = reply.as_slice();

@@ -23,8 +23,8 @@ const PIN_KEY: Header = Header {
     exportability: b'E',
 };
 
-// Key block protection key, key and padding, and the key block with the header `PIN_KEY`. The first is published; the
-// others were computed with an independent implementation.
+// Key block protection key, key and padding, and the key block with the header `PIN_KEY`. The first
+// is published; the others were computed with an independent implementation.
 static WRAPPED: [(&str, &str, [u8; 6], &str); 4] = [
     (
         "DD7515F2BFC17F85CE48F3CA25CB21F6",
@@ -102,7 +102,8 @@ static REFUSED: [(&str, BlockFault); 9] = [
         "B0080P0TE00N000094B420079CC80BA3461F86FE26EFC4A3B8E4FA4C5F5341176EED7B727B8A248E",
         BlockFault::Mac,
     ),
-    // a block with a right MAC, computed with an independent implementation: its payload of 24 bytes says 192 bits
+    // a block with a right MAC, computed with an independent implementation: its payload of 24
+    // bytes says 192 bits
     (
         "B0080P0TE00E00007D23CE09DDB227B656187B5570708B701B522F00A23F3CB2C9F49CDA265330AB",
         BlockFault::Payload,

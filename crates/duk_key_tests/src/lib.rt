@@ -1,5 +1,5 @@
-//! Tests of the crates that make keys, key blocks, PIN blocks and frames and that keep a terminal's numbers, and of the
-//! commands over them.
+//! Tests of the crates that make keys, key blocks, PIN blocks and frames and that keep a terminal's
+//! numbers, and of the commands over them.
 #![tactic(auto)]
 
 #[cfg(test)]

@@ -5,7 +5,8 @@ ghost use Rattle.duk_tdes.specs.Tdes.{IsTdesLength};
 use duk_mac::{cmac, retail};
 use duk_tdes::Key;
 
-// The examples of NIST SP 800-38B with TDES: the first bytes of one message, and the MAC under a key of either length.
+// The examples of NIST SP 800-38B with TDES: the first bytes of one message, and the MAC under a
+// key of either length.
 const CMACS: [(usize, u64, u64); 4] = [
     (0, 0xBD2E_BF9A_3BA0_0361, 0xB7A6_88E1_22FF_AF95),
     (8, 0x4FF2_AB81_3C53_CE83, 0x8E8F_2931_3628_3797),

@@ -30,7 +30,8 @@ fn sample_sequence(rt: HostRuntime) -> Result<(), Fail> {
     Ok(())
 }
 
-/// What an image has before its registers: the version, the initial key serial number and the next counter.
+/// What an image has before its registers: the version, the initial key serial number and the next
+/// counter.
 fn head(image: &[u8; IMAGE_LENGTH]) -> [u8; 14] {
     array_of(&image[..14])
 }

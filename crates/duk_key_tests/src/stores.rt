@@ -79,8 +79,8 @@ fn a_new_log(rt: HostRuntime) -> Result<(), Fail> {
     Ok(())
 }
 
-/// A log for two numbers that was brought up and keeps the first, once an append of the third was to stop after so many
-/// steps; and how many it keeps.
+/// A log for two numbers that was brought up and keeps the first, once an append of the third was
+/// to stop after so many steps; and how many it keeps.
 fn appended(alloc: Global, steps: u32) -> Result<(MemLog, u64), StoreFault> {
     let mut log = MemLog::new(alloc, 2)?;
     log.restart()?;

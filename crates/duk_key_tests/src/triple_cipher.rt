@@ -1,5 +1,5 @@
-//! Outside values: a worked example of NIST SP 800-67 with three keys, a PIN block of ISO 9564-1 enciphered under two,
-//! and chained blocks computed with an independent implementation.
+//! Outside values: a worked example of NIST SP 800-67 with three keys, a PIN block of ISO 9564-1
+//! enciphered under two, and chained blocks computed with an independent implementation.
 
 ghost use Rattle.duk_tdes.specs.Tdes.{IsTdesLength};
 

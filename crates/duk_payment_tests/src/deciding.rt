@@ -20,7 +20,8 @@ fn decided(issuer: &TableIssuer, pan: &str, amount: u32, block: [u8; 8]) -> Resu
     Ok(issuer.decide(&Pan::parse(pan)?, amount, block))
 }
 
-/// What is decided of another account, of a block under another key, and of a wrong PIN, a great and a small amount.
+/// What is decided of another account, of a block under another key, and of a wrong PIN, a great
+/// and a small amount.
 fn of_issuer(alloc: Global) -> Result<[Code; 5], Fail> {
     let issuer = issuer(alloc)?;
     let right = block_of("1234")?;

@@ -1,4 +1,5 @@
-//! Tests of terminal, security module and host, of the network between them, and of configurations and scripts.
+//! Tests of terminal, security module and host, of the network between them, and of configurations
+//! and scripts.
 #![tactic(auto)]
 
 #[cfg(test)]

@@ -183,7 +183,8 @@ fn a_spent_terminal(rt: HostRuntime) -> Result<(), Fail> {
     Ok(())
 }
 
-/// A terminal whose body is that of a spent one but for a one at this place is damaged, and stays stopped.
+/// A terminal whose body is that of a spent one but for a one at this place is damaged, and stays
+/// stopped.
 fn of_damaged_image(place: usize) -> Result<[bool; 2], StoreFault> {
     let mut body = spent();
     if let Some(byte) = body.get_mut(place) {

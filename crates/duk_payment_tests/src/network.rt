@@ -83,7 +83,8 @@ fn events_of(alloc: Global, script: &[Line]) -> Result<Vec<Event>, Fail> {
     Ok(events)
 }
 
-/// The first place in a script whose outcome did not come of the event beside it, or none where they all came.
+/// The first place in a script whose outcome did not come of the event beside it, or none where
+/// they all came.
 fn missed(alloc: Global, world: &mut SmallWorld, script: &[Line]) -> Result<Option<usize>, Fail> {
     let events = events_of(alloc, script)?;
     let found = outcomes(alloc, world, events.as_slice())?;
@@ -390,7 +391,8 @@ fn are_both(out: &[Outcome]) -> [bool; 3] {
     ]
 }
 
-/// The outcomes are put behind those that are there, in order, and a second call goes on from the first.
+/// The outcomes are put behind those that are there, in order, and a second call goes on from the
+/// first.
 #[test]
 fn calls_in_turn(rt: HostRuntime) -> Result<(), Fail> {
     let begin = begin(1)?;

@@ -1,5 +1,5 @@
-//! Transactions of a terminal over a cell in memory. The first key of its sequence and the enciphered PIN block are those
-//! of ANSI X9.24-1.
+//! Transactions of a terminal over a cell in memory. The first key of its sequence and the
+//! enciphered PIN block are those of ANSI X9.24-1.
 
 use crate::loading::{SmallTerminal, begun, loaded, purchase};
 use crate::sample::{RESPONSE, key, ksn};
@@ -106,7 +106,8 @@ fn cut_answers(rt: HostRuntime) -> Result<(), Fail> {
     Ok(())
 }
 
-/// A begin whose write stops after so many steps fails and stops the terminal, and after a restart this number is used.
+/// A begin whose write stops after so many steps fails and stops the terminal, and after a restart
+/// this number is used.
 fn of_stopped_begin(
     terminal: &mut SmallTerminal,
     steps: u32,

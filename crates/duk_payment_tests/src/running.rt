@@ -237,8 +237,8 @@ fn are_first_of(written: &[u8], lines: &str) -> bool {
     lines.as_bytes().starts_with(written) && (written.is_empty() || written.ends_with(b"\n"))
 }
 
-/// Where memory is refused, nothing is written or the lines of the first events. Here it is ample, unless the tests run
-/// with an allocation that fails.
+/// Where memory is refused, nothing is written or the lines of the first events. Here it is ample,
+/// unless the tests run with an allocation that fails.
 #[test]
 fn refused_memory(rt: HostRuntime) -> Result<(), Fail> {
     let (script, lines) = ANY_ORDER;

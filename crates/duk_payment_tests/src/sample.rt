@@ -1,4 +1,5 @@
-//! The sample keys and key serial numbers of ANSI X9.24-1, a published key block, and a payment with them.
+//! The sample keys and key serial numbers of ANSI X9.24-1, a published key block, and a payment
+//! with them.
 
 use arrayvec::ArrayVec;
 use duk_block::{Header, wrap};
@@ -24,7 +25,8 @@ pub const ZONE: u128 = 0x3F419E1C_B7079442_AA37474C_2EFBF8B8;
 /// The key under which initial keys are loaded.
 pub const LOADING: u128 = 0x4CF15134_A2850DD5_8A3D10BA_80570D38;
 
-/// The base derivation key of the sample sequence, its initial key, and two variants of the key of its first number.
+/// The base derivation key of the sample sequence, its initial key, and two variants of the key of
+/// its first number.
 pub const BDK: u128 = 0x01234567_89ABCDEF_FEDCBA98_76543210;
 
 pub const INITIAL: u128 = 0x6AC292FA_A1315B4D_858AB3A3_D7D5933A;
@@ -33,7 +35,8 @@ pub const REQUEST: u128 = 0x042666B4_918430A3_68DE9628_D03984C9;
 
 pub const RESPONSE: u128 = 0x042666B4_6E84CFA3_68DE9628_2F397BC9;
 
-/// The PIN block of PAN 4012345678909 and PIN 1234, in the clear and enciphered under the PIN key of the first number.
+/// The PIN block of PAN 4012345678909 and PIN 1234, in the clear and enciphered under the PIN key
+/// of the first number.
 pub const CLEAR: [u8; 8] = [0x04, 0x12, 0x74, 0xED, 0xCB, 0xA9, 0x87, 0x6F];
 
 pub const BLOCK: [u8; 8] = [0x1B, 0x9C, 0x18, 0x45, 0xEB, 0x99, 0x3A, 0x7A];

@@ -121,7 +121,8 @@ fn lines_of_events(rt: HostRuntime) -> Result<(), Fail> {
     Ok(())
 }
 
-/// Comments, one of them with bytes that are no UTF-8, an empty line, carriage returns, and a last line without its end.
+/// Comments, one of them with bytes that are no UTF-8, an empty line, carriage returns, and a last
+/// line without its end.
 #[test]
 fn what_is_no_line(rt: HostRuntime) -> Result<(), Fail> {
     let script =

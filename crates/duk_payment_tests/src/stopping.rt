@@ -29,7 +29,8 @@ fn a_new_host(rt: HostRuntime) -> Result<(), Fail> {
     Ok(())
 }
 
-/// An append that stops after so many steps stops the host, and after a restart so many numbers are used.
+/// An append that stops after so many steps stops the host, and after a restart so many numbers are
+/// used.
 fn of_stop(
     host: &mut SmallHost,
     request: &Frame,
@@ -116,7 +117,8 @@ fn restarted_again(host: &mut SmallHost) -> Result<[bool; 3], HostFault> {
     Ok([!used, fault == Some(HostFault::Stopped), found == 1])
 }
 
-/// A restart, and a second one where memory was refused to the first; and whether the number is used then.
+/// A restart, and a second one where memory was refused to the first; and whether the number is
+/// used then.
 fn of_refused_restart(host: &mut SmallHost) -> Result<([bool; 3], bool), HostFault> {
     let holds = match host.restart() {
         Err(HostFault::NoMemory) => restarted_again(host)?,
@@ -125,7 +127,8 @@ fn of_refused_restart(host: &mut SmallHost) -> Result<([bool; 3], bool), HostFau
     Ok((holds, host.is_used(ksn(2))))
 }
 
-/// Memory that is refused stops a restart. Here it is ample, unless the tests run with an allocation that fails.
+/// Memory that is refused stops a restart. Here it is ample, unless the tests run with an
+/// allocation that fails.
 #[test]
 fn memory_of_a_restart(rt: HostRuntime) -> Result<(), Fail> {
     let mut host = opened(rt.alloc(), &[ksn(2)])?;
@@ -133,8 +136,8 @@ fn memory_of_a_restart(rt: HostRuntime) -> Result<(), Fail> {
     Ok(())
 }
 
-/// The code of a request, asked a second time where memory was refused to the first; and whether its number is used
-/// before that, and then.
+/// The code of a request, asked a second time where memory was refused to the first; and whether
+/// its number is used before that, and then.
 fn of_refused_payment(host: &mut SmallHost, request: &Frame) -> Result<[bool; 3], HostFault> {
     let first = accepted(host, request);
     let refused = first == Err(HostFault::NoMemory);
@@ -151,8 +154,8 @@ fn of_refused_payment(host: &mut SmallHost, request: &Frame) -> Result<[bool; 3]
     ])
 }
 
-/// Memory that is refused leaves a host that runs as it was. Here it is ample, unless the tests run with an allocation
-/// that fails.
+/// Memory that is refused leaves a host that runs as it was. Here it is ample, unless the tests run
+/// with an allocation that fails.
 #[test]
 fn memory_of_a_payment(rt: HostRuntime) -> Result<(), Fail> {
     let request = first_request()?;

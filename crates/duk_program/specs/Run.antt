@@ -15,7 +15,8 @@ pub record HasRun (Done : Session → Type 0) (s : Session) (fault fault' : Know
   pub no_fault : IsUntouched fault fault'
 
 -- status 1 where the session is refused: the line of its fault
-pub record HasRefused (Refused : Session → ScriptFault → Type 0) (s : Session) (fault fault' : Known) : Type 0 where
+pub record HasRefused (Refused : Session → ScriptFault → Type 0) (s : Session)
+    (fault fault' : Known) : Type 0 where
   pub why : ScriptFault
   pub refused : Refused s why
   pub line : IsTried fault fault' (fault_line why)
@@ -30,15 +31,18 @@ abbrev pub written_at : Session → Known → Session
 written_at s written = session s.reader_before s.reader_after s.writer_before written
 
 -- status 1 where the session is done, and then its lines could not be handed on: that is told
-pub record HasLostOutput (Done : Session → Type 0) (s : Session) (fault fault' : Known) : Type 0 where
+pub record HasLostOutput (Done : Session → Type 0) (s : Session) (fault fault' : Known)
+    : Type 0 where
   pub written : Known
   pub done : Done (written_at s written)
   pub lost : IsFlushLost written s.writer_after
   pub line : IsTried fault fault' (fault_line WriteFailed)
 
 -- status 1
-abbrev pub HasNotRun : (Session → Type 0) → (Session → ScriptFault → Type 0) → Session → Known → Known → Type 0
-HasNotRun Done Refused s fault fault' = HasRefused Refused s fault fault' ⊎ HasLostOutput Done s fault fault'
+abbrev pub HasNotRun : (Session → Type 0) → (Session → ScriptFault → Type 0) → Session → Known
+    → Known → Type 0
+HasNotRun Done Refused s fault fault' =
+    HasRefused Refused s fault fault' ⊎ HasLostOutput Done s fault fault'
 
 -- the line where the configuration cannot be read
 abbrev pub unread_line : List ℕ
@@ -66,7 +70,8 @@ pub record HasFailedRun (output output' fault fault' : Known) : Type 0 where
   pub run : HasNotRun (IsScriptDone config) (IsScriptRefused config)
       (session reader reader' output output') fault fault'
 
--- status 1: a file could not be read, or a fault was told before the script was, or else a run failed
+-- status 1: a file could not be read, or a fault was told before the script was, or else a run
+-- failed
 abbrev pub HasToldFault : Known → Known → Known → Known → Type 0
 HasToldFault output output' fault fault' =
     HasToldAlone unread_line output output' fault fault'

@@ -29,11 +29,12 @@ pub enum Todo<'a> {
     },
 }
 
-/// Does what the words ask, the first of which is the program's name. What they ask of files is left to do.
+/// Does what the words ask, the first of which is the program's name. What they ask of files is
+/// left to do.
 ///
 /// What a command prints goes to `output`, and so does help that was asked for; the line of a fault
-/// and the text that refuses the words go to `fault`. Where all is done, `output` is flushed before the
-/// status is given.
+/// and the text that refuses the words go to `fault`. Where all is done, `output` is flushed before
+/// the status is given.
 pub fn command<'a, W: Sink, F: Sink>(
     alloc: Global,
     words: &'a [String],

@@ -13,15 +13,18 @@ use std::io::{ErrorKind, Read};
 use std::rt::Files;
 use std::{fs, io};
 
-/// How many bytes of a configuration are read at most: one more than it may have, so that a longer one is known.
+/// How many bytes of a configuration are read at most: one more than it may have, so that a longer
+/// one is known.
 const MOST_READ: u64 = LONGEST_FILE as u64 + 1;
 
-/// Runs the script of one file under the configuration of another, and gives the status: 0, or 1 with a line on `fault`.
+/// Runs the script of one file under the configuration of another, and gives the status: 0, or 1
+/// with a line on `fault`.
 ///
-/// The configuration is read and tested before the script is opened. The faults, in this order: `config: cannot read`,
-/// where the file cannot be opened or a read fails; those of the configuration; `script: cannot read`, where the file
-/// cannot be opened; those of the script and of its lines, as `run_status` tells them. A folder cannot be read. Where the cause is want of memory, `out of memory`
-/// stands in place of either.
+/// The configuration is read and tested before the script is opened. The faults, in this order:
+/// `config: cannot read`, where the file cannot be opened or a read fails; those of the
+/// configuration; `script: cannot read`, where the file cannot be opened; those of the script and
+/// of its lines, as `run_status` tells them. A folder cannot be read. Where the cause is want of
+/// memory, `out of memory` stands in place of either.
 pub fn run_files<R: Files + AllocGlobal, W: Sink, F: Sink>(
     rt: &R,
     config: &str,
@@ -31,9 +34,11 @@ pub fn run_files<R: Files + AllocGlobal, W: Sink, F: Sink>(
 ) -> u8
     ensures status { (result ≡ 0) ⊎ (result ≡ 1) }
     ensures done { result ≡ 0
-        → HasRunFiles (W.known output.old) (W.known output.new) (F.known fault.old) (F.known fault.new) }
+        → HasRunFiles (W.known output.old) (W.known output.new)
+        (F.known fault.old) (F.known fault.new) }
     ensures told { result ≡ 1
-        → HasToldFault (W.known output.old) (W.known output.new) (F.known fault.old) (F.known fault.new) }
+        → HasToldFault (W.known output.old) (W.known output.new)
+        (F.known fault.old) (F.known fault.new) }
 {
     duk_io::laws::writes();
     let config = match read_file(rt, config) {

@@ -9,8 +9,8 @@ use duk_io::{Sink, write_text};
 use std::rt::{Env, Files};
 use std::{env, io};
 
-/// Does what the words of the process ask, and gives its status: 0 where all is done, 1 behind the line of a fault, 2
-/// where the words were refused.
+/// Does what the words of the process ask, and gives its status: 0 where all is done, 1 behind the
+/// line of a fault, 2 where the words were refused.
 pub fn run_process<R: Env + Files + AllocGlobal, W: Sink, F: Sink>(
     rt: &R,
     output: &mut W,

@@ -11,12 +11,12 @@ use duk_io::{Sink, Source};
 use duk_script::{Config, ScriptFault, play_script, print_fault, run_script};
 use std::alloc::Global;
 
-/// Runs the script that a reader gives, under the configuration with these bytes, and writes a line to `output` for what
-/// comes of each event. Gives the status: 0, or 1 with a line on `fault`.
+/// Runs the script that a reader gives, under the configuration with these bytes, and writes a line
+/// to `output` for what comes of each event. Gives the status: 0, or 1 with a line on `fault`.
 ///
-/// The faults, in this order: those of the configuration, before which nothing is read; those of the script, before which
-/// nothing is written; then, as they come, `out of memory` and `script: write failed`, the latter also where `output` cannot
-/// hand on what it holds back.
+/// The faults, in this order: those of the configuration, before which nothing is read; those of
+/// the script, before which nothing is written; then, as they come, `out of memory` and `script:
+/// write failed`, the latter also where `output` cannot hand on what it holds back.
 pub fn run_status<R: Source, W: Sink, F: Sink>(
     alloc: Global,
     config: &[u8],
@@ -26,10 +26,12 @@ pub fn run_status<R: Source, W: Sink, F: Sink>(
 ) -> u8
     ensures status { (result ≡ 0) ⊎ (result ≡ 1) }
     ensures done { result ≡ 0 → HasRun (IsRunDone config.now)
-        (session (R.known reader.old) (R.known reader.new) (W.known output.old) (W.known output.new))
+        (session (R.known reader.old) (R.known reader.new)
+        (W.known output.old) (W.known output.new))
         (F.known fault.old) (F.known fault.new) }
     ensures not_done { result ≡ 1 → HasNotRun (IsRunDone config.now) (IsRunRefused config.now)
-        (session (R.known reader.old) (R.known reader.new) (W.known output.old) (W.known output.new))
+        (session (R.known reader.old) (R.known reader.new)
+        (W.known output.old) (W.known output.new))
         (F.known fault.old) (F.known fault.new) }
 {
     match run_script(alloc, config, reader, output) {
@@ -48,15 +50,17 @@ pub(crate) fn play_status<R: Source, W: Sink, F: Sink>(
 ) -> u8
     ensures status { (result ≡ 0) ⊎ (result ≡ 1) }
     ensures done { result ≡ 0 → HasRun (IsScriptDone config)
-        (session (R.known reader.old) (R.known reader.new) (W.known output.old) (W.known output.new))
+        (session (R.known reader.old) (R.known reader.new)
+        (W.known output.old) (W.known output.new))
         (F.known fault.old) (F.known fault.new) }
     ensures not_done { result ≡ 1 → HasNotRun (IsScriptDone config) (IsScriptRefused config)
-        (session (R.known reader.old) (R.known reader.new) (W.known output.old) (W.known output.new))
+        (session (R.known reader.old) (R.known reader.new)
+        (W.known output.old) (W.known output.new))
         (F.known fault.old) (F.known fault.new) }
 {
     match play_script(alloc, config, reader, output) {
         Ok(()) => hand_on(output, fault),
-        Err(why) => refuse(&why, fault),
+        Err(cause) => refuse(&cause, fault),
     }
 }
 

@@ -5,7 +5,8 @@ use std::alloc::AllocError;
 use std::io::Write;
 use std::rt::Files;
 
-/// What the program writes to its output, then behind `! ` what it writes of a fault, and behind `= ` its status.
+/// What the program writes to its output, then behind `! ` what it writes of a fault, and behind `=
+/// ` its status.
 pub fn written(rt: &(impl Files + AllocGlobal), row: &str) -> Result<Vec<u8>, AllocError> {
     let words = words_of(rt, row)?;
     let mut output = Vec::new(rt.alloc());

@@ -8,7 +8,8 @@ use Rattle.duk_net.specs.declared.runs.NetFault.{NetFault}
 use Rattle.duk_net.specs.declared.runs.NetFault.TheVariants as net
 use Rattle.duk_script.specs.OutcomeText.{lines_of}
 use Rattle.duk_script.specs.Script.{IsNoScript}
-use Rattle.duk_script.specs.Opening.{IsOpened, MemoryWorld, in_memory}
+use Rattle.duk_net.specs.InMemory.{MemoryWorld, in_memory}
+use Rattle.duk_script.specs.Opening.{IsOpened}
 use Rattle.duk_script.specs.Play.{ArePlayed, ArePlayedInPart, PlayRefused}
 use Rattle.duk_script.specs.Session.{AreEventsRead, IsQuietSession, IsScriptRefused, Session}
 use Rattle.duk_config.specs.Settings.{Settings}

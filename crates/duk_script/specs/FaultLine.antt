@@ -14,7 +14,8 @@ fault_line fault.ConfigTooLong = codes "config: too long\n"
 fault_line fault.NotToml = codes "config: not TOML\n"
 fault_line (fault.UnknownKey name) = unknown_line (string_bytes name)
 fault_line (fault.BadKey key) = codes "config: bad " ++ key_name key ++ codes "\n"
-fault_line (fault.BadEntry key place) = codes "config: bad " ++ key_name key ++ codes " " ++ decimal place ++ codes "\n"
+fault_line (fault.BadEntry key place) =
+    codes "config: bad " ++ key_name key ++ codes " " ++ decimal place ++ codes "\n"
 fault_line fault.CannotRead = codes "script: cannot read\n"
 fault_line fault.TooLong = codes "script: too long\n"
 fault_line (fault.NotAnEvent line) = codes "line " ++ decimal line ++ codes ": not an event\n"

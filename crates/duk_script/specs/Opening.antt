@@ -3,30 +3,15 @@ use Rattle.std.specs.Prelude.{◌≡◌, ◌+◌, ◌++◌, ◌∷◌, zero, suc
 use Rattle.duk_config.specs.Opened.{keys_for}
 use Rattle.duk_config.specs.Settings.{Settings}
 use Rattle.duk_host.specs.Host.{HostOf}
-use Rattle.duk_host.specs.Table.{CardTable, table_decision}
+use Rattle.duk_host.specs.Table.{CardTable}
 use Rattle.duk_net.specs.First.{first_world}
+use Rattle.duk_net.specs.InMemory.{MemoryWorld, in_memory, new_terminal}
 use Rattle.duk_net.specs.Run.{Run}
-use Rattle.duk_net.specs.World.{Meanings, WorldOf, meanings_of}
 use Rattle.duk_net.specs.declared.event.Event.{Event}
 use Rattle.duk_net.specs.declared.event.Event.TheVariants.{RestartHost, RestartTerm}
 use Rattle.duk_net.specs.declared.outcome.Outcome.{Outcome}
-use Rattle.duk_store.specs.MemoryCell.{MemoryCell, memory_cell_meaning, new_cell}
-use Rattle.duk_store.specs.MemoryLog.{MemoryLog, memory_log_meaning, new_log}
+use Rattle.duk_store.specs.MemoryLog.{MemoryLog, new_log}
 use Rattle.duk_tdes.specs.KeyBytes.{bytes_of}
-use Rattle.duk_term.specs.Terminal.{TerminalOf}
-use Rattle.duk_term.specs.declared.state.State.TheVariants.{Stopped}
-
--- a world over stores in memory, with a table of cards
-abbrev pub MemoryWorld : Type 0
-MemoryWorld = WorldOf MemoryCell MemoryLog CardTable
-
--- what its stores and its issuer mean
-abbrev pub in_memory : Meanings MemoryCell MemoryLog CardTable
-in_memory = meanings_of memory_cell_meaning memory_log_meaning table_decision
-
--- a terminal as it is made over a new cell
-abbrev pub new_terminal : TerminalOf MemoryCell
-new_terminal = record { cell = new_cell; state = Stopped }
 
 -- the host of a configuration, as it is made
 abbrev pub new_host_of : List ℕ → Settings → HostOf MemoryLog CardTable
@@ -50,4 +35,5 @@ opening (suc count) = opening count ++ RestartTerm (count + 1) ∷ []
 -- the world of a configuration, its ends restarted
 abbrev pub IsOpened : List ℕ → Settings → MemoryWorld → Type 0
 IsOpened lmk config world =
-    (opened : List Outcome) × Run in_memory (new_world_of lmk config) (opening config.terminals) opened world
+    (opened : List Outcome) × Run in_memory (new_world_of lmk config) (opening config.terminals)
+    opened world

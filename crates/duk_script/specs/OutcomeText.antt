@@ -30,10 +30,14 @@ next_words Stopped = codes "stopped" ∷ []
 abbrev pub outcome_words : Outcome → List (List ℕ)
 outcome_words (Loaded t iksn) = terminal_name t ∷ codes "loaded" ∷ iksn_text iksn ∷ []
 outcome_words (Sent t k ksn) = terminal_name t ∷ codes "sent" ∷ decimal k ∷ ksn_text ksn ∷ []
-outcome_words (Accepted k ksn code) = codes "answer" ∷ decimal k ∷ codes "accepted" ∷ ksn_text ksn ∷ code_text code ∷ []
-outcome_words (Refused k ksn reason) = codes "answer" ∷ decimal k ∷ codes "refused" ∷ ksn_text ksn ∷ decimal reason ∷ []
-outcome_words (Done t ksn code) = terminal_name t ∷ codes "done" ∷ ksn_text ksn ∷ code_text code ∷ []
-outcome_words (GotRefusal t ksn reason) = terminal_name t ∷ codes "refused" ∷ ksn_text ksn ∷ decimal reason ∷ []
+outcome_words (Accepted k ksn code) =
+    codes "answer" ∷ decimal k ∷ codes "accepted" ∷ ksn_text ksn ∷ code_text code ∷ []
+outcome_words (Refused k ksn reason) =
+    codes "answer" ∷ decimal k ∷ codes "refused" ∷ ksn_text ksn ∷ decimal reason ∷ []
+outcome_words (Done t ksn code) =
+    terminal_name t ∷ codes "done" ∷ ksn_text ksn ∷ code_text code ∷ []
+outcome_words (GotRefusal t ksn reason) =
+    terminal_name t ∷ codes "refused" ∷ ksn_text ksn ∷ decimal reason ∷ []
 outcome_words (TermNext t next) = terminal_name t ∷ next_words next
 outcome_words (HostUsed n) = codes "host" ∷ codes "used" ∷ decimal n ∷ []
 outcome_words (Armed end n) = end_name end ∷ codes "armed" ∷ decimal n ∷ []

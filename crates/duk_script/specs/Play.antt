@@ -1,4 +1,5 @@
--- What the events of a script do over stores in memory, and what is written of it: this project's own.
+-- What the events of a script do over stores in memory, and what is written of it: this project's
+-- own.
 use Rattle.std.specs.Prelude.{Some, slice_get, ◌≡◌, ◌⊎◌, ℕ, List, take}
 use Rattle.duk_config.specs.Settings.{Settings}
 use Rattle.duk_config.specs.declared.fault.ScriptFault.{ScriptFault}
@@ -9,12 +10,14 @@ use Rattle.duk_net.specs.Run.{Run}
 use Rattle.duk_net.specs.declared.event.Event.{Event}
 use Rattle.duk_net.specs.declared.outcome.Outcome.{Outcome}
 use Rattle.duk_tdes.specs.KeyBytes.{bytes_of}
-use Rattle.duk_script.specs.Opening.{IsOpened, MemoryWorld, in_memory}
+use Rattle.duk_net.specs.InMemory.{MemoryWorld, in_memory}
+use Rattle.duk_script.specs.Opening.{IsOpened}
 use Rattle.duk_script.specs.OutcomeText.{lines_of}
 
 -- the events of a script have these outcomes in the world of a configuration, once its ends were
 -- restarted
-pub record ArePlayed (config : Settings) (events : List Event) (outcomes : List Outcome) : Type 0 where
+pub record ArePlayed (config : Settings) (events : List Event) (outcomes : List Outcome)
+    : Type 0 where
   pub start : MemoryWorld
   pub last : MemoryWorld
   pub opened : IsOpened (bytes_of config.lmk) config start
@@ -23,10 +26,12 @@ pub record ArePlayed (config : Settings) (events : List Event) (outcomes : List 
 -- all events are done, and their outcomes are written
 abbrev pub IsPlayed : Settings → List Event → Known → Known → Type 0
 IsPlayed config events old new =
-    (outcomes : List Outcome) × ArePlayed config events outcomes × IsWritten old new (lines_of outcomes)
+    (outcomes : List Outcome) × ArePlayed config events outcomes
+    × IsWritten old new (lines_of outcomes)
 
 -- the first events have these outcomes, and the next one was refused memory
-pub record ArePlayedInPart (config : Settings) (events : List Event) (outcomes : List Outcome) : Type 0 where
+pub record ArePlayedInPart (config : Settings) (events : List Event) (outcomes : List Outcome)
+    : Type 0 where
   pub done : ℕ
   pub refused : Event
   pub next : slice_get events done ≡ Some refused

@@ -51,7 +51,8 @@ pub record IsBegin (line : List ℕ) (t : ℕ) (purchase : Purchase) : Type 0 wh
   pub pan : IsPan purchase.pan
   pub pin : IsPin purchase.pin
   pub amount : IsNumber purchase.amount
-  pub line_is : line ≡ spaced (codes "begin" ∷ terminal_name t ∷ purchase.pan ∷ purchase.pin ∷ decimal purchase.amount ∷ [])
+  pub line_is : line ≡ spaced (codes "begin" ∷ terminal_name t ∷ purchase.pan ∷ purchase.pin
+      ∷ decimal purchase.amount ∷ [])
 
 -- `up K`
 pub record IsUp (line : List ℕ) (k : ℕ) : Type 0 where
@@ -94,7 +95,8 @@ abbrev pub AreEvents : List (List ℕ) → List Event → Type 0
 AreEvents [] events = events ≡ []
 AreEvents (line ∷ lines) events =
     (IsQuiet line × AreEvents lines events)
-    ⊎ ((event : Event) × (rest : List Event) × IsEventLine line event × AreEvents lines rest × (events ≡ event ∷ rest))
+    ⊎ ((event : Event) × (rest : List Event) × IsEventLine line event × AreEvents lines rest
+    × (events ≡ event ∷ rest))
 
 -- a line that may stand in a script
 abbrev pub IsLawful : List ℕ → Type 0
@@ -110,7 +112,8 @@ pub record IsFirstBad (lines : List (List ℕ)) (number : ℕ) : Type 0 where
   pub unlawful : ¬ IsLawful bad
   pub counted : number ≡ length before + 1
 
--- a script of these events. Its lines end with LF, which the last may lack, and one CR before an LF is dropped
+-- a script of these events. Its lines end with LF, which the last may lack, and one CR before an LF
+-- is dropped
 abbrev pub IsScript : List ℕ → List Event → Type 0
 IsScript text events = AreEvents (lines text) events
 

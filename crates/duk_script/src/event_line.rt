@@ -43,7 +43,8 @@ fn event_of(line: &str) -> Option<Event>
 /// `T IKSN`.
 fn load(words: &str) -> Option<Event>
     ensures found { IfSome result (IsEventLine (codes "load " ++ words.now)) }
-    ensures every { (t iksn : ℕ) → AreLoadWords words.now t iksn → result ≡ Some (Event.Load t iksn) }
+    ensures every { (t iksn : ℕ) → AreLoadWords words.now t iksn
+        → result ≡ Some (Event.Load t iksn) }
 {
     let (t, iksn) = split_word(words)?;
     let t = read_terminal(t)?;
@@ -100,7 +101,8 @@ fn down(words: &str) -> Option<Event>
 fn restart(words: &str) -> Option<Event>
     ensures found { IfSome result (IsEventLine (codes "restart " ++ words.now)) }
     ensures host { words.now ≡ codes "host" → result ≡ Some Event.RestartHost }
-    ensures terminal { (t : ℕ) → IsTerminal t → words.now ≡ terminal_name t → result ≡ Some (Event.RestartTerm t) }
+    ensures terminal { (t : ℕ) → IsTerminal t → words.now ≡ terminal_name t
+        → result ≡ Some (Event.RestartTerm t) }
 {
     match read_end(words)? {
         End::Host => Some(Event::RestartHost),
@@ -111,7 +113,8 @@ fn restart(words: &str) -> Option<Event>
 /// `T N` or `host N`.
 fn arm(words: &str) -> Option<Event>
     ensures found { IfSome result (IsEventLine (codes "arm " ++ words.now)) }
-    ensures every { (end : End) (n : ℕ) → AreArmWords words.now end n → result ≡ Some (Event.Arm end n) }
+    ensures every { (end : End) (n : ℕ) → AreArmWords words.now end n
+        → result ≡ Some (Event.Arm end n) }
 {
     let (end, n) = split_word(words)?;
     let end = read_end(end)?;

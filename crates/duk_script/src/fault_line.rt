@@ -43,8 +43,10 @@ fn tell_unknown<F: Sink>(fault: &mut F, name: &[u8])
 
 /// Writes the line of an unknown key, which may have any length.
 fn write_unknown<F: Sink>(fault: &mut F, name: &[u8]) -> Result<(), WriteFailed>
-    ensures written { OnOk result (IsWritten (F.known fault.old) (F.known fault.new) (unknown_line name.now)) }
-    ensures cut { OnErr result (IsCut (F.known fault.old) (F.known fault.new) (unknown_line name.now)) }
+    ensures written { OnOk result
+        (IsWritten (F.known fault.old) (F.known fault.new) (unknown_line name.now)) }
+    ensures cut { OnErr result
+        (IsCut (F.known fault.old) (F.known fault.new) (unknown_line name.now)) }
 {
     duk_io::laws::writes();
     write_text(fault, b"config: unknown ")?;
@@ -65,7 +67,8 @@ fn bad_key(key: ConfigKey) -> Line
 
 /// The line of an entry with a wrong value.
 fn bad_entry(key: ConfigKey, place: u64) -> LineText
-    ensures { result.items ≡ codes "config: bad " ++ key_name key ++ codes " " ++ decimal place ++ codes "\n" }
+    ensures { result.items ≡ codes "config: bad " ++ key_name key ++ codes " " ++ decimal place
+        ++ codes "\n" }
 {
     bad_key(key).number(place).end()
 }

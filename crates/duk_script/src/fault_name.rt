@@ -53,7 +53,8 @@ impl Line {
     #[tactic(auto, using(crate::proofs::FaultLemmas::short_block_name))]
     fn block_fault(self, fault: BlockFault) -> Line
         requires { length self.text.items + 20 < LINE_ROOM }
-        ensures text { result.text.items ≡ self.text.items ++ 32 ∷ (codes "Block " ++ block_fault_name fault) }
+        ensures text { result.text.items
+            ≡ self.text.items ++ 32 ∷ (codes "Block " ++ block_fault_name fault) }
         ensures bound { length result.text.items ≤ length self.text.items + 20 }
     {
         self.word(b"Block").word(fault.name().as_bytes())
@@ -62,7 +63,8 @@ impl Line {
     /// The line, `Store`, and the name of a store's fault.
     fn store_fault(self, fault: StoreFault) -> Line
         requires { length self.text.items + 20 < LINE_ROOM }
-        ensures text { result.text.items ≡ self.text.items ++ 32 ∷ (codes "Store " ++ store_fault_text fault) }
+        ensures text { result.text.items
+            ≡ self.text.items ++ 32 ∷ (codes "Store " ++ store_fault_text fault) }
         ensures bound { length result.text.items ≤ length self.text.items + 20 }
     {
         let line = self.word(b"Store");

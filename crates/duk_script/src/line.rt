@@ -12,8 +12,8 @@ use duk_io::append_hex;
 use duk_net::End;
 use duk_tree::{Iksn, Ksn};
 
-/// The bytes that a line has room for, its end among them. The longest, `answer K accepted KSN CODE` with a K of 20
-/// digits, has 61.
+/// The bytes that a line has room for, its end among them. The longest, `answer K accepted KSN
+/// CODE` with a K of 20 digits, has 61.
 pub const LINE_ROOM: usize = 80;
 
 /// The text of a line, as ASCII.

@@ -2,7 +2,8 @@
 
 ghost use Rattle.std.specs.Prelude.{◌≡◌, IfOk, IfErr, replicate};
 ghost use Rattle.duk_tdes.specs.KeyBytes.{bytes_of};
-ghost use Rattle.duk_script.specs.Opening.{IsOpened, new_terminal, new_world_of, opening};
+ghost use Rattle.duk_net.specs.InMemory.{new_terminal};
+ghost use Rattle.duk_script.specs.Opening.{IsOpened, new_world_of, opening};
 ghost use Rattle.duk_tdes.specs.Tdes.{IsTdesLength};
 
 use duk_config::{Config, ScriptFault, open_hsm};

@@ -9,8 +9,9 @@ use duk_net::Outcome;
 use duk_term::Next;
 use duk_tree::Ksn;
 
-/// The line of an outcome, with its end: words with one space between each two. Key serial numbers stand in hexadecimal
-/// in upper case, numbers in decimal, and a fault by its name, followed by that of the fault inside it.
+/// The line of an outcome, with its end: words with one space between each two. Key serial numbers
+/// stand in hexadecimal in upper case, numbers in decimal, and a fault by its name, followed by
+/// that of the fault inside it.
 pub fn outcome_line(outcome: Outcome) -> LineText
     ensures { result.items ≡ line_of outcome }
 {
@@ -51,7 +52,8 @@ fn words_of(outcome: Outcome) -> Line
 /// The words of an answer of the host, as far as its key serial number.
 fn answer_words(k: u64, verdict: &[u8], ksn: Ksn) -> Line
     requires { length verdict.now ≤ 8 }
-    ensures text { result.text.items ≡ spaced (codes "answer" ∷ decimal k ∷ verdict.now ∷ ksn_text ksn ∷ []) }
+    ensures text { result.text.items
+        ≡ spaced (codes "answer" ∷ decimal k ∷ verdict.now ∷ ksn_text ksn ∷ []) }
     ensures bound { length result.text.items ≤ 57 }
 {
     Line::of_word(b"answer").number(k).word(verdict).ksn(ksn)

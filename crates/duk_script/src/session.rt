@@ -18,12 +18,12 @@ use duk_net::{Event, Outcome, run};
 use duk_tdes::{Key, KeyBytes};
 use std::alloc::Global;
 
-/// Runs a script under the configuration with these bytes, over stores in memory, and writes a line for what comes of each
-/// event.
+/// Runs a script under the configuration with these bytes, over stores in memory, and writes a line
+/// for what comes of each event.
 ///
-/// The configuration is tested before anything of the script is read, and the whole script is read and parsed before the
-/// first event. Refused with the first of these: what `read_config` refuses, and then nothing is read or written; what
-/// `play_script` refuses.
+/// The configuration is tested before anything of the script is read, and the whole script is read
+/// and parsed before the first event. Refused with the first of these: what `read_config` refuses,
+/// and then nothing is read or written; what `play_script` refuses.
 pub fn run_script<R: Source, W: Sink>(
     alloc: Global,
     config: &[u8],
@@ -31,21 +31,23 @@ pub fn run_script<R: Source, W: Sink>(
     writer: &mut W,
 ) -> Result<(), ScriptFault>
     ensures done { OnOk result (IsRunDone config.now
-        (session (R.known reader.old) (R.known reader.new) (W.known writer.old) (W.known writer.new))) }
+        (session (R.known reader.old) (R.known reader.new)
+        (W.known writer.old) (W.known writer.new))) }
     ensures refused { IfErr result (IsRunRefused config.now
-        (session (R.known reader.old) (R.known reader.new) (W.known writer.old) (W.known writer.new))) }
+        (session (R.known reader.old) (R.known reader.new)
+        (W.known writer.old) (W.known writer.new))) }
 {
     duk_io::laws::writes();
     let config = read_config(alloc, config)?;
     play_script(alloc, config, reader, writer)
 }
 
-/// Plays a script under a configuration, over stores in memory, and writes a line for what comes of each event. Every end is
-/// restarted first, without a line.
+/// Plays a script under a configuration, over stores in memory, and writes a line for what comes of
+/// each event. Every end is restarted first, without a line.
 ///
-/// Refused with the first of these: `CannotRead`, where a read of the script failed; `TooLong`, above 1,048,576 bytes;
-/// `NotAnEvent`, of its first bad line; and then nothing is written. After `NoMemory` the lines of the events done are
-/// written. After `WriteFailed` a part of the lines is.
+/// Refused with the first of these: `CannotRead`, where a read of the script failed; `TooLong`,
+/// above 1,048,576 bytes; `NotAnEvent`, of its first bad line; and then nothing is written. After
+/// `NoMemory` the lines of the events done are written. After `WriteFailed` a part of the lines is.
 pub fn play_script<R: Source, W: Sink>(
     alloc: Global,
     config: Config,
@@ -53,9 +55,11 @@ pub fn play_script<R: Source, W: Sink>(
     writer: &mut W,
 ) -> Result<(), ScriptFault>
     ensures done { OnOk result (IsScriptDone config
-        (session (R.known reader.old) (R.known reader.new) (W.known writer.old) (W.known writer.new))) }
+        (session (R.known reader.old) (R.known reader.new)
+        (W.known writer.old) (W.known writer.new))) }
     ensures refused { IfErr result (IsScriptRefused config
-        (session (R.known reader.old) (R.known reader.new) (W.known writer.old) (W.known writer.new))) }
+        (session (R.known reader.old) (R.known reader.new)
+        (W.known writer.old) (W.known writer.new))) }
 {
     duk_io::laws::writes();
     let text = read_text(alloc, reader)?;
@@ -107,8 +111,8 @@ fn play_under<const N: usize, W: Sink>(
     }
 }
 
-/// Writes the lines of the events that were done before memory was refused. Gives the fault to tell: that, or that the
-/// lines could not be written.
+/// Writes the lines of the events that were done before memory was refused. Gives the fault to
+/// tell: that, or that the lines could not be written.
 fn write_done<W: Sink>(writer: &mut W, outcomes: &[Outcome]) -> ScriptFault
     ensures { ((result ≡ ScriptFault.NoMemory)
         × IsWritten (W.known writer.old) (W.known writer.new) (lines_of outcomes.now))

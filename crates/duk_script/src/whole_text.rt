@@ -16,8 +16,8 @@ const PIECE: usize = 4096;
 
 /// All that a reader has left.
 ///
-/// Refused with `CannotRead` where a read failed, for whatever cause; with `TooLong`, above 1,048,576 bytes; with
-/// `NoMemory`.
+/// Refused with `CannotRead` where a read failed, for whatever cause; with `TooLong`, above
+/// 1,048,576 bytes; with `NoMemory`.
 pub(crate) fn read_text<R: Source>(alloc: Global, reader: &mut R) -> Result<Vec<u8>, ScriptFault>
     ensures read { IfOk result
         (λ text. IsReadWhole (R.known reader.old) (R.known reader.new) text.items) }

@@ -22,7 +22,8 @@ pub(crate) fn split_word(text: &str) -> Option<(&str, &str)>
 /// A decimal number of at most 4,294,967,295, without leading zeros.
 pub(crate) fn read_number(word: &str) -> Option<u32>
     ensures found { IfSome result (λ number. word.now ≡ decimal number) }
-    ensures every { (number : ℕ) → number < 2 ^ 32 → word.now ≡ decimal number → result ≡ Some number }
+    ensures every { (number : ℕ) → number < 2 ^ 32 → word.now ≡ decimal number
+        → result ≡ Some number }
 {
     if !is_plain(word) {
         return None;

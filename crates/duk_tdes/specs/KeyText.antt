@@ -17,4 +17,5 @@ triple_key_of_text text = result_ok (decode_sized text 24)
 -- the key that a text of 32 or 48 writes
 abbrev pub tdes_key_of_text : List ℕ → Option KeyBytes
 tdes_key_of_text text =
-    option_or (option_map Double (double_key_of_text text)) (option_map Triple (triple_key_of_text text))
+    option_or (option_map Double (double_key_of_text text))
+    (option_map Triple (triple_key_of_text text))

@@ -9,7 +9,8 @@ ghost use Rattle.duk_config.specs.ConfigTable.{disk_in, disk_of_text, values_at,
 use super::value::value_at;
 use toml::{Table, Value};
 
-/// The values of the array at a key, where they are at least and at most so many, and none where the key is not there.
+/// The values of the array at a key, where they are at least and at most so many, and none where
+/// the key is not there.
 pub(crate) fn values_at<'a>(
     table: &'a Table,
     name: &str,

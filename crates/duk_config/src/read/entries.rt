@@ -10,7 +10,8 @@ use crate::fault::{ConfigKey, ScriptFault};
 use std::alloc::Global;
 use toml::Value;
 
-/// The entries of the array at a key, one for each of its values, each tested wholly before the next.
+/// The entries of the array at a key, one for each of its values, each tested wholly before the
+/// next.
 pub(crate) fn read_entries<E: Entry>(
     alloc: Global,
     key: ConfigKey,

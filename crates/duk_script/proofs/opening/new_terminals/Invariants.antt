@@ -1,5 +1,5 @@
 use Rattle.std.proofs.Common.{◌≡◌, replicate}
-use Rattle.duk_script.specs.Opening.{new_terminal}
+use Rattle.duk_net.specs.InMemory.{new_terminal}
 use Rattle.duk_script.proofs.opening.new_terminals.Given as goal
 
 abbrev pub invariant-loop : goal.invariant-loop
