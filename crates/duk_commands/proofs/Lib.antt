@@ -1,4 +1,4 @@
-mod AnswerLemmas
-mod CountLemmas
-mod PadLemmas
-mod WalkLemmas
+mod CommandsEnd
+mod CountsAreRead
+mod PaddingIsRead
+mod WalkedText

@@ -2,7 +2,7 @@
 use Rattle.std.specs.Prelude.{◌⊎◌, ℕ, List}
 use Rattle.duk_io.specs.Known.{Known}
 use Rattle.duk_io.specs.Sink.{IsCut, IsTried, IsUntouched, IsWritten}
-use Rattle.duk_commands.specs.Fault.{line_of}
+use Rattle.duk_commands.specs.Fault.{line_telling}
 use Rattle.duk_commands.specs.declared.fault.Fault.{Fault}
 use Rattle.duk_commands.specs.declared.fault.Fault.TheVariants.{WriteFailed}
 
@@ -40,12 +40,12 @@ pub record HasWritten (text : List ℕ) (s : Streams) : Type 0 where
 -- no output was written, and the line of this fault was
 pub record HasTold (why : Fault) (s : Streams) : Type 0 where
   pub no_output : IsUntouched s.output_before s.output_after
-  pub line : IsTried s.fault_before s.fault_after (line_of why)
+  pub line : IsTried s.fault_before s.fault_after (line_telling why)
 
 -- a write failed, a prefix of this text was written, and the line that tells it
 pub record HasFailed (text : List ℕ) (s : Streams) : Type 0 where
   pub prefix : IsCut s.output_before s.output_after text
-  pub line : IsTried s.fault_before s.fault_after (line_of WriteFailed)
+  pub line : IsTried s.fault_before s.fault_after (line_telling WriteFailed)
 
 -- status 0: a text that the words ask for was written
 pub record IsDone (command : Command) (s : Streams) : Type 0 where

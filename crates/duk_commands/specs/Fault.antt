@@ -28,10 +28,10 @@ fault_text OutOfMemory = codes "out of memory"
 fault_text WriteFailed = codes "write failed"
 
 -- the line of a fault
-abbrev pub line_of : Fault → List ℕ
-line_of fault = fault_text fault ++ line_end
+abbrev pub line_telling : Fault → List ℕ
+line_telling fault = fault_text fault ++ line_end
 
 -- the line of some fault was written, but for what a failed write cut off
 pub record IsFaultTold (old new : Known) : Type 0 where
   pub why : Fault
-  pub line : IsTried old new (line_of why)
+  pub line : IsTried old new (line_telling why)

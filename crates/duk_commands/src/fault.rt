@@ -2,7 +2,7 @@
 
 ghost use Rattle.std.specs.Prelude.{◌≡◌, ◌≤◌, length};
 ghost use Rattle.duk_io.specs.Sink.{IsTried};
-ghost use Rattle.duk_commands.specs.Fault.{fault_text, line_of};
+ghost use Rattle.duk_commands.specs.Fault.{fault_text, line_telling};
 
 use crate::lines::{Lines, push_end, push_text};
 use duk_block::BlockFault;
@@ -67,7 +67,7 @@ impl Fault {
 /// Writes the line of the fault and gives the status 1. What cannot be written of the line is lost.
 pub fn tell<F: Sink>(fault: &mut F, why: Fault) -> u8
     ensures status { result ≡ 1 }
-    ensures line { IsTried (F.known fault.old) (F.known fault.new) (line_of why) }
+    ensures line { IsTried (F.known fault.old) (F.known fault.new) (line_telling why) }
 {
     let mut line = Lines::new();
     push_text(&mut line, why.text().as_bytes());

@@ -13,7 +13,7 @@ use crate::answer::finish;
 use crate::fault::Fault;
 use crate::lines::{Lines, push_end, push_text};
 use arrayvec::ArrayVec;
-use duk_block::{BlockFault, Header, wrap};
+use duk_block::{BlockFault, BlockText, Header, wrap};
 use duk_io::Sink;
 use duk_tdes::{Key, KeyBytes, array_of};
 
@@ -125,7 +125,7 @@ fn wrap_under(
     header: &Header,
     key: KeyBytes,
     pad: &[u8],
-) -> Result<ArrayVec<u8, 512>, BlockFault>
+) -> Result<BlockText, BlockFault>
     ensures block { IfOk result
         (λ text. IsWrapping (wrapping kbpk header.now key pad.now) text.items) }
     ensures refused { IfErr result (IsNotWrapped (wrapping kbpk header.now key pad.now)) }
@@ -142,7 +142,7 @@ fn wrap_either<const N: usize>(
     header: &Header,
     key: KeyBytes,
     pad: &[u8],
-) -> Result<ArrayVec<u8, 512>, BlockFault>
+) -> Result<BlockText, BlockFault>
     requires { IsTdesLength N }
     ensures limits { IfOk result (λ text. IsWithinLimits text.items) }
     ensures block { IfOk result
@@ -162,7 +162,7 @@ fn wrap_key<const N: usize, const M: usize>(
     header: &Header,
     key: &Key<M>,
     pad: &[u8],
-) -> Result<ArrayVec<u8, 512>, BlockFault>
+) -> Result<BlockText, BlockFault>
     requires protection_key { IsTdesLength N }
     requires key { IsTdesLength M }
     ensures limits { IfOk result (λ text. IsWithinLimits text.items) }

@@ -1,7 +1,7 @@
-mod NameLemmas
-mod ValueLemmas
-mod EntryLemmas
-mod OrderLemmas
-mod OpenLemmas
-mod OnceLemmas
-mod OneFaultLemmas
+mod NamesOfTables
+mod ArrayValues
+mod EntriesInTurn
+mod KeysInOrder
+mod KeysAreLoaded
+mod OneConfiguration
+mod OneFault

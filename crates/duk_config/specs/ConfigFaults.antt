@@ -47,30 +47,30 @@ HasBadEntry document key.Card place =
 HasBadEntry document _ place = ⊥
 
 -- the order in which the keys are told
-abbrev pub rank : ConfigKey → ℕ
-rank key.Lmk = 0
-rank key.Zone = 1
-rank key.Loading = 2
-rank key.Terminals = 3
-rank key.Log = 4
-rank key.Stores = 5
-rank key.Bdk = 6
-rank key.Card = 7
+abbrev pub key_rank : ConfigKey → ℕ
+key_rank key.Lmk = 0
+key_rank key.Zone = 1
+key_rank key.Loading = 2
+key_rank key.Terminals = 3
+key_rank key.Log = 4
+key_rank key.Stores = 5
+key_rank key.Bdk = 6
+key_rank key.Card = 7
 
 -- there is no unknown key, and each key that is told before this one is right
 pub record IsRightBefore (document : Members) (key : ConfigKey) : Type 0 where
   pub no_other_key : has_only is_config_key document ≡ true
-  pub earlier_right : (earlier : ConfigKey) → rank earlier < rank key → IsRight document earlier
+  pub earlier_right : (earlier : ConfigKey) → key_rank earlier < key_rank key → IsRight document earlier
 
 -- the first fault of a table; any may be refused for want of memory
-abbrev pub IsFirstFault : Members → ScriptFault → Type 0
-IsFirstFault document (fault.UnknownKey name) =
+abbrev pub IsFirstTableFault : Members → ScriptFault → Type 0
+IsFirstTableFault document (fault.UnknownKey name) =
     IsFirstUnknown is_config_key document (string_bytes name)
-IsFirstFault document (fault.BadKey key) = IsRightBefore document key × IsWrong document key
-IsFirstFault document (fault.BadEntry key place) =
+IsFirstTableFault document (fault.BadKey key) = IsRightBefore document key × IsWrong document key
+IsFirstTableFault document (fault.BadEntry key place) =
     IsRightBefore document key × HasBadEntry document key place
-IsFirstFault document fault.NoMemory = Unit {0}
-IsFirstFault document _ = ⊥
+IsFirstTableFault document fault.NoMemory = Unit {0}
+IsFirstTableFault document _ = ⊥
 
 -- the two are one fault; of the name of an unknown key only its bytes count
 abbrev pub AreOneFault : ScriptFault → ScriptFault → Type 0

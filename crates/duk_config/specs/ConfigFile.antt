@@ -4,7 +4,7 @@ use Rattle.toml.specs.Data.{Members}
 use Rattle.toml.specs.Parse.{parse_document}
 use Rattle.duk_config.specs.declared.fault.ScriptFault.{ScriptFault}
 use Rattle.duk_config.specs.declared.fault.ScriptFault.TheVariants as fault
-use Rattle.duk_config.specs.ConfigFaults.{IsFirstFault}
+use Rattle.duk_config.specs.ConfigFaults.{IsFirstTableFault}
 use Rattle.duk_config.specs.ConfigTable.{IsConfigOf}
 use Rattle.duk_config.specs.Settings.{Settings}
 
@@ -29,7 +29,7 @@ pub record HasTableFault (bytes : List ℕ) (why : ScriptFault) : Type 0 where
   pub document : Members
   pub fits : length bytes ≤ longest_file
   pub table : IsToml bytes document
-  pub first : IsFirstFault document why
+  pub first : IsFirstTableFault document why
 
 -- the first fault of a file
 abbrev pub IsConfigFault : List ℕ → ScriptFault → Type 0

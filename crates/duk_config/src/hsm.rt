@@ -11,8 +11,7 @@ ghost use Rattle.duk_config.specs.Opened.{WrapsAlone, keys_for};
 
 use crate::base_key::BaseKey;
 use crate::config::Config;
-use arrayvec::ArrayVec;
-use duk_block::{KeyUse, ZERO_PADDING, wrap};
+use duk_block::{BlockText, KeyUse, ZERO_PADDING, wrap};
 use duk_hsm::{Hsm, HsmFault};
 use duk_tdes::{Key, KeyBytes};
 
@@ -68,7 +67,7 @@ fn load_zone_key<const N: usize>(
 }
 
 /// Wraps a zone key of either length.
-fn wrap_zone_key<const N: usize>(lmk: &Key<N>, zone: &KeyBytes) -> ArrayVec<u8, 512>
+fn wrap_zone_key<const N: usize>(lmk: &Key<N>, zone: &KeyBytes) -> BlockText
     requires { IsTdesLength N }
     ensures { WrapsAlone lmk.now result.items (header_for KeyUse.PinEncryption)
         (bytes_of zone.now) }
@@ -85,7 +84,7 @@ fn wrap_key<const N: usize, const M: usize>(
     lmk: &Key<N>,
     key_use: KeyUse,
     key: &Key<M>,
-) -> ArrayVec<u8, 512>
+) -> BlockText
     requires protection_key { IsTdesLength N }
     requires key { IsTdesLength M }
     ensures size { length key.now ≡ M }

@@ -23,12 +23,12 @@ pub record Writes (config script lines : List ℕ) : Type 0 where
   pub lines_are : lines ≡ lines_of outcomes
 
 -- a reader or a writer in memory, whose bytes are known
-abbrev pub in_memory : List ℕ → Known
-in_memory bytes = record { contents = Some bytes; failures = None }
+abbrev pub memory_stream : List ℕ → Known
+memory_stream bytes = record { contents = Some bytes; failures = None }
 
 -- the script is refused, whatever was read of it and written for it
-pub record IsRefusedUnder (config script : List ℕ) (why : ScriptFault) : Type 0 where
+pub record IsExampleRefused (config script : List ℕ) (why : ScriptFault) : Type 0 where
   pub unread : List ℕ
   pub lines : List ℕ
   pub refused : IsRunRefused config
-      (session (in_memory script) (in_memory unread) (in_memory []) (in_memory lines)) why
+      (session (memory_stream script) (memory_stream unread) (memory_stream []) (memory_stream lines)) why

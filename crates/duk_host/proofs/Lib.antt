@@ -3,5 +3,5 @@ mod OneNumberMore
 mod NumbersAreRead
 mod AcceptedIsAnswered
 mod RestartReadsAll
-mod JudgeLemmas
+mod MalformedIsRefused
 mod OneAnswer

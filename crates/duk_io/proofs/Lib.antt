@@ -1,2 +1,2 @@
 mod HexText
-mod SinkLemmas
+mod WritesInTurn

@@ -4,7 +4,7 @@ use Rattle.std.specs.Io.KnownBytes.{Consumes}
 use Rattle.duk_io.specs.Known.{Known, Rose, Stayed}
 
 -- these bytes were read, and no read failed
-pub record AreRead (old new : Known) (bytes : List ℕ) : Type 0 where
+pub record AreBytesRead (old new : Known) (bytes : List ℕ) : Type 0 where
   pub given : Consumes old.contents new.contents bytes
   pub unfailed : Stayed old.failures new.failures
 

@@ -1,1 +1,1 @@
-pub mod DeriveLemmas
+pub mod WordsAreNotRefused

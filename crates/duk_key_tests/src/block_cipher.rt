@@ -217,18 +217,18 @@ static KNOWN: [(u64, u64, u64); 204] = [
     (0x0101010101010103, 0x0000000000000000, 0x869EFD7F9F265A09),
 ];
 
-fn enciphered(key: u64, block: u64) -> u64 {
+fn encipher(key: u64, block: u64) -> u64 {
     u64::from_be_bytes(encrypt_block(&key.to_be_bytes(), block.to_be_bytes()))
 }
 
-fn deciphered(key: u64, cipher: u64) -> u64 {
+fn decipher(key: u64, cipher: u64) -> u64 {
     u64::from_be_bytes(decrypt_block(&key.to_be_bytes(), cipher.to_be_bytes()))
 }
 
 #[test]
 fn known_answers(rt: HostRuntime) {
     for (key, block, cipher) in &KNOWN {
-        assert_eq!(rt; enciphered(*key, *block), *cipher);
-        assert_eq!(rt; deciphered(*key, *cipher), *block);
+        assert_eq!(rt; encipher(*key, *block), *cipher);
+        assert_eq!(rt; decipher(*key, *cipher), *block);
     }
 }

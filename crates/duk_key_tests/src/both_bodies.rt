@@ -4,7 +4,7 @@ use duk_des::{decrypt_block, encrypt_block, plain};
 
 /// The cipher block of a block, where both bodies give the same one and decipher it to the block
 /// again.
-fn agreed(key: &[u8; 8], block: u64) -> Option<u64> {
+fn agree(key: &[u8; 8], block: u64) -> Option<u64> {
     let cipher = u64::from_be_bytes(encrypt_block(key, block.to_be_bytes()));
     let plain_cipher = u64::from_be_bytes(plain::encrypt_block(key, block.to_be_bytes()));
     let back = u64::from_be_bytes(decrypt_block(key, cipher.to_be_bytes()));
@@ -22,7 +22,7 @@ fn last_agreed(count: u32) -> Option<u64> {
     let mut key: u64 = 0x0123456789abcdef;
     let mut block = 0;
     for _ in 0..count {
-        block = agreed(&key.to_be_bytes(), block)?;
+        block = agree(&key.to_be_bytes(), block)?;
         key = key.wrapping_add(0x9e3779b97f4a7c15);
     }
     Some(block)

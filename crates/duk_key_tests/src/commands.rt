@@ -97,7 +97,7 @@ impl Ended {
     }
 }
 
-fn derived(alloc: Global, room: usize, at_once: usize, full: Full) -> Ended {
+fn derive_into(alloc: Global, room: usize, at_once: usize, full: Full) -> Ended {
     let mut output = Pipe::new(alloc, room, at_once, full);
     let mut fault = Vec::new(alloc);
     let status = derive_command(BDK_TEXT, KSN, &mut output, &mut fault);
@@ -115,14 +115,14 @@ fn derive_into_a_full_pipe(rt: HostRuntime) {
         for at_once in [1, 50, 200] {
             for room in 0..DERIVED.len() + 1 {
                 assert!(rt;
-                    derived(rt.alloc(), room, at_once, full).has_written(DERIVED.as_bytes())
+                    derive_into(rt.alloc(), room, at_once, full).has_written(DERIVED.as_bytes())
                 );
             }
         }
     }
 }
 
-fn pin_shown(alloc: Global, room: usize, at_once: usize, full: Full) -> Ended {
+fn pin_into(alloc: Global, room: usize, at_once: usize, full: Full) -> Ended {
     let mut output = Pipe::new(alloc, room, at_once, full);
     let mut fault = Vec::new(alloc);
     let status = pin_command(
@@ -146,14 +146,14 @@ fn pin_into_a_full_pipe(rt: HostRuntime) {
         for at_once in [1, 50, 200] {
             for room in 0..PIN_BLOCKS.len() + 1 {
                 assert!(rt;
-                    pin_shown(rt.alloc(), room, at_once, full).has_written(PIN_BLOCKS.as_bytes())
+                    pin_into(rt.alloc(), room, at_once, full).has_written(PIN_BLOCKS.as_bytes())
                 );
             }
         }
     }
 }
 
-fn walked(alloc: Global, room: usize, full: Full) -> Ended {
+fn walk_into(alloc: Global, room: usize, full: Full) -> Ended {
     let mut output = Pipe::new(alloc, room, 1000, full);
     let mut fault = Vec::new(alloc);
     let status = walk_command(BDK_TEXT, IKSN, "200", None, false, &mut output, &mut fault);
@@ -179,7 +179,7 @@ fn walk_into_a_full_pipe(rt: HostRuntime) {
     assert_eq!(rt; whole.len(), 10_800);
     for full in [Full::Fails, Full::TakesNone] {
         for room in [0, 1, 53, 4000, 4096, 10_799, 10_800] {
-            assert!(rt; walked(rt.alloc(), room, full).has_written(whole.as_slice()));
+            assert!(rt; walk_into(rt.alloc(), room, full).has_written(whole.as_slice()));
         }
     }
 }

@@ -8,7 +8,7 @@ use duk_tree::{
 use std::test::Fail;
 
 /// The key of this key serial number, and whether it is usable.
-fn derived(number: &str) -> Option<(u128, bool)> {
+fn derive_one(number: &str) -> Option<(u128, bool)> {
     let ksn = Ksn::parse(number)?;
     Some((number_of(&derive(&key(BDK), ksn)), usable(ksn.counter())))
 }
@@ -16,7 +16,7 @@ fn derived(number: &str) -> Option<(u128, bool)> {
 #[test]
 fn sample_sequence(rt: HostRuntime) {
     for (number, expected) in &KEYS {
-        assert_eq!(rt; derived(number), Some((*expected, true)));
+        assert_eq!(rt; derive_one(number), Some((*expected, true)));
     }
 }
 
@@ -32,7 +32,7 @@ fn first_key(rt: HostRuntime) -> Result<(), Fail> {
     let (initial, transaction) = initial_and_first().ok_or("an initial key serial number")?;
     assert_eq!(rt; number_of(&initial), INITIAL);
     assert_eq!(rt;
-        derived("FFFF9876543210E00001"),
+        derive_one("FFFF9876543210E00001"),
         Some((number_of(&transaction), true))
     );
     Ok(())

@@ -128,7 +128,7 @@ fn has_digits(key: KeyBytes, digits: &str) -> bool {
 }
 
 // Wraps a key of either length under a key of either length.
-fn wrapped(kbpk: KeyBytes, key: KeyBytes, pad: &[u8]) -> Result<ArrayVec<u8, 512>, BlockFault> {
+fn wrap_under(kbpk: KeyBytes, key: KeyBytes, pad: &[u8]) -> Result<ArrayVec<u8, 512>, BlockFault> {
     match kbpk {
         KeyBytes::Double(kbpk) => wrapped_under(&kbpk, key, pad),
         KeyBytes::Triple(kbpk) => wrapped_under(&kbpk, key, pad),
@@ -149,7 +149,7 @@ fn wrapped_under<const N: usize>(
 }
 
 // Unwraps under a key of either length.
-fn unwrapped(kbpk: KeyBytes, text: &[u8]) -> Result<(Header, KeyBytes), BlockFault> {
+fn unwrap_under(kbpk: KeyBytes, text: &[u8]) -> Result<(Header, KeyBytes), BlockFault> {
     match kbpk {
         KeyBytes::Double(kbpk) => unwrap(&kbpk, text),
         KeyBytes::Triple(kbpk) => unwrap(&kbpk, text),
@@ -158,18 +158,18 @@ fn unwrapped(kbpk: KeyBytes, text: &[u8]) -> Result<(Header, KeyBytes), BlockFau
 
 // Whether this key is wrapped to this text.
 fn writes(kbpk: &str, key: &str, pad: &[u8; 6], text: &str) -> Option<bool> {
-    let written = wrapped(key_of(kbpk)?, key_of(key)?, pad).ok()?;
+    let written = wrap_under(key_of(kbpk)?, key_of(key)?, pad).ok()?;
     Some(written.as_slice() == text.as_bytes())
 }
 
 // Whether this key is read from this text, with the header `PIN_KEY`.
 fn reads(kbpk: &str, text: &str, key: &str) -> Option<bool> {
-    let (header, found) = unwrapped(key_of(kbpk)?, text.as_bytes()).ok()?;
+    let (header, found) = unwrap_under(key_of(kbpk)?, text.as_bytes()).ok()?;
     Some(header == PIN_KEY && has_digits(found, key))
 }
 
 #[test]
-fn wrapped_and_read(rt: HostRuntime) {
+fn keys_are_wrapped_and_read(rt: HostRuntime) {
     for (kbpk, key, pad, text) in &WRAPPED {
         assert_eq!(rt; writes(kbpk, key, pad, text), Some(true));
         assert_eq!(rt; reads(kbpk, text, key), Some(true));
@@ -185,12 +185,12 @@ fn read_but_not_written(rt: HostRuntime) {
 
 // The fault of a text under `PROTECTION_KEY`.
 fn refusal_of(text: &str) -> Option<BlockFault> {
-    unwrapped(key_of(PROTECTION_KEY)?, text.as_bytes()).err()
+    unwrap_under(key_of(PROTECTION_KEY)?, text.as_bytes()).err()
 }
 
 // The fault of so many bytes of padding.
 fn refusal_of_padding(pad: &[u8]) -> Option<BlockFault> {
-    wrapped(key_of(PROTECTION_KEY)?, key_of(KEY)?, pad).err()
+    wrap_under(key_of(PROTECTION_KEY)?, key_of(KEY)?, pad).err()
 }
 
 #[test]

@@ -8,21 +8,21 @@ use duk_tdes::array_of;
 use duk_tree::{Iksn, Ksn};
 use std::test::Fail;
 
-fn loaded() -> Result<Registers, Fail> {
+fn load_registers() -> Result<Registers, Fail> {
     let iksn = Iksn::parse(IKSN).ok_or("an initial key serial number")?;
     Ok(Registers::load(key(INITIAL), iksn))
 }
 
-fn taken(registers: Registers) -> Result<(u128, Ksn, Registers), Fail> {
+fn take_number(registers: Registers) -> Result<(u128, Ksn, Registers), Fail> {
     let (key, ksn, left) = registers.take().ok().ok_or("spent")?;
     Ok((number_of(&key), ksn, left))
 }
 
 #[test]
 fn sample_sequence(rt: HostRuntime) -> Result<(), Fail> {
-    let mut registers = loaded()?;
+    let mut registers = load_registers()?;
     for (number, expected) in &KEYS[..FIRST] {
-        let (key, ksn, left) = taken(registers)?;
+        let (key, ksn, left) = take_number(registers)?;
         assert_eq!(rt; Some(ksn), Ksn::parse(number));
         assert_eq!(rt; key, *expected);
         registers = left;
@@ -46,7 +46,7 @@ fn register(image: &[u8; IMAGE_LENGTH], place: usize) -> u128
 
 #[test]
 fn first_images(rt: HostRuntime) -> Result<(), Fail> {
-    let mut registers = loaded()?;
+    let mut registers = load_registers()?;
     for (counter, first) in [(1, KEYS[0].1), (2, 0)] {
         let image = registers.image();
         let expected = [
@@ -54,7 +54,7 @@ fn first_images(rt: HostRuntime) -> Result<(), Fail> {
         ];
         assert_eq!(rt; head(&image), expected);
         assert_eq!(rt; register(&image, 0), first);
-        let (_, _, left) = taken(registers)?;
+        let (_, _, left) = take_number(registers)?;
         registers = left;
     }
     Ok(())
@@ -62,9 +62,9 @@ fn first_images(rt: HostRuntime) -> Result<(), Fail> {
 
 /// The registers after so many numbers.
 fn after(count: u32) -> Result<Registers, Fail> {
-    let mut registers = loaded()?;
+    let mut registers = load_registers()?;
     for _ in 0..count {
-        let (_, _, left) = taken(registers)?;
+        let (_, _, left) = take_number(registers)?;
         registers = left;
     }
     Ok(registers)
@@ -90,7 +90,7 @@ fn before_ten_ones() -> Result<Registers, Fail> {
 
 #[test]
 fn key_of_ten_ones(rt: HostRuntime) -> Result<(), Fail> {
-    let (key, ksn, left) = taken(before_ten_ones()?)?;
+    let (key, ksn, left) = take_number(before_ten_ones()?)?;
     assert_eq!(rt; ksn.counter(), 0x7FE);
     assert_eq!(rt; key, 0xEBCC426D_A336B253_BE923353_A4E73DAD);
     assert_eq!(rt; left.ksn().map(Ksn::counter), Some(0x800));
@@ -107,7 +107,7 @@ fn spent_with(byte: u8) -> [u8; IMAGE_LENGTH] {
 }
 
 #[test]
-fn spent(rt: HostRuntime) -> Result<(), Fail> {
+fn spent_registers_give_no_key(rt: HostRuntime) -> Result<(), Fail> {
     let registers = Registers::from_image(&spent_with(0)).ok_or("an image")?;
     assert_eq!(rt; registers.ksn(), None);
     assert!(rt; registers.take().is_err());

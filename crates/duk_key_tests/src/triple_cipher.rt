@@ -6,14 +6,14 @@ ghost use Rattle.duk_tdes.specs.Tdes.{IsTdesLength};
 use duk_tdes::{Key, cbc_decrypt, cbc_encrypt, tdes_decrypt, tdes_encrypt};
 
 /// A block enciphered.
-fn enciphered<const N: usize>(key: &Key<N>, block: u64) -> u64
+fn encipher<const N: usize>(key: &Key<N>, block: u64) -> u64
     requires { IsTdesLength N }
 {
     u64::from_be_bytes(tdes_encrypt(key, block.to_be_bytes()))
 }
 
 /// A block deciphered.
-fn deciphered<const N: usize>(key: &Key<N>, cipher: u64) -> u64
+fn decipher<const N: usize>(key: &Key<N>, cipher: u64) -> u64
     requires { IsTdesLength N }
 {
     u64::from_be_bytes(tdes_decrypt(key, cipher.to_be_bytes()))
@@ -26,11 +26,11 @@ fn three_keys(rt: HostRuntime) {
         0x01, 0x45, 0x67, 0x89, 0xAB, 0xCD, 0xEF, 0x01, 0x23,
     ]);
     assert_eq!(rt;
-        enciphered(&key, 0x5468_6520_7175_6663),
+        encipher(&key, 0x5468_6520_7175_6663),
         0xA826_FD8C_E53B_855F
     );
     assert_eq!(rt;
-        deciphered(&key, 0xA826_FD8C_E53B_855F),
+        decipher(&key, 0xA826_FD8C_E53B_855F),
         0x5468_6520_7175_6663
     );
 }
@@ -41,11 +41,11 @@ const TWO_KEYS: u128 = 0x0426_66B4_9184_CF5C_68DE_9628_D039_7B36;
 fn two_keys(rt: HostRuntime) {
     let key = Key::new(TWO_KEYS.to_be_bytes());
     assert_eq!(rt;
-        enciphered(&key, 0x0412_74ED_CBA9_876F),
+        encipher(&key, 0x0412_74ED_CBA9_876F),
         0x1B9C_1845_EB99_3A7A
     );
     assert_eq!(rt;
-        deciphered(&key, 0x1B9C_1845_EB99_3A7A),
+        decipher(&key, 0x1B9C_1845_EB99_3A7A),
         0x0412_74ED_CBA9_876F
     );
 }
@@ -71,7 +71,7 @@ const PLAIN: [u8; 24] = [
 ];
 
 /// The plain text enciphered.
-fn chained<const N: usize>(key: &Key<N>) -> [u8; 24]
+fn chain<const N: usize>(key: &Key<N>) -> [u8; 24]
     requires { IsTdesLength N }
 {
     let mut bytes = PLAIN;
@@ -80,7 +80,7 @@ fn chained<const N: usize>(key: &Key<N>) -> [u8; 24]
 }
 
 /// What was enciphered to these bytes.
-fn unchained<const N: usize>(key: &Key<N>, mut bytes: [u8; 24]) -> [u8; 24]
+fn unchain<const N: usize>(key: &Key<N>, mut bytes: [u8; 24]) -> [u8; 24]
     requires { IsTdesLength N }
 {
     cbc_decrypt(key, INITIAL_VECTOR, &mut bytes);
@@ -97,8 +97,8 @@ fn under_a_double_length_key(rt: HostRuntime) {
         0x83, 0x2F, 0x61, 0x05, 0x80, 0x39, 0x36, 0x1C, 0x87, 0x74, 0xF6, 0x92, 0x3E, 0x61, 0xB1,
         0x5D, 0x25, 0x8F, 0xD4, 0xD3, 0x40, 0x14, 0x4B, 0x86,
     ];
-    assert_eq!(rt; chained(&key), cipher);
-    assert_eq!(rt; unchained(&key, cipher), PLAIN);
+    assert_eq!(rt; chain(&key), cipher);
+    assert_eq!(rt; unchain(&key, cipher), PLAIN);
 }
 
 #[test]
@@ -111,6 +111,6 @@ fn under_a_triple_length_key(rt: HostRuntime) {
         0x49, 0x08, 0xC1, 0x17, 0x39, 0x17, 0x90, 0x5B, 0x35, 0x99, 0x32, 0xAB, 0x86, 0xC2, 0x33,
         0x9D, 0xD4, 0x46, 0x6E, 0x3F, 0x05, 0x1D, 0xA2, 0xDD,
     ];
-    assert_eq!(rt; chained(&key), cipher);
-    assert_eq!(rt; unchained(&key, cipher), PLAIN);
+    assert_eq!(rt; chain(&key), cipher);
+    assert_eq!(rt; unchain(&key, cipher), PLAIN);
 }

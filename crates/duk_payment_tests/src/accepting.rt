@@ -54,12 +54,12 @@ fn reason_in(answer: &Frame) -> Option<u8> {
 }
 
 /// The code with which the host accepts a request.
-pub fn accepted(host: &mut SmallHost, request: &Frame) -> Result<Option<Code>, HostFault> {
+pub fn accept_request(host: &mut SmallHost, request: &Frame) -> Result<Option<Code>, HostFault> {
     Ok(code_in(&host.handle(request.as_slice())?))
 }
 
 /// The reason for which it refuses a request.
-fn refused(host: &mut SmallHost, request: &Frame) -> Result<Option<u8>, HostFault> {
+fn refusal_of(host: &mut SmallHost, request: &Frame) -> Result<Option<u8>, HostFault> {
     Ok(reason_in(&host.handle(request.as_slice())?))
 }
 
@@ -179,10 +179,10 @@ fn request_at(number: Ksn) -> Result<Frame, PinFault> {
 
 /// A log that is full after one number.
 fn of_full_log(host: &mut SmallHost, later: &Frame, first: &Frame) -> Result<[bool; 4], HostFault> {
-    let code = accepted(host, later)?;
+    let code = accept_request(host, later)?;
     let used = host.is_used(ksn(2));
-    let full = refused(host, first)?;
-    let again = refused(host, later)?;
+    let full = refusal_of(host, first)?;
+    let again = refusal_of(host, later)?;
     Ok([
         code == Some(Code::Unreadable),
         used,
@@ -203,7 +203,7 @@ fn a_full_log(rt: HostRuntime) -> Result<(), Fail> {
 /// Whether the host accepts a request at this number.
 fn accepts(host: &mut SmallHost, number: Ksn) -> Result<bool, HostFault> {
     match request_at(number) {
-        Ok(request) => Ok(accepted(host, &request)?.is_some()),
+        Ok(request) => Ok(accept_request(host, &request)?.is_some()),
         Err(_) => Ok(false),
     }
 }
@@ -264,7 +264,7 @@ fn accepts_line(
 ) -> Result<bool, HostFault> {
     let (counter, pan, pin, amount, code) = line;
     match payment(ksn(*counter), pan, pin, *amount) {
-        Ok(request) => Ok(accepted(host, &request)? == Some(*code)),
+        Ok(request) => Ok(accept_request(host, &request)? == Some(*code)),
         Err(_) => Ok(false),
     }
 }

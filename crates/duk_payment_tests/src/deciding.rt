@@ -16,7 +16,12 @@ fn block_of(pin: &str) -> Result<[u8; 8], PinFault> {
     Ok(tdes_encrypt(&key(ZONE), clear))
 }
 
-fn decided(issuer: &TableIssuer, pan: &str, amount: u32, block: [u8; 8]) -> Result<Code, PinFault> {
+fn decide_on(
+    issuer: &TableIssuer,
+    pan: &str,
+    amount: u32,
+    block: [u8; 8],
+) -> Result<Code, PinFault> {
     Ok(issuer.decide(&Pan::parse(pan)?, amount, block))
 }
 
@@ -26,11 +31,11 @@ fn of_issuer(alloc: Global) -> Result<[Code; 5], Fail> {
     let issuer = issuer(alloc)?;
     let right = block_of("1234")?;
     let second = block_of("9999")?;
-    let other = decided(&issuer, "4012345678917", 500, BLOCK)?;
-    let unreadable = decided(&issuer, ACCOUNT, 500, BLOCK)?;
-    let wrong = decided(&issuer, ACCOUNT, 1, second)?;
-    let above = decided(&issuer, ACCOUNT, 10_001, right)?;
-    let below = decided(&issuer, ACCOUNT, 10_000, right)?;
+    let other = decide_on(&issuer, "4012345678917", 500, BLOCK)?;
+    let unreadable = decide_on(&issuer, ACCOUNT, 500, BLOCK)?;
+    let wrong = decide_on(&issuer, ACCOUNT, 1, second)?;
+    let above = decide_on(&issuer, ACCOUNT, 10_001, right)?;
+    let below = decide_on(&issuer, ACCOUNT, 10_000, right)?;
     Ok([other, unreadable, wrong, above, below])
 }
 

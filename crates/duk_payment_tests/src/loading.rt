@@ -33,7 +33,7 @@ fn load_initial(
 }
 
 /// A terminal that was loaded.
-pub fn loaded() -> Result<SmallTerminal, Fail> {
+pub fn load_terminal() -> Result<SmallTerminal, Fail> {
     let mut terminal = empty()?;
     load_initial(&mut terminal, *b"B1")??;
     Ok(terminal)
@@ -54,7 +54,7 @@ fn number_in(request: &Frame) -> Option<Ksn> {
 }
 
 /// Begins a transaction and tells the key serial number in its request.
-pub fn begun(terminal: &mut SmallTerminal) -> Result<Option<Ksn>, TermFault> {
+pub fn begin_number(terminal: &mut SmallTerminal) -> Result<Option<Ksn>, TermFault> {
     let Ok(purchase) = purchase() else {
         return Ok(None);
     };
@@ -80,7 +80,7 @@ fn a_new_terminal(rt: HostRuntime) -> Result<(), Fail> {
 fn of_empty_terminal() -> Result<[bool; 3], TermFault> {
     let mut terminal = empty()?;
     let next = terminal.next();
-    let begun = begun(&mut terminal);
+    let begun = begin_number(&mut terminal);
     let answer = load(&mut terminal, LOADING, b"B0080");
     Ok([
         next == Next::Empty,
@@ -148,7 +148,7 @@ fn stops_at_a_load(rt: HostRuntime) -> Result<(), Fail> {
 }
 
 /// A terminal over a cell that kept this body before.
-fn opened(body: &Body) -> Result<SmallTerminal, StoreFault> {
+fn open_body(body: &Body) -> Result<SmallTerminal, StoreFault> {
     let mut cell = MemCell::new();
     cell.restart()?;
     cell.put(body)?;
@@ -156,7 +156,7 @@ fn opened(body: &Body) -> Result<SmallTerminal, StoreFault> {
 }
 
 /// The body of a spent terminal.
-fn spent() -> Body {
+fn spent_body() -> Body {
     let mut body = [0; BODY_LENGTH];
     body[0] = 1;
     body[11] = 0x20;
@@ -165,10 +165,10 @@ fn spent() -> Body {
 
 /// A spent terminal begins nothing and takes no key.
 fn of_spent_terminal() -> Result<[bool; 3], Fail> {
-    let mut terminal = opened(&spent())?;
+    let mut terminal = open_body(&spent_body())?;
     terminal.restart()?;
     let next = terminal.next();
-    let begun = begun(&mut terminal);
+    let begun = begin_number(&mut terminal);
     let answer = load_initial(&mut terminal, *b"B1")?;
     Ok([
         next == Next::Spent,
@@ -186,11 +186,11 @@ fn a_spent_terminal(rt: HostRuntime) -> Result<(), Fail> {
 /// A terminal whose body is that of a spent one but for a one at this place is damaged, and stays
 /// stopped.
 fn of_damaged_image(place: usize) -> Result<[bool; 2], StoreFault> {
-    let mut body = spent();
+    let mut body = spent_body();
     if let Some(byte) = body.get_mut(place) {
         *byte = 1;
     }
-    let mut terminal = opened(&body)?;
+    let mut terminal = open_body(&body)?;
     let answer = terminal.restart();
     Ok([
         answer == Err(TermFault::Store(StoreFault::Damaged)),

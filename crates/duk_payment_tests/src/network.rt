@@ -59,7 +59,7 @@ fn outcomes(alloc: Global, world: &mut SmallWorld, events: &[Event]) -> Result<V
 }
 
 /// A world whose ends were restarted and whose first terminal was loaded.
-fn loaded(alloc: Global) -> Result<SmallWorld, Fail> {
+fn load_world(alloc: Global) -> Result<SmallWorld, Fail> {
     let mut world = world(alloc)?;
     let events = [
         Event::RestartHost,
@@ -85,7 +85,11 @@ fn events_of(alloc: Global, script: &[Line]) -> Result<Vec<Event>, Fail> {
 
 /// The first place in a script whose outcome did not come of the event beside it, or none where
 /// they all came.
-fn missed(alloc: Global, world: &mut SmallWorld, script: &[Line]) -> Result<Option<usize>, Fail> {
+fn missed_lines(
+    alloc: Global,
+    world: &mut SmallWorld,
+    script: &[Line],
+) -> Result<Option<usize>, Fail> {
     let events = events_of(alloc, script)?;
     let found = outcomes(alloc, world, events.as_slice())?;
     if found.len() != script.len() {
@@ -176,8 +180,8 @@ fn misses_nothing(
     first: &[Line],
     second: &[Line],
 ) -> Result<[bool; 2], Fail> {
-    let of_first = missed(alloc, world, first)?;
-    let of_second = missed(alloc, world, second)?;
+    let of_first = missed_lines(alloc, world, first)?;
+    let of_second = missed_lines(alloc, world, second)?;
     Ok([of_first.is_none(), of_second.is_none()])
 }
 
@@ -241,8 +245,8 @@ fn of_nothing() -> Result<[Line; 11], PinFault> {
 #[test]
 fn what_is_not_there(rt: HostRuntime) -> Result<(), Fail> {
     let script = of_nothing()?;
-    let mut world = loaded(rt.alloc())?;
-    assert_eq!(rt; missed(rt.alloc(), &mut world, &script)?, None);
+    let mut world = load_world(rt.alloc())?;
+    assert_eq!(rt; missed_lines(rt.alloc(), &mut world, &script)?, None);
     Ok(())
 }
 
@@ -356,7 +360,7 @@ fn of_host() -> [Line; 9] {
 #[test]
 fn stops(rt: HostRuntime) -> Result<(), Fail> {
     let script = of_terminal()?;
-    let mut world = loaded(rt.alloc())?;
+    let mut world = load_world(rt.alloc())?;
     let nothing = misses_nothing(rt.alloc(), &mut world, &script, &of_host())?;
     assert_eq!(rt; nothing, [true; 2]);
     Ok(())
@@ -396,7 +400,7 @@ fn are_both(out: &[Outcome]) -> [bool; 3] {
 #[test]
 fn calls_in_turn(rt: HostRuntime) -> Result<(), Fail> {
     let begin = begin(1)?;
-    let mut world = loaded(rt.alloc())?;
+    let mut world = load_world(rt.alloc())?;
     let mut out = Vec::new(rt.alloc());
     run_in_turn(&mut world, begin, &mut out)?;
     assert_eq!(rt; are_both(out.as_slice()), [true; 3]);

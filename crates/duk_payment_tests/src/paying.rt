@@ -1,7 +1,7 @@
 //! Transactions of a terminal over a cell in memory. The first key of its sequence and the
 //! enciphered PIN block are those of ANSI X9.24-1.
 
-use crate::loading::{SmallTerminal, begun, loaded, purchase};
+use crate::loading::{SmallTerminal, begin_number, load_terminal, purchase};
 use crate::sample::{RESPONSE, key, ksn};
 use duk_frame::{Code, Frame, mac_text, write_refusal, write_reply};
 use duk_mac::retail;
@@ -28,7 +28,7 @@ fn request_of(terminal: &mut SmallTerminal) -> Result<(bool, usize), Fail> {
 
 #[test]
 fn a_request(rt: HostRuntime) -> Result<(), Fail> {
-    let mut terminal = loaded()?;
+    let mut terminal = load_terminal()?;
     assert_eq!(rt; request_of(&mut terminal)?, (true, 48));
     Ok(())
 }
@@ -57,8 +57,8 @@ fn other_refusal() -> Frame {
 
 /// A terminal that has begun at the first number.
 fn pending() -> Result<SmallTerminal, Fail> {
-    let mut terminal = loaded()?;
-    if begun(&mut terminal)? != Some(ksn(1)) {
+    let mut terminal = load_terminal()?;
+    if begin_number(&mut terminal)? != Some(ksn(1)) {
         return Err("another number".into());
     }
     Ok(terminal)
@@ -114,8 +114,8 @@ fn of_stopped_begin(
     next: Ksn,
 ) -> Result<[bool; 5], TermFault> {
     terminal.arm(steps);
-    let failed = begun(terminal);
-    let stopped = begun(terminal);
+    let failed = begin_number(terminal);
+    let stopped = begin_number(terminal);
     let none = terminal.next();
     terminal.restart()?;
     let found = terminal.next();
@@ -124,7 +124,7 @@ fn of_stopped_begin(
         stopped == Err(TermFault::Stopped),
         none == Next::Stopped,
         found == Next::At(next),
-        begun(terminal) == Ok(Some(next)),
+        begin_number(terminal) == Ok(Some(next)),
     ])
 }
 
@@ -150,7 +150,7 @@ fn of_restart() -> Result<[bool; 2], Fail> {
     let answer = answer_to(&mut terminal, &reply(0));
     Ok([
         answer == Err(TermFault::NotPending),
-        begun(&mut terminal) == Ok(Some(ksn(2))),
+        begin_number(&mut terminal) == Ok(Some(ksn(2))),
     ])
 }
 

@@ -137,7 +137,7 @@ fn events_in_calls_of_their_own(rt: HostRuntime) -> Result<(), Fail> {
 }
 
 /// What is told of a fault.
-fn printed(alloc: Global, why: &ScriptFault) -> Vec<u8> {
+fn print_line(alloc: Global, why: &ScriptFault) -> Vec<u8> {
     let mut fault = Vec::new(alloc);
     print_fault(why, &mut fault);
     fault
@@ -168,7 +168,7 @@ fn lines_of_faults(rt: HostRuntime) -> Result<(), Fail> {
         (ScriptFault::NoMemory, "out of memory\n"),
     ] {
         assert!(rt;
-            printed(rt.alloc(), &why).as_slice() == line.as_bytes(),
+            print_line(rt.alloc(), &why).as_slice() == line.as_bytes(),
             "{line}"
         );
     }

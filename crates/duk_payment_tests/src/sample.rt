@@ -1,8 +1,7 @@
 //! The sample keys and key serial numbers of ANSI X9.24-1, a published key block, and a payment
 //! with them.
 
-use arrayvec::ArrayVec;
-use duk_block::{Header, wrap};
+use duk_block::{BlockText, Header, ZERO_PADDING, wrap};
 use duk_frame::{Frame, mac_text, write_request};
 use duk_host::{Card, TableIssuer};
 use duk_hsm::Hsm;
@@ -64,7 +63,7 @@ pub fn pan() -> Result<Pan, PinFault> {
 }
 
 /// The key block of a key of this usage.
-pub fn key_block(under: u128, usage: [u8; 2], number: u128) -> Result<ArrayVec<u8, 512>, Fail> {
+pub fn key_block(under: u128, usage: [u8; 2], number: u128) -> Result<BlockText, Fail> {
     let header = Header {
         usage,
         algorithm: b'T',
@@ -72,7 +71,7 @@ pub fn key_block(under: u128, usage: [u8; 2], number: u128) -> Result<ArrayVec<u
         version: *b"00",
         exportability: b'N',
     };
-    Ok(wrap(&key(under), &header, &key(number), &[0; 6])?)
+    Ok(wrap(&key(under), &header, &key(number), &ZERO_PADDING)?)
 }
 
 /// A security module with the sample base derivation key and no zone key.

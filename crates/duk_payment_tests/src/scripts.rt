@@ -78,7 +78,7 @@ const NO_EVENTS: [&[u8]; 30] = [
 ];
 
 /// What an event says, in words of this test's own.
-fn told(alloc: Global, event: Event) -> Result<String, AllocError> {
+fn tell_event(alloc: Global, event: Event) -> Result<String, AllocError> {
     match event {
         Event::Load { t, iksn } => {
             let bytes = iksn.bytes();
@@ -101,7 +101,7 @@ fn told(alloc: Global, event: Event) -> Result<String, AllocError> {
 fn says(alloc: Global, script: &[u8]) -> Result<String, Fail> {
     let mut text = String::new(alloc);
     for event in parse_script(alloc, script)?.as_slice() {
-        text.push_str(told(alloc, *event)?.as_str())?;
+        text.push_str(tell_event(alloc, *event)?.as_str())?;
         text.push('\n')?;
     }
     Ok(text)

@@ -98,7 +98,7 @@ fn a_zone_key(rt: HostRuntime) {
 }
 
 /// The key block in which an initial key is issued.
-fn issued(iksn: Iksn, pad: &[u8]) -> Result<Result<ArrayVec<u8, 512>, HsmFault>, Fail> {
+fn issue_block(iksn: Iksn, pad: &[u8]) -> Result<Result<ArrayVec<u8, 512>, HsmFault>, Fail> {
     Ok(module_without_zone()?.issue(iksn, &key(LOADING), pad))
 }
 
@@ -110,8 +110,8 @@ fn unknown(counter: u16) -> Ksn {
 
 /// Five bytes of padding are none, and that is told after an unknown key set.
 fn of_refused_issues() -> Result<[bool; 2], Fail> {
-    let padding = issued(iksn(), &[0; 5])?.err();
-    let key_set = issued(unknown(0).iksn(), &[0; 5])?.err();
+    let padding = issue_block(iksn(), &[0; 5])?.err();
+    let key_set = issue_block(unknown(0).iksn(), &[0; 5])?.err();
     Ok([
         padding == Some(HsmFault::Block(BlockFault::PadLength)),
         key_set == Some(HsmFault::NoKeySet),
@@ -134,7 +134,7 @@ fn number_of(key: KeyBytes) -> Option<u128> {
 
 /// The header and the key that are issued for the sample serial number.
 fn of_issue() -> Result<[bool; 2], Fail> {
-    let text = issued(iksn(), &[1; 6])??;
+    let text = issue_block(iksn(), &[1; 6])??;
     let (header, key) = unwrap(&key(LOADING), text.as_slice())?;
     Ok([
         header.fields() == *b"B1TX00N",
@@ -202,16 +202,16 @@ fn refused_macs(rt: HostRuntime) -> Result<(), Fail> {
 }
 
 /// The PIN block under the zone key that a block at the first number is translated to.
-fn translated(hsm: &Hsm<16>, block: [u8; 8]) -> Result<Result<[u8; 8], HsmFault>, PinFault> {
+fn translate_block(hsm: &Hsm<16>, block: [u8; 8]) -> Result<Result<[u8; 8], HsmFault>, PinFault> {
     Ok(hsm.translate(ksn(1), block, &pan()?))
 }
 
 /// A block without and with a zone key, and one of no PIN.
 fn of_pin_blocks() -> Result<[bool; 3], Fail> {
-    let without = translated(&module_without_zone()?, BLOCK)?;
+    let without = translate_block(&module_without_zone()?, BLOCK)?;
     let hsm = security_module()?;
-    let right = translated(&hsm, BLOCK)?;
-    let wrong = translated(&hsm, CLEAR)?;
+    let right = translate_block(&hsm, BLOCK)?;
+    let wrong = translate_block(&hsm, CLEAR)?;
     Ok([
         without == Err(HsmFault::NoZone),
         right == Ok(tdes_encrypt(&key(ZONE), CLEAR)),

@@ -1,6 +1,6 @@
 //! A host over a log in memory that stops, is opened again, or is refused memory.
 
-use crate::accepting::{SmallHost, accepted, host, host_over};
+use crate::accepting::{SmallHost, accept_request, host, host_over};
 use crate::sample::{first_request, ksn};
 use duk_frame::{Code, Frame};
 use duk_host::HostFault;
@@ -11,7 +11,7 @@ use std::test::Fail;
 
 /// What a request is refused with.
 fn fault_of(host: &mut SmallHost, request: &Frame) -> Option<HostFault> {
-    accepted(host, request).err()
+    accept_request(host, request).err()
 }
 
 /// A new host is stopped, and has used no number.
@@ -80,21 +80,21 @@ fn log_of(alloc: Global, numbers: &[Ksn]) -> Result<MemLog, StoreFault> {
 }
 
 /// The host over a log that kept these numbers before.
-fn opened(alloc: Global, numbers: &[Ksn]) -> Result<SmallHost, Fail> {
+fn open_host(alloc: Global, numbers: &[Ksn]) -> Result<SmallHost, Fail> {
     host_over(alloc, log_of(alloc, numbers)?)
 }
 
 /// What a restart of that host answers, and whether the first number is used then.
-fn found(alloc: Global, numbers: [u16; 3]) -> Result<(Result<u64, HostFault>, bool), Fail> {
+fn find_numbers(alloc: Global, numbers: [u16; 3]) -> Result<(Result<u64, HostFault>, bool), Fail> {
     let [first, second, third] = numbers;
-    let mut host = opened(alloc, &[ksn(first), ksn(second), ksn(third)])?;
+    let mut host = open_host(alloc, &[ksn(first), ksn(second), ksn(third)])?;
     let found = host.restart();
     Ok((found, host.is_used(ksn(1))))
 }
 
 #[test]
 fn a_kept_list(rt: HostRuntime) -> Result<(), Fail> {
-    assert_eq!(rt; found(rt.alloc(), [1, 2, 4])?, (Ok(3), true));
+    assert_eq!(rt; find_numbers(rt.alloc(), [1, 2, 4])?, (Ok(3), true));
     Ok(())
 }
 
@@ -102,7 +102,7 @@ fn a_kept_list(rt: HostRuntime) -> Result<(), Fail> {
 fn damaged_lists(rt: HostRuntime) -> Result<(), Fail> {
     for numbers in [[1, 2, 1], [1, 0, 2], [1, 2, 0x7FF]] {
         assert_eq!(rt;
-            found(rt.alloc(), numbers)?,
+            find_numbers(rt.alloc(), numbers)?,
             (Err(HostFault::Store(StoreFault::Damaged)), false)
         );
     }
@@ -131,7 +131,7 @@ fn of_refused_restart(host: &mut SmallHost) -> Result<([bool; 3], bool), HostFau
 /// allocation that fails.
 #[test]
 fn memory_of_a_restart(rt: HostRuntime) -> Result<(), Fail> {
-    let mut host = opened(rt.alloc(), &[ksn(2)])?;
+    let mut host = open_host(rt.alloc(), &[ksn(2)])?;
     assert_eq!(rt; of_refused_restart(&mut host)?, ([true; 3], true));
     Ok(())
 }
@@ -139,11 +139,11 @@ fn memory_of_a_restart(rt: HostRuntime) -> Result<(), Fail> {
 /// The code of a request, asked a second time where memory was refused to the first; and whether
 /// its number is used before that, and then.
 fn of_refused_payment(host: &mut SmallHost, request: &Frame) -> Result<[bool; 3], HostFault> {
-    let first = accepted(host, request);
+    let first = accept_request(host, request);
     let refused = first == Err(HostFault::NoMemory);
     let between = host.is_used(ksn(1));
     let code = if refused {
-        accepted(host, request)?
+        accept_request(host, request)?
     } else {
         first?
     };

@@ -1,2 +1,2 @@
-mod CommandLemmas
-mod RunLemmas
+mod FaultIsTold
+mod WrittenStaysWritten

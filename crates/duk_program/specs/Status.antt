@@ -8,9 +8,9 @@ abbrev pub IsStatus : ℕ → Type 0
 IsStatus status = (status ≡ 0) ⊎ (status ≡ 1) ⊎ (status ≡ 2)
 
 -- nothing is left but to end with a status, or else a script to run
-abbrev pub IsLawful : Todo → Type 0
-IsLawful (Exit status) = IsStatus status
-IsLawful (Run config script) = Unit {0}
+abbrev pub IsLeftToDo : Todo → Type 0
+IsLeftToDo (Exit status) = IsStatus status
+IsLeftToDo (Run config script) = Unit {0}
 
 -- nothing is left but to end with this status
 abbrev pub EndsWith : Todo → ℕ → Type 0

@@ -2,10 +2,10 @@
 
 ghost use Rattle.std.specs.Prelude.{◌≡◌, ◌⊎◌};
 ghost use Rattle.std.specs.Io.KnownBytes.{Keeps};
-ghost use Rattle.duk_commands.specs.Fault.{line_of, IsFaultTold};
+ghost use Rattle.duk_commands.specs.Fault.{line_telling, IsFaultTold};
 ghost use Rattle.duk_commands.specs.declared.fault.Fault.{Fault};
 ghost use Rattle.duk_io.specs.Sink.{IsUntouched, IsTried};
-ghost use Rattle.duk_program.specs.Status.{EndsWith, IsLawful, IsStatus, IsToRun};
+ghost use Rattle.duk_program.specs.Status.{EndsWith, IsLeftToDo, IsStatus, IsToRun};
 
 use duk_commands::{
     Fault, derive_command, pin_command, tell, unwrap_command, walk_command, wrap_command,
@@ -41,7 +41,7 @@ pub fn command<'a, W: Sink, F: Sink>(
     output: &mut W,
     fault: &mut F,
 ) -> Todo<'a>
-    ensures status { IsLawful result }
+    ensures status { IsLeftToDo result }
     ensures no_fault { EndsWith result 0 → IsUntouched (F.known fault.old) (F.known fault.new) }
     ensures fault { EndsWith result 1 → IsFaultTold (F.known fault.old) (F.known fault.new) }
     ensures refused { EndsWith result 2
@@ -63,7 +63,7 @@ fn answer_words<'a, W: Sink, F: Sink>(
     output: &mut W,
     fault: &mut F,
 ) -> Todo<'a>
-    ensures status { IsLawful result }
+    ensures status { IsLeftToDo result }
     ensures no_fault { EndsWith result 0 → IsUntouched (F.known fault.old) (F.known fault.new) }
     ensures fault { EndsWith result 1 → IsFaultTold (F.known fault.old) (F.known fault.new) }
     ensures refused { EndsWith result 2
@@ -79,7 +79,7 @@ fn answer_words<'a, W: Sink, F: Sink>(
 
 /// Does the command of a request, where that needs no file, and tells what is left to do.
 fn do_request<'a, W: Sink, F: Sink>(request: Request<'a>, output: &mut W, fault: &mut F) -> Todo<'a>
-    ensures status { IsLawful result }
+    ensures status { IsLeftToDo result }
     ensures no_fault { EndsWith result 0 → IsUntouched (F.known fault.old) (F.known fault.new) }
     ensures fault { EndsWith result 1 → IsFaultTold (F.known fault.old) (F.known fault.new) }
     ensures not_refused { ¬ EndsWith result 2 }
@@ -134,7 +134,7 @@ fn flush<W: Sink, F: Sink>(output: &mut W, fault: &mut F) -> u8
     ensures status { (result ≡ 0) ⊎ (result ≡ 1) }
     ensures no_fault { result ≡ 0 → IsUntouched (F.known fault.old) (F.known fault.new) }
     ensures fault { result ≡ 1
-        → IsTried (F.known fault.old) (F.known fault.new) (line_of Fault.WriteFailed) }
+        → IsTried (F.known fault.old) (F.known fault.new) (line_telling Fault.WriteFailed) }
     ensures output { Keeps (W.known output.old).contents (W.known output.new).contents }
 {
     match output.flush() {

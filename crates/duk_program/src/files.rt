@@ -51,12 +51,12 @@ pub fn run_files<R: Files + AllocGlobal, W: Sink, F: Sink>(
     };
     match fs::open(rt, script) {
         Ok(mut script) => play_status(rt.alloc(), config, &mut script, output, fault),
-        Err(error) => refuse(&unopened(&error), fault),
+        Err(error) => refuse(&opening_fault(&error), fault),
     }
 }
 
 /// Why a script could not be opened.
-fn unopened(error: &io::Error) -> ScriptFault {
+fn opening_fault(error: &io::Error) -> ScriptFault {
     if error.kind() == ErrorKind::OutOfMemory {
         ScriptFault::NoMemory
     } else {

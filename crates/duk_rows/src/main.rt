@@ -26,7 +26,7 @@ fn show_rows(rt: &(impl Files + Print + AllocGlobal)) -> io::Result<()> {
     let rows = fs::read_to_string(rt, ROWS)?;
     for row in rows.as_str().lines() {
         println!(rt; "$ {row}")?;
-        io::writer(rt).write_all(row::written(rt, row)?.as_slice())?;
+        io::writer(rt).write_all(row::write_row(rt, row)?.as_slice())?;
     }
     Ok(())
 }

@@ -7,7 +7,7 @@ use std::rt::Files;
 
 /// What the program writes to its output, then behind `! ` what it writes of a fault, and behind `=
 /// ` its status.
-pub fn written(rt: &(impl Files + AllocGlobal), row: &str) -> Result<Vec<u8>, AllocError> {
+pub fn write_row(rt: &(impl Files + AllocGlobal), row: &str) -> Result<Vec<u8>, AllocError> {
     let words = words_of(rt, row)?;
     let mut output = Vec::new(rt.alloc());
     let mut fault = Vec::new(rt.alloc());

@@ -6,18 +6,18 @@ use Rattle.duk_config.specs.ConfigFile.{longest_file}
 use Rattle.duk_config.specs.declared.fault.ScriptFault.{ScriptFault}
 use Rattle.duk_config.specs.declared.fault.ScriptFault.TheVariants as fault
 use Rattle.duk_io.specs.Known.{Known}
-use Rattle.duk_io.specs.Source.{AreRead, IsBroken}
+use Rattle.duk_io.specs.Source.{AreBytesRead, IsBroken}
 
 -- these bytes were read, and they are all that was left
 pub record IsReadWhole (old new : Known) (bytes : List ℕ) : Type 0 where
-  pub read : AreRead old new bytes
+  pub read : AreBytesRead old new bytes
   pub end : IsAtEnd new.contents
   pub fits : length bytes ≤ longest_file
 
 -- more bytes were read than a file may have
 pub record IsReadTooFar (old new : Known) : Type 0 where
   pub bytes : List ℕ
-  pub read : AreRead old new bytes
+  pub read : AreBytesRead old new bytes
   pub too_long : longest_file < length bytes
 
 -- why not all is read: a read failed, or there is too much
@@ -30,7 +30,7 @@ ReadRefused old new _ = ⊥
 -- a piece is read to the end of a text: what a private function of the reading answers
 pub record IsPiece (old new : Known) (before after : List ℕ) (at_end : Bool) : Type 0 where
   pub piece : List ℕ
-  pub read : AreRead old new piece
+  pub read : AreBytesRead old new piece
   pub after_is : after ≡ before ++ piece
   pub fits : length after ≤ longest_file
   pub more : MatchBool at_end ((piece ≡ []) × IsAtEnd new.contents) (0 < length piece)
@@ -38,7 +38,7 @@ pub record IsPiece (old new : Known) (before after : List ℕ) (at_end : Bool) :
 -- a piece is longer than the text may get
 pub record IsPieceTooLong (old new : Known) (before : List ℕ) : Type 0 where
   pub piece : List ℕ
-  pub read : AreRead old new piece
+  pub read : AreBytesRead old new piece
   pub too_long : longest_file < length (before ++ piece)
 
 -- why a piece is not read

@@ -50,7 +50,7 @@ impl Line {
     }
 
     /// The line, `Block`, and the name of a key block's fault.
-    #[tactic(auto, using(crate::proofs::FaultLemmas::short_block_name))]
+    #[tactic(auto, using(crate::proofs::ShortNames::short_block_name))]
     fn block_fault(self, fault: BlockFault) -> Line
         requires { length self.text.items + 20 < LINE_ROOM }
         ensures text { result.text.items

@@ -38,7 +38,7 @@ impl Line {
     }
 
     /// A line that begins with the name of a terminal, of at most 11 bytes.
-    #[tactic(auto, using(crate::proofs::DecimalLemmas::ten_digits))]
+    #[tactic(auto, using(crate::proofs::DecimalLengths::ten_digits))]
     pub(crate) fn of_terminal(t: u32) -> Line
         ensures text { result.text.items ≡ terminal_name t }
         ensures bound { length result.text.items ≤ 11 }
@@ -72,7 +72,7 @@ impl Line {
     }
 
     /// The line and a number in decimal, of at most 20 digits.
-    #[tactic(auto, using(crate::proofs::DecimalLemmas::twenty_digits))]
+    #[tactic(auto, using(crate::proofs::DecimalLengths::twenty_digits))]
     pub(crate) fn number(mut self, number: u64) -> Line
         requires { length self.text.items + 20 < LINE_ROOM }
         ensures text { result.text.items ≡ self.text.items ++ 32 ∷ decimal number }

@@ -77,14 +77,14 @@ pub enum NoRequest {
 
 /// The request that the words make; the first word is the program's name.
 pub fn read_request<'a>(alloc: Global, words: &'a [String]) -> Result<Request<'a>, NoRequest> {
-    match matched(alloc, words) {
+    match match_words(alloc, words) {
         Ok(request) => Ok(request),
         Err(error) => Err(no_request(alloc, &error)),
     }
 }
 
 /// The request that `clap` finds in the words, or its error.
-fn matched<'a>(alloc: Global, words: &'a [String]) -> Result<Request<'a>, Error> {
+fn match_words<'a>(alloc: Global, words: &'a [String]) -> Result<Request<'a>, Error> {
     let mut program = program(alloc)?;
     let matches = program.try_get_matches_from_mut(words)?;
     match request_of(&matches) {

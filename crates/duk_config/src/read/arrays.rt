@@ -31,7 +31,7 @@ pub(crate) fn values_at<'a>(
 }
 
 /// The values of the array at a key, and none where the key is not there.
-#[tactic(auto, using(crate::proofs::ValueLemmas::values_of_items))]
+#[tactic(auto, using(crate::proofs::ArrayValues::values_of_items))]
 fn values_or_none<'a>(table: &'a Table, name: &str) -> Option<&'a [Value]>
     ensures { option_map (λ values. map view values.now) result
         ≡ values_or_none (get_member name.now (table_view table.now)) }

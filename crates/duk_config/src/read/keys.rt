@@ -3,7 +3,7 @@
 
 ghost use Rattle.std.specs.Prelude.{◌≡◌, ◌≤◌, Some, true, IfOk, IfErr, OnOk, codes, length};
 ghost use Rattle.toml.specs.View.{table_view};
-ghost use Rattle.duk_config.specs.ConfigFaults.{IsFirstFault, IsRightBefore};
+ghost use Rattle.duk_config.specs.ConfigFaults.{IsFirstTableFault, IsRightBefore};
 ghost use Rattle.duk_config.specs.ConfigTable.{HasBaseKeys, HasCards, disk_in};
 ghost use Rattle.duk_config.specs.ConfigKeys.{is_config_key};
 ghost use Rattle.duk_config.specs.Names.{has_only};
@@ -24,7 +24,7 @@ use toml::Table;
 pub(crate) fn refuse_unknown(alloc: Global, table: &Table) -> Result<(), ScriptFault>
     ensures known { OnOk result (has_only is_config_key (table_view table.now) ≡ true) }
     ensures right { OnOk result (IsRightBefore (table_view table.now) ConfigKey.Lmk) }
-    ensures refused { IfErr result (IsFirstFault (table_view table.now)) }
+    ensures refused { IfErr result (IsFirstTableFault (table_view table.now)) }
 {
     let Some(name) = unknown_key(table) else {
         return Ok(());
@@ -38,7 +38,7 @@ pub(crate) fn read_lmk(table: &Table) -> Result<KeyBytes, ScriptFault>
     ensures value { IfOk result
         (λ key. tdes_key_at (codes "lmk") (table_view table.now) ≡ Some key) }
     ensures right { OnOk result (IsRightBefore (table_view table.now) ConfigKey.Zone) }
-    ensures refused { IfErr result (IsFirstFault (table_view table.now)) }
+    ensures refused { IfErr result (IsFirstTableFault (table_view table.now)) }
 {
     tdes_key_at(table, "lmk").ok_or(ScriptFault::BadKey(ConfigKey::Lmk))
 }
@@ -49,7 +49,7 @@ pub(crate) fn read_zone(table: &Table) -> Result<KeyBytes, ScriptFault>
     ensures value { IfOk result
         (λ key. tdes_key_at (codes "zone") (table_view table.now) ≡ Some key) }
     ensures right { OnOk result (IsRightBefore (table_view table.now) ConfigKey.Loading) }
-    ensures refused { IfErr result (IsFirstFault (table_view table.now)) }
+    ensures refused { IfErr result (IsFirstTableFault (table_view table.now)) }
 {
     tdes_key_at(table, "zone").ok_or(ScriptFault::BadKey(ConfigKey::Zone))
 }
@@ -60,7 +60,7 @@ pub(crate) fn read_loading(table: &Table) -> Result<Key<16>, ScriptFault>
     ensures value { IfOk result
         (λ key. double_key_at (codes "loading") (table_view table.now) ≡ Some key) }
     ensures right { OnOk result (IsRightBefore (table_view table.now) ConfigKey.Terminals) }
-    ensures refused { IfErr result (IsFirstFault (table_view table.now)) }
+    ensures refused { IfErr result (IsFirstTableFault (table_view table.now)) }
 {
     double_key_at(table, "loading").ok_or(ScriptFault::BadKey(ConfigKey::Loading))
 }
@@ -72,7 +72,7 @@ pub(crate) fn read_terminals(table: &Table) -> Result<u32, ScriptFault>
         (λ number. number_at 1 16 (codes "terminals") (table_view table.now) ≡ Some number) }
     ensures bounds { IfOk result (λ number. (1 ≤ number) × (number ≤ 16)) }
     ensures right { OnOk result (IsRightBefore (table_view table.now) ConfigKey.Log) }
-    ensures refused { IfErr result (IsFirstFault (table_view table.now)) }
+    ensures refused { IfErr result (IsFirstTableFault (table_view table.now)) }
 {
     number_at(table, "terminals", 1, 16).ok_or(ScriptFault::BadKey(ConfigKey::Terminals))
 }
@@ -84,7 +84,7 @@ pub(crate) fn read_log(table: &Table) -> Result<u32, ScriptFault>
         (λ number. number_at 1 100000 (codes "log") (table_view table.now) ≡ Some number) }
     ensures bounds { IfOk result (λ number. (1 ≤ number) × (number ≤ 100000)) }
     ensures right { OnOk result (IsRightBefore (table_view table.now) ConfigKey.Stores) }
-    ensures refused { IfErr result (IsFirstFault (table_view table.now)) }
+    ensures refused { IfErr result (IsFirstTableFault (table_view table.now)) }
 {
     number_at(table, "log", 1, 100_000).ok_or(ScriptFault::BadKey(ConfigKey::Log))
 }
@@ -95,7 +95,7 @@ pub(crate) fn read_stores(table: &Table) -> Result<bool, ScriptFault>
     ensures value { IfOk result
         (λ disk. disk_in (table_view table.now) ≡ Some disk) }
     ensures right { OnOk result (IsRightBefore (table_view table.now) ConfigKey.Bdk) }
-    ensures refused { IfErr result (IsFirstFault (table_view table.now)) }
+    ensures refused { IfErr result (IsFirstTableFault (table_view table.now)) }
 {
     disk_in(table).ok_or(ScriptFault::BadKey(ConfigKey::Stores))
 }
@@ -106,7 +106,7 @@ pub(crate) fn read_bdk(alloc: Global, table: &Table) -> Result<Vec<BaseKey>, Scr
     ensures value { IfOk result (λ bdks. HasBaseKeys (table_view table.now) bdks.items) }
     ensures count { IfOk result (λ bdks. (1 ≤ length bdks.items) × (length bdks.items ≤ 8)) }
     ensures right { OnOk result (IsRightBefore (table_view table.now) ConfigKey.Card) }
-    ensures refused { IfErr result (IsFirstFault (table_view table.now)) }
+    ensures refused { IfErr result (IsFirstTableFault (table_view table.now)) }
 {
     match values_at(table, "bdk", 1, 8) {
         Some(values) => read_entries(alloc, ConfigKey::Bdk, values),
@@ -119,7 +119,7 @@ pub(crate) fn read_card(alloc: Global, table: &Table) -> Result<Vec<Card>, Scrip
     requires { IsRightBefore (table_view table.now) ConfigKey.Card }
     ensures value { IfOk result (λ cards. HasCards (table_view table.now) cards.items) }
     ensures count { IfOk result (λ cards. length cards.items ≤ 1000) }
-    ensures refused { IfErr result (IsFirstFault (table_view table.now)) }
+    ensures refused { IfErr result (IsFirstTableFault (table_view table.now)) }
 {
     match values_at(table, "card", 0, 1000) {
         Some(values) => read_entries(alloc, ConfigKey::Card, values),

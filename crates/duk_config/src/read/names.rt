@@ -24,7 +24,7 @@ pub(crate) fn unknown_key(table: &Table) -> Option<&str>
 }
 
 /// Whether each name is a key of an entry of `bdk`.
-#[tactic(auto, using(crate::proofs::NameLemmas::has_only_keys))]
+#[tactic(auto, using(crate::proofs::NamesOfTables::has_only_keys))]
 pub(crate) fn has_only_bdk_keys(table: &Table) -> bool
     ensures { result ≡ has_only is_bdk_key (table_view table.now) }
 {
@@ -32,7 +32,7 @@ pub(crate) fn has_only_bdk_keys(table: &Table) -> bool
 }
 
 /// Whether each name is a key of an entry of `card`.
-#[tactic(auto, using(crate::proofs::NameLemmas::has_only_keys))]
+#[tactic(auto, using(crate::proofs::NamesOfTables::has_only_keys))]
 pub(crate) fn has_only_card_keys(table: &Table) -> bool
     ensures { result ≡ has_only is_card_key (table_view table.now) }
 {

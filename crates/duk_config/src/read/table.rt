@@ -2,7 +2,7 @@
 
 ghost use Rattle.std.specs.Prelude.{IfOk, IfErr};
 ghost use Rattle.toml.specs.View.{table_view};
-ghost use Rattle.duk_config.specs.ConfigFaults.{IsFirstFault};
+ghost use Rattle.duk_config.specs.ConfigFaults.{IsFirstTableFault};
 ghost use Rattle.duk_config.specs.ConfigTable.{IsConfigOf};
 
 use super::keys::{
@@ -17,7 +17,7 @@ use toml::Table;
 /// The configuration that the table states.
 pub(crate) fn read_table(alloc: Global, table: &Table) -> Result<Config, ScriptFault>
     ensures read { IfOk result (IsConfigOf (table_view table.now)) }
-    ensures refused { IfErr result (IsFirstFault (table_view table.now)) }
+    ensures refused { IfErr result (IsFirstTableFault (table_view table.now)) }
 {
     refuse_unknown(alloc, table)?;
     let lmk = read_lmk(table)?;

@@ -16,6 +16,7 @@ use crate::outcome::Outcome;
 use crate::owner::{is_elsewhere, record_owner};
 use crate::places::{place_of, push_within};
 use crate::system::System;
+use duk_block::ZERO_PADDING;
 use duk_frame::Frame;
 use duk_host::Issuer;
 use duk_store::{Cell, UsedLog};
@@ -23,9 +24,6 @@ use duk_tdes::Key;
 use duk_term::{Answer, Purchase, TermFault, Terminal};
 use duk_tree::{Iksn, Ksn};
 use std::alloc::AllocError;
-
-/// The padding of the key block that a terminal is loaded from.
-const PADDING: [u8; 6] = [0; 6];
 
 impl<const N: usize, C: Cell, L: UsedLog, I: Issuer> System<N, C, L, I> {
     /// Loads a terminal with the initial key that the host's security module issues.
@@ -43,7 +41,7 @@ impl<const N: usize, C: Cell, L: UsedLog, I: Issuer> System<N, C, L, I> {
         self.owners.reserve(1)?;
         duk_block::laws::one_reading();
         duk_tdes::laws::tdes_key(&self.loading);
-        let Ok(block) = self.host.hsm().issue(iksn, &self.loading, &PADDING) else {
+        let Ok(block) = self.host.hsm().issue(iksn, &self.loading, &ZERO_PADDING) else {
             return Ok(Outcome::NoKeySet { t });
         };
         let terminal = &mut self.terminals[place];

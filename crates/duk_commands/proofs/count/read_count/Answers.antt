@@ -2,7 +2,7 @@ use Rattle.std.proofs.Common.{◌≡◌, ◌<◌, ◌+◌, ◌*◌, ◌-◌, ℕ
 use Rattle.std.proofs.lemmas.Grind.{common_steps}
 use Rattle.std.proofs.lemmas.List.Sums.{fold_more}
 use Rattle.std.specs.Char.{IsAsciiDigit}
-use Rattle.duk_commands.proofs.CountLemmas.{too_great, digits_more}
+use Rattle.duk_commands.proofs.CountsAreRead.{too_great, digits_more}
 use Rattle.duk_commands.proofs.count.read_count.Goals as goal
 
 pub returns-then-count-gt-MOST_NUMBERS-clause-none : goal.returns-then-count-gt-MOST_NUMBERS-clause-none

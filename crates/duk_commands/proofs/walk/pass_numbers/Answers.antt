@@ -1,7 +1,7 @@
 use Rattle.std.proofs.Common.{◌≡◌, ◌+◌, suc, inr, subst, ◌∙◌, rules, arith}
 use Rattle.duk_tree.specs.Next.{spent_counter}
 use Rattle.duk_commands.specs.Walk.{IsPassed}
-use Rattle.duk_commands.proofs.WalkLemmas.{spent_within}
+use Rattle.duk_commands.proofs.WalkedText.{spent_within}
 use Rattle.duk_commands.proofs.walk.pass_numbers.Goals as goal
 
 pub returns-in-Err-clause-spent : goal.returns-in-Err-clause-spent

@@ -1,6 +1,6 @@
 use Rattle.std.proofs.Common.{◌≡◌, ℕ, List}
 use Rattle.duk_regs.specs.Registers.{StandsFor}
-use Rattle.duk_commands.proofs.WalkLemmas.{GoesOn}
+use Rattle.duk_commands.proofs.WalkedText.{GoesOn}
 use Rattle.duk_commands.proofs.walk.pass_numbers.Given as goal
 
 -- the terminal has passed so many numbers, and its lines go on

@@ -1,6 +1,6 @@
 use Rattle.std.proofs.Common.{◌≤◌, inr, subst}
 use Rattle.duk_commands.specs.Walk.{IsPassed, number_line}
-use Rattle.duk_commands.proofs.WalkLemmas.{as_asked}
+use Rattle.duk_commands.proofs.WalkedText.{as_asked}
 use Rattle.duk_commands.proofs.walk.walk_command.Goals as goal
 
 pub returns-in-Ok-write_walk-clause-done : goal.returns-in-Ok-write_walk-clause-done

@@ -2,7 +2,7 @@ use Rattle.std.proofs.Common.{◌≡◌, ◌+◌, ◌-◌, [], ◌++◌, suc, in
 use Rattle.duk_tree.specs.Derivation.{transaction_key_of}
 use Rattle.duk_tree.specs.Next.{spent_counter}
 use Rattle.duk_commands.specs.Walk.{IsPrinted, number_line, spent_line, HasPrinted, HasPrintedInPart}
-use Rattle.duk_commands.proofs.WalkLemmas.{text_more, text_last, line_of_number, on_done, on_failed, on_err}
+use Rattle.duk_commands.proofs.WalkedText.{text_more, text_last, line_of_number, on_done, on_failed, on_err}
 use Rattle.duk_commands.proofs.walk.write_numbers.Goals as goal
 
 pub returns-in_err-make_room-clause-cut : goal.returns-in_err-make_room-clause-cut

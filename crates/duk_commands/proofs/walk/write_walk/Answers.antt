@@ -1,6 +1,6 @@
 use Rattle.std.proofs.Common.{arith}
 use Rattle.duk_commands.specs.Walk.{number_line, spent_line, HasWalkedInPart}
-use Rattle.duk_commands.proofs.WalkLemmas.{on_done, on_failed, walked, walked_in_part}
+use Rattle.duk_commands.proofs.WalkedText.{on_done, on_failed, walked, walked_in_part}
 use Rattle.duk_commands.proofs.walk.write_walk.Goals as goal
 
 pub returns-in-Some-clause-written : goal.returns-in-Some-clause-written

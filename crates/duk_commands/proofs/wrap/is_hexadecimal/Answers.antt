@@ -2,7 +2,7 @@ use Rattle.std.proofs.Common.{rules, tests, arith}
 use Rattle.std.proofs.lemmas.Iterator.{YieldsList-from_slice}
 use Rattle.std.proofs.lemmas.Iterator.Search.{all_from_yields_List}
 use Rattle.hex.specs.Hex.{is_hex_digit}
-use Rattle.duk_commands.proofs.PadLemmas.{by_digits}
+use Rattle.duk_commands.proofs.PaddingIsRead.{by_digits}
 use Rattle.duk_commands.proofs.wrap.is_hexadecimal.Goals as goal
 
 pub returns-then-text-eq0 : goal.returns-then-text-eq0

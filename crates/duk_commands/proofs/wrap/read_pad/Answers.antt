@@ -1,5 +1,5 @@
 use Rattle.std.proofs.Common.{length, sym, ap, ◌∙◌, arith}
-use Rattle.duk_commands.proofs.PadLemmas.{long_fits_none, read_over}
+use Rattle.duk_commands.proofs.PaddingIsRead.{long_fits_none, read_over}
 use Rattle.duk_commands.proofs.wrap.read_pad.Goals as goal
 
 pub returns-then-size-gt-MOST_PADDING : goal.returns-then-size-gt-MOST_PADDING

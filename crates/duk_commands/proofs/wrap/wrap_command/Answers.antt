@@ -1,4 +1,4 @@
-use Rattle.duk_commands.proofs.AnswerLemmas.{done, not_done}
+use Rattle.duk_commands.proofs.CommandsEnd.{done, not_done}
 use Rattle.duk_commands.proofs.wrap.wrap_command.Goals as goal
 
 pub returns-clause-done : goal.returns-clause-done

@@ -1,5 +1,5 @@
 use Rattle.std.proofs.Common.{arith, refl}
-use Rattle.duk_config.proofs.OpenLemmas.{bdk_loaded}
+use Rattle.duk_config.proofs.KeysAreLoaded.{bdk_loaded}
 use Rattle.duk_config.proofs.hsm.load_base_key.Goals as goal
 
 pub returns : goal.returns

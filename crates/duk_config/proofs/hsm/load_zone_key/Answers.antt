@@ -1,5 +1,5 @@
 use Rattle.std.proofs.Common.{arith, refl}
-use Rattle.duk_config.proofs.OpenLemmas.{zone_loaded}
+use Rattle.duk_config.proofs.KeysAreLoaded.{zone_loaded}
 use Rattle.duk_config.proofs.hsm.load_zone_key.Goals as goal
 
 pub returns : goal.returns

@@ -1,5 +1,5 @@
 use Rattle.std.proofs.Common.{refl, ◌∙◌, rules}
-use Rattle.duk_config.proofs.OpenLemmas.{key_sets_more, prefix_free, slots_left}
+use Rattle.duk_config.proofs.KeysAreLoaded.{key_sets_more, prefix_free, slots_left}
 use Rattle.duk_config.proofs.hsm.open_hsm.Goals as goal
 
 pub load_base_key-requires : goal.load_base_key-requires

@@ -1,5 +1,5 @@
-use Rattle.duk_config.proofs.OnceLemmas.{no_file_fault, one_file}
-use Rattle.duk_config.proofs.OneFaultLemmas.{one_fault}
+use Rattle.duk_config.proofs.OneConfiguration.{no_file_fault, one_file}
+use Rattle.duk_config.proofs.OneFault.{one_fault}
 use Rattle.duk_config.proofs.laws.one_configuration.Goals as goal
 
 pub returns-clause-one : goal.returns-clause-one

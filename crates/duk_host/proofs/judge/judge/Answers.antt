@@ -1,5 +1,5 @@
 use Rattle.std.proofs.Common.{rules, inl, inr, sym}
-use Rattle.duk_host.proofs.JudgeLemmas.{refusal_of_none}
+use Rattle.duk_host.proofs.MalformedIsRefused.{refusal_of_none}
 use Rattle.duk_host.proofs.judge.judge.Goals as goal
 
 pub returns-in_default-clause-refused : goal.returns-in_default-clause-refused

@@ -1,4 +1,4 @@
-use Rattle.duk_io.proofs.SinkLemmas.{rose_later, stayed_twice}
+use Rattle.duk_io.proofs.WritesInTurn.{rose_later, stayed_twice}
 use Rattle.duk_io.proofs.laws.failures.Goals as goal
 
 pub returns-clause-stayed : goal.returns-clause-stayed

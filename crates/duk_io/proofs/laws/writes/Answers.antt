@@ -1,4 +1,4 @@
-use Rattle.duk_io.proofs.SinkLemmas.{cut_later, tried_later, untouched, written_none, written_then}
+use Rattle.duk_io.proofs.WritesInTurn.{cut_later, tried_later, untouched, written_none, written_then}
 use Rattle.duk_io.proofs.laws.writes.Goals as goal
 
 pub returns-clause-none : goal.returns-clause-none

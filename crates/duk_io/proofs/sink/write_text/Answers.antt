@@ -1,6 +1,6 @@
 use Rattle.std.proofs.Common.{rules}
 use Rattle.std.proofs.lemmas.List.{take_rest}
-use Rattle.duk_io.proofs.SinkLemmas.{written_more}
+use Rattle.duk_io.proofs.WritesInTurn.{written_more}
 use Rattle.duk_io.proofs.sink.write_text.Goals as goal
 
 pub loop-done-preserved : goal.loop-done-preserved

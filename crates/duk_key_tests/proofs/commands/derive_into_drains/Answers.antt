@@ -1,5 +1,5 @@
 use Rattle.std.proofs.Common.{inl, inr, refl}
-use Rattle.duk_key_tests.proofs.DeriveLemmas.{derivable_not_refused}
+use Rattle.duk_key_tests.proofs.WordsAreNotRefused.{derivable_not_refused}
 use Rattle.duk_key_tests.proofs.commands.derive_into_drains.Goals as goal
 
 pub returns : goal.returns

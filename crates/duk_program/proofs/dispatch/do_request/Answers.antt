@@ -1,4 +1,4 @@
-use Rattle.duk_program.proofs.CommandLemmas.{fault_told}
+use Rattle.duk_program.proofs.FaultIsTold.{fault_told}
 use Rattle.duk_program.proofs.dispatch.do_request.Goals as goal
 
 pub returns-in-Derive-clause-fault : goal.returns-in-Derive-clause-fault

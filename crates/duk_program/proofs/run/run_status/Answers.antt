@@ -1,4 +1,4 @@
-use Rattle.duk_program.proofs.RunLemmas.{done_still}
+use Rattle.duk_program.proofs.WrittenStaysWritten.{done_still}
 use Rattle.duk_program.proofs.run.run_status.Goals as goal
 
 pub returns-in-Ok-clause-done : goal.returns-in-Ok-clause-done

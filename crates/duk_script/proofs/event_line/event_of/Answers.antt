@@ -1,4 +1,4 @@
-use Rattle.duk_script.proofs.CommandLemmas.{load_every, begin_every, down_every, arm_every, command_of, command_split, unknown}
+use Rattle.duk_script.proofs.CommandLines.{load_every, begin_every, down_every, arm_every, command_of, command_split, unknown}
 use Rattle.duk_script.proofs.event_line.event_of.Goals as goal
 
 pub returns-in_err-command-clause-every : goal.returns-in_err-command-clause-every

@@ -1,7 +1,7 @@
 use Rattle.std.proofs.Common.{[], ◌∷◌, ◌++◌, codes}
 use Rattle.std.proofs.lemmas.Result.{err_from_is_err_and}
-use Rattle.duk_script.proofs.PlayLemmas.{on_ok, if_err}
-use Rattle.duk_script.proofs.OutcomeLemmas.{cut_longer}
+use Rattle.duk_script.proofs.PlayedScripts.{on_ok, if_err}
+use Rattle.duk_script.proofs.LinesInTurn.{cut_longer}
 use Rattle.duk_script.proofs.fault_line.write_unknown.Goals as goal
 
 pub returns-in_err-write_text-clause-cut : goal.returns-in_err-write_text-clause-cut

@@ -1,6 +1,6 @@
 use Rattle.std.proofs.Common.{◌+◌, ◌/◌, ◌%◌, ◌∷◌, ◌++◌, [], ℕ, List, length, decimal, sym, ap, ◌∙◌, append_assoc, lit<, arith, rules}
 use Rattle.std.proofs.lemmas.Fmt.{decimal_digit, decimal_step}
-use Rattle.duk_script.proofs.DecimalLemmas.{length-decimal_step}
+use Rattle.duk_script.proofs.DecimalLengths.{length-decimal_step}
 use Rattle.duk_script.proofs.line.+append_decimal.Goals as goal
 
 pub push-requires : goal.push-requires

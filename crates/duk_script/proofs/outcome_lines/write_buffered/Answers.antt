@@ -1,8 +1,8 @@
 use Rattle.std.proofs.Common.{◌++◌, [], sym}
 use Rattle.duk_io.specs.Sink.{IsCut, IsWritten}
 use Rattle.duk_script.specs.OutcomeText.{lines_of}
-use Rattle.duk_script.proofs.OutcomeLemmas.{as_err, cut_among, lines_more, on_err, written_all}
-use Rattle.duk_script.proofs.PlayLemmas.{on_ok}
+use Rattle.duk_script.proofs.LinesInTurn.{as_err, cut_among, lines_more, on_err, written_all}
+use Rattle.duk_script.proofs.PlayedScripts.{on_ok}
 use Rattle.duk_script.proofs.outcome_lines.write_buffered.Goals as goal
 
 pub loop-outcome-init : goal.loop-outcome-init

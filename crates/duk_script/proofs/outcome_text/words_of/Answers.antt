@@ -1,7 +1,7 @@
 use Rattle.std.proofs.Common.{codes, decimal}
 use Rattle.duk_frame.specs.Code.{code_text}
 use Rattle.duk_script.specs.OutcomeText.{ksn_text}
-use Rattle.duk_script.proofs.SpacedLemmas.{three_words, fifth_word}
+use Rattle.duk_script.proofs.SpacedWords.{three_words, fifth_word}
 use Rattle.duk_script.proofs.outcome_text.words_of.Goals as goal
 
 pub returns-in-Accepted-clause-text : goal.returns-in-Accepted-clause-text

@@ -1,7 +1,7 @@
 use Rattle.std.proofs.Common.{◌≡◌, ◌+◌, length, inl, inr, arith}
 use Rattle.std.proofs.lemmas.Bool.Decides.{nat_tests}
 use Rattle.std.proofs.lemmas.Result.{err_from_is_err_and}
-use Rattle.duk_script.proofs.ScriptLemmas.{stands_next, end_events, end_first, stop_bad, stop_first, nothing}
+use Rattle.duk_script.proofs.ScriptLineByLine.{stands_next, end_events, end_first, stop_bad, stop_first, nothing}
 use Rattle.duk_script.proofs.script.parse_script.Goals as goal
 
 pub returns-in_err-add_line-clause-refused : goal.returns-in_err-add_line-clause-refused

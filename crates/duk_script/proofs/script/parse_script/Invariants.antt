@@ -1,6 +1,6 @@
 use Rattle.std.proofs.Common.{◌+◌, ◌≤◌, length}
 use Rattle.std.specs.Str.Lines.{lines}
-use Rattle.duk_script.proofs.ScriptLemmas.{Stands}
+use Rattle.duk_script.proofs.ScriptLineByLine.{Stands}
 use Rattle.duk_script.proofs.script.parse_script.Given as goal
 
 abbrev pub invariant-loop-rest : goal.invariant-loop-rest

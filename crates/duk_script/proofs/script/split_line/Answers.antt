@@ -1,6 +1,6 @@
 use Rattle.std.proofs.Common.{sym}
 use Rattle.std.proofs.lemmas.List.{take_rest}
-use Rattle.duk_script.proofs.LineLemmas.{lines_some, lines_none}
+use Rattle.duk_script.proofs.FirstLine.{lines_some, lines_none}
 use Rattle.duk_script.proofs.script.split_line.Goals as goal
 
 pub returns-in-Some-clause-first : goal.returns-in-Some-clause-first

@@ -1,7 +1,7 @@
 use Rattle.std.proofs.Common.{inl, inr, subst}
 use Rattle.duk_script.specs.OutcomeText.{lines_of}
 use Rattle.duk_io.specs.Sink.{IsCut}
-use Rattle.duk_script.proofs.PlayLemmas.{cut_off, if_err, on_ok, played, played_up_to}
+use Rattle.duk_script.proofs.PlayedScripts.{cut_off, if_err, on_ok, played, played_up_to}
 use Rattle.duk_script.proofs.session.play_under.Goals as goal
 
 pub returns-in-Ok-clause-done : goal.returns-in-Ok-clause-done

@@ -1,5 +1,5 @@
 use Rattle.std.proofs.lemmas.Result.{err_from_is_err_and}
-use Rattle.duk_script.proofs.WholeTextLemmas.{read_refused}
+use Rattle.duk_script.proofs.ReadsInTurn.{read_refused}
 use Rattle.duk_script.proofs.whole_text.read_text.Goals as goal
 
 pub returns-in_err-read_piece-clause-refused : goal.returns-in_err-read_piece-clause-refused

@@ -1,7 +1,7 @@
 use Rattle.std.proofs.Common.{refl, sym, subst, arith}
 use Rattle.std.proofs.lemmas.Bool.{false≢true}
 use Rattle.duk_script.specs.Reading.{IsPlain}
-use Rattle.duk_script.proofs.WordLemmas.{number_found, number_every, plain_decimal}
+use Rattle.duk_script.proofs.LineWords.{number_found, number_every, plain_decimal}
 use Rattle.duk_script.proofs.words.read_number.Goals as goal
 
 pub returns-then-not-is_plain-clause-every : goal.returns-then-not-is_plain-clause-every

@@ -1,6 +1,6 @@
 use Rattle.std.proofs.Common.{lit<}
 use Rattle.std.proofs.lemmas.Str.Pattern.{split_after, split_parts}
-use Rattle.duk_script.proofs.WordLemmas.{split_found}
+use Rattle.duk_script.proofs.LineWords.{split_found}
 use Rattle.duk_script.proofs.words.split_word.Goals as goal
 
 pub returns-clause-found : goal.returns-clause-found

@@ -1,5 +1,5 @@
 use Rattle.std.proofs.Common.{◌≡◌, ◌∷◌, [], ◌++◌, arith, refl, rules}
-use Rattle.duk_config.proofs.EntryLemmas.{entries_more, first_bad}
+use Rattle.duk_config.proofs.EntriesInTurn.{entries_more, first_bad}
 use Rattle.duk_config.proofs.read.entries.read_entries.Goals as goal
 
 pub returns-in_default-clause-refused : goal.returns-in_default-clause-refused

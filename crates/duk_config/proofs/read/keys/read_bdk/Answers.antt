@@ -2,7 +2,7 @@ use Rattle.std.proofs.Common.{◌≡◌, Some, map, refl, sym}
 use Rattle.toml.specs.View.{table_view, view}
 use Rattle.duk_config.specs.ConfigTable.{bdk_values}
 use Rattle.duk_config.specs.declared.fault.ConfigKey.TheVariants.{Bdk, Card}
-use Rattle.duk_config.proofs.OrderLemmas.{next_right, on_ok}
+use Rattle.duk_config.proofs.KeysInOrder.{next_right, on_ok}
 use Rattle.duk_config.proofs.read.keys.read_bdk.Goals as goal
 
 pub returns-in-Some-clause-right : goal.returns-in-Some-clause-right

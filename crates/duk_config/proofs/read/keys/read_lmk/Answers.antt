@@ -1,6 +1,6 @@
 use Rattle.std.proofs.Common.{refl, sym, ◌∙◌}
 use Rattle.duk_config.specs.declared.fault.ConfigKey.TheVariants.{Lmk, Zone}
-use Rattle.duk_config.proofs.OrderLemmas.{is_there, next_right, on_found}
+use Rattle.duk_config.proofs.KeysInOrder.{is_there, next_right, on_found}
 use Rattle.duk_config.proofs.read.keys.read_lmk.Goals as goal
 
 pub returns-clause-right : goal.returns-clause-right

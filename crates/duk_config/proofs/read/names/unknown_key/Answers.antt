@@ -1,5 +1,5 @@
 use Rattle.std.proofs.Common.{sym}
-use Rattle.duk_config.proofs.NameLemmas.{first_unknown, none_unknown}
+use Rattle.duk_config.proofs.NamesOfTables.{first_unknown, none_unknown}
 use Rattle.duk_config.proofs.read.names.unknown_key.Goals as goal
 
 pub returns-in-Some : goal.returns-in-Some

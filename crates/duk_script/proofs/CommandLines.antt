@@ -9,7 +9,7 @@ use Rattle.duk_net.specs.declared.event.Event.{Event}
 use Rattle.duk_net.specs.declared.event.Event.TheVariants.{Load, Begin, Up, Down, RestartTerm, RestartHost, Arm}
 use Rattle.duk_script.specs.Script.{IsNumber, IsTerminal, IsLoad, IsBegin, IsDown, IsArm, IsEventLine, terminal_name, spaced}
 use Rattle.duk_script.specs.Reading.{AreLoadWords, AreBeginWords, AreDownWords, AreArmWords, HasNoSpace, IsSplit}
-use Rattle.duk_script.proofs.WordLemmas.{no_space_terminal, no_space_end, no_space_decimal}
+use Rattle.duk_script.proofs.LineWords.{no_space_terminal, no_space_end, no_space_decimal}
 
 load_words : (line words : List ℕ) (t iksn : ℕ) → IsSplit line (codes "load") words → IsLoad line t iksn → AreLoadWords words t iksn
 load_words line words t iksn split is = record {

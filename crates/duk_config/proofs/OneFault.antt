@@ -11,13 +11,13 @@ use Rattle.duk_config.specs.declared.fault.ConfigKey.{ConfigKey}
 use Rattle.duk_config.specs.declared.fault.ConfigKey.TheVariants as key
 use Rattle.duk_config.specs.declared.fault.ScriptFault.{ScriptFault}
 use Rattle.duk_config.specs.declared.fault.ScriptFault.TheVariants as fault
-use Rattle.duk_config.specs.ConfigFaults.{AreOneFault, HasBadEntry, IsFirstFault, IsRight, IsRightBefore, IsWrong, rank}
+use Rattle.duk_config.specs.ConfigFaults.{AreOneFault, HasBadEntry, IsFirstTableFault, IsRight, IsRightBefore, IsWrong, key_rank}
 use Rattle.duk_config.specs.ConfigFile.{HasTableFault, IsConfigFault, IsToml, longest_file}
 use Rattle.duk_config.specs.ConfigKeys.{is_config_key}
 use Rattle.duk_config.specs.Entries.{HaveOnePan, HaveOnePrefix, IsFirstBadEntry, StatesBaseKey, StatesCard}
 use Rattle.duk_config.specs.Names.{IsFirstUnknown}
-use Rattle.duk_config.proofs.OnceLemmas.{no_value, none_bad, none_unknown, one_base_key, one_card, one_value}
-use Rattle.duk_config.proofs.OrderLemmas.{rank_once}
+use Rattle.duk_config.proofs.OneConfiguration.{no_value, none_bad, none_unknown, one_base_key, one_card, one_value}
+use Rattle.duk_config.proofs.KeysInOrder.{rank_once}
 
 order : (m n : ℕ) → (m < n) ⊎ ((m ≡ n) ⊎ (n < m))
 order m n = grind arith
@@ -148,7 +148,7 @@ not_right document why k is right =
 one_key : (document : Members) (why other : ScriptFault) (k l : ConfigKey) → IsRightBefore document k → IsRightBefore document l
     → IsOfKey document why k → IsOfKey document other l → k ≡ l
 one_key document why other k l before_k before_l first second =
-    elim (order (rank k) (rank l)) [
+    elim (order (key_rank k) (key_rank l)) [
       | inl below ↦ absurd (not_right document why k first (before_l.earlier_right k below))
       | inr rest ↦ elim rest [
         | inl same ↦ rank_once k l same
@@ -176,7 +176,7 @@ IsOfTable document why =
     ((name : String Global) × (why ≡ fault.UnknownKey name) × IsFirstUnknown is_config_key document (string_bytes name))
     ⊎ ((k : ConfigKey) × IsRightBefore document k × IsOfKey document why k)
 
-of_table : (document : Members) (why : ScriptFault) → IsFirstFault document why → why ≢ fault.NoMemory → IsOfTable document why
+of_table : (document : Members) (why : ScriptFault) → IsFirstTableFault document why → why ≢ fault.NoMemory → IsOfTable document why
 of_table document (fault.UnknownKey name) first other = inl (name, refl, first)
 of_table document (fault.BadKey k) first other = inr (k, first.0, inl (refl, first.1))
 of_table document (fault.BadEntry k place) first other = inr (k, first.0, inr (place, refl, first.1))

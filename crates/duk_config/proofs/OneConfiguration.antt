@@ -12,7 +12,7 @@ use Rattle.duk_config.specs.declared.fault.ConfigKey.{ConfigKey}
 use Rattle.duk_config.specs.declared.fault.ConfigKey.TheVariants as key
 use Rattle.duk_config.specs.declared.fault.ScriptFault.{ScriptFault}
 use Rattle.duk_config.specs.declared.fault.ScriptFault.TheVariants as fault
-use Rattle.duk_config.specs.ConfigFaults.{HasBadEntry, IsFirstFault, IsWrong}
+use Rattle.duk_config.specs.ConfigFaults.{HasBadEntry, IsFirstTableFault, IsWrong}
 use Rattle.duk_config.specs.ConfigFile.{HasTableFault, IsConfigFault, IsConfigFile}
 use Rattle.duk_config.specs.ConfigTable.{HasBaseKeys, HasCards, IsConfigOf}
 use Rattle.duk_config.specs.Entries.{AreEntries, HaveOnePan, HaveOnePrefix, IsFirstBadEntry, StatesBaseKey, StatesCard}
@@ -187,7 +187,7 @@ no_bad_entry document config key.Log place is bad = bad
 no_bad_entry document config key.Stores place is bad = bad
 
 -- a table that states a configuration is refused for want of memory alone
-pub no_fault : (document : Members) (config : Settings) (why : ScriptFault) → IsConfigOf document config → IsFirstFault document why → why ≡ fault.NoMemory
+pub no_fault : (document : Members) (config : Settings) (why : ScriptFault) → IsConfigOf document config → IsFirstTableFault document why → why ≡ fault.NoMemory
 no_fault document config (fault.UnknownKey name) is first = absurd (none_unknown _ document (string_bytes name) is.no_other_key first)
 no_fault document config (fault.BadKey k) is first = absurd (none_wrong document config k is first.1)
 no_fault document config (fault.BadEntry k place) is first = absurd (no_bad_entry document config k place is first.1)
@@ -208,7 +208,7 @@ one_file bytes x y first second =
 no_table_fault : (bytes : List ℕ) (config : Settings) (why : ScriptFault) → IsConfigFile bytes config → HasTableFault bytes why → why ≡ fault.NoMemory
 no_table_fault bytes config why file has =
     let same : has.document ≡ file.document = one_value _ _ _ has.table.table file.table.table in
-    no_fault file.document config why file.config_is (subst (λ m. IsFirstFault m why) same has.first)
+    no_fault file.document config why file.config_is (subst (λ m. IsFirstTableFault m why) same has.first)
 
 -- a file that states a configuration is refused for want of memory alone
 pub no_file_fault : (bytes : List ℕ) (config : Settings) (why : ScriptFault) → IsConfigFile bytes config → IsConfigFault bytes why → why ≡ fault.NoMemory

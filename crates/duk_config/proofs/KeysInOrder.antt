@@ -4,11 +4,11 @@ use Rattle.std.specs.Result.{result_ok}
 use Rattle.toml.specs.Data.{Members}
 use Rattle.duk_config.specs.declared.fault.ConfigKey.{ConfigKey}
 use Rattle.duk_config.specs.declared.fault.ConfigKey.TheVariants as key
-use Rattle.duk_config.specs.ConfigFaults.{IsRight, IsRightBefore, rank}
+use Rattle.duk_config.specs.ConfigFaults.{IsRight, IsRightBefore, key_rank}
 use Rattle.duk_config.specs.ConfigKeys.{is_config_key}
 use Rattle.duk_config.specs.Names.{has_only}
 
--- the key of a rank
+-- the key of a key_rank
 abbrev key_at : ℕ → ConfigKey
 key_at zero = key.Lmk
 key_at (suc zero) = key.Zone
@@ -19,7 +19,7 @@ key_at (suc (suc (suc (suc (suc zero))))) = key.Stores
 key_at (suc (suc (suc (suc (suc (suc zero)))))) = key.Bdk
 key_at (suc (suc (suc (suc (suc (suc (suc _))))))) = key.Card
 
-key_at_rank : (k : ConfigKey) → key_at (rank k) ≡ k
+key_at_rank : (k : ConfigKey) → key_at (key_rank k) ≡ k
 key_at_rank key.Lmk = refl
 key_at_rank key.Zone = refl
 key_at_rank key.Loading = refl
@@ -29,8 +29,8 @@ key_at_rank key.Stores = refl
 key_at_rank key.Bdk = refl
 key_at_rank key.Card = refl
 
--- two keys have not one rank
-pub rank_once : (a b : ConfigKey) → rank a ≡ rank b → a ≡ b
+-- two keys have not one key_rank
+pub rank_once : (a b : ConfigKey) → key_rank a ≡ key_rank b → a ≡ b
 rank_once a b same = sym (key_at_rank a) ∙ (ap key_at same ∙ key_at_rank b)
 
 below_or_at : (m n : ℕ) → m < suc n → (m < n) ⊎ (n ≡ m)
@@ -41,11 +41,11 @@ pub first_right : (document : Members) → has_only is_config_key document ≡ t
 first_right document known = record { no_other_key = known; earlier_right = λ earlier lower. absurd (omega arith) }
 
 -- where a key and those before it are right, so are those before the next
-pub next_right : (document : Members) (a b : ConfigKey) → rank b ≡ suc (rank a) → IsRightBefore document a → IsRight document a → IsRightBefore document b
+pub next_right : (document : Members) (a b : ConfigKey) → key_rank b ≡ suc (key_rank a) → IsRightBefore document a → IsRight document a → IsRightBefore document b
 next_right document a b follows before right = record {
   no_other_key = before.no_other_key;
   earlier_right = λ earlier lower.
-      elim (below_or_at (rank earlier) (rank a) (omega arith)) [
+      elim (below_or_at (key_rank earlier) (key_rank a) (omega arith)) [
         | inl below ↦ before.earlier_right earlier below
         | inr same ↦ subst (IsRight document) (rank_once a earlier same) right
       ];
