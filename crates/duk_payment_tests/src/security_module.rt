@@ -4,8 +4,7 @@ use crate::sample::{
     BDK, BLOCK, CLEAR, INITIAL, LMK, LOADING, PREFIX, PUBLISHED, REQUEST, RESPONSE, ZONE, iksn,
     key, key_block, ksn, module_without_zone, pan, security_module,
 };
-use arrayvec::ArrayVec;
-use duk_block::{BlockFault, unwrap};
+use duk_block::{BlockFault, BlockText, unwrap};
 use duk_hsm::{Hsm, HsmFault};
 use duk_mac::retail;
 use duk_pin::PinFault;
@@ -98,7 +97,7 @@ fn a_zone_key(rt: HostRuntime) {
 }
 
 /// The key block in which an initial key is issued.
-fn issue_block(iksn: Iksn, pad: &[u8]) -> Result<Result<ArrayVec<u8, 512>, HsmFault>, Fail> {
+fn issue_block(iksn: Iksn, pad: &[u8]) -> Result<Result<BlockText, HsmFault>, Fail> {
     Ok(module_without_zone()?.issue(iksn, &key(LOADING), pad))
 }
 
