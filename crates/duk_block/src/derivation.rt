@@ -1,14 +1,13 @@
 //! The keys derived from a key block protection key.
 
-ghost use Rattle.std.specs.Prelude.{◌≡◌, length};
+ghost use Rattle.std.specs.Prelude.{◌≡◌};
 ghost use Rattle.duk_mac.specs.Cmac.{cmac_of};
-ghost use Rattle.duk_tdes.specs.Key.{IsKey};
 ghost use Rattle.duk_tdes.specs.Tdes.{IsTdesKey, IsTdesLength};
 ghost use Rattle.duk_block.specs.Derived.{derivation_data, derived_key, encryption_usage, mac_usage};
 
 use crate::text::{BlockText, append};
-use duk_mac::cmac;
-use duk_tdes::{Key, array_of};
+use duk_mac::cmac_under;
+use duk_tdes::{Key, Tdes, array_of};
 
 /// The key that enciphers payloads.
 pub fn encryption_key<const N: usize>(kbpk: &Key<N>) -> Key<N>
@@ -33,26 +32,26 @@ fn derive_key<const N: usize>(kbpk: &Key<N>, usage: [u8; 2]) -> Key<N>
     ensures derived { result ≡ derived_key usage kbpk.now }
     ensures key { IsTdesKey result }
 {
+    duk_tdes::laws::tdes_key(kbpk);
+    let tdes = Tdes::new(kbpk);
     let mut bytes = BlockText::new();
-    append(&mut bytes, &step(kbpk, 1, usage));
-    append(&mut bytes, &step(kbpk, 2, usage));
+    append(&mut bytes, &step(&tdes, 1, usage));
+    append(&mut bytes, &step(&tdes, 2, usage));
     if N == 24 {
-        append(&mut bytes, &step(kbpk, 3, usage));
+        append(&mut bytes, &step(&tdes, 3, usage));
     }
     Key::new(array_of(bytes.as_slice()))
 }
 
 /// One step of the derivation, eight bytes of the key.
-fn step<const N: usize>(kbpk: &Key<N>, counter: u8, usage: [u8; 2]) -> [u8; 8]
-    requires { IsTdesLength N }
-    ensures bytes { result ≡ cmac_of kbpk.now (derivation_data counter usage (length kbpk.now)) }
-    ensures protection_key { IsKey N kbpk.now }
+fn step<const N: usize>(tdes: &Tdes<N>, counter: u8, usage: [u8; 2]) -> [u8; 8]
+    ensures { result ≡ cmac_of tdes.now (derivation_data counter usage N) }
 {
     let [high, low] = usage;
-    let data = if kbpk.bytes().len() == 16 {
+    let data = if N == 16 {
         [counter, high, low, 0x00, 0x00, 0x00, 0x00, 0x80]
     } else {
         [counter, high, low, 0x00, 0x00, 0x01, 0x00, 0xC0]
     };
-    cmac(kbpk, &data)
+    cmac_under(tdes, &data)
 }

@@ -6,10 +6,12 @@
 #![tactic(auto)]
 
 mod bits;
+mod cipher;
 mod cipher_function;
 pub mod laws;
 pub mod plain;
 mod schedule;
 mod words;
 
-pub use words::{decrypt_block, encrypt_block, entry};
+pub use cipher::{Des, decrypt_block, encrypt_block};
+pub use words::entry;

@@ -2,7 +2,7 @@
 
 ghost use Rattle.std.specs.Prelude.{◌≡◌, map};
 ghost use Rattle.duk_des.specs.Bits.{xor_bits, bits_of_bytes, bytes_of_bits};
-ghost use Rattle.duk_des.specs.Des.{cipher_function, rounds, crypted, encipher, decipher, encrypted, decrypted};
+ghost use Rattle.duk_des.specs.Des.{cipher_function, rounds, crypted};
 ghost use Rattle.duk_des.specs.Words.{word_bits, key_bits};
 
 mod entries;
@@ -13,7 +13,7 @@ mod round_keys;
 pub use entries::entry;
 use entries::group_of;
 use permutations::{final_permutation, initial_permutation};
-use round_keys::{RoundKey, round_keys};
+pub(crate) use round_keys::{RoundKey, reverse_keys, round_keys};
 
 /// A round for each of the keys with these indexes: L' = R, and R' = L xor f(R, K).
 macro_rules! rounds {
@@ -26,26 +26,8 @@ macro_rules! rounds {
     };
 }
 
-/// Enciphers a block of 8 bytes under a key of 8 bytes (NIST SP 800-67 section 2).
-pub fn encrypt_block(key: &[u8; 8], block: [u8; 8]) -> [u8; 8]
-    ensures bytes { result ≡ encrypted key.now block }
-    ensures bits { bits_of_bytes result ≡ encipher (bits_of_bytes key.now) (bits_of_bytes block) }
-{
-    crypt_block(&round_keys(key), &block)
-}
-
-/// Deciphers a block of 8 bytes under a key of 8 bytes: the round keys are used in reverse order.
-pub fn decrypt_block(key: &[u8; 8], block: [u8; 8]) -> [u8; 8]
-    ensures bytes { result ≡ decrypted key.now block }
-    ensures bits { bits_of_bytes result ≡ decipher (bits_of_bytes key.now) (bits_of_bytes block) }
-{
-    let mut keys = round_keys(key);
-    keys.reverse();
-    crypt_block(&keys, &block)
-}
-
 /// The initial permutation, the rounds, and the final permutation of the halves, exchanged.
-fn crypt_block(keys: &[RoundKey; 16], block: &[u8; 8]) -> [u8; 8]
+pub(crate) fn crypt_block(keys: &[RoundKey; 16], block: &[u8; 8]) -> [u8; 8]
     ensures { result ≡ bytes_of_bits 8 (crypted (map key_bits keys.now) (bits_of_bytes block.now)) }
 {
     let (left, right) = initial_permutation(block);

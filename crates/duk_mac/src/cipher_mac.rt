@@ -6,7 +6,7 @@ ghost use Rattle.duk_tdes.specs.Tdes.{IsTdesLength};
 ghost use Rattle.duk_mac.specs.Cmac.{doubled, last_block, cmac_of};
 
 use crate::block::pad_block;
-use duk_tdes::{Key, array_of, tdes_encrypt, xor_bytes};
+use duk_tdes::{Key, Tdes, array_of, xor_bytes};
 
 /// Added where doubling drops a one bit: the constant R64 of NIST SP 800-38B section 5.3.
 const CARRY: u64 = 0x1B;
@@ -17,23 +17,30 @@ pub fn cmac<const N: usize>(key: &Key<N>, message: &[u8]) -> [u8; 8]
     ensures mac { result ≡ cmac_of key.now message.now }
     ensures block { IsBlock result }
 {
+    cmac_under(&Tdes::new(key), message)
+}
+
+/// The CMAC of a message of any length under TDES with one key.
+pub fn cmac_under<const N: usize>(tdes: &Tdes<N>, message: &[u8]) -> [u8; 8]
+    ensures mac { result ≡ cmac_of tdes.now message.now }
+    ensures block { IsBlock result }
+{
     let mut chain = [0; 8];
     let mut rest = message;
     while rest.len() > 8 {
         let (block, after) = rest.split_at(8);
-        chain = tdes_encrypt(key, xor_bytes(&chain, &array_of(block)));
+        chain = tdes.encrypt(xor_bytes(&chain, &array_of(block)));
         rest = after;
     }
-    tdes_encrypt(key, xor_bytes(&chain, &last_block(key, rest)))
+    tdes.encrypt(xor_bytes(&chain, &last_block(tdes, rest)))
 }
 
 /// The last block of a message, masked: `rest` is what the blocks before it leave, 0 to 8 bytes.
-fn last_block<const N: usize>(key: &Key<N>, rest: &[u8]) -> [u8; 8]
-    requires length { IsTdesLength N }
-    requires at_most_a_block { length rest.now ≤ 8 }
-    ensures { result ≡ last_block key.now rest.now }
+fn last_block<const N: usize>(tdes: &Tdes<N>, rest: &[u8]) -> [u8; 8]
+    requires { length rest.now ≤ 8 }
+    ensures { result ≡ last_block tdes.now rest.now }
 {
-    let first_subkey = double(tdes_encrypt(key, [0; 8]));
+    let first_subkey = double(tdes.encrypt([0; 8]));
     if rest.len() == 8 {
         xor_bytes(&array_of(rest), &first_subkey)
     } else {

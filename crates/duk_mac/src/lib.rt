@@ -9,5 +9,5 @@ mod cipher_mac;
 pub mod laws;
 mod retail_mac;
 
-pub use cipher_mac::cmac;
+pub use cipher_mac::{cmac, cmac_under};
 pub use retail_mac::retail;

@@ -4,7 +4,7 @@ ghost use Rattle.std.specs.Prelude.{◌≡◌, ◌<◌, length};
 ghost use Rattle.duk_mac.specs.Retail.{retail_of};
 
 use crate::block::fill_block;
-use duk_des::{decrypt_block, encrypt_block};
+use duk_des::{Des, decrypt_block};
 use duk_tdes::{Key, array_of, xor_bytes};
 
 /// The retail MAC of a message that is not empty. It is filled with zero bytes to whole blocks, so
@@ -14,14 +14,14 @@ pub fn retail(key: &Key<16>, message: &[u8]) -> [u8; 8]
     ensures { result ≡ retail_of key.now message.now }
 {
     let (left, right) = key.halves();
-    let left = left.bytes();
+    let left = Des::new(&left.bytes());
     let mut chain = [0; 8];
     let mut rest = message;
     while rest.len() > 8 {
         let (block, after) = rest.split_at(8);
-        chain = encrypt_block(&left, xor_bytes(&chain, &array_of(block)));
+        chain = left.encrypt(xor_bytes(&chain, &array_of(block)));
         rest = after;
     }
-    chain = encrypt_block(&left, xor_bytes(&chain, &fill_block(rest)));
-    encrypt_block(&left, decrypt_block(&right.bytes(), chain))
+    chain = left.encrypt(xor_bytes(&chain, &fill_block(rest)));
+    left.encrypt(decrypt_block(&right.bytes(), chain))
 }

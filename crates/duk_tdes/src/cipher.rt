@@ -2,65 +2,101 @@
 
 ghost use Rattle.std.specs.Prelude.{◌≡◌};
 ghost use Rattle.duk_tdes.specs.KeyBytes.{bytes_of};
-ghost use Rattle.duk_tdes.specs.Tdes.{IsTdesLength, first_key, second_key, third_key, tdes_encrypted, tdes_decrypted};
+ghost use Rattle.duk_tdes.specs.Tdes.{IsTdesLength, third_key, tdes_encrypted, tdes_decrypted};
 
 use crate::bytes::array_of;
 use crate::key::{Key, KeyBytes};
-use duk_des::{decrypt_block, encrypt_block};
+use duk_des::Des;
+use std::marker::Model;
 
-/// The three single keys of a TDES key, in the order in which they encipher.
+/// TDES under one key of `N` bytes, 16 or 24: DES under each of its single keys, whose round keys are
+/// made once. It has neither `Debug` nor `==`, so that no key is printed or compared by chance.
 #[derive(Drop)]
-struct SingleKeys {
-    first: [u8; 8],
-    second: [u8; 8],
-    third: [u8; 8],
+pub struct Tdes<const N: usize> {
+    key: Key<N>,
+    first: Des,
+    second: Des,
+    /// The third single key, where it is not the first again.
+    third: Option<Des>,
 }
 
-/// The single keys; with 16 bytes the third is the first again.
-fn single_keys<const N: usize>(key: &Key<N>) -> SingleKeys
-    requires { IsTdesLength N }
-    ensures first { result.first ≡ first_key key.now }
-    ensures second { result.second ≡ second_key key.now }
-    ensures third { result.third ≡ third_key key.now }
-{
-    let bytes = key.bytes();
-    let bytes = &bytes[..];
-    let first = array_of(&bytes[..8]);
-    let second = array_of(&bytes[8..16]);
-    let third = if N == 16 {
-        first
-    } else {
-        array_of(&bytes[16..24])
-    };
-    SingleKeys {
-        first,
-        second,
-        third,
+impl<const N: usize> Model for Tdes<N> {
+    ghost use Rattle.std.specs.Prelude.{ℕ, List};
+    ghost use Rattle.duk_tdes.specs.Tdes.{AreSingleKeys};
+
+    ghost Value = { List ℕ };
+
+    ghost view = { λ tdes. tdes.key };
+
+    ghost invariant = { λ tdes. AreSingleKeys tdes.key tdes.first tdes.second tdes.third };
+}
+
+impl<const N: usize> Tdes<N> {
+    /// TDES under this key.
+    pub fn new(key: &Key<N>) -> Self
+        requires { IsTdesLength N }
+        ensures { result ≡ key.now }
+    {
+        let bytes = key.bytes();
+        let bytes = &bytes[..];
+        let third = if N == 16 {
+            None
+        } else {
+            Some(Des::new(&array_of(&bytes[16..24])))
+        };
+        Tdes {
+            key: *key,
+            first: Des::new(&array_of(&bytes[..8])),
+            second: Des::new(&array_of(&bytes[8..16])),
+            third,
+        }
+    }
+
+    /// Enciphers a block.
+    #[tactic(auto, unfolding(crate::specs::Tdes::tdes_encrypted))]
+    pub fn encrypt(&self, block: [u8; 8]) -> [u8; 8]
+        ensures { result ≡ tdes_encrypted self.now block }
+    {
+        let block = self.first.encrypt(block);
+        let block = self.second.decrypt(block);
+        self.third().encrypt(block)
+    }
+
+    /// Deciphers a block: the one that `encrypt` enciphers to this one.
+    #[tactic(auto, unfolding(crate::specs::Tdes::tdes_decrypted))]
+    pub fn decrypt(&self, block: [u8; 8]) -> [u8; 8]
+        ensures { result ≡ tdes_decrypted self.now block }
+    {
+        let block = self.third().decrypt(block);
+        let block = self.second.encrypt(block);
+        self.first.decrypt(block)
+    }
+
+    /// DES under the third single key.
+    fn third(&self) -> &Des
+        ensures { result.now ≡ third_key self.now }
+    {
+        match &self.third {
+            Some(third) => third,
+            None => &self.first,
+        }
     }
 }
 
 /// The block enciphered under a key of 16 or 24 bytes.
-#[tactic(auto, unfolding(crate::specs::Tdes::tdes_encrypted))]
 pub fn tdes_encrypt<const N: usize>(key: &Key<N>, block: [u8; 8]) -> [u8; 8]
     requires { IsTdesLength N }
     ensures { result ≡ tdes_encrypted key.now block }
 {
-    let keys = single_keys(key);
-    let block = encrypt_block(&keys.first, block);
-    let block = decrypt_block(&keys.second, block);
-    encrypt_block(&keys.third, block)
+    Tdes::new(key).encrypt(block)
 }
 
 /// The block that `tdes_encrypt` enciphers to this one under the same key.
-#[tactic(auto, unfolding(crate::specs::Tdes::tdes_decrypted))]
 pub fn tdes_decrypt<const N: usize>(key: &Key<N>, block: [u8; 8]) -> [u8; 8]
     requires { IsTdesLength N }
     ensures { result ≡ tdes_decrypted key.now block }
 {
-    let keys = single_keys(key);
-    let block = decrypt_block(&keys.third, block);
-    let block = encrypt_block(&keys.second, block);
-    decrypt_block(&keys.first, block)
+    Tdes::new(key).decrypt(block)
 }
 
 impl KeyBytes {

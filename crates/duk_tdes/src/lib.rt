@@ -13,5 +13,5 @@ pub mod laws;
 
 pub use bytes::{array_of, xor_bytes};
 pub use chaining::{cbc_decrypt, cbc_encrypt};
-pub use cipher::{tdes_decrypt, tdes_encrypt};
+pub use cipher::{Tdes, tdes_decrypt, tdes_encrypt};
 pub use key::{Key, KeyBytes};

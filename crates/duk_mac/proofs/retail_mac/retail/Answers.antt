@@ -10,11 +10,11 @@ use Rattle.duk_mac.proofs.retail_mac.retail.Goals as goal
 
 pub loop-rest-preserved : goal.loop-rest-preserved
 loop-rest-preserved c =
-    let enciphered = encrypted c.bytes-left.result in
+    let enciphered = encrypted c.new-left.result in
     let chain = c.loop-rest.chain in
     let rest = c.loop-rest.rest.now in
     let long : 8 < length rest = omega arith in
-    let next = c.encrypt_block-chain.ensures.bytes ∙ ap enciphered (c.xor_bytes.ensures ∙ ap (xor_bytes chain) (c.array_of.ensures.bytes ∙ c.split_at.ensures.front)) in
+    let next = c.encrypt-chain.ensures.bytes ∙ ap enciphered (c.xor_bytes.ensures ∙ ap (xor_bytes chain) (c.array_of.ensures.bytes ∙ c.split_at.ensures.front)) in
     record {
       some = omega (arith, c.split_at.ensures.back_len);
       same = ap (λ found. chained enciphered found (blocks_of (zero_filled c.split_at.result.1.now))) next
@@ -26,15 +26,15 @@ loop-rest-preserved c =
 pub returns : goal.returns
 unfolding retail_of
 returns c =
-    let enciphered = encrypted c.bytes-left.result in
+    let enciphered = encrypted c.new-left.result in
     let chain = c.loop-rest.chain in
     let rest = c.loop-rest.rest.now in
     let short : length rest ≤ 8 = omega arith in
-    let last = c.encrypt_block-chain-2.ensures.bytes ∙ ap enciphered (c.xor_bytes-2.ensures ∙ ap (xor_bytes chain) c.fill_block.ensures)
+    let last = c.encrypt-chain-2.ensures.bytes ∙ ap enciphered (c.xor_bytes-2.ensures ∙ ap (xor_bytes chain) c.fill_block.ensures)
     ∙ sym (ap (chained enciphered chain) (filled-one rest c.loop-rest.invariant.some short))
     ∙ c.loop-rest.invariant.same in
-    let left = c.bytes-left.ensures.bytes ∙ c.halves-left.ensures.left in
-    let right = c.bytes.ensures.bytes ∙ c.halves-left.ensures.right in
-    c.encrypt_block.ensures.bytes
-    ∙ ap enciphered (c.decrypt_block.ensures.bytes ∙ ap (λ key. decrypted key c.encrypt_block-chain-2.result) right ∙ ap (decrypted (second_key c.args.key.now)) last)
+    let left = c.new-left.ensures ∙ c.bytes.ensures.bytes ∙ c.halves-left.ensures.left in
+    let right = c.bytes-2.ensures.bytes ∙ c.halves-left.ensures.right in
+    c.encrypt.ensures.bytes
+    ∙ ap enciphered (c.decrypt_block.ensures.bytes ∙ ap (λ key. decrypted key c.encrypt-chain-2.result) right ∙ ap (decrypted (second_key c.args.key.now)) last)
     ∙ ap (λ key. encrypted key (decrypted (second_key c.args.key.now) (chained (encrypted key) zero_block (blocks_of (zero_filled c.args.message.now))))) left

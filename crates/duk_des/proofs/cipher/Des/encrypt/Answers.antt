@@ -3,10 +3,11 @@ use Rattle.duk_des.specs.Bits.{bits_of_bytes, bytes_of_bits}
 use Rattle.duk_des.specs.Des.{crypted, encipher, encrypted}
 use Rattle.duk_des.proofs.BitNumbers.{bits_of_bytes-bytes_of_bits}
 use Rattle.duk_des.proofs.Undone.{length-crypted}
-use Rattle.duk_des.proofs.words.encrypt_block.Goals as goal
+use Rattle.duk_des.proofs.cipher.Des.encrypt.Goals as goal
 
 pub returns : goal.returns
 unfolding encipher encrypted
 returns c =
-    let bytes = c.crypt_block.ensures ∙ ap (λ keys. bytes_of_bits 8 (crypted keys (bits_of_bytes c.args.block))) c.round_keys.ensures in
-    record { bytes = bytes; bits = ap bits_of_bytes bytes ∙ bits_of_bytes-bytes_of_bits 8 _ (length-crypted _ _) }
+    rw (← c.self.view_is)
+    (let bytes = c.crypt_block.ensures ∙ ap (λ keys. bytes_of_bits 8 (crypted keys (bits_of_bytes c.args.block))) c.self.invariant in
+    record { bytes = bytes; bits = ap bits_of_bytes bytes ∙ bits_of_bytes-bytes_of_bits 8 _ (length-crypted _ _) })

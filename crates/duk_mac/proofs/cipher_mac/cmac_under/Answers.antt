@@ -5,7 +5,7 @@ use Rattle.duk_tdes.specs.Tdes.{tdes_encrypted}
 use Rattle.duk_mac.specs.Chain.{chained}
 use Rattle.duk_mac.specs.Cmac.{masked, cmac_of}
 use Rattle.duk_mac.proofs.Masked.{masked-more, masked-one}
-use Rattle.duk_mac.proofs.cipher_mac.cmac.Goals as goal
+use Rattle.duk_mac.proofs.cipher_mac.cmac_under.Goals as goal
 
 pub loop-rest-init : goal.loop-rest-init
 unfolding cmac_of
@@ -13,21 +13,21 @@ loop-rest-init g c = refl
 
 pub loop-rest-preserved : goal.loop-rest-preserved
 loop-rest-preserved g c =
-    let enciphered = tdes_encrypted c.args.key.now in
+    let enciphered = tdes_encrypted c.args.tdes.now in
     let chain = c.loop-rest.chain in
     let rest = c.loop-rest.rest.now in
     let long : 8 < length rest = omega arith in
-    let next = c.tdes_encrypt-chain.ensures ∙ ap enciphered (c.xor_bytes.ensures ∙ ap (xor_bytes chain) (c.array_of.ensures.bytes ∙ c.split_at.ensures.front)) in
-    ap (λ found. chained enciphered found (masked c.args.key.now (blocks_of c.split_at.result.1.now))) next
-    ∙ ap (λ after. chained enciphered (enciphered (xor_bytes chain (take 8 rest))) (masked c.args.key.now (blocks_of after))) c.split_at.ensures.back
-    ∙ sym (ap (chained enciphered chain) (masked-more c.args.key.now rest long))
+    let next = c.encrypt-chain.ensures ∙ ap enciphered (c.xor_bytes.ensures ∙ ap (xor_bytes chain) (c.array_of.ensures.bytes ∙ c.split_at.ensures.front)) in
+    ap (λ found. chained enciphered found (masked c.args.tdes.now (blocks_of c.split_at.result.1.now))) next
+    ∙ ap (λ after. chained enciphered (enciphered (xor_bytes chain (take 8 rest))) (masked c.args.tdes.now (blocks_of after))) c.split_at.ensures.back
+    ∙ sym (ap (chained enciphered chain) (masked-more c.args.tdes.now rest long))
     ∙ c.loop-rest.invariant
 
 pub returns-clause-mac : goal.returns-clause-mac
 returns-clause-mac g c =
-    let enciphered = tdes_encrypted c.args.key.now in
+    let enciphered = tdes_encrypted c.args.tdes.now in
     let chain = c.loop-rest.chain in
     let short : length c.loop-rest.rest.now ≤ 8 = omega arith in
-    c.tdes_encrypt.ensures ∙ ap enciphered (c.xor_bytes-2.ensures ∙ ap (xor_bytes chain) c.last_block.ensures)
-    ∙ sym (ap (chained enciphered chain) (masked-one c.args.key.now c.loop-rest.rest.now short))
+    c.encrypt.ensures ∙ ap enciphered (c.xor_bytes-2.ensures ∙ ap (xor_bytes chain) c.last_block.ensures)
+    ∙ sym (ap (chained enciphered chain) (masked-one c.args.tdes.now c.loop-rest.rest.now short))
     ∙ c.loop-rest.invariant

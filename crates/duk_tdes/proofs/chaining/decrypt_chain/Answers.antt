@@ -6,11 +6,11 @@ use Rattle.duk_tdes.specs.Tdes.{tdes_decrypted}
 use Rattle.duk_tdes.proofs.Blocks.{cbc_decrypted-more, cbc_decrypted-none}
 use Rattle.duk_tdes.proofs.Written.{written, length-written}
 use borrow.Rule.Slice.PartMut.{put_mid}
-use Rattle.duk_tdes.proofs.chaining.cbc_decrypt.Goals as goal
+use Rattle.duk_tdes.proofs.chaining.decrypt_chain.Goals as goal
 
 pub loop-place-preserved : goal.loop-place-preserved
 loop-place-preserved g c =
-    let key = c.args.key.now in
+    let key = c.args.tdes.now in
     let bytes = c.loop-place.bytes in
     let before = c.loop-place.before in
     let place = c.loop-place.place in
@@ -19,7 +19,7 @@ loop-place-preserved g c =
     let eight : length c.copy_from_slice.new.self ≡ 8 = omega (arith, c.copy_from_slice.ensures.len, length-drop place bytes, c.array_of-block.ensures.key.size_is) in
     let first : c.array_of-block.result ≡ take 8 (drop place bytes) = c.array_of-block.ensures.bytes ∙ ap (λ n. take n (drop place bytes)) width in
     let plain : List ℕ = xor_bytes (tdes_decrypted key (take 8 (drop place bytes))) before in
-    let next : c.xor_bytes-plain.result ≡ plain = c.xor_bytes-plain.ensures ∙ ap (λ block. xor_bytes block before) (c.tdes_decrypt.ensures ∙ ap (tdes_decrypted key) first) in
+    let next : c.xor_bytes-plain.result ≡ plain = c.xor_bytes-plain.ensures ∙ ap (λ block. xor_bytes block before) (c.decrypt.ensures ∙ ap (tdes_decrypted key) first) in
     let kept : length (put_mid place (place + 8 - place) bytes c.copy_from_slice.new.self) ≡ length bytes = length-written place (place + 8 - place) bytes c.copy_from_slice.new.self (omega arith) (omega arith) in
     record {
       kept = kept ∙ c.loop-place.invariant.kept;
@@ -36,7 +36,7 @@ loop-place-preserved g c =
 
 pub returns : goal.returns
 returns g c =
-    let key = c.args.key.now in
+    let key = c.args.tdes.now in
     let bytes = c.loop-place.bytes in
     let before = c.loop-place.before in
     let place = c.loop-place.place in

@@ -1,6 +1,6 @@
 use Rattle.std.proofs.Common.{◌≡◌, ◌≤◌, ◌-◌, ◌%◌, ◌++◌, length, take, drop}
 use Rattle.duk_tdes.specs.Cbc.{cbc_encrypted}
-use Rattle.duk_tdes.proofs.chaining.cbc_encrypt.Given as goal
+use Rattle.duk_tdes.proofs.chaining.encrypt_chain.Given as goal
 
 -- what is done, and behind it what is to be done
 abbrev pub invariant-loop-place : goal.invariant-loop-place
@@ -8,7 +8,7 @@ invariant-loop-place g l = record {
   kept : length l.bytes ≡ length l.fn.bytes;
   within : l.place ≤ length l.bytes;
   whole : l.place % 8 ≡ 0;
-  same : take l.place l.bytes ++ cbc_encrypted l.key l.before (drop l.place l.bytes) ≡ cbc_encrypted l.key l.fn.iv l.fn.bytes;
+  same : take l.place l.bytes ++ cbc_encrypted l.tdes l.before (drop l.place l.bytes) ≡ cbc_encrypted l.tdes l.fn.iv l.fn.bytes;
 }
 
 abbrev pub decreases-loop-place : goal.decreases-loop-place
