@@ -5,11 +5,11 @@ use Rattle.duk_frame.specs.Request.{IsRequest}
 use Rattle.duk_frame.specs.declared.code.Code.{Code}
 use Rattle.duk_frame.specs.declared.request.Request.{Request}
 use Rattle.duk_hsm.specs.Commands.{HasNoPin, IsOtherMac, IsPinOf, IsRequestMac, IsTransactionKey, IsTranslated}
-use Rattle.duk_hsm.specs.Keys.{HsmKeys, key_set_of, prefix_of}
+use Rattle.duk_hsm.specs.Keys.{HsmKeys, key_set_of}
 use Rattle.duk_pin.specs.PinBlock.{IsPinBlock, pin_block}
 use Rattle.duk_tdes.specs.Tdes.{tdes_encrypted}
 use Rattle.duk_tree.specs.Derivation.{derived_key_of}
-use Rattle.duk_tree.specs.Serial.{Serial, serial_bytes}
+use Rattle.duk_tree.specs.Serial.{Serial, prefix_of, serial_bytes}
 use Rattle.duk_host.specs.Judgement.{Decision, IsAcceptable, IsAccepted, IsAnswerTo, IsCodeOf, IsReasonAgainst, IsRefusedRequest, IsReplyTo, basis_with, refusal_frame}
 use Rattle.duk_host.specs.declared.reason.Reason.{Reason}
 use Rattle.duk_host.specs.declared.reason.Reason.TheVariants as reason
