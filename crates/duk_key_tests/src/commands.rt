@@ -97,57 +97,56 @@ impl Ended {
     }
 }
 
-fn derive_into(alloc: Global, room: usize, at_once: usize, full: Full) -> Ended {
-    let mut output = Pipe::new(alloc, room, at_once, full);
-    let mut fault = Vec::new(alloc);
-    let status = derive_command(BDK_TEXT, KSN, &mut output, &mut fault);
-    Ended {
-        status,
-        output,
-        fault,
-        room,
-    }
+/// A command whose lines are known.
+#[derive(Clone, Copy)]
+enum Command {
+    Derive,
+    Pin,
 }
 
-#[test]
-fn derive_into_a_full_pipe(rt: HostRuntime) {
-    for full in [Full::Fails, Full::TakesNone] {
-        for at_once in [1, 50, 200] {
-            for room in 0..DERIVED.len() + 1 {
-                assert!(rt;
-                    derive_into(rt.alloc(), room, at_once, full).has_written(DERIVED.as_bytes())
-                );
-            }
+impl Command {
+    /// What it writes where there is room for all.
+    fn lines(self) -> &'static [u8] {
+        match self {
+            Command::Derive => DERIVED.as_bytes(),
+            Command::Pin => PIN_BLOCKS.as_bytes(),
+        }
+    }
+
+    /// Runs it, and answers its status.
+    fn run(self, output: &mut Pipe, fault: &mut Vec<u8>) -> u8 {
+        match self {
+            Command::Derive => derive_command(BDK_TEXT, KSN, output, fault),
+            Command::Pin => pin_command("1234", "4012345678909", Some(PIN_KEY), output, fault),
+        }
+    }
+
+    /// Runs it into a pipe with room for so many bytes, of which it takes so many at once.
+    fn run_into(self, alloc: Global, room: usize, at_once: usize, full: Full) -> Ended {
+        let mut output = Pipe::new(alloc, room, at_once, full);
+        let mut fault = Vec::new(alloc);
+        let status = self.run(&mut output, &mut fault);
+        Ended {
+            status,
+            output,
+            fault,
+            room,
         }
     }
 }
 
-fn pin_into(alloc: Global, room: usize, at_once: usize, full: Full) -> Ended {
-    let mut output = Pipe::new(alloc, room, at_once, full);
-    let mut fault = Vec::new(alloc);
-    let status = pin_command(
-        "1234",
-        "4012345678909",
-        Some(PIN_KEY),
-        &mut output,
-        &mut fault,
-    );
-    Ended {
-        status,
-        output,
-        fault,
-        room,
-    }
-}
+/// More bytes than either of the two writes.
+const MORE_THAN_ENOUGH: usize = 140;
 
 #[test]
-fn pin_into_a_full_pipe(rt: HostRuntime) {
-    for full in [Full::Fails, Full::TakesNone] {
-        for at_once in [1, 50, 200] {
-            for room in 0..PIN_BLOCKS.len() + 1 {
-                assert!(rt;
-                    pin_into(rt.alloc(), room, at_once, full).has_written(PIN_BLOCKS.as_bytes())
-                );
+fn commands_into_a_full_pipe(rt: HostRuntime) {
+    for command in [Command::Derive, Command::Pin] {
+        for full in [Full::Fails, Full::TakesNone] {
+            for at_once in [1, 50, 200] {
+                for room in 0..MORE_THAN_ENOUGH {
+                    let ended = command.run_into(rt.alloc(), room, at_once, full);
+                    assert!(rt; ended.has_written(command.lines()));
+                }
             }
         }
     }
