@@ -1,4 +1,4 @@
-pub mod FrameFields
-pub mod RequestFields
-pub mod AnswerFields
+pub mod FrameLemmas
+pub mod RequestLemmas
+pub mod AnswerLemmas
 pub mod OneReading

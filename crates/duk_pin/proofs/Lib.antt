@@ -1,6 +1,6 @@
-pub mod CopiedFront
-pub mod DigitValues
-pub mod XoredNibbles
-pub mod FieldsReadAndWritten
-pub mod OnePinForBlock
-pub mod PinInField
+pub mod ListLemmas
+pub mod DigitLemmas
+pub mod NibbleLemmas
+pub mod FieldLemmas
+pub mod BlockLemmas
+pub mod PinLemmas

@@ -1,4 +1,4 @@
-pub mod FrontierMoves
-pub mod CounterBounds
-pub mod RegisterWrites
-pub mod ImageBytes
+pub mod TakenLemmas
+pub mod CounterLemmas
+pub mod RegisterLemmas
+pub mod ImageLemmas

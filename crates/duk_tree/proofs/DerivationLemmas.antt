@@ -6,7 +6,7 @@ use borrow.Rule.Slice.PartMut.{put_mid}
 use Rattle.duk_tree.specs.Path.{value_of, path_of}
 use Rattle.duk_tree.specs.Derivation.{step_of, node_key, transaction_key_of}
 use Rattle.duk_tree.specs.Serial.{low_bytes}
-use Rattle.duk_tree.proofs.CounterPaths.{path_from, value_of-path_from}
+use Rattle.duk_tree.proofs.PathLemmas.{path_from, value_of-path_from}
 
 down : (initial : List ℕ) (iksn counter place count : ℕ) (key : List ℕ) → place + suc count ≡ 21 → counter < 2 ^ 21
     → counter / 2 ^ place % 2 ≡ 1

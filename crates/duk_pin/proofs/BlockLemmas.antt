@@ -5,8 +5,8 @@ use Rattle.duk_pin.specs.Nibbles.{nibbles, bytes_of, xor_nibbles}
 use Rattle.duk_pin.specs.Pin.{IsPin}
 use Rattle.duk_pin.specs.Pan.{IsPan}
 use Rattle.duk_pin.specs.PinBlock.{IsPinBlock, pin_field, account_field, pin_block}
-use Rattle.duk_pin.proofs.XoredNibbles.{xor_twice, xor_is_field, length-nibbles}
-use Rattle.duk_pin.proofs.FieldsReadAndWritten.{pin_field_is_field, account_field_is_field, one_pin_of_field}
+use Rattle.duk_pin.proofs.NibbleLemmas.{xor_twice, xor_is_field, length-nibbles}
+use Rattle.duk_pin.proofs.FieldLemmas.{pin_field_is_field, account_field_is_field, one_pin_of_field}
 
 -- the exclusive or of a block and the account field is the PIN field
 pub field_of_block : (pin pan block : List ℕ) → IsPinBlock pin pan block → xor_nibbles (nibbles block) (account_field pan) ≡ pin_field pin

@@ -5,7 +5,7 @@ use Rattle.std.proofs.lemmas.Nat.{ones-le, ones_cat}
 use Rattle.std.proofs.lemmas.Bool.{cases_lt}
 use lib.Count.{ones-ones}
 use Rattle.std.specs.Int.RustNames.{count_ones}
-use Rattle.duk_tree.proofs.CounterPaths.{power_above}
+use Rattle.duk_tree.proofs.PathLemmas.{power_above}
 
 -- how many of the numbers below a bound have fewer than so many ones
 pub count_of_fewer : ℕ → ℕ → ℕ

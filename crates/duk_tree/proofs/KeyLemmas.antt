@@ -13,7 +13,7 @@ use Rattle.duk_tdes.specs.Tdes.{IsTdesKey, first_key, second_key, tdes_encrypted
 use Rattle.duk_tree.specs.Serial.{Serial, serial_bytes, iksn_bytes, low_bytes}
 use Rattle.duk_tree.specs.Path.{value_of}
 use Rattle.duk_tree.specs.Derivation.{derivation_mask, initial_key_of, half_step_of, step_of, node_key}
-use Rattle.duk_tree.proofs.SerialBytes.{length-serial_bytes, serial_bytes_fit}
+use Rattle.duk_tree.proofs.SerialLemmas.{length-serial_bytes, serial_bytes_fit}
 
 -- what the crates below say of keys and blocks
 pub record Below : Type 0 where

@@ -9,7 +9,7 @@ use Rattle.duk_tree.specs.Next.{IsNextUsable, IsLast, spent_counter}
 use Rattle.duk_tree.specs.Derivation.{step_of}
 use Rattle.duk_tree.specs.Serial.{low_bytes}
 use Rattle.duk_regs.specs.Registers.{RegisterSet, IsTaken, empty_register, register_at, lowest_place}
-use Rattle.duk_regs.proofs.CounterBounds.{BitLaws, trailing_place, comes_after}
+use Rattle.duk_regs.proofs.CounterLemmas.{BitLaws, trailing_place, comes_after}
 
 pub written_at : (registers : List (List ℕ)) (place : ℕ) (key : List ℕ) → place < length registers → register_at (set registers place key) place ≡ key
 written_at registers place key within = get_or-set_same registers place key empty_register within

@@ -7,8 +7,8 @@ use Rattle.std.specs.Int.{trailing_zeros, w32}
 use Rattle.std.specs.Int.RustNames.{count_ones}
 use Rattle.duk_tree.specs.Path.{last_place, IsPath, path_of, IsUsable}
 use Rattle.duk_tree.specs.Next.{IsNextUsable, IsLast}
-use Rattle.duk_tree.proofs.CounterPaths.{multiple, value_of-lt, count_ones-value_of, IsUsable-ones, IsUsable-from_ones, IsUsable-counter}
-use Rattle.duk_tree.proofs.UsablePaths.{path_of-value_of, IsPath-path_of, value_of-path_of, usable_value, trailing_zeros-path_of}
+use Rattle.duk_tree.proofs.PathLemmas.{multiple, value_of-lt, count_ones-value_of, IsUsable-ones, IsUsable-from_ones, IsUsable-counter}
+use Rattle.duk_tree.proofs.NodeLemmas.{path_of-value_of, IsPath-path_of, value_of-path_of, usable_value, trailing_zeros-path_of}
 
 -- the path of the greatest usable number
 abbrev last_path : List ℕ

@@ -6,10 +6,10 @@ use Rattle.std.proofs.lemmas.Bool.{cases_lt, cases_order}
 use Rattle.duk_tree.specs.Path.{last_place, IsPath, value_of, path_of, IsUsable}
 use Rattle.duk_tree.specs.Next.{ComesAfter}
 use Rattle.duk_tree.specs.Frontier.{parent_of, IsHeld, IsAncestorOrSelf, IsChild, HasOneHeld, candidate_at}
-use Rattle.duk_tree.proofs.CounterPaths.{IsUsable-ones, IsUsable-from_ones, path_from, IsPath-path_from, value_of-path_from}
+use Rattle.duk_tree.proofs.PathLemmas.{IsUsable-ones, IsUsable-from_ones, path_from, IsPath-path_from, value_of-path_from}
 use Rattle.std.specs.Int.RustNames.{count_ones}
-use Rattle.duk_tree.proofs.LeastUsable.{some_ones}
-use Rattle.duk_tree.proofs.UsablePaths.{path_of-value_of, IsPath-path_of, value_of-path_of, usable_path, usable_value, some_length, odd_multiple}
+use Rattle.duk_tree.proofs.NextLemmas.{some_ones}
+use Rattle.duk_tree.proofs.NodeLemmas.{path_of-value_of, IsPath-path_of, value_of-path_of, usable_path, usable_value, some_length, odd_multiple}
 
 -- ---- ancestors
 

@@ -9,7 +9,7 @@ use Rattle.std.proofs.lemmas.Str.Ascii.{IsAscii-from_all}
 use Rattle.duk_pin.specs.Pin.{IsPin}
 use Rattle.duk_pin.specs.Pan.{IsPan}
 use Rattle.duk_pin.specs.Digits.{values, ascii_of}
-use Rattle.duk_pin.proofs.CopiedFront.{copied_next}
+use Rattle.duk_pin.proofs.ListLemmas.{copied_next}
 
 -- digits are UTF-8
 pub IsUtf8_from_digits : (text : List ℕ) → All IsAsciiDigit text → IsUtf8 text

@@ -7,7 +7,7 @@ use Rattle.std.proofs.lemmas.Bool.{cases_order}
 use Rattle.std.specs.Int.{trailing_zeros, w32}
 use Rattle.std.specs.Int.RustNames.{count_ones}
 use Rattle.duk_tree.specs.Path.{last_place, IsPath, value_of, path_of, IsUsable}
-use Rattle.duk_tree.proofs.CounterPaths.{multiple, value_of-path_from, IsPath-path_from, path_from-value_of, count_ones-value_of, IsUsable-counter}
+use Rattle.duk_tree.proofs.PathLemmas.{multiple, value_of-path_from, IsPath-path_from, path_from-value_of, count_ones-value_of, IsUsable-counter}
 
 pub path_of-value_of : (path : List ℕ) → IsPath path → path_of (value_of path) ≡ path
 unfolding path_of

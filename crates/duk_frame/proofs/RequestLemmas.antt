@@ -7,7 +7,7 @@ use Rattle.duk_tree.specs.Serial.{Serial, serial_bytes}
 use Rattle.duk_frame.specs.Request.{IsRequest, request_text}
 use Rattle.duk_frame.specs.declared.request.Request.{Request}
 use Rattle.duk_frame.specs.Frame.{HasKind}
-use Rattle.duk_frame.proofs.FrameFields.{kind_of_frame, take-front, drop-front, Parts, parts_of, get_or-next, drop-next}
+use Rattle.duk_frame.proofs.FrameLemmas.{kind_of_frame, take-front, drop-front, Parts, parts_of, get_or-next, drop-next}
 
 -- what stands where a request has its fields
 pub record RequestPlaces (bytes : List ℕ) (request : Request) : Type 0 where

@@ -6,9 +6,9 @@ use Rattle.std.specs.List.{Contains}
 use Rattle.std.specs.Int.RustNames.{count_ones}
 use Rattle.duk_tree.specs.Path.{IsUsable}
 use Rattle.duk_tree.specs.Next.{IsNextUsable, IsLast, IsChainAfter}
-use Rattle.duk_tree.proofs.CounterPaths.{IsUsable-ones, IsUsable-from_ones, IsUsable-counter}
-use Rattle.duk_tree.proofs.LeastUsable.{last_usable, last_is_last, not_last, some_ones}
-use Rattle.duk_tree.proofs.CountedNumbers.{count_of_fewer, count_of_fewer-zero, count_of_fewer-few, count_of_fewer-all_many, count_of_fewer-both}
+use Rattle.duk_tree.proofs.PathLemmas.{IsUsable-ones, IsUsable-from_ones, IsUsable-counter}
+use Rattle.duk_tree.proofs.NextLemmas.{last_usable, last_is_last, not_last, some_ones}
+use Rattle.duk_tree.proofs.CountLemmas.{count_of_fewer, count_of_fewer-zero, count_of_fewer-few, count_of_fewer-all_many, count_of_fewer-both}
 
 -- ---- usable or not
 
