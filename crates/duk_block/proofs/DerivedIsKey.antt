@@ -6,7 +6,7 @@ use Rattle.duk_des.specs.Block.{IsBlock}
 use Rattle.duk_mac.specs.Cmac.{cmac_of}
 use Rattle.duk_tdes.specs.Tdes.{IsTdesKey}
 use Rattle.duk_block.specs.Derived.{algorithm_and_length, derivation_data, derived_key, encryption_usage, mac_usage}
-use Rattle.duk_block.proofs.DerivedKey.{step_of, derived_key-double, derived_key-triple}
+use Rattle.duk_block.proofs.DerivedKeyByLength.{step_of, derived_key-double, derived_key-triple}
 
 abbrev IsByte : ℕ → Type 0
 IsByte byte = byte < 2 ^ 8

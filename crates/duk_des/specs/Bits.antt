@@ -3,7 +3,7 @@
 use Rattle.std.specs.Prelude.{ℕ, zero, suc, ◌+◌, ◌-◌, ◌*◌, ◌/◌, ◌%◌, ◌^◌, ◌==◌, ◌&&◌, nat_lt, nat_le, Bool, true, false, List, [], ◌∷◌, ◌++◌, length, map, take, drop, slice_index_or}
 use Rattle.std.specs.Bool.{xor}
 
--- the bits of two lists of one length, added modulo 2
+-- the bits of two lists of one length, xored
 abbrev pub xor_bits : List Bool → List Bool → List Bool
 xor_bits [] bs = []
 xor_bits (a ∷ rest) [] = []

@@ -65,7 +65,7 @@ fn byte_of_bits(bits: &[bool]) -> u8
         + bits[7] as u8
 }
 
-/// The bits of two arrays, added modulo 2.
+/// The bits of two arrays, xored.
 pub fn xor<const N: usize>(left: &[bool; N], right: &[bool; N]) -> [bool; N]
     ensures { result ≡ xor_bits left.now right.now }
 {

@@ -1,4 +1,4 @@
-pub mod FrameLemmas
-pub mod RequestLemmas
-pub mod AnswerLemmas
+pub mod PlacesOfFrames
+pub mod PlacesOfRequests
+pub mod PlacesOfAnswers
 pub mod OneReading

@@ -11,8 +11,8 @@ use Rattle.duk_frame.specs.declared.answer.AnswerFrame.TheVariants.{Reply, Refus
 use Rattle.duk_frame.specs.declared.code.Code.{Code}
 use Rattle.duk_frame.specs.declared.code.Code.TheVariants.{Approved, NoCard, WrongPin, OverLimit, Unreadable}
 use Rattle.duk_frame.specs.declared.request.Request.{Request}
-use Rattle.duk_frame.proofs.AnswerLemmas.{reply_places, refusal_places}
-use Rattle.duk_frame.proofs.RequestLemmas.{request_places, amount_at, block_at, mac_at, same_request}
+use Rattle.duk_frame.proofs.PlacesOfAnswers.{reply_places, refusal_places}
+use Rattle.duk_frame.proofs.PlacesOfRequests.{request_places, amount_at, block_at, mac_at, same_request}
 
 -- what is known of key serial numbers
 pub record SerialLaws : Type 0 where

@@ -10,8 +10,8 @@ use Rattle.duk_tdes.specs.Blocks.{blocks_of}
 use Rattle.duk_tdes.specs.Key.{xor_bytes}
 use Rattle.duk_tdes.specs.Tdes.{tdes_encrypted}
 use Rattle.duk_mac.specs.Chain.{chained, zero_block}
-use Rattle.duk_mac.specs.Cmac.{cmac_of, doubled, first_subkey, last_block, masked, padded, second_subkey}
-use Rattle.duk_mac.proofs.Masked.{masked-more, masked-one}
+use Rattle.duk_mac.specs.Cmac.{cmac_of, doubled, first_subkey, last_block, with_last_masked, padded, second_subkey}
+use Rattle.duk_mac.proofs.LastBlockMasked.{masked-more, masked-one}
 
 abbrev IsByte : ℕ → Type 0
 IsByte byte = byte < 2 ^ 8
@@ -74,7 +74,7 @@ IsBlock-last_block key block makes short fit = last_by key block makes short fit
 
 -- one block is left
 chained-one : (key chain rest : List ℕ) → MakesBlocks key → length rest ≤ 8 → IsBlock chain → All IsByte rest
-    → IsBlock (chained (tdes_encrypted key) chain (masked key (blocks_of rest)))
+    → IsBlock (chained (tdes_encrypted key) chain (with_last_masked key (blocks_of rest)))
 chained-one key chain rest makes short is_chain fit =
     let P : List (List ℕ) → Type 0 = λ blocks. IsBlock (chained (tdes_encrypted key) chain blocks) in
     let last : List ℕ = last_block key rest in
@@ -83,7 +83,7 @@ chained-one key chain rest makes short is_chain fit =
 
 -- at most so many bytes are left
 IsBlock-chained : (key : List ℕ) → MakesBlocks key → (most : ℕ) (chain rest : List ℕ) → length rest ≤ most → IsBlock chain → All IsByte rest
-    → IsBlock (chained (tdes_encrypted key) chain (masked key (blocks_of rest)))
+    → IsBlock (chained (tdes_encrypted key) chain (with_last_masked key (blocks_of rest)))
 IsBlock-chained key makes zero chain rest within is_chain fit = chained-one key chain rest makes (omega arith) is_chain fit
 IsBlock-chained key makes (suc most) chain rest within is_chain fit =
     elim (cases_lt 8 (length rest)) [

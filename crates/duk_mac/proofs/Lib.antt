@@ -1,4 +1,4 @@
-pub mod Blocks
-pub mod Masked
-pub mod Filled
+pub mod FirstBlock
+pub mod LastBlockMasked
+pub mod LastBlockFilled
 pub mod CmacIsBlock

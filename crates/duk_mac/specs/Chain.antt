@@ -6,7 +6,7 @@ use Rattle.duk_tdes.specs.Key.{xor_bytes}
 abbrev pub zero_block : List ℕ
 zero_block = replicate 8 0
 
--- the last block of the chain: each block is added to the one before and enciphered
+-- the last block of the chain: each block is xored with the one before and enciphered
 abbrev pub chained : (List ℕ → List ℕ) → List ℕ → List (List ℕ) → List ℕ
 chained enciphered chain [] = chain
 chained enciphered chain (block ∷ blocks) =

@@ -6,7 +6,7 @@ use Rattle.duk_tdes.specs.Key.{xor_bytes}
 use Rattle.duk_tdes.specs.Tdes.{tdes_encrypted}
 use Rattle.duk_mac.specs.Chain.{zero_block, chained}
 
--- the 64 bits of a block shifted left by one; where the bit that falls out is a one, 1B is added
+-- the 64 bits of a block shifted left by one; where the bit that falls out is a one, it is xored with 1B
 -- (section 6.1, steps 2 and 3)
 unfoldable pub doubled : List ℕ → List ℕ
 doubled block =
@@ -35,11 +35,11 @@ last_block key block =
     else xor_bytes (padded block) (second_subkey key)
 
 -- the blocks with the last one masked; the empty message has one block, which is empty
-unfoldable pub masked : List ℕ → List (List ℕ) → List (List ℕ)
-masked key [] = last_block key [] ∷ []
-masked key (block ∷ []) = last_block key block ∷ []
-masked key (block ∷ next ∷ blocks) = block ∷ masked key (next ∷ blocks)
+unfoldable pub with_last_masked : List ℕ → List (List ℕ) → List (List ℕ)
+with_last_masked key [] = last_block key [] ∷ []
+with_last_masked key (block ∷ []) = last_block key block ∷ []
+with_last_masked key (block ∷ next ∷ blocks) = block ∷ with_last_masked key (next ∷ blocks)
 
 -- the MAC of a message under a TDES key, all eight bytes of it (section 6.2)
 unfoldable pub cmac_of : List ℕ → List ℕ → List ℕ
-cmac_of key message = chained (tdes_encrypted key) zero_block (masked key (blocks_of message))
+cmac_of key message = chained (tdes_encrypted key) zero_block (with_last_masked key (blocks_of message))

@@ -8,7 +8,7 @@ ghost use Rattle.duk_mac.specs.Cmac.{doubled, last_block, cmac_of};
 use crate::block::pad_block;
 use duk_tdes::{Key, Tdes, array_of, xor_bytes};
 
-/// Added where doubling drops a one bit: the constant R64 of NIST SP 800-38B section 5.3.
+/// Xored where doubling drops a one bit: the constant R64 of NIST SP 800-38B section 5.3.
 const CARRY: u64 = 0x1B;
 
 /// The CMAC of a message of any length under a TDES key: `N` is 16 or 24.
@@ -48,7 +48,7 @@ fn last_block<const N: usize>(tdes: &Tdes<N>, rest: &[u8]) -> [u8; 8]
     }
 }
 
-/// The block shifted left by one bit; `CARRY` is added where the bit that falls out is a one.
+/// The block shifted left by one bit; it is xored with `CARRY` where the bit that falls out is a one.
 #[tactic(auto, unfolding(crate::specs::Cmac::doubled))]
 fn double(block: [u8; 8]) -> [u8; 8]
     ensures { result ≡ doubled block }

@@ -12,5 +12,5 @@ pub fn cmac_is_a_block()
         → IsBlock (cmac_of key message) }
 {
     duk_tdes::laws::inverse();
-    duk_tdes::laws::sum_of_blocks();
+    duk_tdes::laws::xor_of_blocks();
 }

@@ -1,6 +1,6 @@
-pub mod ListLemmas
-pub mod DigitLemmas
-pub mod NibbleLemmas
-pub mod FieldLemmas
-pub mod BlockLemmas
-pub mod PinLemmas
+pub mod CopyIntoFront
+pub mod DigitValues
+pub mod XorOfNibbles
+pub mod FieldsWrittenAndRead
+pub mod OnePinOneBlock
+pub mod PinInField

@@ -12,7 +12,7 @@ bytes_of [] = []
 bytes_of (left ∷ []) = []
 bytes_of (left ∷ right ∷ rest) = (16 * left + right) ∷ bytes_of rest
 
--- two lists of nibbles of one length, added modulo 2
+-- two lists of nibbles of one length, xored
 abbrev pub xor_nibbles : List ℕ → List ℕ → List ℕ
 xor_nibbles [] right = []
 xor_nibbles (a ∷ left) [] = []

@@ -9,7 +9,7 @@ use crate::pin::Pin;
 
 /// The PIN block of a PIN and a PAN: 8 bytes, the exclusive or of the PIN field and the account
 /// field.
-#[tactic(auto, using(crate::proofs::BlockLemmas::no_other_block))]
+#[tactic(auto, using(crate::proofs::OnePinOneBlock::no_other_block))]
 pub fn encode(pin: &Pin, pan: &Pan) -> [u8; 8]
     ensures block { IsPinBlock pin.now pan.now result }
     ensures bytes { result ≡ pin_block pin.now pan.now }
@@ -19,7 +19,7 @@ pub fn encode(pin: &Pin, pan: &Pan) -> [u8; 8]
 
 /// The PIN of a block of 8 bytes under a PAN, or `None` where it is the block of no PIN under that
 /// PAN.
-#[tactic(auto, using(crate::proofs::BlockLemmas::field_of_block))]
+#[tactic(auto, using(crate::proofs::OnePinOneBlock::field_of_block))]
 pub fn decode(block: [u8; 8], pan: &Pan) -> Option<Pin>
     ensures found { IfSome result (λ pin. IsPinBlock pin pan.now block) }
     ensures none { IfNone result ((pin : List ℕ) → ¬ (IsPinBlock pin pan.now block)) }

@@ -41,7 +41,7 @@ impl Model for Digits {
 
 impl Digits {
     /// The digits that the text writes, if each of its bytes is one.
-    #[tactic(auto, using(crate::proofs::ListLemmas::copied_next))]
+    #[tactic(auto, using(crate::proofs::CopyIntoFront::copied_next))]
     pub fn parse(text: &str) -> Option<Self>
         requires { length text.now ≤ MAX_DIGITS }
         ensures digits { IsSome result ↔ All IsAsciiDigit text.now }
@@ -62,7 +62,7 @@ impl Digits {
     }
 
     /// The digits with these values.
-    #[tactic(auto, using(std::proofs::lemmas::Grind::common_steps, crate::proofs::DigitLemmas::values_of_ascii, crate::proofs::DigitLemmas::ascii_are_digits))]
+    #[tactic(auto, using(std::proofs::lemmas::Grind::common_steps, crate::proofs::DigitValues::values_of_ascii, crate::proofs::DigitValues::ascii_are_digits))]
     pub fn from_values(numbers: &[u8]) -> Self
         requires fits { length numbers.now ≤ MAX_DIGITS }
         requires digits { All (λ number. number < 10) numbers.now }
@@ -84,7 +84,7 @@ impl Digits {
     }
 
     /// The text of the digits.
-    #[tactic(auto, using(crate::proofs::DigitLemmas::IsUtf8_from_digits))]
+    #[tactic(auto, using(crate::proofs::DigitValues::IsUtf8_from_digits))]
     pub fn as_str(&self) -> &str
         ensures text { result.now ≡ self.now }
         ensures digits { All IsAsciiDigit self.now }
@@ -109,7 +109,7 @@ impl Eq for Digits {
 }
 
 /// The ASCII digits with these values, and zeros behind them.
-#[tactic(auto, using(crate::proofs::DigitLemmas::ascii_next))]
+#[tactic(auto, using(crate::proofs::DigitValues::ascii_next))]
 fn ascii_digits(numbers: &[u8]) -> [u8; MAX_DIGITS]
     requires fits { length numbers.now ≤ MAX_DIGITS }
     requires digits { All (λ number. number < 10) numbers.now }

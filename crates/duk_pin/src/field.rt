@@ -75,7 +75,7 @@ impl Field {
     }
 
     /// The block with these nibbles.
-    #[tactic(auto, using(std::proofs::lemmas::Grind::common_steps, crate::proofs::NibbleLemmas::packed_next))]
+    #[tactic(auto, using(std::proofs::lemmas::Grind::common_steps, crate::proofs::XorOfNibbles::packed_next))]
     pub fn to_block(self) -> [u8; 8]
         ensures { nibbles result ≡ self }
     {
@@ -87,7 +87,7 @@ impl Field {
     }
 
     /// The exclusive or of two fields, nibble by nibble.
-    #[tactic(auto, using(crate::proofs::NibbleLemmas::xor_is_field, crate::proofs::NibbleLemmas::xor_twice))]
+    #[tactic(auto, using(crate::proofs::XorOfNibbles::xor_is_field, crate::proofs::XorOfNibbles::xor_twice))]
     pub fn xor(self, other: Self) -> Self
         ensures xor { result ≡ xor_nibbles self other }
         ensures undone { xor_nibbles result other ≡ self }
@@ -98,7 +98,7 @@ impl Field {
     }
 
     /// The PIN whose PIN field this is, if there is one.
-    #[tactic(auto, using(crate::proofs::FieldLemmas::pin_field_reads, crate::proofs::FieldLemmas::field_of_digits_read))]
+    #[tactic(auto, using(crate::proofs::FieldsWrittenAndRead::pin_field_reads, crate::proofs::FieldsWrittenAndRead::field_of_digits_read))]
     pub fn to_pin(self) -> Option<Pin>
         ensures found { IfSome result (λ pin. IsPin pin × (pin_field pin ≡ self)) }
         ensures every { (pin : List ℕ) → IsPin pin → pin_field pin ≡ self → result ≡ Some pin }
@@ -173,7 +173,7 @@ fn are_filler(nibbles: &[u8]) -> bool
 }
 
 /// The nibbles with the values of the digits from a place on.
-#[tactic(auto, using(std::proofs::lemmas::Grind::common_steps, crate::proofs::FieldLemmas::placed_next))]
+#[tactic(auto, using(std::proofs::lemmas::Grind::common_steps, crate::proofs::FieldsWrittenAndRead::placed_next))]
 fn with_values(mut nibbles: [u8; 16], start: usize, digits: &[u8]) -> [u8; 16]
     requires room { start + length digits.now ≤ 16 }
     requires digits { All IsAsciiDigit digits.now }

@@ -27,7 +27,7 @@ pub fn join(left: u8, right: u8) -> u8
 }
 
 /// The exclusive or of two fields, nibble by nibble.
-#[tactic(auto, using(std::proofs::lemmas::Grind::common_steps, crate::proofs::NibbleLemmas::xor_more))]
+#[tactic(auto, using(std::proofs::lemmas::Grind::common_steps, crate::proofs::XorOfNibbles::xor_more))]
 pub fn xor(left: &[u8; 16], right: &[u8; 16]) -> [u8; 16]
     ensures { result ≡ xor_nibbles left.now right.now }
 {

@@ -1,4 +1,4 @@
-pub mod TakenLemmas
-pub mod CounterLemmas
-pub mod RegisterLemmas
-pub mod ImageLemmas
+pub mod FrontierToFrontier
+pub mod CounterBounds
+pub mod OneRegisterWritten
+pub mod ImageWrittenAndRead

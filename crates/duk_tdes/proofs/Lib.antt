@@ -1,5 +1,5 @@
-pub mod KeyParts
-pub mod Blocks
-pub mod Written
-pub mod XorBytes
-pub mod CbcUndone
+pub mod SingleKeys
+pub mod FirstBlock
+pub mod OneMoreBlockWritten
+pub mod XorOfBlocks
+pub mod CbcDecryptionUndoes

@@ -5,7 +5,7 @@ use Rattle.duk_tdes.specs.Blocks.{blocks_of}
 use Rattle.duk_tdes.specs.Key.{xor_bytes}
 use Rattle.duk_tdes.specs.Tdes.{tdes_encrypted, tdes_decrypted}
 
--- each plain block is added to the cipher block before it and enciphered; before the first stands
+-- each plain block is xored with the cipher block before it and enciphered; before the first stands
 -- the initial vector
 abbrev pub chained_ciphers : List ℕ → List ℕ → List (List ℕ) → List ℕ
 chained_ciphers key before [] = []
@@ -13,7 +13,7 @@ chained_ciphers key before (block ∷ blocks) =
     let cipher = tdes_encrypted key (xor_bytes block before) in
     cipher ++ chained_ciphers key cipher blocks
 
--- each cipher block is deciphered and the cipher block before it added
+-- each cipher block is deciphered and xored with the cipher block before it
 abbrev pub chained_plains : List ℕ → List ℕ → List (List ℕ) → List ℕ
 chained_plains key before [] = []
 chained_plains key before (block ∷ blocks) =

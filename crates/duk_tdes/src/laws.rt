@@ -69,8 +69,8 @@ pub fn cbc_inverse()
     inverse();
 }
 
-/// The sum of two blocks is a block.
-pub fn sum_of_blocks()
+/// The exclusive or of two blocks is a block.
+pub fn xor_of_blocks()
     ensures { (block mask : List ℕ) → IsBlock block → IsBlock mask
         → IsBlock (xor_bytes block mask) }
 {}

@@ -35,7 +35,7 @@ pub fn serials()
 
 /// A key serial number has the prefix of its initial key serial number. So all the numbers of a
 /// terminal have one base derivation key, that from which its initial key is made.
-#[tactic(auto, using(crate::proofs::Prefixes::one_prefix))]
+#[tactic(auto, using(crate::proofs::OnePrefix::one_prefix))]
 pub fn prefixes()
     ensures { (ksn : Serial) → IsSerial ksn → prefix_of ksn ≡ iksn_prefix_of ksn.iksn }
 {}

@@ -1,7 +1,7 @@
 use Rattle.std.proofs.Common.{◌≡◌, ℕ, List, ◌++◌, length, ap, sym, ◌∙◌, inl, inr}
 use Rattle.duk_mac.specs.Cmac.{cmac_of}
 use Rattle.duk_block.specs.Derived.{derivation_data}
-use Rattle.duk_block.proofs.DerivedKey.{step_of, derived_key-double, derived_key-triple}
+use Rattle.duk_block.proofs.DerivedKeyByLength.{step_of, derived_key-double, derived_key-triple}
 use Rattle.duk_block.proofs.derivation.derive_key.Goals as goal
 use Rattle.duk_block.proofs.derivation.derive_key.Goals.{then-this-eq24, else-this-eq24}
 

@@ -3,7 +3,7 @@ use Rattle.std.specs.Prelude.{MatchBool}
 use Rattle.std.specs.List.{AllPass}
 use Rattle.hex.specs.Hex.{is_hex_digit}
 use Rattle.duk_block.specs.Hexadecimal.{IsHexadecimal}
-use Rattle.duk_block.proofs.Decoded.{read_from_decoding}
+use Rattle.duk_block.proofs.DecoderAnswers.{read_from_decoding}
 use Rattle.duk_block.proofs.digits.read_hex.Goals as goal
 
 pub returns : goal.returns

@@ -3,7 +3,7 @@ use Rattle.duk_tdes.specs.Cbc.{cbc_decrypted}
 use Rattle.duk_block.specs.Derived.{derived_key, encryption_usage}
 use Rattle.duk_block.specs.Faults.{Carries, HasPayload}
 use Rattle.duk_block.specs.KeyBlock.{payload_of}
-use Rattle.duk_block.proofs.Bodies.{HasParts-same}
+use Rattle.duk_block.proofs.OneBody.{HasParts-same}
 use Rattle.duk_block.proofs.TextPlaces.{Carries-same, IsBlock-mac, fields_at, header_same, payload_at}
 use Rattle.duk_block.proofs.laws.one_reading.Goals as goal
 

@@ -1,7 +1,7 @@
 use Rattle.std.proofs.Common.{List, ℕ, sym, subst, ◌∙◌, refl, inl, inr}
 use Rattle.std.proofs.lemmas.Nat.{be_bytes_2}
 use Rattle.duk_block.specs.Faults.{Carries}
-use Rattle.duk_block.proofs.Carried.{carries}
+use Rattle.duk_block.proofs.CarriedKey.{carries}
 use Rattle.duk_block.proofs.HexBytes.{IsBytes-from_All}
 use Rattle.duk_block.proofs.payload.key_in.Goals as goal
 

@@ -3,7 +3,7 @@ use Rattle.std.specs.List.{refill}
 use Rattle.std.proofs.lemmas.List.Elements.{All-from_get_or}
 use Rattle.duk_tdes.specs.Cbc.{AreWholeBlocks, cbc_decrypted, cbc_encrypted}
 use Rattle.duk_block.specs.Derived.{derived_key, encryption_usage}
-use Rattle.duk_block.proofs.Refilled.{refill-same}
+use Rattle.duk_block.proofs.RefilledVector.{refill-same}
 use Rattle.duk_block.proofs.sealing.decipher.Goals as goal
 
 pub returns : goal.returns

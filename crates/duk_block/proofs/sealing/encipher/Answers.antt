@@ -2,7 +2,7 @@ use Rattle.std.proofs.Common.{◌≡◌, ◌<◌, ◌^◌, ◌++◌, ℕ, List, 
 use Rattle.std.specs.List.{refill}
 use Rattle.std.proofs.lemmas.List.Elements.{All-from_get_or}
 use Rattle.duk_tdes.specs.Cbc.{AreWholeBlocks, cbc_encrypted}
-use Rattle.duk_block.proofs.Refilled.{refill-same}
+use Rattle.duk_block.proofs.RefilledVector.{refill-same}
 use Rattle.duk_block.proofs.sealing.encipher.Goals as goal
 
 pub returns : goal.returns

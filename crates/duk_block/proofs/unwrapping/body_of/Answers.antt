@@ -1,7 +1,7 @@
 use Rattle.std.proofs.Common.{◌≡◌, ◌-◌, ℕ, List, length, take, drop, sym, ap, subst, arith}
 use Rattle.std.proofs.lemmas.List.{take_rest}
 use Rattle.duk_block.specs.Optional.{Leaves}
-use Rattle.duk_block.proofs.Bodies.{HasCount-same}
+use Rattle.duk_block.proofs.OneBody.{HasCount-same}
 use Rattle.duk_block.proofs.OptionalBlocks.{Leaves-same}
 use Rattle.duk_block.proofs.unwrapping.body_of.Goals as goal
 use Rattle.duk_block.proofs.unwrapping.body_of.Goals.{else-body-ge64-via-then-body-ge64+else-body-eq0, else-body-ge64-via-else-body-ge64}

@@ -11,7 +11,7 @@ use Rattle.std.proofs.lemmas.Slice.Eq.{slice_eq-Decides}
 use Rattle.std.proofs.lemmas.Bool.Decides.{Decides-eqb}
 use Rattle.duk_block.specs.declared.fault.BlockFault.TheVariants.{Hex, Mac}
 use Rattle.duk_block.proofs.FaultOrder.{met_next}
-use Rattle.duk_block.proofs.Bodies.{HasBody-same, HasParts-same, body_behind}
+use Rattle.duk_block.proofs.OneBody.{HasBody-same, HasParts-same, body_behind}
 use Rattle.duk_block.proofs.unwrapping.open_payload.Goals as goal
 
 -- the parts that reading and cutting gave

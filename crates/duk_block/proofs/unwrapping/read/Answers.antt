@@ -3,7 +3,7 @@ use Rattle.std.proofs.lemmas.Result.{err_from_is_err_and}
 use Rattle.duk_tdes.specs.KeyBytes.{bytes_of}
 use Rattle.duk_block.specs.Faults.{Carries}
 use Rattle.duk_block.proofs.FaultOrder.{met_before_optional, met_before_payload}
-use Rattle.duk_block.proofs.Pieces.{block_read}
+use Rattle.duk_block.proofs.HeaderPieces.{block_read}
 use Rattle.duk_block.proofs.unwrapping.read.Goals as goal
 
 pub returns-in_err-header-clause-refused : goal.returns-in_err-header-clause-refused

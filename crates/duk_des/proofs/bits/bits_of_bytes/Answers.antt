@@ -1,7 +1,7 @@
 use Rattle.std.proofs.Common.{refl, sym, ap, ◌∙◌}
 use Rattle.duk_des.specs.Bits.{bits_of_bytes}
-use Rattle.duk_des.proofs.Joined.{appended}
-use Rattle.duk_des.proofs.Spelled.{is_spelled}
+use Rattle.duk_des.proofs.SideBySide.{appended}
+use Rattle.duk_des.proofs.LiteralLists.{is_spelled}
 use Rattle.duk_des.proofs.bits.bits_of_bytes.Goals as goal
 
 pub returns : goal.returns

@@ -1,7 +1,7 @@
 use Rattle.std.proofs.Common.{◌≡◌, ◌≢◌, ◌+◌, ◌-◌, ◌*◌, ◌<◌, length, take, drop, sym, ap, ◌∙◌, below_more, get_or-set_other, get_or-set_same, length-set, arith}
 use Rattle.std.proofs.lemmas.List.{ext_get_or}
 use Rattle.duk_des.specs.Bits.{number_of}
-use Rattle.duk_des.proofs.Places.{byte_at, length-bytes_of_bits}
+use Rattle.duk_des.proofs.PlaceTables.{byte_at, length-bytes_of_bits}
 use Rattle.duk_des.proofs.bits.bytes_of_bits.Goals as goal
 
 pub loop-i-preserved : goal.loop-i-preserved

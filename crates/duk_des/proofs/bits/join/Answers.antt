@@ -1,5 +1,5 @@
 use Rattle.std.proofs.Common.{arith}
-use Rattle.duk_des.proofs.Places.{both_lists}
+use Rattle.duk_des.proofs.PlaceTables.{both_lists}
 use Rattle.duk_des.proofs.bits.join.Goals as goal
 
 pub returns : goal.returns

@@ -1,7 +1,7 @@
 use Rattle.std.proofs.Common.{false, sym, ◌∙◌, arith}
 use Rattle.std.proofs.lemmas.List.{ext_get_or, get_or-map, length-map}
 use Rattle.duk_des.specs.Bits.{bit}
-use Rattle.duk_des.proofs.Places.{place_at}
+use Rattle.duk_des.proofs.PlaceTables.{place_at}
 use Rattle.duk_des.proofs.bits.permute.Goals as goal
 
 pub overflow_sub-chosen : goal.overflow_sub-chosen

@@ -1,7 +1,7 @@
 use Rattle.std.proofs.Common.{◌<◌, length, ◌∙◌, sym, false, below_more, get_or-set_other, get_or-set_same, length-set, ◌≢◌, arith}
 use Rattle.std.proofs.lemmas.List.{ext_get_or}
 use mathlib.Core.Bool.{xor}
-use Rattle.duk_des.proofs.XorBits.{length-xor_bits, get_or-xor_bits}
+use Rattle.duk_des.proofs.BitsOfXor.{length-xor_bits, get_or-xor_bits}
 use Rattle.duk_des.proofs.bits.xor.Goals as goal
 
 pub loop-i-preserved : goal.loop-i-preserved

@@ -1,8 +1,8 @@
 use Rattle.std.proofs.Common.{◌≡◌, ℕ, Bool, false, List, take, drop, refl, sym, ap, ◌∙◌}
 use Rattle.duk_des.specs.Des.{substitute, substitute_all}
 use Rattle.duk_des.specs.Tables.{boxes, box1, box2, box3, box4, box5, box6, box7, box8}
-use Rattle.duk_des.proofs.Joined.{appended}
-use Rattle.duk_des.proofs.Spelled.{spelled, is_spelled}
+use Rattle.duk_des.proofs.SideBySide.{appended}
+use Rattle.duk_des.proofs.LiteralLists.{spelled, is_spelled}
 use Rattle.duk_des.proofs.cipher_function.substitute_all.Goals as goal
 
 -- what a box gives of six bits from a place on, where the bits are written out

@@ -1,4 +1,4 @@
-use Rattle.duk_des.proofs.Undone.{decrypted-encrypted, encrypted-decrypted, IsBlock-encrypted, IsBlock-decrypted}
+use Rattle.duk_des.proofs.DecipheringUndoes.{decrypted-encrypted, encrypted-decrypted, IsBlock-encrypted, IsBlock-decrypted}
 use Rattle.duk_des.proofs.laws.inverse.Goals as goal
 
 pub returns-clause-deciphered : goal.returns-clause-deciphered

@@ -1,4 +1,4 @@
-use Rattle.duk_des.proofs.Undone.{decipher-encipher, encipher-decipher}
+use Rattle.duk_des.proofs.DecipheringUndoes.{decipher-encipher, encipher-decipher}
 use Rattle.duk_des.proofs.laws.inverse_on_bits.Goals as goal
 
 pub returns-clause-deciphered : goal.returns-clause-deciphered

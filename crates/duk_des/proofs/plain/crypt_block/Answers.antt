@@ -2,7 +2,7 @@ use Rattle.std.proofs.Common.{Bool, List, ◌++◌, ap, ◌∙◌}
 use Rattle.duk_des.specs.Bits.{permute}
 use Rattle.duk_des.specs.Des.{Halves, rounds, crypted}
 use Rattle.duk_des.specs.Tables.{final_places}
-use Rattle.duk_des.proofs.Joined.{both}
+use Rattle.duk_des.proofs.SideBySide.{both}
 use Rattle.duk_des.proofs.plain.crypt_block.Goals as goal
 
 pub returns : goal.returns

@@ -1,9 +1,9 @@
 use Rattle.std.proofs.Common.{reverse, ap, ◌∙◌}
 use Rattle.duk_des.specs.Bits.{bits_of_bytes, bytes_of_bits}
 use Rattle.duk_des.specs.Des.{crypted, round_keys, decipher, decrypted}
-use Rattle.duk_des.proofs.BitNumbers.{bits_of_bytes-bytes_of_bits}
-use Rattle.duk_des.proofs.Joined.{both}
-use Rattle.duk_des.proofs.Undone.{length-crypted}
+use Rattle.duk_des.proofs.BitsOfNumbers.{bits_of_bytes-bytes_of_bits}
+use Rattle.duk_des.proofs.SideBySide.{both}
+use Rattle.duk_des.proofs.DecipheringUndoes.{length-crypted}
 use Rattle.duk_des.proofs.plain.decrypt_block.Goals as goal
 
 pub returns : goal.returns

@@ -1,5 +1,5 @@
 use Rattle.std.proofs.Common.{ap, sym, ◌∙◌, arith}
-use Rattle.duk_des.proofs.Rounds.{one_round, no_round}
+use Rattle.duk_des.proofs.OneMoreRound.{one_round, no_round}
 use Rattle.duk_des.proofs.plain.rounds.Goals as goal
 
 pub loop-key-preserved : goal.loop-key-preserved

@@ -1,8 +1,8 @@
 use Rattle.std.proofs.Common.{◌≤◌, get_or, length, refl, sym, ap, ◌∙◌, length-set, arith}
 use Rattle.duk_des.specs.Des.{schedule, round_keys}
 use Rattle.duk_des.specs.Tables.{rotations}
-use Rattle.duk_des.proofs.Joined.{both}
-use Rattle.duk_des.proofs.Scheduled.{one_more, no_more, rotation_fits}
+use Rattle.duk_des.proofs.SideBySide.{both}
+use Rattle.duk_des.proofs.OneMoreRoundKey.{one_more, no_more, rotation_fits}
 use Rattle.duk_des.proofs.schedule.round_keys.Goals as goal
 
 pub loop-i-init : goal.loop-i-init

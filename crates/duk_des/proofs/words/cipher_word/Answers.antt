@@ -1,6 +1,6 @@
 use Rattle.std.proofs.Common.{◌*◌, ◌%◌, ◌^◌, refl, ap, ◌∙◌, arith}
 use Rattle.duk_des.specs.Words.{word_bits, selected}
-use Rattle.duk_des.proofs.CipherWord.{rotated_word, sum_of_words, cipher_of_groups}
+use Rattle.duk_des.proofs.CipherOfWords.{rotated_word, sum_of_words, cipher_of_groups}
 use Rattle.duk_des.proofs.words.cipher_word.Goals as goal
 
 pub returns : goal.returns

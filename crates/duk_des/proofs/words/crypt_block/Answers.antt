@@ -3,7 +3,7 @@ use Rattle.duk_des.specs.Bits.{permute, bytes_of_bits}
 use Rattle.duk_des.specs.Des.{Halves, rounds, crypted}
 use Rattle.duk_des.specs.Tables.{final_places}
 use Rattle.duk_des.specs.Words.{key_bits}
-use Rattle.duk_des.proofs.Joined.{both}
+use Rattle.duk_des.proofs.SideBySide.{both}
 use Rattle.duk_des.proofs.words.crypt_block.Goals as goal
 
 pub returns : goal.returns

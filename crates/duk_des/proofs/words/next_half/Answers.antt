@@ -1,5 +1,5 @@
 use Rattle.std.proofs.Common.{refl}
-use Rattle.duk_des.proofs.CipherWord.{sum_of_words}
+use Rattle.duk_des.proofs.CipherOfWords.{sum_of_words}
 use Rattle.duk_des.proofs.words.next_half.Goals as goal
 
 pub returns : goal.returns

@@ -1,7 +1,7 @@
 use Rattle.std.proofs.Common.{◌≡◌, map, arith, ap, ◌∙◌}
 use Rattle.duk_des.specs.Des.{Halves, rounds}
 use Rattle.duk_des.specs.Words.{key_bits}
-use Rattle.duk_des.proofs.WordRounds.{halves_of, one_word_round, no_word_round}
+use Rattle.duk_des.proofs.RoundsOfWords.{halves_of, one_word_round, no_word_round}
 use Rattle.duk_des.proofs.words.rounds.Goals as goal
 
 -- the sixteen rounds, from the last to the first

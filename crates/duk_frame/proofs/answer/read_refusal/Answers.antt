@@ -3,7 +3,7 @@ use Rattle.duk_tree.specs.Serial.{Serial, serial_of_bytes}
 use Rattle.duk_frame.specs.Answer.{IsRefusal}
 use Rattle.duk_frame.specs.Frame.{framed}
 use Rattle.duk_frame.specs.declared.answer.AnswerFrame.TheVariants.{Refusal}
-use Rattle.duk_frame.proofs.AnswerLemmas.{kind_of_refusal, refusal_places, refusal_text_at}
+use Rattle.duk_frame.proofs.PlacesOfAnswers.{kind_of_refusal, refusal_places, refusal_text_at}
 use Rattle.duk_frame.proofs.answer.read_refusal.Goals as goal
 
 pub returns-then-not-has_kind-clause-every : goal.returns-then-not-has_kind-clause-every

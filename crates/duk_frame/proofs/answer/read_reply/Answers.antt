@@ -5,7 +5,7 @@ use Rattle.duk_frame.specs.Answer.{IsReply}
 use Rattle.duk_frame.specs.Frame.{framed}
 use Rattle.duk_frame.specs.declared.answer.AnswerFrame.TheVariants.{Reply}
 use Rattle.duk_frame.specs.declared.code.Code.{Code}
-use Rattle.duk_frame.proofs.AnswerLemmas.{kind_of_reply, reply_places, reply_text_at}
+use Rattle.duk_frame.proofs.PlacesOfAnswers.{kind_of_reply, reply_places, reply_text_at}
 use Rattle.duk_frame.proofs.answer.read_reply.Goals as goal
 
 pub returns-then-not-has_kind-clause-every : goal.returns-then-not-has_kind-clause-every

@@ -1,6 +1,6 @@
 use Rattle.duk_frame.specs.Answer.{reply_text}
 use Rattle.duk_frame.specs.Request.{request_text}
-use Rattle.duk_frame.proofs.FrameLemmas.{text_of_frame}
+use Rattle.duk_frame.proofs.PlacesOfFrames.{text_of_frame}
 use Rattle.duk_frame.proofs.laws.mac_texts.Goals as goal
 
 pub returns : goal.returns

@@ -4,7 +4,7 @@ use Rattle.std.proofs.lemmas.Slice.Eq.{slice_eq-Decides}
 use Rattle.duk_mac.specs.Retail.{retail_of}
 use Rattle.duk_frame.specs.Answer.{reply_text}
 use Rattle.duk_frame.specs.Frame.{framed}
-use Rattle.duk_frame.proofs.FrameLemmas.{same_mac}
+use Rattle.duk_frame.proofs.PlacesOfFrames.{same_mac}
 use Rattle.duk_frame.proofs.payment.is_payment_reply.Goals as goal
 
 pub returns : goal.returns

@@ -3,7 +3,7 @@ use Rattle.std.proofs.lemmas.List.{take_rest, get_or-drop, length-drop}
 use Rattle.byteorder.specs.Endian.{big_bytes, big_number}
 use Rattle.duk_pin.specs.Pan.{IsPan}
 use Rattle.duk_tree.specs.Serial.{serial_of_bytes}
-use Rattle.duk_frame.proofs.RequestLemmas.{request_places, amount_at, block_at, mac_at, same_request, four_bytes, text_at}
+use Rattle.duk_frame.proofs.PlacesOfRequests.{request_places, amount_at, block_at, mac_at, same_request, four_bytes, text_at}
 use Rattle.duk_frame.proofs.request.fields_at_their_places.Goals as goal
 
 pub returns-in_err-read_pan-clause-every : goal.returns-in_err-read_pan-clause-every

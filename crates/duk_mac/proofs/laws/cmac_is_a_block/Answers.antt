@@ -6,6 +6,6 @@ returns c = λ key message is_key fit.
     IsBlock-cmac_of key
     (record {
       cipher = λ block is. c.inverse.ensures.cipher_block key block is_key is;
-      sum = c.sum_of_blocks.ensures;
+      sum = c.xor_of_blocks.ensures;
     })
     message fit

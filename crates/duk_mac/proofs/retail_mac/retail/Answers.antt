@@ -5,7 +5,7 @@ use Rattle.duk_tdes.specs.Key.{xor_bytes}
 use Rattle.duk_tdes.specs.Tdes.{second_key}
 use Rattle.duk_mac.specs.Chain.{zero_block, chained}
 use Rattle.duk_mac.specs.Retail.{zero_filled, retail_of}
-use Rattle.duk_mac.proofs.Filled.{filled-more, filled-one}
+use Rattle.duk_mac.proofs.LastBlockFilled.{filled-more, filled-one}
 use Rattle.duk_mac.proofs.retail_mac.retail.Goals as goal
 
 pub loop-rest-preserved : goal.loop-rest-preserved

@@ -1,7 +1,7 @@
 use Rattle.std.proofs.Common.{◌<◌, arith}
 use Rattle.std.proofs.lemmas.Grind.{common_steps}
 use Rattle.std.proofs.lemmas.List.Elements.{All-set}
-use Rattle.duk_pin.proofs.NibbleLemmas.{split_next}
+use Rattle.duk_pin.proofs.XorOfNibbles.{split_next}
 use Rattle.duk_pin.proofs.nibbles.split.Goals as goal
 
 pub loop-i-preserved : goal.loop-i-preserved

@@ -3,8 +3,8 @@ use Rattle.std.proofs.lemmas.List.{length-set}
 use Rattle.duk_tree.specs.Derivation.{step_of}
 use Rattle.duk_tree.specs.Serial.{low_bytes}
 use Rattle.duk_tree.specs.Path.{path_of}
-use Rattle.duk_regs.proofs.CounterLemmas.{BitLaws, place_below, shifted}
-use Rattle.duk_regs.proofs.RegisterLemmas.{filled_more, stays_at}
+use Rattle.duk_regs.proofs.CounterBounds.{BitLaws, place_below, shifted}
+use Rattle.duk_regs.proofs.OneRegisterWritten.{filled_more, stays_at}
 use Rattle.duk_regs.proofs.frontier.fill_below.Goals as goal
 
 pub with_counter-requires : goal.with_counter-requires

@@ -1,5 +1,5 @@
 use Rattle.std.proofs.Common.{arith}
-use Rattle.duk_regs.proofs.CounterLemmas.{shifted}
+use Rattle.duk_regs.proofs.CounterBounds.{shifted}
 use Rattle.duk_regs.proofs.frontier.first_registers.Goals as goal
 
 pub with_counter-requires : goal.with_counter-requires

@@ -1,6 +1,6 @@
 use Rattle.std.proofs.Common.{sym, ap, ◌∙◌, arith}
 use Rattle.duk_tree.specs.Serial.{Serial, serial_bytes}
-use Rattle.duk_regs.proofs.ImageLemmas.{image_bytes-set_in}
+use Rattle.duk_regs.proofs.ImageWrittenAndRead.{image_bytes-set_in}
 use Rattle.duk_regs.proofs.image.read_image.Goals as goal
 
 pub returns-then-leaves_empty-clause-image : goal.returns-then-leaves_empty-clause-image

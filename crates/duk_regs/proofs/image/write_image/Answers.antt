@@ -3,7 +3,7 @@ use Rattle.std.proofs.lemmas.List.{take_all}
 use Rattle.byteorder.specs.Endian.{big_bytes}
 use Rattle.duk_tree.specs.Serial.{iksn_bytes}
 use Rattle.duk_regs.specs.Image.{image_bytes}
-use Rattle.duk_regs.proofs.ImageLemmas.{header_written, header_length, register_written, register_length, image_more, rest_gone, more_16, part_length}
+use Rattle.duk_regs.proofs.ImageWrittenAndRead.{header_written, header_length, register_written, register_length, image_more, rest_gone, more_16, part_length}
 use borrow.Rule.Slice.PartMut.{put_mid}
 use Rattle.duk_regs.proofs.image.write_image.Goals as goal
 

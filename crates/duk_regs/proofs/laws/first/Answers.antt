@@ -1,5 +1,5 @@
 use Rattle.std.proofs.Common.{refl, arith}
-use Rattle.duk_regs.proofs.TakenLemmas.{first_stands}
+use Rattle.duk_regs.proofs.FrontierToFrontier.{first_stands}
 use Rattle.duk_regs.proofs.laws.first.Goals as goal
 
 pub returns-clause-usable : goal.returns-clause-usable

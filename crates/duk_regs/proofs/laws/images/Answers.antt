@@ -1,7 +1,7 @@
 use Rattle.std.proofs.Common.{◌≡◌, ◌<◌, ℕ, length, arith}
 use Rattle.duk_regs.specs.Registers.{RegisterSet, IsRegisterSet, register_at}
-use Rattle.duk_regs.proofs.CounterLemmas.{BitLaws, counter_bounds}
-use Rattle.duk_regs.proofs.ImageLemmas.{IsWritable, set_in-image_bytes, IsImage-image_bytes}
+use Rattle.duk_regs.proofs.CounterBounds.{BitLaws, counter_bounds}
+use Rattle.duk_regs.proofs.ImageWrittenAndRead.{IsWritable, set_in-image_bytes, IsImage-image_bytes}
 use Rattle.duk_regs.proofs.laws.images.Goals as goal
 
 pub returns : goal.returns

@@ -1,4 +1,4 @@
-use Rattle.duk_regs.proofs.TakenLemmas.{TreeLaws, taken_key, taken_stands, taken_set}
+use Rattle.duk_regs.proofs.FrontierToFrontier.{TreeLaws, taken_key, taken_stands, taken_set}
 use Rattle.duk_regs.proofs.laws.transactions.Goals as goal
 
 pub returns : goal.returns

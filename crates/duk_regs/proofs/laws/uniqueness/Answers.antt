@@ -1,4 +1,4 @@
-use Rattle.duk_regs.proofs.TakenLemmas.{register_either, same_set}
+use Rattle.duk_regs.proofs.FrontierToFrontier.{register_either, same_set}
 use Rattle.duk_regs.proofs.laws.uniqueness.Goals as goal
 
 pub returns-clause-register : goal.returns-clause-register

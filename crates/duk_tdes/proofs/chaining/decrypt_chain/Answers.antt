@@ -3,8 +3,8 @@ use Rattle.std.proofs.lemmas.List.{drop-drop, length-drop, take_all}
 use Rattle.duk_tdes.specs.Cbc.{cbc_decrypted}
 use Rattle.duk_tdes.specs.Key.{xor_bytes}
 use Rattle.duk_tdes.specs.Tdes.{tdes_decrypted}
-use Rattle.duk_tdes.proofs.Blocks.{cbc_decrypted-more, cbc_decrypted-none}
-use Rattle.duk_tdes.proofs.Written.{written, length-written}
+use Rattle.duk_tdes.proofs.FirstBlock.{cbc_decrypted-more, cbc_decrypted-none}
+use Rattle.duk_tdes.proofs.OneMoreBlockWritten.{written, length-written}
 use borrow.Rule.Slice.PartMut.{put_mid}
 use Rattle.duk_tdes.proofs.chaining.decrypt_chain.Goals as goal
 

@@ -3,8 +3,8 @@ use Rattle.std.proofs.lemmas.List.{drop-drop, length-drop, take_all}
 use Rattle.duk_tdes.specs.Cbc.{cbc_encrypted}
 use Rattle.duk_tdes.specs.Key.{xor_bytes}
 use Rattle.duk_tdes.specs.Tdes.{tdes_encrypted}
-use Rattle.duk_tdes.proofs.Blocks.{cbc_encrypted-more, cbc_encrypted-none}
-use Rattle.duk_tdes.proofs.Written.{written, length-written}
+use Rattle.duk_tdes.proofs.FirstBlock.{cbc_encrypted-more, cbc_encrypted-none}
+use Rattle.duk_tdes.proofs.OneMoreBlockWritten.{written, length-written}
 use borrow.Rule.Slice.PartMut.{put_mid}
 use Rattle.duk_tdes.proofs.chaining.encrypt_chain.Goals as goal
 

@@ -1,7 +1,7 @@
 -- Each law is the law of TDES, once for each block.
 use Rattle.std.proofs.Common.{ℕ, ◌/◌, List, length, sym, ◌∙◌, arith}
 use Rattle.duk_tdes.specs.Cbc.{AreWholeBlocks}
-use Rattle.duk_tdes.proofs.CbcUndone.{AreBlocks, cipher_blocks, plain_blocks, cbc_decrypted-cbc_encrypted, cbc_encrypted-cbc_decrypted}
+use Rattle.duk_tdes.proofs.CbcDecryptionUndoes.{AreBlocks, cipher_blocks, plain_blocks, cbc_decrypted-cbc_encrypted, cbc_encrypted-cbc_decrypted}
 use Rattle.duk_tdes.proofs.laws.cbc_inverse.Goals as goal
 
 counted : (bytes : List ℕ) → AreWholeBlocks bytes → AreBlocks (length bytes / 8) bytes

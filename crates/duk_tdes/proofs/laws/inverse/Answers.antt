@@ -2,7 +2,7 @@
 use Rattle.std.proofs.Common.{ap, ◌∙◌}
 use Rattle.duk_des.specs.Des.{encrypted, decrypted}
 use Rattle.duk_tdes.specs.Tdes.{first_key, second_key, third_key, tdes_encrypted, tdes_decrypted}
-use Rattle.duk_tdes.proofs.KeyParts.{first_is_key, second_is_key, third_is_key}
+use Rattle.duk_tdes.proofs.SingleKeys.{first_is_key, second_is_key, third_is_key}
 use Rattle.duk_tdes.proofs.laws.inverse.Goals as goal
 
 pub returns-clause-deciphered : goal.returns-clause-deciphered

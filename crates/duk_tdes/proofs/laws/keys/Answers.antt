@@ -1,4 +1,4 @@
-use Rattle.duk_tdes.proofs.KeyParts.{IsKey-xor_bytes, IsTdesKey-double, first_is_key, second_is_key, IsKey-append}
+use Rattle.duk_tdes.proofs.SingleKeys.{IsKey-xor_bytes, IsTdesKey-double, first_is_key, second_is_key, IsKey-append}
 use Rattle.duk_tdes.proofs.laws.keys.Goals as goal
 
 pub returns-clause-masked : goal.returns-clause-masked

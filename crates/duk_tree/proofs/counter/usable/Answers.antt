@@ -1,7 +1,7 @@
 use Rattle.std.proofs.Common.{◌≤◌, arith}
 use Rattle.std.specs.Int.RustNames.{count_ones}
 use Rattle.std.proofs.lemmas.Bool.Decides.{nat_tests}
-use Rattle.duk_tree.proofs.PathLemmas.{IsUsable-from_ones, IsUsable-counter, IsUsable-ones}
+use Rattle.duk_tree.proofs.PathsOfCounters.{IsUsable-from_ones, IsUsable-counter, IsUsable-ones}
 use Rattle.duk_tree.proofs.counter.usable.Goals as goal
 
 pub returns-then-counter-le-LAST_COUNTER-clause-usable : goal.returns-then-counter-le-LAST_COUNTER-clause-usable

@@ -1,5 +1,5 @@
 use Rattle.std.proofs.Common.{refl, ◌∙◌}
-use Rattle.duk_tree.proofs.DerivationLemmas.{put_mid-joined}
+use Rattle.duk_tree.proofs.DerivationByPath.{put_mid-joined}
 use Rattle.duk_tree.proofs.derivation.join.Goals as goal
 
 pub returns : goal.returns

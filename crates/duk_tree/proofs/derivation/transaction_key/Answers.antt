@@ -1,8 +1,8 @@
 use Rattle.std.proofs.Common.{◌≡◌, ◌<◌, ◌^◌, ◌/◌, ◌*◌, ◌-◌, ◌%◌, ap, ◌∙◌, sym, arith}
 use Rattle.duk_tree.specs.Derivation.{step_of, node_key}
 use Rattle.duk_tree.specs.Serial.{low_bytes}
-use Rattle.duk_tree.proofs.PathLemmas.{path_from}
-use Rattle.duk_tree.proofs.DerivationLemmas.{node_key-taken, node_key-skipped, transaction_key_of-path_from, shifted_back}
+use Rattle.duk_tree.proofs.PathsOfCounters.{path_from}
+use Rattle.duk_tree.proofs.DerivationByPath.{node_key-taken, node_key-skipped, transaction_key_of-path_from, shifted_back}
 use Rattle.duk_tree.proofs.derivation.transaction_key.Goals as goal
 
 pub loop-place-preserved-then-reached-eq1 : goal.loop-place-preserved-then-reached-eq1

@@ -1,7 +1,7 @@
 -- The key is that of the node whose places are the counter's ones from `place` up.
 use Rattle.std.proofs.Common.{◌≡◌, ◌-◌}
 use Rattle.duk_tree.specs.Derivation.{node_key}
-use Rattle.duk_tree.proofs.PathLemmas.{path_from}
+use Rattle.duk_tree.proofs.PathsOfCounters.{path_from}
 use Rattle.duk_tree.proofs.derivation.transaction_key.Given as goal
 
 abbrev pub invariant-loop-place : goal.invariant-loop-place

@@ -1,4 +1,4 @@
-use Rattle.duk_tree.proofs.NodeLemmas.{usable_path, usable_place, count_ones-path_of, trailing_zeros-path_of}
+use Rattle.duk_tree.proofs.UsablePaths.{usable_path, usable_place, count_ones-path_of, trailing_zeros-path_of}
 use Rattle.duk_tree.proofs.laws.bits.Goals as goal
 
 pub returns-clause-usable : goal.returns-clause-usable

@@ -1,6 +1,6 @@
 use Rattle.std.proofs.Common.{refl}
 use Rattle.duk_tree.specs.Frontier.{candidate_at}
-use Rattle.duk_tree.proofs.FrontierLemmas.{held_candidate, candidate_held, candidate_either}
+use Rattle.duk_tree.proofs.FrontierCovers.{held_candidate, candidate_held, candidate_either}
 use Rattle.duk_tree.proofs.laws.candidates.Goals as goal
 
 pub returns-clause-held : goal.returns-clause-held

@@ -1,5 +1,5 @@
 use Rattle.std.proofs.Common.{◌^◌, arith}
-use Rattle.duk_tree.proofs.ChainLemmas.{usable_bounds, some_chain, one_chain, chain_usable, usable_chain, chain_count, chain_last}
+use Rattle.duk_tree.proofs.OneChain.{usable_bounds, some_chain, one_chain, chain_usable, usable_chain, chain_count, chain_last}
 use Rattle.duk_tree.proofs.laws.chain.Goals as goal
 
 pub returns-clause-exists : goal.returns-clause-exists

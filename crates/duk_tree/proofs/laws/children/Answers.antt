@@ -1,5 +1,5 @@
-use Rattle.duk_tree.proofs.NodeLemmas.{usable_path}
-use Rattle.duk_tree.proofs.FrontierLemmas.{child_of, child_value, child_place}
+use Rattle.duk_tree.proofs.UsablePaths.{usable_path}
+use Rattle.duk_tree.proofs.FrontierCovers.{child_of, child_value, child_place}
 use Rattle.duk_tree.proofs.laws.children.Goals as goal
 
 pub returns-clause-child : goal.returns-clause-child

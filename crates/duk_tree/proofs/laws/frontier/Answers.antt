@@ -1,4 +1,4 @@
-use Rattle.duk_tree.proofs.FrontierLemmas.{HasOneHeld-usable, none_used, same_place}
+use Rattle.duk_tree.proofs.FrontierCovers.{HasOneHeld-usable, none_used, same_place}
 use Rattle.duk_tree.proofs.laws.frontier.Goals as goal
 
 pub returns-clause-one : goal.returns-clause-one

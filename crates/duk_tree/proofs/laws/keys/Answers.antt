@@ -1,5 +1,5 @@
 use Rattle.std.proofs.Common.{refl}
-use Rattle.duk_tree.proofs.KeyLemmas.{Below, IsKey-literal, IsKey-initial_key_of, IsKey-step_of, IsKey-node_key}
+use Rattle.duk_tree.proofs.KeysOfSixteenBytes.{Below, IsKey-literal, IsKey-initial_key_of, IsKey-step_of, IsKey-node_key}
 use Rattle.duk_tree.proofs.laws.keys.Goals as goal
 use Rattle.duk_tree.proofs.laws.keys.Goals.{After-keys}
 

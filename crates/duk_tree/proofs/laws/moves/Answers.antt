@@ -1,4 +1,4 @@
-use Rattle.duk_tree.proofs.FrontierLemmas.{first_held, held_first, moves_from, moves_to}
+use Rattle.duk_tree.proofs.FrontierCovers.{first_held, held_first, moves_from, moves_to}
 use Rattle.duk_tree.proofs.laws.moves.Goals as goal
 
 pub returns-clause-first : goal.returns-clause-first

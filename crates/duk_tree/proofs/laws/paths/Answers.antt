@@ -1,7 +1,7 @@
 use Rattle.std.proofs.Common.{refl, ◌∙◌, arith}
 use Rattle.std.proofs.lemmas.Nat.{pow_pos}
 use Rattle.duk_tree.specs.Path.{last_place, path_of}
-use Rattle.duk_tree.proofs.PathLemmas.{IsPath-path_from, value_of-path_from, value_of-lt, path_from-value_of}
+use Rattle.duk_tree.proofs.PathsOfCounters.{IsPath-path_from, value_of-path_from, value_of-lt, path_from-value_of}
 use Rattle.duk_tree.proofs.laws.paths.Goals as goal
 
 pub returns-clause-path_of_counter : goal.returns-clause-path_of_counter

@@ -1,4 +1,4 @@
-use Rattle.duk_tree.proofs.SerialLemmas.{length-serial_bytes, serial_bytes_fit, serial_of_bytes-serial_bytes, serial_bytes-serial_of_bytes, IsSerial-serial_of_bytes}
+use Rattle.duk_tree.proofs.SerialBytes.{length-serial_bytes, serial_bytes_fit, serial_of_bytes-serial_bytes, serial_bytes-serial_of_bytes, IsSerial-serial_of_bytes}
 use Rattle.duk_tree.proofs.laws.serials.Goals as goal
 
 pub returns-clause-ten : goal.returns-clause-ten

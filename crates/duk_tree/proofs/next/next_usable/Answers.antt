@@ -1,7 +1,7 @@
 use Rattle.std.proofs.Common.{◌<◌, arith}
 use Rattle.std.proofs.lemmas.Nat.{pow_pos}
 use Rattle.duk_tree.specs.Path.{last_place, path_of}
-use Rattle.duk_tree.proofs.NextLemmas.{last_usable, last_is_last, not_last, usable_next, found_next, pass_on, passed, some_counter}
+use Rattle.duk_tree.proofs.LeastUsable.{last_usable, last_is_last, not_last, usable_next, found_next, pass_on, passed, some_counter}
 use Rattle.duk_tree.proofs.next.next_usable.Goals as goal
 
 pub returns-then-counter-ge-LAST_USABLE-clause-none : goal.returns-then-counter-ge-LAST_USABLE-clause-none

@@ -1,5 +1,5 @@
 use Rattle.std.proofs.Common.{arith}
-use Rattle.duk_tree.proofs.NextLemmas.{shifted_one}
+use Rattle.duk_tree.proofs.LeastUsable.{shifted_one}
 use Rattle.duk_tree.proofs.next.shift_bit.Goals as goal
 
 pub returns-clause-value : goal.returns-clause-value

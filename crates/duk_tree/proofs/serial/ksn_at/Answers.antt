@@ -1,6 +1,6 @@
 use Rattle.std.proofs.Common.{◌<◌, ◌^◌, arith}
 use Rattle.std.proofs.lemmas.List.Elements.{All-from_get_or}
-use Rattle.duk_tree.proofs.SerialLemmas.{serial_bytes-read}
+use Rattle.duk_tree.proofs.SerialBytes.{serial_bytes-read}
 use Rattle.duk_tree.proofs.serial.ksn_at.Goals as goal
 
 pub returns-clause-bytes : goal.returns-clause-bytes

@@ -1,8 +1,8 @@
 use Rattle.std.proofs.Common.{reverse, ap, ◌∙◌}
 use Rattle.duk_des.specs.Bits.{bits_of_bytes, bytes_of_bits}
 use Rattle.duk_des.specs.Des.{crypted, decipher, decrypted}
-use Rattle.duk_des.proofs.BitNumbers.{bits_of_bytes-bytes_of_bits}
-use Rattle.duk_des.proofs.Undone.{length-crypted}
+use Rattle.duk_des.proofs.BitsOfNumbers.{bits_of_bytes-bytes_of_bits}
+use Rattle.duk_des.proofs.DecipheringUndoes.{length-crypted}
 use Rattle.duk_des.proofs.cipher.Des.decrypt.Goals as goal
 
 pub returns : goal.returns

@@ -1,7 +1,7 @@
 use Rattle.std.proofs.Common.{◌≡◌, [], ◌∷◌, refl, sym, ap, ◌∙◌, arith}
 use Rattle.duk_des.specs.Bits.{bits_of}
 use Rattle.duk_des.specs.Words.{selected}
-use Rattle.duk_des.proofs.Entries.{entry_of}
+use Rattle.duk_des.proofs.BoxWords.{entry_of}
 use Rattle.duk_des.proofs.words.entries.entry.Goals as goal
 
 pub returns-in-1 : goal.returns-in-1

@@ -2,7 +2,7 @@ use Rattle.std.proofs.Common.{◌+◌, ◌-◌, ◌/◌, ◌^◌, ◌≡◌, sym
 use Rattle.std.proofs.lemmas.Nat.{and_mask}
 use Rattle.duk_des.specs.Bits.{bits_of}
 use Rattle.duk_des.specs.Words.{word_bits}
-use Rattle.duk_des.proofs.WordBits.{bits_of-low, bits_of-part}
+use Rattle.duk_des.proofs.BitsOfWords.{bits_of-low, bits_of-part}
 use Rattle.duk_des.proofs.words.entries.group_of.Goals as goal
 
 pub returns-clause-bits : goal.returns-clause-bits

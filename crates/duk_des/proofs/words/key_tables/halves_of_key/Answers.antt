@@ -1,5 +1,5 @@
 use Rattle.std.proofs.Common.{ℕ, ◌/◌, get_or, refl}
-use Rattle.duk_des.proofs.KeyTables.{seven_low, added, halves_of_sevens, byte1, byte2, byte3, byte4, byte5, byte6, byte7, byte8}
+use Rattle.duk_des.proofs.PermutedChoiceTables.{seven_low, added, halves_of_sevens, byte1, byte2, byte3, byte4, byte5, byte6, byte7, byte8}
 use Rattle.duk_des.proofs.words.key_tables.halves_of_key.Goals as goal
 
 pub returns : goal.returns

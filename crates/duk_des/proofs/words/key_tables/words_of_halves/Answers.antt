@@ -1,5 +1,5 @@
 use Rattle.std.proofs.Common.{◌/◌, ◌^◌, refl}
-use Rattle.duk_des.proofs.KeyTables.{seven_low, added, words_of_sevens, seven1, seven2, seven3, seven4, seven5, seven6, seven7, seven8}
+use Rattle.duk_des.proofs.PermutedChoiceTables.{seven_low, added, words_of_sevens, seven1, seven2, seven3, seven4, seven5, seven6, seven7, seven8}
 use Rattle.duk_des.proofs.words.key_tables.words_of_halves.Goals as goal
 
 pub returns : goal.returns

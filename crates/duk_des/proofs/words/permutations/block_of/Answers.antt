@@ -1,5 +1,5 @@
 use Rattle.std.proofs.Common.{◌∙◌}
-use Rattle.duk_des.proofs.WordBlocks.{block_of_words}
+use Rattle.duk_des.proofs.BlocksOfWords.{block_of_words}
 use Rattle.duk_des.proofs.words.permutations.block_of.Goals as goal
 
 pub returns : goal.returns

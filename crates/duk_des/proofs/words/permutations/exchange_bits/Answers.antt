@@ -1,5 +1,5 @@
 use Rattle.std.proofs.Common.{refl}
-use Rattle.duk_des.proofs.Exchanges.{first_by_difference, second_by_difference}
+use Rattle.duk_des.proofs.BitExchanges.{first_by_difference, second_by_difference}
 use Rattle.duk_des.proofs.words.permutations.exchange_bits.Goals as goal
 
 pub returns-clause-first : goal.returns-clause-first

@@ -1,6 +1,6 @@
 use Rattle.std.proofs.Common.{refl, ap, ◌∙◌}
 use Rattle.duk_des.specs.Bits.{bytes_of_bits}
-use Rattle.duk_des.proofs.Exchanged.{turned, exchanged_words, final_words}
+use Rattle.duk_des.proofs.PermutationsByExchanges.{turned, exchanged_words, final_words}
 use Rattle.duk_des.proofs.words.permutations.final_permutation.Goals as goal
 
 pub returns : goal.returns

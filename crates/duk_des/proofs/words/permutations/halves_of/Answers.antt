@@ -1,6 +1,6 @@
 use Rattle.std.proofs.Common.{ap, ◌∙◌}
 use Rattle.duk_des.specs.Bits.{bits_of}
-use Rattle.duk_des.proofs.WordBlocks.{bits_of-from_be_bytes, two_words}
+use Rattle.duk_des.proofs.BlocksOfWords.{bits_of-from_be_bytes, two_words}
 use Rattle.duk_des.proofs.words.permutations.halves_of.Goals as goal
 
 pub returns : goal.returns

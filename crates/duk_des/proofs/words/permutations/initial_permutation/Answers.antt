@@ -1,6 +1,6 @@
 use Rattle.std.proofs.Common.{refl, ap}
 use Rattle.duk_des.specs.Bits.{bits_of_bytes}
-use Rattle.duk_des.proofs.Exchanged.{turned, exchanged_words, initial_words}
+use Rattle.duk_des.proofs.PermutationsByExchanges.{turned, exchanged_words, initial_words}
 use Rattle.duk_des.proofs.words.permutations.initial_permutation.Goals as goal
 
 pub returns : goal.returns

@@ -1,5 +1,5 @@
 use Rattle.duk_des.specs.Bits.{bits_of_bytes}
-use Rattle.duk_des.proofs.Halves.{left_half, right_half}
+use Rattle.duk_des.proofs.KeyHalves.{left_half, right_half}
 use Rattle.duk_des.proofs.words.round_keys.choose_halves.Goals as goal
 
 pub returns-clause-left : goal.returns-clause-left

@@ -1,6 +1,6 @@
 use Rattle.std.proofs.Common.{map, ap, ◌∙◌}
 use Rattle.duk_des.specs.Words.{key_bits}
-use Rattle.duk_des.proofs.WordRounds.{map-reverse}
+use Rattle.duk_des.proofs.RoundsOfWords.{map-reverse}
 use Rattle.duk_des.proofs.words.round_keys.reverse_keys.Goals as goal
 
 pub returns : goal.returns

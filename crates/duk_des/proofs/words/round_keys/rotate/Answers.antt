@@ -1,4 +1,4 @@
-use Rattle.duk_des.proofs.Halves.{rotated}
+use Rattle.duk_des.proofs.KeyHalves.{rotated}
 use Rattle.duk_des.proofs.words.round_keys.rotate.Goals as goal
 
 pub returns-clause-bits : goal.returns-clause-bits

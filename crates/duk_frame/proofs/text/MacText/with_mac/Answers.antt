@@ -1,7 +1,7 @@
 use Rattle.std.proofs.Common.{◌≡◌, ◌++◌, ap, ◌∙◌, arith}
 use Rattle.std.proofs.lemmas.Grind.{common_steps}
 use Rattle.duk_frame.specs.Frame.{framed, mac_text_of}
-use Rattle.duk_frame.proofs.FrameLemmas.{mac_text_framed}
+use Rattle.duk_frame.proofs.PlacesOfFrames.{mac_text_framed}
 use Rattle.duk_frame.proofs.text.MacText.with_mac.Goals as goal
 
 pub returns-clause-mac_text : goal.returns-clause-mac_text

@@ -1,6 +1,6 @@
 use Rattle.std.proofs.Common.{◌≡◌, refl, ◌∙◌}
 use Rattle.duk_pin.specs.PinBlock.{account_digits, account_field}
-use Rattle.duk_pin.proofs.FieldLemmas.{account_field_written, account_field_is_field}
+use Rattle.duk_pin.proofs.FieldsWrittenAndRead.{account_field_written, account_field_is_field}
 use Rattle.duk_pin.proofs.field.Field.of_account.Goals as goal
 
 pub returns-clause-field : goal.returns-clause-field

@@ -1,6 +1,6 @@
 use Rattle.std.proofs.Common.{◌≡◌, refl, ◌∙◌}
 use Rattle.duk_pin.specs.PinBlock.{pin_field}
-use Rattle.duk_pin.proofs.FieldLemmas.{pin_field_written, pin_field_is_field}
+use Rattle.duk_pin.proofs.FieldsWrittenAndRead.{pin_field_written, pin_field_is_field}
 use Rattle.duk_pin.proofs.field.Field.of_pin.Goals as goal
 
 pub returns-clause-field : goal.returns-clause-field

@@ -2,8 +2,8 @@ use Rattle.std.proofs.Common.{◌≡◌, Some, rules, sym, ap, ◌∙◌}
 use Rattle.duk_pin.specs.Reading.{ReadsAsPin}
 use Rattle.duk_pin.specs.Digits.{ascii_of}
 use Rattle.duk_pin.specs.PinBlock.{pin_field}
-use Rattle.duk_pin.proofs.FieldLemmas.{ascii_of_values, field_of_digits_read, one_pin_of_field}
-use Rattle.duk_pin.proofs.PinLemmas.{no_pin_of_field, pin_of_field}
+use Rattle.duk_pin.proofs.FieldsWrittenAndRead.{ascii_of_values, field_of_digits_read, one_pin_of_field}
+use Rattle.duk_pin.proofs.PinInField.{no_pin_of_field, pin_of_field}
 use Rattle.duk_pin.proofs.field.Field.to_pin.Goals as goal
 
 pub returns-then-reads_as_pin-clause-every : goal.returns-then-reads_as_pin-clause-every

@@ -1,4 +1,4 @@
-use Rattle.duk_regs.proofs.CounterLemmas.{usable_counter}
+use Rattle.duk_regs.proofs.CounterBounds.{usable_counter}
 use Rattle.duk_regs.proofs.registers.Registers.ksn.Goals as goal
 
 pub with_counter-requires : goal.with_counter-requires

@@ -3,8 +3,8 @@ use Rattle.std.specs.Int.{trailing_zeros, w32}
 use Rattle.duk_tree.specs.Derivation.{transaction_key_of}
 use Rattle.duk_tree.specs.Path.{IsUsable}
 use Rattle.duk_regs.specs.Registers.{RegisterSet, IsTaken, StandsFor}
-use Rattle.duk_regs.proofs.CounterLemmas.{BitLaws, usable_counter}
-use Rattle.duk_regs.proofs.RegisterLemmas.{taken_by}
+use Rattle.duk_regs.proofs.CounterBounds.{BitLaws, usable_counter}
+use Rattle.duk_regs.proofs.OneRegisterWritten.{taken_by}
 use Rattle.duk_regs.proofs.registers.Registers.take.Goals as goal
 
 pub invariant_of-left : goal.invariant_of-left

@@ -1,0 +1,35 @@
+-- Rounds on words.
+use Rattle.std.proofs.Common.{◌≡◌, ℕ, ◌+◌, ◌<◌, List, [], ◌∷◌, ◌++◌, length, map, drop, get_or, reverse, refl, sym, ap, ◌∙◌, arith}
+use Rattle.std.proofs.lemmas.List.{length-map, get_or-map, map-append, reverse-append}
+use Rattle.duk_des.specs.Bits.{xor_bits}
+use Rattle.duk_des.specs.Des.{Halves, cipher_function, rounds}
+use Rattle.duk_des.specs.Words.{word_bits, key_bits}
+use Rattle.duk_des.specs.declared.words.round_keys.RoundKey.{RoundKey}
+use Rattle.duk_des.proofs.OneMoreRound.{one_round, no_round}
+
+-- two words as halves
+abbrev pub halves_of : ℕ → ℕ → Halves
+halves_of left right = record { left = word_bits left; right = word_bits right }
+
+abbrev no_key : RoundKey
+no_key = record { odd = 0; even = 0 }
+
+-- the rounds that are left after a round, and those before it
+pub one_word_round : (keys : List RoundKey) (i left right next : ℕ) → length keys ≡ 16 → i < 16
+    → word_bits next ≡ xor_bits (word_bits left) (cipher_function (word_bits right) (key_bits (get_or keys i no_key)))
+    → rounds (drop (i + 1) (map key_bits keys)) (halves_of right next) ≡ rounds (drop i (map key_bits keys)) (halves_of left right)
+one_word_round keys i left right next h within e =
+    let here : i < length keys = omega (arith, h) in
+    let there : i < length (map key_bits keys) = omega (arith, h, length-map keys key_bits) in
+    one_round (map key_bits keys) i (word_bits left) (word_bits right) there (ap (cipher_function (word_bits right)) (sym (get_or-map key_bits keys i no_key [] here))) e
+
+pub no_word_round : (keys : List RoundKey) (halves : Halves) → length keys ≡ 16 → halves ≡ rounds (drop 16 (map key_bits keys)) halves
+no_word_round keys halves h = sym (no_round (map key_bits keys) 16 halves (omega (arith, h, length-map keys key_bits)))
+
+pub map-reverse : (keys : List RoundKey) → map key_bits (reverse keys) ≡ reverse (map key_bits keys)
+map-reverse [] = refl
+map-reverse (key ∷ keys) =
+    ap (map key_bits) (reverse-append (key ∷ []) keys)
+    ∙ map-append key_bits (reverse keys) (key ∷ [])
+    ∙ ap (λ all. all ++ (key_bits key ∷ [])) (map-reverse keys)
+    ∙ sym (reverse-append (key_bits key ∷ []) (map key_bits keys))
