@@ -1,4 +1,4 @@
-use Rattle.duk_block.proofs.AllMet.{all_met}
+use Rattle.duk_block.proofs.NoFaultInKeyBlock.{all_met}
 use Rattle.duk_block.proofs.TextPlaces.{payload_at}
 use Rattle.duk_block.proofs.laws.no_fault.Goals as goal
 
