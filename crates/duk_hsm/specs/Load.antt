@@ -44,9 +44,9 @@ pub record IsZoneLoaded (old : HsmKeys) (text : List ℕ) (new : HsmKeys) : Type
   pub keys_are : new ≡ record old { zone = Some zone }
 
 -- how a module tells why a key block has no key for it
-abbrev pub told_fault : KeyFault → HsmFault
-told_fault (key_fault.Block why) = fault.Block why
-told_fault key_fault.WrongUse = fault.WrongUse
+abbrev pub module_fault : KeyFault → HsmFault
+module_fault (key_fault.Block why) = fault.Block why
+module_fault key_fault.WrongUse = fault.WrongUse
 
 -- why no base derivation key is added
 abbrev pub LoadBdkRefused : HsmKeys → List ℕ → List ℕ → HsmFault → Type 0

@@ -1,7 +1,7 @@
 //! Why a host security module refuses.
 
 ghost use Rattle.std.specs.Prelude.{◌≡◌};
-ghost use Rattle.duk_hsm.specs.Load.{told_fault};
+ghost use Rattle.duk_hsm.specs.Load.{module_fault};
 
 use duk_block::{BlockFault, KeyFault};
 use thiserror::Error;
@@ -43,7 +43,7 @@ pub enum HsmFault {
 }
 
 impl From<KeyFault> for HsmFault {
-    ghost from_gives = { λ fault told. told ≡ told_fault fault };
+    ghost from_gives = { λ fault told. told ≡ module_fault fault };
 
     fn from(fault: KeyFault) -> HsmFault {
         match fault {

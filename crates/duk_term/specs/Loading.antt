@@ -18,6 +18,6 @@ abbrev pub WrapsOtherKey : List ℕ → List ℕ → Type 0
 WrapsOtherKey loading text = WrapsOther (IsDoubleKeyFor InitialKey) loading text
 
 -- how a terminal tells why a key block has no initial key
-abbrev pub told_fault : KeyFault → TermFault
-told_fault (key_fault.Block why) = fault.Block why
-told_fault key_fault.WrongUse = fault.WrongUse
+abbrev pub terminal_fault : KeyFault → TermFault
+terminal_fault (key_fault.Block why) = fault.Block why
+terminal_fault key_fault.WrongUse = fault.WrongUse

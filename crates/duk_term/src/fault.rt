@@ -1,7 +1,7 @@
 //! Why a terminal refuses.
 
 ghost use Rattle.std.specs.Prelude.{◌≡◌};
-ghost use Rattle.duk_term.specs.Loading.{told_fault};
+ghost use Rattle.duk_term.specs.Loading.{terminal_fault};
 
 use duk_block::{BlockFault, KeyFault};
 use duk_store::StoreFault;
@@ -47,7 +47,7 @@ pub enum TermFault {
 }
 
 impl From<KeyFault> for TermFault {
-    ghost from_gives = { λ fault told. told ≡ told_fault fault };
+    ghost from_gives = { λ fault told. told ≡ terminal_fault fault };
 
     fn from(fault: KeyFault) -> TermFault {
         match fault {
