@@ -51,7 +51,7 @@ pub record HasOne {A : Type 0} (things : List A) (number : ℕ) : Type 0 where
   pub number_is : number ≡ place + 1
   pub within : place < length things
 
--- the terminal of a number goes on in this way, and the others stay as they are
+-- the terminal of a number changes in this way, and the others stay as they are
 pub record ChangesOnly
     {C : Type 0} (t : ℕ) (change : TerminalOf C → TerminalOf C → Type 0)
     (old new : List (TerminalOf C)) : Type 0 where
@@ -63,7 +63,7 @@ pub record ChangesOnly
   pub changed : change before after
   pub others : new ≡ slice_set old place after
 
--- a terminal goes on in this way, and all else stays
+-- a terminal changes in this way, and all else stays
 pub record ChangesTerminal
     {C L I : Type 0} (t : ℕ) (change : TerminalOf C → TerminalOf C → Type 0)
     (old new : WorldOf C L I) : Type 0 where

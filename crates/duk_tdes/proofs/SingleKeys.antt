@@ -6,7 +6,7 @@ use Rattle.std.proofs.lemmas.List.{length-take-le, length-drop, length-append}
 use Rattle.std.proofs.lemmas.List.Elements.{All-take, All-drop, All-cons, All-head, All-tail, All-append}
 use Rattle.duk_des.specs.Block.{IsBlock}
 use Rattle.duk_tdes.specs.Key.{IsKey, xor_bytes}
-use Rattle.duk_tdes.specs.Tdes.{IsTdesKey, IsTdesLength, first_key, second_key, third_key}
+use Rattle.duk_tdes.specs.Tdes.{IsTdesKey, first_key, second_key, third_key}
 
 eight_of : (start : ℕ) (key : List ℕ) → start + 8 ≤ length key → All (λ byte. byte < 2 ^ 8) key → IsBlock (take 8 (drop start key))
 eight_of start key within fit = record {

@@ -1,8 +1,6 @@
-use Rattle.std.proofs.Common.{◌≡◌, ◌∷◌, Some, ℕ, ap, refl, sym, ◌∙◌, arith, rules}
-use Rattle.duk_tree.specs.Serial.{Serial, serial_of_bytes}
-use Rattle.duk_frame.specs.Answer.{IsRefusal}
+use Rattle.std.proofs.Common.{◌≡◌, ap, refl, ◌∙◌, arith, rules}
+use Rattle.duk_tree.specs.Serial.{serial_of_bytes}
 use Rattle.duk_frame.specs.Frame.{framed}
-use Rattle.duk_frame.specs.declared.answer.AnswerFrame.TheVariants.{Refusal}
 use Rattle.duk_frame.proofs.PlacesOfAnswers.{kind_of_refusal, refusal_places, refusal_text_at}
 use Rattle.duk_frame.proofs.answer.read_refusal.Goals as goal
 

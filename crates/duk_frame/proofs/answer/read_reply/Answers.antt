@@ -1,10 +1,7 @@
-use Rattle.std.proofs.Common.{◌≡◌, ◌∷◌, Some, List, ℕ, ap, sym, ◌∙◌}
+use Rattle.std.proofs.Common.{◌≡◌, ap, sym, ◌∙◌}
 use Rattle.std.proofs.lemmas.List.{take_rest}
-use Rattle.duk_tree.specs.Serial.{Serial, serial_of_bytes}
-use Rattle.duk_frame.specs.Answer.{IsReply}
+use Rattle.duk_tree.specs.Serial.{serial_of_bytes}
 use Rattle.duk_frame.specs.Frame.{framed}
-use Rattle.duk_frame.specs.declared.answer.AnswerFrame.TheVariants.{Reply}
-use Rattle.duk_frame.specs.declared.code.Code.{Code}
 use Rattle.duk_frame.proofs.PlacesOfAnswers.{kind_of_reply, reply_places, reply_text_at}
 use Rattle.duk_frame.proofs.answer.read_reply.Goals as goal
 
