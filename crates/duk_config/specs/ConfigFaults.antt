@@ -60,7 +60,8 @@ key_rank key.Card = 7
 -- there is no unknown key, and each key that is told before this one is right
 pub record IsRightBefore (document : Members) (key : ConfigKey) : Type 0 where
   pub no_other_key : has_only is_config_key document ≡ true
-  pub earlier_right : (earlier : ConfigKey) → key_rank earlier < key_rank key → IsRight document earlier
+  pub earlier_right : (earlier : ConfigKey)
+      → key_rank earlier < key_rank key → IsRight document earlier
 
 -- the first fault of a table; any may be refused for want of memory
 abbrev pub IsFirstTableFault : Members → ScriptFault → Type 0

@@ -5,7 +5,7 @@ use Rattle.std.proofs.Math.Seq.{take-append_seam, drop-append_seam}
 use Rattle.std.proofs.lemmas.List.{reverse-append, reverse-reverse, take-append-drop}
 use Rattle.duk_des.specs.Bits.{xor_bits, permute, bits_of_bytes, bytes_of_bits}
 use Rattle.duk_des.specs.Block.{IsBlock}
-use Rattle.duk_des.specs.Des.{Halves, cipher_function, round, rounds, crypted, round_keys, encipher, decipher, encrypted, decrypted}
+use Rattle.duk_des.specs.Des.{Halves, cipher_function, round, rounds, des_computation, round_keys, encipher, decipher, encrypted, decrypted}
 use Rattle.duk_des.specs.Tables.{initial_places, final_places}
 use Rattle.duk_des.proofs.BitsOfNumbers.{length-bits_of_bytes, bits_of_bytes-bytes_of_bits, bytes_of_bits-bits_of_bytes, block_of_bits}
 use Rattle.duk_des.proofs.SideBySide.{consed}
@@ -90,9 +90,9 @@ split-joined halves h =
     ∙ ap (λ (left : List Bool). let found : Halves = record { left = left; right = drop (length halves.right) (halves.right ++ halves.left) } in found) (take-append_seam halves.right halves.left)
     ∙ ap (λ (right : List Bool). let found : Halves = record { left = halves.right; right = right } in found) (drop-append_seam halves.right halves.left)
 
-crypted-reverse : (keys : List (List Bool)) (block : List Bool) → length block ≡ 64 → crypted (reverse keys) (crypted keys block) ≡ block
-unfolding crypted
-crypted-reverse keys block h =
+des_computation-reverse : (keys : List (List Bool)) (block : List Bool) → length block ≡ 64 → des_computation (reverse keys) (des_computation keys block) ≡ block
+unfolding des_computation
+des_computation-reverse keys block h =
     let start : Halves = split (permute initial_places block) in
     let start_is : IsHalves start = record { left_is = refl; right_is = refl } in
     let halves : Halves = rounds keys start in
@@ -106,25 +106,25 @@ crypted-reverse keys block h =
 
 pub decipher-encipher : (key block : List Bool) → length block ≡ 64 → decipher key (encipher key block) ≡ block
 unfolding encipher decipher
-decipher-encipher key block h = crypted-reverse (round_keys key) block h
+decipher-encipher key block h = des_computation-reverse (round_keys key) block h
 
 pub encipher-decipher : (key block : List Bool) → length block ≡ 64 → encipher key (decipher key block) ≡ block
 unfolding encipher decipher
 encipher-decipher key block h =
-    ap (λ keys. crypted keys (crypted (reverse (round_keys key)) block)) (sym (reverse-reverse (round_keys key)))
-    ∙ crypted-reverse (reverse (round_keys key)) block h
+    ap (λ keys. des_computation keys (des_computation (reverse (round_keys key)) block)) (sym (reverse-reverse (round_keys key)))
+    ∙ des_computation-reverse (reverse (round_keys key)) block h
 
-pub length-crypted : (keys : List (List Bool)) (block : List Bool) → length (crypted keys block) ≡ 64
-unfolding crypted
-length-crypted keys block = refl
+pub length-des_computation : (keys : List (List Bool)) (block : List Bool) → length (des_computation keys block) ≡ 64
+unfolding des_computation
+length-des_computation keys block = refl
 
 length-encipher : (key block : List Bool) → length (encipher key block) ≡ 64
 unfolding encipher
-length-encipher key block = length-crypted (round_keys key) block
+length-encipher key block = length-des_computation (round_keys key) block
 
 length-decipher : (key block : List Bool) → length (decipher key block) ≡ 64
 unfolding decipher
-length-decipher key block = length-crypted (reverse (round_keys key)) block
+length-decipher key block = length-des_computation (reverse (round_keys key)) block
 
 -- the bits of a block, and the block that they spell
 length-block_bits : (block : List ℕ) → IsBlock block → length (bits_of_bytes block) ≡ 64

@@ -39,8 +39,8 @@ rounds (key ∷ keys) halves = rounds keys (round halves key)
 
 -- a block enciphered or deciphered by round keys: IP, the rounds, the halves exchanged, and the
 -- inverse of IP
-unfoldable pub crypted : List (List Bool) → List Bool → List Bool
-crypted keys block =
+unfoldable pub des_computation : List (List Bool) → List Bool → List Bool
+des_computation keys block =
     let permuted = permute initial_places block in
     let halves = rounds keys (record { left = take 32 permuted; right = drop 32 permuted }) in
     permute final_places (halves.right ++ halves.left)
@@ -63,11 +63,11 @@ round_keys key = schedule rotations (permute left_key_places key) (permute right
 
 -- the cipher block of a block under a key
 unfoldable pub encipher : List Bool → List Bool → List Bool
-encipher key block = crypted (round_keys key) block
+encipher key block = des_computation (round_keys key) block
 
 -- the same with the round keys in reverse order
 unfoldable pub decipher : List Bool → List Bool → List Bool
-decipher key block = crypted (reverse (round_keys key)) block
+decipher key block = des_computation (reverse (round_keys key)) block
 
 -- the cipher block of eight bytes under a key of eight bytes
 unfoldable pub encrypted : List ℕ → List ℕ → List ℕ

@@ -2,7 +2,7 @@
 
 ghost use Rattle.std.specs.Prelude.{◌≡◌, ◌++◌};
 ghost use Rattle.duk_des.specs.Bits.{bits_of_bytes, permute};
-ghost use Rattle.duk_des.specs.Des.{rounds, crypted, encipher, decipher, encrypted, decrypted};
+ghost use Rattle.duk_des.specs.Des.{rounds, des_computation, encipher, decipher, encrypted, decrypted};
 ghost use Rattle.duk_des.specs.Tables.{final_places};
 
 use crate::bits::{bits_of_bytes, bytes_of_bits, join, permute, xor};
@@ -60,7 +60,7 @@ pub fn decrypt_block(key: &[u8; 8], block: [u8; 8]) -> [u8; 8]
 
 /// The initial permutation, the rounds, and the final permutation of the halves, exchanged.
 fn crypt_block(keys: &[[bool; 48]; 16], block: &[bool; 64]) -> [bool; 64]
-    ensures { result ≡ crypted keys.now block.now }
+    ensures { result ≡ des_computation keys.now block.now }
 {
     let left: [bool; 32] = permute(&LEFT_PLACES, block);
     let right: [bool; 32] = permute(&RIGHT_PLACES, block);

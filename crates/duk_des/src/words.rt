@@ -2,7 +2,7 @@
 
 ghost use Rattle.std.specs.Prelude.{◌≡◌, map};
 ghost use Rattle.duk_des.specs.Bits.{xor_bits, bits_of_bytes, bytes_of_bits};
-ghost use Rattle.duk_des.specs.Des.{cipher_function, rounds, crypted};
+ghost use Rattle.duk_des.specs.Des.{cipher_function, rounds, des_computation};
 ghost use Rattle.duk_des.specs.Words.{word_bits, key_bits};
 
 mod entries;
@@ -28,7 +28,8 @@ macro_rules! rounds {
 
 /// The initial permutation, the rounds, and the final permutation of the halves, exchanged.
 pub(crate) fn crypt_block(keys: &[RoundKey; 16], block: &[u8; 8]) -> [u8; 8]
-    ensures { result ≡ bytes_of_bits 8 (crypted (map key_bits keys.now) (bits_of_bytes block.now)) }
+    ensures { result
+        ≡ bytes_of_bits 8 (des_computation (map key_bits keys.now) (bits_of_bytes block.now)) }
 {
     let (left, right) = initial_permutation(block);
     let (left, right) = rounds(left, right, keys);

@@ -31,4 +31,5 @@ pub record IsExampleRefused (config script : List ℕ) (why : ScriptFault) : Typ
   pub unread : List ℕ
   pub lines : List ℕ
   pub refused : IsRunRefused config
-      (session (memory_stream script) (memory_stream unread) (memory_stream []) (memory_stream lines)) why
+      (session (memory_stream script) (memory_stream unread)
+      (memory_stream []) (memory_stream lines)) why

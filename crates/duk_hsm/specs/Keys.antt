@@ -18,8 +18,9 @@ pub record HsmKeys : Type 0 where
   pub key_sets : List KeySet
 
 -- the keys held, where the zone key is one of either length
-abbrev pub held : List ℕ → Option KeyBytes → List KeySet → HsmKeys
-held lmk zone key_sets = record { lmk = lmk; zone = option_map bytes_of zone; key_sets = key_sets }
+abbrev pub held_keys : List ℕ → Option KeyBytes → List KeySet → HsmKeys
+held_keys lmk zone key_sets =
+    record { lmk = lmk; zone = option_map bytes_of zone; key_sets = key_sets }
 
 -- the base derivation key of the key set with this prefix, if there is one
 abbrev pub bdk_with : List ℕ → List KeySet → Option (List ℕ)

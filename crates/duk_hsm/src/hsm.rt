@@ -27,13 +27,13 @@ pub struct Hsm<const N: usize> {
 }
 
 impl<const N: usize> Model for Hsm<N> {
-    ghost use Rattle.duk_hsm.specs.Keys.{AreHsmKeys, HsmKeys, held};
+    ghost use Rattle.duk_hsm.specs.Keys.{AreHsmKeys, HsmKeys, held_keys};
 
     ghost Value = { HsmKeys };
 
-    ghost view = { λ hsm. held hsm.lmk hsm.zone hsm.key_sets.items };
+    ghost view = { λ hsm. held_keys hsm.lmk hsm.zone hsm.key_sets.items };
 
-    ghost invariant = { λ hsm. AreHsmKeys (held hsm.lmk hsm.zone hsm.key_sets.items) };
+    ghost invariant = { λ hsm. AreHsmKeys (held_keys hsm.lmk hsm.zone hsm.key_sets.items) };
 }
 
 impl<const N: usize> Hsm<N> {

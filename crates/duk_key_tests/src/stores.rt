@@ -81,7 +81,7 @@ fn a_new_log(rt: HostRuntime) -> Result<(), Fail> {
 
 /// A log for two numbers that was brought up and keeps the first, once an append of the third was
 /// to stop after so many steps; and how many it keeps.
-fn appended(alloc: Global, steps: u32) -> Result<(MemLog, u64), StoreFault> {
+fn stopped_log(alloc: Global, steps: u32) -> Result<(MemLog, u64), StoreFault> {
     let mut log = MemLog::new(alloc, 2)?;
     log.restart()?;
     log.append(number(1))?;
@@ -105,7 +105,7 @@ fn a_log_that_stops_at_each_step(rt: HostRuntime) -> Result<(), Fail> {
         (1, 2, Some(number(3))),
         (2, 2, Some(number(3))),
     ] {
-        let (mut log, kept) = appended(rt.alloc(), steps)?;
+        let (mut log, kept) = stopped_log(rt.alloc(), steps)?;
         assert_eq!(rt; kept, expected);
         assert_eq!(rt; size(&log), (expected, 2 - expected));
         assert_eq!(rt; number_at(&mut log, 0), Ok(Some(number(1))));

@@ -6,8 +6,8 @@ use Rattle.duk_tdes.specs.Key.{xor_bytes}
 use Rattle.duk_tdes.specs.Tdes.{tdes_encrypted}
 use Rattle.duk_mac.specs.Chain.{zero_block, chained}
 
--- the 64 bits of a block shifted left by one; where the bit that falls out is a one, it is xored with 1B
--- (section 6.1, steps 2 and 3)
+-- the 64 bits of a block shifted left by one; where the bit that falls out is a one, it is xored
+-- with 1B (section 6.1, steps 2 and 3)
 unfoldable pub doubled : List ℕ → List ℕ
 doubled block =
     let number = from_be_bytes w64 block in
@@ -42,4 +42,5 @@ with_last_masked key (block ∷ next ∷ blocks) = block ∷ with_last_masked ke
 
 -- the MAC of a message under a TDES key, all eight bytes of it (section 6.2)
 unfoldable pub cmac_of : List ℕ → List ℕ → List ℕ
-cmac_of key message = chained (tdes_encrypted key) zero_block (with_last_masked key (blocks_of message))
+cmac_of key message =
+    chained (tdes_encrypted key) zero_block (with_last_masked key (blocks_of message))

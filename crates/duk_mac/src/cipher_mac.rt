@@ -48,7 +48,8 @@ fn last_block<const N: usize>(tdes: &Tdes<N>, rest: &[u8]) -> [u8; 8]
     }
 }
 
-/// The block shifted left by one bit; it is xored with `CARRY` where the bit that falls out is a one.
+/// The block shifted left by one bit; it is xored with `CARRY` where the bit that falls out is a
+/// one.
 #[tactic(auto, unfolding(crate::specs::Cmac::doubled))]
 fn double(block: [u8; 8]) -> [u8; 8]
     ensures { result ≡ doubled block }

@@ -37,8 +37,8 @@ pub record IsTdesKey (key : List ℕ) : Type 0 where
   pub length_is : IsTdesLength (length key)
   pub bytes_fit : All (λ byte. byte < 2 ^ 8) key
 
--- these are the single keys of a key, where a third that is not given is the first again: what a cipher under one key
--- keeps
+-- these are the single keys of a key, where a third that is not given is the first again: what a
+-- cipher under one key keeps
 pub record AreSingleKeys (key first second : List ℕ) (third : Option (List ℕ)) : Type 0 where
   pub first_is : first ≡ first_key key
   pub second_is : second ≡ second_key key

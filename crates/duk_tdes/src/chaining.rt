@@ -17,7 +17,8 @@ pub fn cbc_encrypt<const N: usize>(key: &Key<N>, iv: [u8; 8], bytes: &mut [u8])
     encrypt_chain(&Tdes::new(key), iv, bytes);
 }
 
-/// Deciphers in place what `cbc_encrypt` enciphered under the same key from the same initial vector.
+/// Deciphers in place what `cbc_encrypt` enciphered under the same key from the same initial
+/// vector.
 pub fn cbc_decrypt<const N: usize>(key: &Key<N>, iv: [u8; 8], bytes: &mut [u8])
     requires key { IsTdesLength N }
     requires whole { length bytes.old % 8 ≡ 0 }

@@ -9,8 +9,8 @@ use crate::key::{Key, KeyBytes};
 use duk_des::Des;
 use std::marker::Model;
 
-/// TDES under one key of `N` bytes, 16 or 24: DES under each of its single keys, whose round keys are
-/// made once. It has neither `Debug` nor `==`, so that no key is printed or compared by chance.
+/// TDES under one key of `N` bytes, 16 or 24: DES under each of its single keys, whose round keys
+/// are made once. It has neither `Debug` nor `==`, so that no key is printed or compared by chance.
 #[derive(Drop)]
 pub struct Tdes<const N: usize> {
     key: Key<N>,

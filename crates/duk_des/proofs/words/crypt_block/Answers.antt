@@ -1,13 +1,13 @@
 use Rattle.std.proofs.Common.{Bool, List, ◌++◌, map, ap, ◌∙◌}
 use Rattle.duk_des.specs.Bits.{permute, bytes_of_bits}
-use Rattle.duk_des.specs.Des.{Halves, rounds, crypted}
+use Rattle.duk_des.specs.Des.{Halves, rounds, des_computation}
 use Rattle.duk_des.specs.Tables.{final_places}
 use Rattle.duk_des.specs.Words.{key_bits}
 use Rattle.duk_des.proofs.SideBySide.{both}
 use Rattle.duk_des.proofs.words.crypt_block.Goals as goal
 
 pub returns : goal.returns
-unfolding crypted
+unfolding des_computation
 returns c =
     let finished : Halves → List Bool = λ halves. permute final_places (halves.right ++ halves.left) in
     let halves : List Bool → List Bool → Halves = λ left right. record { left = left; right = right } in

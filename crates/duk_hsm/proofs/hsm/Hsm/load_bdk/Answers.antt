@@ -1,13 +1,13 @@
 -- The keys are lawful with the new key set, and as they were where there is no free slot.
 use Rattle.std.proofs.Common.{◌≡◌, ◌<◌, None, length, arith}
-use Rattle.duk_hsm.specs.Keys.{held, key_set_of}
+use Rattle.duk_hsm.specs.Keys.{held_keys, key_set_of}
 use Rattle.duk_hsm.proofs.KeySets.{one_more, sixteen_bytes}
 use Rattle.duk_hsm.proofs.hsm.Hsm.load_bdk.Goals as goal
 use Rattle.duk_hsm.proofs.hsm.Hsm.load_bdk.Goals.{in-Ok, in-Err}
 
 pub invariant_of-self : goal.invariant_of-self
 invariant_of-self g c =
-    let keys = held c.self.inside.lmk c.self.inside.zone c.self.inside.key_sets.items in
+    let keys = held_keys c.self.inside.lmk c.self.inside.zone c.self.inside.key_sets.items in
     let free : key_set_of keys c.args.prefix ≡ None = grind (arith, c.if-has_key_set.ensures.held, c.if-has_key_set.false, c.self.view_is) in
     elim c.match-try_push.branch [
       | in-Ok w ↦
