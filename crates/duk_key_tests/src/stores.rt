@@ -58,7 +58,8 @@ fn number(counter: u8) -> Ksn {
 }
 
 fn append_armed<L: UsedLog>(log: &mut L, steps: u32, number: Ksn) -> Result<u64, StoreFault>
-    requires { (L.meaning log.old).running ≡ true → L.count log.old < L.capacity log.old }
+    requires { (L.meaning.state_of log.old).running ≡ true
+        → L.meaning.count log.old < L.meaning.capacity log.old }
 {
     log.arm(steps);
     let _ = log.append(number);
