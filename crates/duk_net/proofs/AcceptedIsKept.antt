@@ -74,7 +74,7 @@ accepted_serial : (answers : List Frame) (ksn : Serial) → IsAcceptedNumber ans
 accepted_serial answers ksn (code, is) = is.reply.fields.0
 
 -- while a host runs with these used numbers, a restart of its log would find one list alone, whose numbers are all used
-abbrev UsesAll : StoreState Numbers → Option (List ℕ) → Type 0
+abbrev pub UsesAll : StoreState Numbers → Option (List ℕ) → Type 0
 UsesAll log None = Unit {0}
 UsesAll log (Some used) = (numbers : Numbers) × FindsOnly log numbers × ((ksn : Serial) → IsSerial ksn → Contains numbers ksn → IsUsed used ksn)
 

@@ -33,13 +33,13 @@ pairs_with_last R things last thing pairs (place, within, is) =
     (subst (λ x. R (get_or (things ++ last ∷ []) place thing) x) (get_or_push things last thing (length things) refl) among)
 
 -- what is so of some thing of a list stays so where one is added
-any_stays : {A : Type 0} (P : A → Type 0) (things : List A) (last : A) → Any P things → Any P (things ++ last ∷ [])
+pub any_stays : {A : Type 0} (P : A → Type 0) (things : List A) (last : A) → Any P things → Any P (things ++ last ∷ [])
 any_stays P things last (place, thing, within, is, holds) =
     let among = Contains-append_left things (last ∷ []) thing (place, within, is) in
     (among.0, thing, among.1, among.2, holds)
 
 -- where a list with one more is taken apart at a thing, that is the one, or it stands before
-last_or_before : {A : Type 0} (things earlier later : List A) (last thing : A) → things ++ last ∷ [] ≡ earlier ++ thing ∷ later
+pub last_or_before : {A : Type 0} (things earlier later : List A) (last thing : A) → things ++ last ∷ [] ≡ earlier ++ thing ∷ later
     → ((earlier ≡ things) × (last ≡ thing)) ⊎ ((rest : List A) × (things ≡ earlier ++ thing ∷ rest))
 last_or_before [] [] later last thing is = inl (refl, cc)
 last_or_before [] (first ∷ []) later last thing is = cc

@@ -13,6 +13,10 @@ mod BeginStaysAboveUsed
 mod WorldStaysAboveUsed
 mod UsedKeysAreGone
 mod AcceptedIsKept
+mod FoundIsUsable
+mod StoreFaults
 mod FramesUnderOwnKeys
 mod PendingIsSent
 mod CompletedByHost
+mod CalmStores
+mod CalmRestarts

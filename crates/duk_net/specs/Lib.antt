@@ -18,3 +18,4 @@ pub mod UnusedKeys
 pub mod Accepted
 pub mod OwnKey
 pub mod Completed
+pub mod Calm

@@ -3,12 +3,16 @@
 
 ghost use Rattle.std.specs.Prelude.{◌≡◌, ℕ, All, List, Some};
 ghost use Rattle.duk_net.specs.Accepted.{AcceptsOnce, KeepsAccepted};
+ghost use Rattle.duk_net.specs.Calm.{FailsOnceArmed, HasSoundStores, IsBroughtUp, IsCalmAt, IsRestart, StaysCalm, TellsNoDamage};
 ghost use Rattle.duk_net.specs.Completed.{Completed};
+ghost use Rattle.duk_net.specs.declared.event.End.{End};
+ghost use Rattle.duk_net.specs.declared.event.Event.{Event};
 ghost use Rattle.duk_net.specs.declared.outcome.Outcome.{Outcome};
 ghost use Rattle.duk_net.specs.UsedNumbers.{IsSentByOwner, NoneTwice};
 ghost use Rattle.duk_net.specs.Owner.{owner_of};
 ghost use Rattle.duk_net.specs.OwnKey.{IsOwnReply, IsOwnRequest, IsRefusedAsUsedOrFull};
 ghost use Rattle.duk_net.specs.Reached.{CallLeads, Reached};
+ghost use Rattle.duk_net.specs.Run.{Run};
 ghost use Rattle.duk_net.specs.UnusedKeys.{HoldNoUsedKey, HoldsOfTerminal, StandsAboveUsed};
 ghost use Rattle.duk_net.specs.World.{WorldOf, meanings_of};
 
@@ -95,6 +99,56 @@ pub fn completion_by_host<C: Cell, L: UsedLog, I: Issuer>()
 {
     no_number_twice::<C, L, I>();
     duk_frame::laws::one_reading();
+}
+
+/// Sound stores stay sound, and no end tells that its store is damaged. A store that is calm stays
+/// so until it is armed, and its end tells no failed device step before.
+pub fn calm_stores<C: Cell, L: UsedLog, I: Issuer>()
+    ensures sound { (old new : WorldOf C L I) (outcomes : List Outcome)
+        → Reached (meanings_of C.meaning L.meaning I.decides) old
+        → HasSoundStores (meanings_of C.meaning L.meaning I.decides) old
+        → CallLeads (meanings_of C.meaning L.meaning I.decides) old outcomes new
+        → HasSoundStores (meanings_of C.meaning L.meaning I.decides) new }
+    ensures no_damage { (old new : WorldOf C L I) (outcomes : List Outcome)
+        → Reached (meanings_of C.meaning L.meaning I.decides) old
+        → HasSoundStores (meanings_of C.meaning L.meaning I.decides) old
+        → CallLeads (meanings_of C.meaning L.meaning I.decides) old outcomes new
+        → All TellsNoDamage outcomes }
+    ensures calm { (end : End) (old new : WorldOf C L I) (outcomes : List Outcome)
+        → Reached (meanings_of C.meaning L.meaning I.decides) old
+        → IsCalmAt (meanings_of C.meaning L.meaning I.decides) old end
+        → CallLeads (meanings_of C.meaning L.meaning I.decides) old outcomes new
+        → StaysCalm (meanings_of C.meaning L.meaning I.decides) end new outcomes }
+    ensures once_armed { (end : End) (old new : WorldOf C L I) (outcomes : List Outcome)
+        → Reached (meanings_of C.meaning L.meaning I.decides) old
+        → IsCalmAt (meanings_of C.meaning L.meaning I.decides) old end
+        → CallLeads (meanings_of C.meaning L.meaning I.decides) old outcomes new
+        → FailsOnceArmed end outcomes }
+{
+    duk_frame::laws::one_reading();
+    duk_tree::laws::bits();
+}
+
+/// Restarts of ends that are there bring them all up, where all stores are sound and calm, and
+/// leave the stores so.
+pub fn calm_restarts<C: Cell, L: UsedLog, I: Issuer>()
+    ensures brought_up { (old new : WorldOf C L I) (events : List Event) (outcomes : List Outcome)
+        → Reached (meanings_of C.meaning L.meaning I.decides) old
+        → HasSoundStores (meanings_of C.meaning L.meaning I.decides) old
+        → ((end : End) → IsCalmAt (meanings_of C.meaning L.meaning I.decides) old end)
+        → All (IsRestart old) events
+        → Run (meanings_of C.meaning L.meaning I.decides) old events outcomes new
+        → All IsBroughtUp outcomes }
+    ensures calm { (old new : WorldOf C L I) (events : List Event) (outcomes : List Outcome)
+        → Reached (meanings_of C.meaning L.meaning I.decides) old
+        → HasSoundStores (meanings_of C.meaning L.meaning I.decides) old
+        → ((end : End) → IsCalmAt (meanings_of C.meaning L.meaning I.decides) old end)
+        → All (IsRestart old) events
+        → Run (meanings_of C.meaning L.meaning I.decides) old events outcomes new
+        → (end : End) → IsCalmAt (meanings_of C.meaning L.meaning I.decides) new end }
+{
+    duk_frame::laws::one_reading();
+    duk_tree::laws::bits();
 }
 
 /// Who owns an initial key serial number owns it for good, and the security module keeps its keys.

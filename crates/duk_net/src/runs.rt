@@ -2,7 +2,9 @@
 
 ghost use Rattle.std.specs.Prelude.{◌≡◌, ◌++◌, ◌∷◌, [], ℕ, All, Some, IfOk, IfErr, OnErr};
 ghost use Rattle.duk_net.specs.Accepted.{AcceptsOnce, KeepsAccepted};
+ghost use Rattle.duk_net.specs.Calm.{FailsOnceArmed, HasSoundStores, IsCalmAt, StaysCalm, TellsNoDamage};
 ghost use Rattle.duk_net.specs.Completed.{Completed};
+ghost use Rattle.duk_net.specs.declared.event.End.{End};
 ghost use Rattle.duk_net.specs.Gained.{EachGained, HoldsOfGained};
 ghost use Rattle.duk_net.specs.UsedNumbers.{IsSentByOwner, NoneTwice};
 ghost use Rattle.duk_net.specs.Owner.{owner_of};
@@ -42,7 +44,8 @@ pub enum NetFault {
 /// transactions use one number; the host accepts each number at most once, and each request and
 /// reply is made under the terminal's own key; a terminal completes only with the host's reply to
 /// its number; and no terminal holds, or may find after a stop, the key of a used number or of an
-/// ancestor of one.
+/// ancestor of one. Where all stores are sound, no end tells that its store is damaged; and one
+/// whose store is calm tells no failed device step before it was armed.
 pub fn run<const N: usize, C: Cell, L: UsedLog, I: Issuer>(
     world: &mut World<N, C, L, I>,
     events: &[Event],
@@ -81,12 +84,25 @@ pub fn run<const N: usize, C: Cell, L: UsedLog, I: Issuer>(
     ensures no_used_key { All
         (HoldsOfTerminal (meanings_of C.meaning L.meaning I.decides)
         (HoldNoUsedKey world.new.host.keys world.new.requests)) world.new.terminals }
+    // Sound stores tell no damage, and calm ones fail only once they were armed.
+    ensures sound { HasSoundStores (meanings_of C.meaning L.meaning I.decides) world.old
+        → HasSoundStores (meanings_of C.meaning L.meaning I.decides) world.new }
+    ensures no_damage { HasSoundStores (meanings_of C.meaning L.meaning I.decides) world.old
+        → EachGained TellsNoDamage out.old.items out.new.items }
+    ensures calm { (end : End)
+        → IsCalmAt (meanings_of C.meaning L.meaning I.decides) world.old end
+        → HoldsOfGained (StaysCalm (meanings_of C.meaning L.meaning I.decides) end world.new)
+        out.old.items out.new.items }
+    ensures once_armed { (end : End)
+        → IsCalmAt (meanings_of C.meaning L.meaning I.decides) world.old end
+        → HoldsOfGained (FailsOnceArmed end) out.old.items out.new.items }
 {
     laws::no_number_twice::<C, L, I>();
     laws::no_used_key::<C, L, I>();
     laws::one_acceptance::<C, L, I>();
     laws::own_key::<C, L, I>();
     laws::completion_by_host::<C, L, I>();
+    laws::calm_stores::<C, L, I>();
     laws::what_stays::<C, L, I>();
     run_system(&mut world.system, events, out)
 }

@@ -9,3 +9,4 @@ mod LinesInTurn
 mod ReadsInTurn
 mod PlayedScripts
 mod ShortNames
+mod CalmFirstWorld

@@ -1,19 +1,22 @@
--- The world of a configuration, over stores in memory: this project's own.
-use Rattle.std.specs.Prelude.{◌≡◌, ◌+◌, ◌++◌, ◌∷◌, zero, suc, ℕ, List, [], None, replicate}
+-- The first world of a script, and its ends brought up: this project's own.
+use Rattle.std.specs.Prelude.{◌≡◌, ◌+◌, ◌++◌, ◌∷◌, zero, suc, ℕ, List, [], None, All, length, replicate}
 use Rattle.duk_config.specs.Opened.{keys_for}
 use Rattle.duk_config.specs.Settings.{Settings}
 use Rattle.duk_host.specs.Host.{HostOf}
 use Rattle.duk_host.specs.Table.{CardTable}
-use Rattle.duk_net.specs.First.{first_world}
-use Rattle.duk_net.specs.InMemory.{MemoryWorld, in_memory, new_terminal}
+use Rattle.duk_net.specs.Calm.{HasSoundStores, IsBroughtUp, IsCalmAt}
+use Rattle.duk_net.specs.First.{IsFirst, first_world}
+use Rattle.duk_net.specs.InMemory.{MemoryWorld, new_terminal}
 use Rattle.duk_net.specs.Run.{Run}
+use Rattle.duk_net.specs.World.{Meanings, WorldOf}
+use Rattle.duk_net.specs.declared.event.End.{End}
 use Rattle.duk_net.specs.declared.event.Event.{Event}
 use Rattle.duk_net.specs.declared.event.Event.TheVariants.{RestartHost, RestartTerm}
 use Rattle.duk_net.specs.declared.outcome.Outcome.{Outcome}
 use Rattle.duk_store.specs.MemoryLog.{MemoryLog, new_log}
 use Rattle.duk_tdes.specs.KeyBytes.{bytes_of}
 
--- the host of a configuration, as it is made
+-- the host of a configuration over stores in memory, as it is made
 abbrev pub new_host_of : List ℕ → Settings → HostOf MemoryLog CardTable
 new_host_of lmk config = record {
   keys = keys_for lmk config;
@@ -22,7 +25,7 @@ new_host_of lmk config = record {
   used = None;
 }
 
--- the world of a configuration, as it is made
+-- the world of a configuration over stores in memory, as it is made
 abbrev pub new_world_of : List ℕ → Settings → MemoryWorld
 new_world_of lmk config =
     first_world (new_host_of lmk config) config.loading (replicate config.terminals new_terminal)
@@ -32,8 +35,15 @@ abbrev pub opening : ℕ → List Event
 opening zero = RestartHost ∷ []
 opening (suc count) = opening count ++ RestartTerm (count + 1) ∷ []
 
--- the world of a configuration, its ends restarted
-abbrev pub IsOpened : List ℕ → Settings → MemoryWorld → Type 0
-IsOpened lmk config world =
-    (opened : List Outcome) × Run in_memory (new_world_of lmk config) (opening config.terminals)
-    opened world
+-- a world in which nothing happened yet, every store of which is honest, sound and calm
+pub record StartsCalm {C L I : Type 0} (m : Meanings C L I) (first : WorldOf C L I) : Type 0 where
+  pub is_first : IsFirst m first
+  pub sound : HasSoundStores m first
+  pub calm : (end : End) → IsCalmAt m first end
+
+-- all ends of a first world are restarted, and each is brought up
+pub record IsOpened {C L I : Type 0} (m : Meanings C L I) (first opened : WorldOf C L I)
+    : Type 0 where
+  pub outcomes : List Outcome
+  pub restarted : Run m first (opening (length first.terminals)) outcomes opened
+  pub brought_up : All IsBroughtUp outcomes

@@ -1,9 +1,11 @@
-//! The world of a configuration, over stores in memory.
+//! The world of a configuration, its ends brought up.
 
 ghost use Rattle.std.specs.Prelude.{◌≡◌, IfOk, IfErr, replicate};
 ghost use Rattle.duk_tdes.specs.KeyBytes.{bytes_of};
-ghost use Rattle.duk_net.specs.InMemory.{new_terminal};
-ghost use Rattle.duk_script.specs.Opening.{IsOpened, new_world_of, opening};
+ghost use Rattle.duk_net.specs.Calm.{HasSoundStores, IsCalmAt};
+ghost use Rattle.duk_net.specs.declared.event.End.{End};
+ghost use Rattle.duk_net.specs.InMemory.{in_memory, new_terminal};
+ghost use Rattle.duk_script.specs.Opening.{IsOpened, StartsCalm, new_world_of, opening};
 ghost use Rattle.duk_tdes.specs.Tdes.{IsTdesLength};
 
 use duk_config::{Config, ScriptFault, open_hsm};
@@ -17,18 +19,22 @@ use std::alloc::Global;
 /// A world over stores in memory, whose host asks a table of cards.
 pub(crate) type MemoryWorld<const N: usize> = World<N, MemCell, MemLog, TableIssuer>;
 
-/// The world of a configuration, with its ends restarted. Refused with `NoMemory`.
+/// The world of a configuration, with its ends brought up. Refused with `NoMemory`.
 pub(crate) fn open_world<const N: usize>(
     alloc: Global,
     lmk: &Key<N>,
     config: Config,
 ) -> Result<MemoryWorld<N>, ScriptFault>
     requires { IsTdesLength N }
-    ensures opened { IfOk result (IsOpened lmk.now config) }
+    ensures starts { StartsCalm in_memory (new_world_of lmk.now config) }
+    ensures opened { IfOk result (IsOpened in_memory (new_world_of lmk.now config)) }
+    ensures sound { IfOk result (HasSoundStores in_memory) }
+    ensures calm { IfOk result (λ world. (end : End) → IsCalmAt in_memory world end) }
     ensures refused { IfErr result (λ why. why ≡ ScriptFault.NoMemory) }
 {
     let events = restarts(alloc, config.terminals)?;
     let mut world = new_world(alloc, lmk, config)?;
+    duk_net::laws::calm_restarts::<MemCell, MemLog, TableIssuer>();
     let mut outcomes = Vec::new(alloc);
     match run(&mut world, events.as_slice(), &mut outcomes) {
         Ok(()) => Ok(world),

@@ -59,3 +59,23 @@ pub returns-clause-keys_stay : goal.returns-clause-keys_stay
 returns-clause-keys_stay g c =
     let led = leads g c in
     rw (← c.world.view_is) (c.what_stays.ensures.keys c.world.inside.system c.run_system.new.system led.outcomes c.world.invariant led.holds)
+
+pub returns-clause-sound : goal.returns-clause-sound
+returns-clause-sound g c =
+    let led = leads g c in
+    rw (← c.world.view_is) (λ sound. c.calm_stores.ensures.sound c.world.inside.system c.run_system.new.system led.outcomes c.world.invariant sound led.holds)
+
+pub returns-clause-no_damage : goal.returns-clause-no_damage
+returns-clause-no_damage g c =
+    rw (← c.world.view_is) (λ sound. gained_so _ _ c.args.out.now.items c.run_system.new.out.items
+    (λ outcomes. c.calm_stores.ensures.no_damage c.world.inside.system c.run_system.new.system outcomes c.world.invariant sound) (leads g c))
+
+pub returns-clause-calm : goal.returns-clause-calm
+returns-clause-calm g c =
+    rw (← c.world.view_is) (λ end calm. gained_so _ _ c.args.out.now.items c.run_system.new.out.items
+    (λ outcomes. c.calm_stores.ensures.calm end c.world.inside.system c.run_system.new.system outcomes c.world.invariant calm) (leads g c))
+
+pub returns-clause-once_armed : goal.returns-clause-once_armed
+returns-clause-once_armed g c =
+    rw (← c.world.view_is) (λ end calm. gained_so _ _ c.args.out.now.items c.run_system.new.out.items
+    (λ outcomes. c.calm_stores.ensures.once_armed end c.world.inside.system c.run_system.new.system outcomes c.world.invariant calm) (leads g c))

@@ -1,0 +1,124 @@
+-- Where all stores are sound and calm, restarts bring up the ends that are there.
+use Rattle.std.proofs.Common.{◌≡◌, ◌≢◌, ◌⊎◌, ◌+◌, ◌<◌, ◌∷◌, [], zero, suc, ℕ, List, Some, length, inl, inr, refl, sym, ap, subst, ◌∙◌, arith}
+use Rattle.std.specs.List.{All, slice_set}
+use Rattle.std.proofs.lemmas.List.Elements.{All-cons, All-head, All-nil, All-tail}
+use Rattle.std.proofs.Math.ListN.{get_or}
+use Rattle.duk_host.specs.Host.{HostOf}
+use Rattle.duk_host.specs.Restart.{HostRestartRefused}
+use Rattle.duk_host.specs.declared.fault.HostFault.{HostFault}
+use Rattle.duk_host.specs.declared.fault.HostFault.TheVariants as host_fault
+use Rattle.duk_store.specs.Restart.{IsRestartFault}
+use Rattle.duk_store.specs.StoreState.{StoreState}
+use Rattle.duk_store.specs.declared.fault.StoreFault.{StoreFault}
+use Rattle.duk_store.specs.declared.fault.StoreFault.TheVariants as store_fault
+use Rattle.duk_term.specs.Restart.{TerminalRestartRefused}
+use Rattle.duk_term.specs.Terminal.{TerminalOf}
+use Rattle.duk_term.specs.declared.fault.TermFault.{TermFault}
+use Rattle.duk_term.specs.declared.fault.TermFault.TheVariants as term_fault
+use Rattle.duk_net.specs.Calm.{HasSoundStores, IsBroughtUp, IsCalmAt, IsCellFault, IsLogFault, IsRestart, TellsArming}
+use Rattle.duk_net.specs.Reached.{Reached}
+use Rattle.duk_net.specs.Restart.{RestartsHost, RestartsTerminal, TakesRestart}
+use Rattle.duk_net.specs.Run.{Run}
+use Rattle.duk_net.specs.Step.{Step}
+use Rattle.duk_net.specs.World.{ChangesOnly, FindsNoTerminal, HasNone, HasOne, Meanings, WorldOf}
+use Rattle.duk_net.specs.declared.event.End.{End}
+use Rattle.duk_net.specs.declared.event.End.TheVariants as ends
+use Rattle.duk_net.specs.declared.event.Event.{Event}
+use Rattle.duk_net.specs.declared.event.Event.TheVariants as event
+use Rattle.duk_net.specs.declared.outcome.Outcome.{Outcome}
+use Rattle.duk_net.specs.declared.outcome.Outcome.TheVariants as came
+use Rattle.duk_net.proofs.AboveUsed.{OneRequest, UsableFits}
+use Rattle.duk_net.proofs.CalmStores.{KnownStores, StepFacts, reached_stores, step_facts}
+use Rattle.duk_net.proofs.HostAnswers.{OneReading}
+use Rattle.duk_net.proofs.ReachedByMoves.{reached_step}
+
+-- a list in which an item is put at a place is as long as before
+set_length : {A : Type 0} (things : List A) (place : ℕ) (thing : A) → length (slice_set things place thing) ≡ length things
+set_length [] place thing = refl
+set_length (first ∷ things) zero thing = refl
+set_length (first ∷ things) (suc place) thing = ap suc (set_length things place thing)
+
+-- as many terminals, as a terminal is restarted
+as_many : {C : Type 0} (t : ℕ) (P : TerminalOf C → TerminalOf C → Type 0) (old new : List (TerminalOf C)) → ChangesOnly t P old new → length new ≡ length old
+as_many t P old new acts = ap length acts.others ∙ set_length old acts.place acts.after
+
+-- one that is there is not missing
+not_missing : {A : Type 0} (things : List A) (number : ℕ) → HasOne things number → ¬ HasNone things number
+not_missing things number one (inl none) = omega (arith, none, one.number_is)
+not_missing things number one (inr past) = omega (arith, past, one.number_is, one.within)
+
+-- the fault of a store's restart is one of two
+two_faults : {V : Type 0} (old new : StoreState V) (why : StoreFault) → IsRestartFault old new why → (why ≡ store_fault.Device) ⊎ (why ≡ store_fault.Damaged)
+two_faults old new store_fault.Device is = inl refl
+two_faults old new store_fault.Damaged is = inr refl
+two_faults old new _ is = absurd is
+
+-- a terminal's refusal to restart tells one of the two
+term_tells : {C L I : Type 0} (m : Meanings C L I) (before after : TerminalOf C) (why : TermFault) → TerminalRestartRefused m.cell before after why → IsCellFault why store_fault.Device ⊎ IsCellFault why store_fault.Damaged
+term_tells m before after (term_fault.Store why) refused = elim refused.cause [
+  | inl failed ↦ two_faults (m.cell.state_of before.cell) (m.cell.state_of after.cell) why failed.fault_is
+  | inr (damaged, none) ↦ inr damaged
+]
+term_tells m before after _ refused = absurd refused
+
+-- and so does the host's, but for want of memory
+host_tells : {C L I : Type 0} (m : Meanings C L I) (old new : HostOf L I) (why : HostFault) → why ≢ host_fault.NoMemory → HostRestartRefused m.host.log old new why
+    → IsLogFault why store_fault.Device ⊎ IsLogFault why store_fault.Damaged
+host_tells m old new host_fault.NoMemory other refused = absurd (other refl)
+host_tells m old new (host_fault.Store why) other refused = elim refused.cause [
+  | inl failed ↦ two_faults (m.host.log.state_of old.log) (m.host.log.state_of new.log) why failed.fault_is
+  | inr (damaged, none) ↦ inr damaged
+]
+host_tells m old new _ other refused = absurd refused
+
+-- an end that is brought up was not armed
+not_armed : (end : End) (outcome : Outcome) → IsBroughtUp outcome → ¬ TellsArming end outcome
+not_armed end (came.Armed armed steps) up tells = absurd up
+not_armed end _ up tells = tells
+
+-- a restart brings its end up, and as many terminals are there
+term_up : {C L I : Type 0} (m : Meanings C L I) (old : WorldOf C L I) (t : ℕ) (outcome : Outcome) (new : WorldOf C L I) (acts : ChangesOnly t (TakesRestart m.cell t outcome) old.terminals new.terminals)
+    → HasSoundStores m old → ((end : End) → IsCalmAt m old end) → StepFacts m old outcome new → IsBroughtUp outcome
+term_up m old t (came.TermNext u next) new acts sound calm facts = tt
+term_up m old t (came.TermFaulted u why) new acts sound calm facts = elim (term_tells m acts.before acts.after why acts.changed.1) [
+  | inl device ↦ absurd (facts.device (ends.Term t) (calm (ends.Term t)) (acts.changed.0, device))
+  | inr damaged ↦ absurd (facts.damaged sound (ends.Term t) (acts.changed.0, damaged))
+]
+term_up m old t _ new acts sound calm facts = absurd acts.changed
+
+host_up : {C L I : Type 0} (m : Meanings C L I) (old : WorldOf C L I) (outcome : Outcome) (new : WorldOf C L I) → RestartsHost m old outcome new
+    → HasSoundStores m old → ((end : End) → IsCalmAt m old end) → StepFacts m old outcome new → IsBroughtUp outcome × (length new.terminals ≡ length old.terminals)
+host_up m old (came.HostUsed used) new restarts sound calm facts = (tt, ap (λ world. length world.terminals) restarts.rest)
+host_up m old (came.HostFaulted why) new restarts sound calm facts = elim (host_tells m old.host new.host why restarts.not_memory restarts.host) [
+  | inl device ↦ absurd (facts.device ends.Host (calm ends.Host) device)
+  | inr damaged ↦ absurd (facts.damaged sound ends.Host damaged)
+]
+host_up m old _ new restarts sound calm facts = absurd restarts
+
+step_up : {C L I : Type 0} (m : Meanings C L I) (old : WorldOf C L I) (event : Event) (outcome : Outcome) (new : WorldOf C L I) → IsRestart old event → Step m old event outcome new
+    → HasSoundStores m old → ((end : End) → IsCalmAt m old end) → StepFacts m old outcome new → IsBroughtUp outcome × (length new.terminals ≡ length old.terminals)
+step_up m old (event.RestartTerm t) outcome new there step sound calm facts = elim step [
+  | inl none ↦ absurd (not_missing old.terminals t there none.none)
+  | inr change ↦ (term_up m old t outcome new change.terminal sound calm facts, as_many t _ old.terminals new.terminals change.terminal)
+]
+step_up m old event.RestartHost outcome new there step sound calm facts = host_up m old outcome new step sound calm facts
+step_up m old _ outcome new there step sound calm facts = absurd there
+
+-- what is there stays there, where there are as many terminals
+restart_there : {C L I : Type 0} (old new : WorldOf C L I) (event : Event) → length new.terminals ≡ length old.terminals → IsRestart old event → IsRestart new event
+restart_there old new (event.RestartTerm t) as_many there = record { place = there.place; number_is = there.number_is; within = subst (λ n. there.place < n) (sym as_many) there.within }
+restart_there old new event.RestartHost as_many there = tt
+restart_there old new _ as_many there = absurd there
+
+pub all_up : {C L I : Type 0} (m : Meanings C L I) → UsableFits → OneRequest → OneReading → (old new : WorldOf C L I) (events : List Event) (outcomes : List Outcome) → Reached m old
+    → HasSoundStores m old → ((end : End) → IsCalmAt m old end) → All (IsRestart old) events → Run m old events outcomes new → All IsBroughtUp outcomes × ((end : End) → IsCalmAt m new end)
+all_up m fits request answer old new [] [] reached sound calm there run = (All-nil IsBroughtUp, rw run calm)
+all_up m fits request answer old new [] (outcome ∷ outcomes) reached sound calm there run = absurd run
+all_up m fits request answer old new (event ∷ events) [] reached sound calm there run = absurd run
+all_up m fits request answer old new (event ∷ events) (outcome ∷ outcomes) reached sound calm there run =
+    let facts = step_facts m old event outcome run.0 (reached_stores m fits request answer old reached) run.1 in
+    let up = step_up m old event outcome run.0 (All-head (IsRestart old) event events there) run.1 sound calm facts in
+    let rest = all_up m fits request answer run.0 new events outcomes (reached_step m old run.0 event outcome reached run.1) (facts.sound sound)
+    (λ end. facts.calm end (calm end) (not_armed end outcome up.0))
+    (λ k default within. restart_there old run.0 (get_or events k default) up.1 (All-tail (IsRestart old) event events there k default within)) run.2 in
+    (All-cons IsBroughtUp outcome outcomes up.0 rest.0, rest.1)

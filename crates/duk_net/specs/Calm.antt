@@ -1,0 +1,83 @@
+-- What sound and calm stores spare a world: this project's own.
+use Rattle.std.specs.Prelude.{◌≡◌, ◌⊎◌, ◌++◌, ◌∷◌, ℕ, List, All, Any}
+use Rattle.duk_host.specs.declared.fault.HostFault.{HostFault}
+use Rattle.duk_host.specs.declared.fault.HostFault.TheVariants as host_fault
+use Rattle.duk_store.specs.declared.fault.StoreFault.{StoreFault}
+use Rattle.duk_store.specs.declared.fault.StoreFault.TheVariants.{Damaged, Device}
+use Rattle.duk_term.specs.Terminal.{TerminalOf}
+use Rattle.duk_term.specs.declared.fault.TermFault.{TermFault}
+use Rattle.duk_term.specs.declared.fault.TermFault.TheVariants as term_fault
+use Rattle.duk_net.specs.World.{HasOne, IsAt, Meanings, WorldOf}
+use Rattle.duk_net.specs.declared.event.End.{End}
+use Rattle.duk_net.specs.declared.event.End.TheVariants as end
+use Rattle.duk_net.specs.declared.event.Event.{Event}
+use Rattle.duk_net.specs.declared.event.Event.TheVariants as event
+use Rattle.duk_net.specs.declared.outcome.Outcome.{Outcome}
+use Rattle.duk_net.specs.declared.outcome.Outcome.TheVariants as came
+
+-- a terminal's cell was made over what its own type left in a medium of right size
+abbrev pub HasSoundCell : {C L I : Type 0} → Meanings C L I → TerminalOf C → Type 0
+HasSoundCell m terminal = (m.cell.state_of terminal.cell).sound
+
+-- so were all stores of a world
+pub record HasSoundStores {C L I : Type 0} (m : Meanings C L I) (world : WorldOf C L I)
+    : Type 0 where
+  pub log : (m.host.log.state_of world.host.log).sound
+  pub cells : All (HasSoundCell m) world.terminals
+
+-- the store of an end is calm
+abbrev pub IsCalmAt : {C L I : Type 0} → Meanings C L I → WorldOf C L I → End → Type 0
+IsCalmAt m world end.Host = (m.host.log.state_of world.host.log).calm
+IsCalmAt m world (end.Term t) =
+    (terminal : TerminalOf _) → IsAt world.terminals t terminal
+    → (m.cell.state_of terminal.cell).calm
+
+-- a terminal refused since its cell failed so
+abbrev pub IsCellFault : TermFault → StoreFault → Type 0
+IsCellFault (term_fault.Store why) fault = why ≡ fault
+IsCellFault _ fault = ⊥
+
+-- the host refused since its log failed so
+abbrev pub IsLogFault : HostFault → StoreFault → Type 0
+IsLogFault (host_fault.Store why) fault = why ≡ fault
+IsLogFault _ fault = ⊥
+
+-- an outcome tells that the store of an end failed so
+abbrev pub TellsFault : Outcome → End → StoreFault → Type 0
+TellsFault (came.TermFaulted u why) (end.Term t) fault = (u ≡ t) × IsCellFault why fault
+TellsFault (came.HostFaulted why) end.Host fault = IsLogFault why fault
+TellsFault _ _ fault = ⊥
+
+-- an outcome tells of no end that its store is damaged
+abbrev pub TellsNoDamage : Outcome → Type 0
+TellsNoDamage outcome = (end : End) → ¬ TellsFault outcome end Damaged
+
+-- the outcome is that the store of an end was armed
+abbrev pub TellsArming : End → Outcome → Type 0
+TellsArming end (came.Armed armed steps) = armed ≡ end
+TellsArming end _ = ⊥
+
+-- where outcomes tell that a device step of an end's store failed, one before it tells that the
+-- store was armed
+abbrev pub FailsOnceArmed : End → List Outcome → Type 0
+FailsOnceArmed end outcomes =
+    (earlier later : List Outcome) (outcome : Outcome)
+    → outcomes ≡ earlier ++ outcome ∷ later → TellsFault outcome end Device
+    → Any (TellsArming end) earlier
+
+-- the store of an end is calm yet, unless one of the outcomes tells that it was armed
+abbrev pub StaysCalm : {C L I : Type 0} → Meanings C L I → End → WorldOf C L I → List Outcome
+    → Type 0
+StaysCalm m end world outcomes = Any (TellsArming end) outcomes ⊎ IsCalmAt m world end
+
+-- a restart of an end that is there
+abbrev pub IsRestart : {C L I : Type 0} → WorldOf C L I → Event → Type 0
+IsRestart world (event.RestartTerm t) = HasOne world.terminals t
+IsRestart world event.RestartHost = Unit {0}
+IsRestart world _ = ⊥
+
+-- the outcome is that an end was brought up
+abbrev pub IsBroughtUp : Outcome → Type 0
+IsBroughtUp (came.TermNext t next) = Unit {0}
+IsBroughtUp (came.HostUsed used) = Unit {0}
+IsBroughtUp _ = ⊥
