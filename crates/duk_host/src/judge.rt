@@ -73,6 +73,7 @@ fn reason_against_mac<const N: usize>(
         Ok(()) => None,
         Err(HsmFault::NoKeySet) => Some(Reason::UnknownKeySet),
         Err(HsmFault::BadCounter) => Some(Reason::BadCounter),
-        Err(_) => Some(Reason::BadMac),
+        Err(HsmFault::BadMac) => Some(Reason::BadMac),
+        Err(_) => unreachable!(),
     }
 }

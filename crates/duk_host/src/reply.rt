@@ -6,7 +6,7 @@ ghost use Rattle.duk_host.specs.Judgement.{IsCodeOf, IsReplyWith};
 
 use crate::issuer::Issuer;
 use duk_frame::{Code, Frame, Request, reply_text};
-use duk_hsm::Hsm;
+use duk_hsm::{Hsm, HsmFault};
 use duk_tree::Ksn;
 
 /// The code for a request: what the issuer says of its PIN block under the zone key. Where the
@@ -22,7 +22,8 @@ pub(crate) fn code_for<const N: usize, I: Issuer>(
 {
     match hsm.translate(request.ksn, request.block, &request.pan) {
         Ok(block) => issuer.decide(&request.pan, request.amount, block),
-        Err(_) => Code::Unreadable,
+        Err(HsmFault::BadPinBlock) => Code::Unreadable,
+        Err(_) => unreachable!(),
     }
 }
 
