@@ -2,7 +2,7 @@
 use Rattle.std.proofs.Common.{◌≡◌, ◌-◌, if◌then◌else◌, ℕ, List, Some, Result, Ok, Err, IfOk, IfErr, inr, ap, ◌∙◌, subst}
 use Rattle.duk_frame.specs.Request.{IsRequest}
 use Rattle.duk_frame.specs.declared.request.Request.{Request}
-use Rattle.duk_store.specs.Log.{room_of}
+use Rattle.duk_store.specs.Log.{Numbers, room_of}
 use Rattle.duk_host.specs.Handle.{Answers, HandleRefused, IsReplied, IsToAccept, KeepRefused}
 use Rattle.duk_host.specs.Host.{LogHolds, HostMeaning, HostOf, LogAgrees}
 use Rattle.duk_host.specs.Judgement.{Decision, IsAcceptable, basis_with}
@@ -11,7 +11,7 @@ use Rattle.duk_host.specs.declared.fault.HostFault.TheVariants as fault
 
 -- a running host has no reason against a request
 pub to_accept :
-    {L I : Type 0} (meaning : HostMeaning L I) (host : HostOf L I) (used : List ℕ) (request : Request) (room : ℕ)
+    {L I : Type 0} (meaning : HostMeaning L I) (host : HostOf L I) (used : Numbers) (request : Request) (room : ℕ)
     → LogAgrees (meaning.log.state_of host.log) host.used → host.used ≡ Some used
     → room ≡ room_of meaning.log host.log
     → ((decides : Decision) → IsAcceptable (basis_with host.keys used room decides) request)

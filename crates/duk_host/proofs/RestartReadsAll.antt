@@ -1,5 +1,5 @@
 -- A host's restart, from what its log's restart and the reading do.
-use Rattle.std.proofs.Common.{◌≡◌, ℕ, List, Some, None, inl, inr, refl, sym, ◌∙◌, subst}
+use Rattle.std.proofs.Common.{◌≡◌, ℕ, Some, None, inl, inr, refl, sym, ◌∙◌, subst}
 use Rattle.duk_store.specs.Log.{LogMeaning, Numbers, LogRestarted, ReadStopped}
 use Rattle.duk_store.specs.StoreState.{StoreState, Stays}
 use Rattle.duk_store.specs.Restart.{Restarted, RestartFailed}
@@ -48,7 +48,7 @@ failed_on meaning old mid new numbers restarted stopped =
 
 -- the numbers read are those that the restart found
 lists_found :
-    {L : Type 0} (meaning : LogMeaning L) (old mid new : L) (kept : ℕ) (used : List ℕ) (restarted : LogRestarted meaning old mid kept)
+    {L : Type 0} (meaning : LogMeaning L) (old mid new : L) (kept : ℕ) (used : Numbers) (restarted : LogRestarted meaning old mid kept)
     → AreRead meaning mid new kept used → (meaning.state_of old).honest → Lists restarted.numbers used
 lists_found meaning old mid new kept used restarted read honest =
     let is_found = (restarted.restarted.settles.finds honest restarted.numbers).1 refl in
@@ -58,7 +58,7 @@ lists_found meaning old mid new kept used restarted read honest =
 
 -- the log of the host that is brought up holds its used numbers
 pub holds_read :
-    {L : Type 0} (meaning : LogMeaning L) (old mid new : L) (kept : ℕ) (used : List ℕ)
+    {L : Type 0} (meaning : LogMeaning L) (old mid new : L) (kept : ℕ) (used : Numbers)
     → LogRestarted meaning old mid kept → AreRead meaning mid new kept used → LogHolds (meaning.state_of new) used
 holds_read meaning old mid new kept used restarted read =
     let on = restarted_on (meaning.state_of old) (meaning.state_of mid) (meaning.state_of new) restarted.numbers restarted.restarted read.read.stays in
@@ -71,7 +71,7 @@ holds_read meaning old mid new kept used restarted read =
 
 -- the host is brought up
 pub is_restarted :
-    {L I : Type 0} (meaning : LogMeaning L) (old new : HostOf L I) (mid : L) (kept : ℕ) (used : List ℕ)
+    {L I : Type 0} (meaning : LogMeaning L) (old new : HostOf L I) (mid : L) (kept : ℕ) (used : Numbers)
     → LogRestarted meaning old.log mid kept → AreRead meaning mid new.log kept used → KeepsEnds old new → new.used ≡ Some used → IsHostRestarted meaning old new kept
 is_restarted meaning old new mid kept used restarted read ends used_are = record {
   numbers = restarted.numbers;

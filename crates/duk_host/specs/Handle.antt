@@ -2,7 +2,7 @@
 use Rattle.std.specs.Prelude.{◌≡◌, ◌+◌, ◌⊎◌, ℕ, List, Some, None}
 use Rattle.duk_frame.specs.declared.request.Request.{Request}
 use Rattle.duk_frame.specs.Request.{IsRequest}
-use Rattle.duk_store.specs.Log.{AppendFailed, IsAppended}
+use Rattle.duk_store.specs.Log.{AppendFailed, IsAppended, Numbers}
 use Rattle.duk_store.specs.declared.fault.StoreFault.{StoreFault}
 use Rattle.duk_tree.specs.Serial.{Serial}
 use Rattle.duk_host.specs.Host.{HostMeaning, HostOf, basis_of}
@@ -16,7 +16,7 @@ use Rattle.duk_host.specs.declared.fault.HostFault.TheVariants as fault
 pub record AnswersRefusal
     {L I : Type 0} (meaning : HostMeaning L I) (bytes : List ℕ) (old new : HostOf L I)
     (frame : List ℕ) : Type 0 where
-  pub used : List ℕ
+  pub used : Numbers
   pub was_running : old.used ≡ Some used
   pub refused : IsRefusalFor (basis_of meaning old used) bytes frame
   pub same : new ≡ old
@@ -24,8 +24,8 @@ pub record AnswersRefusal
 -- the number is in the log, and is used
 pub record IsNumberKept
     {L I : Type 0} (meaning : HostMeaning L I) (old new : HostOf L I) (ksn : Serial) : Type 0 where
-  pub used : List ℕ
-  pub more : List ℕ
+  pub used : Numbers
+  pub more : Numbers
   pub were_used : old.used ≡ Some used
   pub ends : KeepsEnds old new
   pub appended : IsAppended meaning.log old.log new.log ksn
@@ -37,7 +37,7 @@ pub record IsNumberKept
 -- a request against which a running host has no reason
 pub record IsToAccept
     {L I : Type 0} (meaning : HostMeaning L I) (old : HostOf L I) (request : Request) : Type 0 where
-  pub used : List ℕ
+  pub used : Numbers
   pub was_running : old.used ≡ Some used
   pub acceptable : IsAcceptable (basis_of meaning old used) request
 
@@ -52,7 +52,7 @@ pub record IsReplied
 pub record AnswersReply
     {L I : Type 0} (meaning : HostMeaning L I) (bytes : List ℕ) (old new : HostOf L I)
     (frame : List ℕ) : Type 0 where
-  pub used : List ℕ
+  pub used : Numbers
   pub request : Request
   pub was_running : old.used ≡ Some used
   pub accepted : IsAccepted (basis_of meaning old used) bytes request frame

@@ -1,5 +1,5 @@
 -- A host's restart: this project's own.
-use Rattle.std.specs.Prelude.{◌≡◌, ◌⊎◌, ℕ, List, Some, None, length}
+use Rattle.std.specs.Prelude.{◌≡◌, ◌⊎◌, ℕ, Some, None, length}
 use Rattle.duk_store.specs.Log.{LogMeaning, Numbers}
 use Rattle.duk_store.specs.Restart.{Restarted, RestartFailed}
 use Rattle.duk_store.specs.declared.fault.StoreFault.{StoreFault}
@@ -19,7 +19,7 @@ pub record KeepsEnds {L I : Type 0} (old new : HostOf L I) : Type 0 where
 pub record IsHostRestarted
     {L I : Type 0} (meaning : LogMeaning L) (old new : HostOf L I) (found : ℕ) : Type 0 where
   pub numbers : Numbers
-  pub used : List ℕ
+  pub used : Numbers
   pub ends : KeepsEnds old new
   pub log : Restarted (meaning.state_of old.log) (meaning.state_of new.log) numbers
   pub counted : (meaning.state_of old.log).honest → length numbers ≡ found

@@ -19,7 +19,7 @@ use Rattle.duk_store.specs.StoreState.{FindsOnly, StoreState}
 use Rattle.duk_store.specs.Restart.{Restarted}
 use Rattle.duk_store.specs.declared.fault.StoreFault.{StoreFault}
 use Rattle.duk_store.specs.declared.fault.StoreFault.TheVariants as store_fault
-use Rattle.duk_tree.specs.Serial.{IsSerial, Serial}
+use Rattle.duk_tree.specs.Serial.{Serial}
 use Rattle.duk_net.specs.Accepted.{AcceptOtherNumbers, Accepts, AcceptsOnce, IsAcceptedNumber}
 use Rattle.duk_net.specs.First.{IsFirst}
 use Rattle.duk_net.specs.Reached.{CallLeads, Reached}
@@ -69,14 +69,10 @@ accepted_cases answers frame ksn (code, is) = elim (Contains-push_cases answers 
   | inr last ↦ inr (code, is.mac, rw last is.reply)
 ]
 
--- a number that was accepted is a key serial number
-accepted_serial : (answers : List Frame) (ksn : Serial) → IsAcceptedNumber answers ksn → IsSerial ksn
-accepted_serial answers ksn (code, is) = is.reply.fields.0
-
 -- while a host runs with these used numbers, a restart of its log would find one list alone, whose numbers are all used
-abbrev UsesAll : StoreState Numbers → Option (List ℕ) → Type 0
+abbrev UsesAll : StoreState Numbers → Option Numbers → Type 0
 UsesAll log None = Unit {0}
-UsesAll log (Some used) = (numbers : Numbers) × FindsOnly log numbers × ((ksn : Serial) → IsSerial ksn → Contains numbers ksn → IsUsed used ksn)
+UsesAll log (Some used) = (numbers : Numbers) × FindsOnly log numbers × ((ksn : Serial) → Contains numbers ksn → IsUsed used ksn)
 
 -- the log of a host keeps each number that these answers accept, and a running host uses each number that its log keeps
 pub record HostKeepsAccepted {C L I : Type 0} (m : Meanings C L I) (at : HostOf L I) (answers : List Frame) : Type 0 where
@@ -159,7 +155,7 @@ restart_refused_safe m old new answers fault.Truncated safe refused = absurd ref
 restart_refused_safe m old new answers fault.TooLong safe refused = absurd refused
 
 -- where a log finds the same lists as before, the same used numbers are all that it keeps
-uses_as_before : (old new : StoreState Numbers) (used : Option (List ℕ)) → ((numbers : Numbers) → new.found numbers ↔ old.found numbers) → UsesAll old used → UsesAll new used
+uses_as_before : (old new : StoreState Numbers) (used : Option Numbers) → ((numbers : Numbers) → new.found numbers ↔ old.found numbers) → UsesAll old used → UsesAll new used
 uses_as_before old new None same uses = tt
 uses_as_before old new (Some used) same uses =
     (uses.0, λ other. ((λ found. (uses.1 other).0 ((same other).0 found)), (λ is. (same other).1 ((uses.1 other).1 is))), uses.2)
@@ -168,7 +164,7 @@ uses_as_before old new (Some used) same uses =
 touched_safe : {C L I : Type 0} (m : Meanings C L I) (old new : HostOf L I) (answers : List Frame) → HostKeepsAccepted m old answers → TouchesHost m old new → HostKeepsAccepted m new answers
 touched_safe m old new answers safe (no_answer bytes why refused) = no_answer_safe m old new answers bytes why safe refused
 touched_safe m old new answers safe (host_restarted found restarted) = grown_safe m old new answers safe (restarted_grows _ _ restarted.numbers safe.honest restarted.log)
-    (rw restarted.used_are (restarted.numbers, restarted.log.settles.finds safe.honest, λ ksn serial. ((restarted.lists safe.honest).members ksn serial).0))
+    (rw restarted.used_are (restarted.numbers, restarted.log.settles.finds safe.honest, λ ksn. ((restarted.lists safe.honest).members ksn).0))
 touched_safe m old new answers safe (host_restart_refused why refused) = restart_refused_safe m old new answers why safe refused
 touched_safe m old new answers safe (host_armed steps armed) = grown_safe m old new answers safe
     (finds_as_before _ _ (armed.stays.honest.0 safe.honest) (λ numbers. (armed.stays.found safe.honest numbers).0))
@@ -181,7 +177,7 @@ accepts_fresh m old new answers bytes frame ksn one safe reply told accepted =
     let with = reply.accepted.reply.reply in
     let uses : UsesAll (m.host.log.state_of old.log) (Some reply.used) = rw reply.was_running at safe.uses in
     let is : ksn ≡ reply.request.ksn = one_number one frame ksn reply.request.ksn told (_, _, with.is_reply) in
-    let used : IsUsed reply.used ksn = uses.2 ksn (accepted_serial answers ksn accepted) (safe.keeps uses.0 ((uses.1 uses.0).1 refl) ksn accepted) in
+    let used : IsUsed reply.used ksn = uses.2 ksn (safe.keeps uses.0 ((uses.1 uses.0).1 refl) ksn accepted) in
     reply.accepted.acceptable.fresh (rw is at used)
 
 -- a host that accepts a request keeps each accepted number, with that of the request
@@ -202,8 +198,8 @@ accepts_safe m old new answers bytes frame one safe reply =
       uses = rw kept.used_are (
         uses.0 ++ number ∷ [],
         finds,
-        λ ksn serial has. (kept.one_more ksn serial).1 (elim (Contains-push_cases uses.0 number ksn has) [
-          | inl before ↦ inl (uses.2 ksn serial before)
+        λ ksn has. (kept.one_more ksn).1 (elim (Contains-push_cases uses.0 number ksn has) [
+          | inl before ↦ inl (uses.2 ksn before)
           | inr is ↦ inr (sym is)
         ]),
       );

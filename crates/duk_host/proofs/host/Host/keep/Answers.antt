@@ -11,7 +11,7 @@ invariant_of-self-in_default-append g c =
     let holds : LogHolds (meaning.state_of c.self.inside.log) c.in-Some.used = subst (λ used. LogAgrees (meaning.state_of c.self.inside.log) used) c.in-Some.is c.self.invariant.holds in
     let fresh : ¬ IsUsed c.in-Some.used c.args.ksn = search rules in
     let one_more : IsOneMore c.in-Some.used c.args.ksn c.insert.new.self = c.in_ok-insert.ensures.added in
-    let taken : IsTakenIn c.in-Some.used c.args.ksn c.insert.new.self = record { serial = c.insert.ensures.serial; usable = c.requires.usable; fresh = fresh; one_more = one_more } in
+    let taken : IsTakenIn c.in-Some.used c.args.ksn c.insert.new.self = record { usable = c.requires.usable; fresh = fresh; one_more = one_more } in
     record {
       zone = c.self.invariant.zone;
       holds = holds_more meaning c.self.inside.log c.append.new.self c.in-Some.used c.args.ksn c.insert.new.self holds c.in_default-append.ensures.appended taken;
