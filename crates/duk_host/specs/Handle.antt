@@ -2,7 +2,7 @@
 use Rattle.std.specs.Prelude.{◌≡◌, ◌+◌, ◌⊎◌, ℕ, List, Some, None}
 use Rattle.duk_frame.specs.declared.request.Request.{Request}
 use Rattle.duk_frame.specs.Request.{IsRequest}
-use Rattle.duk_store.specs.Log.{AppendFailed, IsAppended, Numbers}
+use Rattle.duk_store.specs.Log.{AppendFailed, IsAppended}
 use Rattle.duk_store.specs.declared.fault.StoreFault.{StoreFault}
 use Rattle.duk_tree.specs.Serial.{Serial}
 use Rattle.duk_host.specs.Host.{HostMeaning, HostOf, basis_of}
@@ -11,35 +11,36 @@ use Rattle.duk_host.specs.Restart.{KeepsEnds}
 use Rattle.duk_host.specs.Used.{IsOneMore}
 use Rattle.duk_host.specs.declared.fault.HostFault.{HostFault}
 use Rattle.duk_host.specs.declared.fault.HostFault.TheVariants as fault
+use Rattle.duk_host.specs.declared.running.Running.{Running}
 
 -- a refusal: nothing changes
 pub record AnswersRefusal
     {L I : Type 0} (meaning : HostMeaning L I) (bytes : List ℕ) (old new : HostOf L I)
     (frame : List ℕ) : Type 0 where
-  pub used : Numbers
-  pub was_running : old.used ≡ Some used
-  pub refused : IsRefusalFor (basis_of meaning old used) bytes frame
+  pub running : Running
+  pub was_running : old.state ≡ Some running
+  pub refused : IsRefusalFor (basis_of meaning old running) bytes frame
   pub same : new ≡ old
 
 -- the number is in the log, and is used
 pub record IsNumberKept
     {L I : Type 0} (meaning : HostMeaning L I) (old new : HostOf L I) (ksn : Serial) : Type 0 where
-  pub used : Numbers
-  pub more : Numbers
-  pub were_used : old.used ≡ Some used
+  pub before : Running
+  pub after : Running
+  pub was_running : old.state ≡ Some before
   pub ends : KeepsEnds old new
   pub appended : IsAppended meaning.log old.log new.log ksn
   pub counted : meaning.log.count new.log ≡ meaning.log.count old.log + 1
   pub capacity : meaning.log.capacity new.log ≡ meaning.log.capacity old.log
-  pub used_are : new.used ≡ Some more
-  pub one_more : IsOneMore used ksn more
+  pub runs : new.state ≡ Some after
+  pub one_more : IsOneMore before.used ksn after.used
 
 -- a request against which a running host has no reason
 pub record IsToAccept
     {L I : Type 0} (meaning : HostMeaning L I) (old : HostOf L I) (request : Request) : Type 0 where
-  pub used : Numbers
-  pub was_running : old.used ≡ Some used
-  pub acceptable : IsAcceptable (basis_of meaning old used) request
+  pub running : Running
+  pub was_running : old.state ≡ Some running
+  pub acceptable : IsAcceptable (basis_of meaning old running) request
 
 -- the number of a request is kept, and the frame is its reply
 pub record IsReplied
@@ -52,10 +53,10 @@ pub record IsReplied
 pub record AnswersReply
     {L I : Type 0} (meaning : HostMeaning L I) (bytes : List ℕ) (old new : HostOf L I)
     (frame : List ℕ) : Type 0 where
-  pub used : Numbers
+  pub running : Running
   pub request : Request
-  pub was_running : old.used ≡ Some used
-  pub accepted : IsAccepted (basis_of meaning old used) bytes request frame
+  pub was_running : old.state ≡ Some running
+  pub accepted : IsAccepted (basis_of meaning old running) bytes request frame
   pub kept : IsNumberKept meaning old new request.ksn
 
 -- what a host answers
@@ -69,7 +70,7 @@ pub record IsNumberNotKept
     {L I : Type 0} (meaning : HostMeaning L I) (old new : HostOf L I) (ksn : Serial)
     (why : StoreFault) : Type 0 where
   pub ends : KeepsEnds old new
-  pub stopped : new.used ≡ None
+  pub stopped : new.state ≡ None
   pub capacity : meaning.log.capacity new.log ≡ meaning.log.capacity old.log
   pub not_appended : AppendFailed meaning.log old.log new.log ksn why
 
@@ -92,7 +93,7 @@ pub record AcceptFailed
 -- why there is no answer, and what that leaves
 abbrev pub HandleRefused : {L I : Type 0} → HostMeaning L I → List ℕ → HostOf L I → HostOf L I
     → HostFault → Type 0
-HandleRefused meaning bytes old new fault.Stopped = (old.used ≡ None) × (new ≡ old)
+HandleRefused meaning bytes old new fault.Stopped = (old.state ≡ None) × (new ≡ old)
 HandleRefused meaning bytes old new fault.NoMemory =
     AcceptFailed meaning bytes old new fault.NoMemory
 HandleRefused meaning bytes old new (fault.Store why) =

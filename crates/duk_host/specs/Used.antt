@@ -1,6 +1,6 @@
 -- The used numbers of a host: this project's own, over the key serial numbers of ANSI X9.24-1:2009
 -- annex A.
-use Rattle.std.specs.Prelude.{◌≢◌, ◌≡◌, ◌⊎◌, ◌↔◌, Option, Some, None, All, AllPairs, Contains}
+use Rattle.std.specs.Prelude.{◌≢◌, ◌≡◌, ◌⊎◌, ◌↔◌, All, AllPairs, Contains}
 use Rattle.duk_store.specs.Log.{Numbers}
 use Rattle.duk_tree.specs.Path.{IsUsable}
 use Rattle.duk_tree.specs.Serial.{Serial}
@@ -8,17 +8,6 @@ use Rattle.duk_tree.specs.Serial.{Serial}
 -- a key serial number is one of the used ones, in whatever order these are told
 abbrev pub IsUsed : Numbers → Serial → Type 0
 IsUsed used ksn = Contains used ksn
-
--- a key serial number is used at a host that runs with these; a host that is stopped tells none as
--- used
-abbrev pub IsUsedIn : Option Numbers → Serial → Type 0
-IsUsedIn None ksn = ⊥
-IsUsedIn (Some used) ksn = IsUsed used ksn
-
--- a key serial number is not used at a host that runs with these
-abbrev pub IsFreshIn : Option Numbers → Serial → Type 0
-IsFreshIn None ksn = ⊥
-IsFreshIn (Some used) ksn = ¬ IsUsed used ksn
 
 -- the used ones, and one more
 abbrev pub IsOneMore : Numbers → Serial → Numbers → Type 0

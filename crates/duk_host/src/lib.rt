@@ -14,6 +14,7 @@ pub mod laws;
 mod reading;
 mod reason;
 mod reply;
+mod running;
 mod table;
 mod used;
 
