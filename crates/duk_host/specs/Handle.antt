@@ -1,5 +1,8 @@
 -- What a host answers to bytes: this project's own.
 use Rattle.std.specs.Prelude.{◌≡◌, ◌+◌, ◌⊎◌, ℕ, List, Some, None}
+use Rattle.duk_frame.specs.Answer.{IsRefusal, IsReply}
+use Rattle.duk_frame.specs.declared.answer.AnswerFrame.{AnswerFrame}
+use Rattle.duk_frame.specs.declared.answer.AnswerFrame.TheVariants.{Refusal, Reply}
 use Rattle.duk_frame.specs.declared.request.Request.{Request}
 use Rattle.duk_frame.specs.Request.{IsRequest}
 use Rattle.duk_store.specs.Log.{AppendFailed, IsAppended}
@@ -64,6 +67,25 @@ abbrev pub Answers : {L I : Type 0} → HostMeaning L I → List ℕ → HostOf 
     → Type 0
 Answers meaning bytes old new frame =
     AnswersRefusal meaning bytes old new frame ⊎ AnswersReply meaning bytes old new frame
+
+-- what is told of a frame is the refusal that it is
+abbrev pub IsToldRefusal : List ℕ → AnswerFrame → Type 0
+IsToldRefusal frame (Refusal ksn reason) = IsRefusal frame ksn reason
+IsToldRefusal frame _ = ⊥
+
+-- what is told of a frame is the accepted reply that it is
+abbrev pub IsToldReply : List ℕ → AnswerFrame → Type 0
+IsToldReply frame (Reply ksn code mac) = IsReply frame ksn code mac
+IsToldReply frame _ = ⊥
+
+-- what a host does, by what it tells of its frame: a request is accepted where that is an accepted
+-- reply, and refused where it is a refusal
+abbrev pub AnswersAs : {L I : Type 0} → HostMeaning L I → List ℕ → HostOf L I → HostOf L I → List ℕ
+    → AnswerFrame → Type 0
+AnswersAs meaning bytes old new frame (Reply ksn code mac) =
+    AnswersReply meaning bytes old new frame
+AnswersAs meaning bytes old new frame (Refusal ksn reason) =
+    AnswersRefusal meaning bytes old new frame
 
 -- the number was not kept: the host is stopped
 pub record IsNumberNotKept

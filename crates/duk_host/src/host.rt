@@ -2,18 +2,20 @@
 
 ghost use Rattle.std.specs.Prelude.{◌≡◌, ◌↔◌, ◌<◌, ◌-◌, None, IfOk, IfErr, IsSome, IsTrue};
 ghost use Rattle.duk_store.specs.StoreState.{StaysButCalm};
+ghost use Rattle.duk_frame.specs.Answer.{IsAnswer};
 ghost use Rattle.duk_hsm.specs.Commands.{HasTransactionKey};
-ghost use Rattle.duk_host.specs.Handle.{Answers, HandleRefused, IsNumberKept, IsReplied, IsToAccept, KeepRefused};
+ghost use Rattle.duk_host.specs.Handle.{Answers, AnswersAs, HandleRefused, IsNumberKept, IsReplied, IsToAccept, IsToldReply, KeepRefused};
 ghost use Rattle.duk_host.specs.Judgement.{IsReplyTo};
 ghost use Rattle.duk_host.specs.Host.{IsFreshIn, IsUsedIn, host_meaning_of};
 ghost use Rattle.duk_host.specs.Restart.{IsHostRestarted, KeepsEnds, HostRestartRefused};
 ghost use Rattle.duk_tree.specs.Path.{IsUsable};
 
+use crate::answered::Answered;
 use crate::fault::HostFault;
 use crate::issuer::Issuer;
 use crate::judge::judge;
 use crate::reading::numbers_in;
-use crate::reply::{code_for, reply_frame};
+use crate::reply::{code_for, reply_with};
 use crate::running::Running;
 use duk_frame::{Frame, Request};
 use duk_hsm::Hsm;
@@ -103,6 +105,19 @@ impl<const N: usize, L: UsedLog, I: Issuer> Host<N, L, I> {
         ensures refused { IfErr result
             (HandleRefused (host_meaning_of L.meaning I.decides) bytes.now self.old self.new) }
     {
+        Ok(self.answer(bytes)?.frame)
+    }
+
+    /// Does with the bytes of a request what `handle` does, and tells beside the frame what it
+    /// says: an accepted reply where the request is accepted, and else a refusal.
+    pub fn answer(&mut self, bytes: &[u8]) -> Result<Answered, HostFault>
+        ensures told { IfOk result (λ answered. IsAnswer answered.frame.items answered.says) }
+        ensures answered { IfOk result (λ answered. AnswersAs
+            (host_meaning_of L.meaning I.decides)
+            bytes.now self.old self.new answered.frame.items answered.says) }
+        ensures refused { IfErr result
+            (HandleRefused (host_meaning_of L.meaning I.decides) bytes.now self.old self.new) }
+    {
         let Some(running) = &self.state else {
             return Err(HostFault::Stopped);
         };
@@ -113,11 +128,13 @@ impl<const N: usize, L: UsedLog, I: Issuer> Host<N, L, I> {
     }
 
     /// Keeps the number of a request against which there is no reason, and then replies to it.
-    fn accept(&mut self, request: &Request) -> Result<Frame, HostFault>
+    fn accept(&mut self, request: &Request) -> Result<Answered, HostFault>
         requires acceptable { IsToAccept
             (host_meaning_of L.meaning I.decides) self.old request.now }
-        ensures replied { IfOk result (λ frame. IsReplied
-            (host_meaning_of L.meaning I.decides) self.old self.new request.now frame.items) }
+        ensures replied { IfOk result (λ answered. IsReplied
+            (host_meaning_of L.meaning I.decides)
+            self.old self.new request.now answered.frame.items) }
+        ensures told { IfOk result (λ answered. IsToldReply answered.frame.items answered.says) }
         ensures refused { IfErr result
             (KeepRefused (host_meaning_of L.meaning I.decides) self.old self.new request.now.ksn) }
     {
@@ -126,12 +143,14 @@ impl<const N: usize, L: UsedLog, I: Issuer> Host<N, L, I> {
     }
 
     /// The reply to a request that is accepted.
-    fn reply(&self, request: &Request) -> Frame
+    fn reply(&self, request: &Request) -> Answered
         requires key { HasTransactionKey self.now.keys request.now.ksn }
-        ensures { IsReplyTo self.now.keys (I.decides self.now.issuer) request.now result.items }
+        ensures reply { IsReplyTo
+            self.now.keys (I.decides self.now.issuer) request.now result.frame.items }
+        ensures told { IsToldReply result.frame.items result.says }
     {
         let code = code_for(&self.hsm, &self.issuer, request);
-        reply_frame(&self.hsm, request.ksn, code)
+        reply_with(&self.hsm, request.ksn, code)
     }
 
     /// Takes a number in as used, and appends it to the log. Where the log fails, the host is

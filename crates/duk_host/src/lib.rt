@@ -6,6 +6,7 @@
 //! `Issuer`.
 #![tactic(auto)]
 
+mod answered;
 mod fault;
 mod host;
 mod issuer;
@@ -18,6 +19,7 @@ mod running;
 mod table;
 mod used;
 
+pub use answered::Answered;
 pub use fault::HostFault;
 pub use host::Host;
 pub use issuer::Issuer;
