@@ -1,5 +1,5 @@
 -- Reading the used numbers from a log, one after the other.
-use Rattle.std.proofs.Common.{◌≡◌, ◌≢◌, ℕ, zero, suc, ◌+◌, ◌<◌, List, [], ◌∷◌, ◌++◌, Contains, AllPairs, Some, length, take, drop, get_or, inl, inr, refl, sym, ap, ◌∙◌, subst, arith, length-append}
+use Rattle.std.proofs.Common.{◌≡◌, ◌≢◌, ℕ, zero, suc, ◌+◌, ◌<◌, [], ◌∷◌, ◌++◌, Contains, AllPairs, Some, length, take, drop, get_or, inl, inr, refl, sym, ap, ◌∙◌, subst, arith, length-append}
 use Rattle.std.specs.List.{slice_get}
 use Rattle.std.proofs.lemmas.List.Elements.{All-nil}
 use Rattle.duk_store.specs.Log.{LogMeaning, Numbers, IsReadAt, ReadStopped}
@@ -13,7 +13,7 @@ use Rattle.duk_host.specs.declared.fault.HostFault.TheVariants as fault
 use Rattle.duk_host.proofs.OneNumberMore.{lists_more}
 
 -- so many numbers are read, and they are the used ones
-pub record IsReading {L : Type 0} (meaning : LogMeaning L) (start now : L) (place : ℕ) (used : List ℕ) : Type 0 where
+pub record IsReading {L : Type 0} (meaning : LogMeaning L) (start now : L) (place : ℕ) (used : Numbers) : Type 0 where
   pub seen : Numbers
   pub read : IsReadUp meaning start now seen
   pub counted : length seen ≡ place
@@ -86,12 +86,12 @@ start_reading meaning start = record {
   counted = refl;
   lists = record {
     usable = record { usable = All-nil (λ ksn. IsUsable ksn.counter); once = λ i j d before within. absurd (omega (arith, within)) };
-    members = λ ksn is_ksn. (λ contains. absurd (omega (arith, contains.1)), λ is_used. absurd (omega (arith, is_used.1)));
+    members = λ ksn. (λ contains. contains, λ is_used. is_used);
   };
 }
 
 -- a number is read, and taken in
-pub next_reading : {L : Type 0} (meaning : LogMeaning L) (start mid now : L) (place : ℕ) (used more : List ℕ) → IsReading meaning start mid place used → IsReadOne meaning mid now place used more → IsReading meaning start now (place + 1) more
+pub next_reading : {L : Type 0} (meaning : LogMeaning L) (start mid now : L) (place : ℕ) (used more : Numbers) → IsReading meaning start mid place used → IsReadOne meaning mid now place used more → IsReading meaning start now (place + 1) more
 next_reading meaning start mid now place used more reading one = record {
   seen = reading.seen ++ one.number ∷ [];
   read = read_up meaning start mid now reading.seen one.number reading.read (subst (λ count. IsReadAt meaning mid now count one.number) (sym reading.counted) one.read);
@@ -114,10 +114,10 @@ occurs_twice seen number (k, within, is) once =
     once k (length seen) number within (omega (arith, length-append seen (number ∷ [])))
     (at_left seen (number ∷ []) k number within ∙ is ∙ sym (at_end seen number))
 
-not_usable_with : (seen : Numbers) (used : List ℕ) (number : Serial) → Lists seen used → IsBadNumber used number → ¬ AreUsable (seen ++ number ∷ [])
-not_usable_with seen used number lists bad are = elim bad.not_to_be_used [
+not_usable_with : (seen : Numbers) (used : Numbers) (number : Serial) → Lists seen used → IsBadNumber used number → ¬ AreUsable (seen ++ number ∷ [])
+not_usable_with seen used number lists bad are = elim bad [
   | inl unusable ↦ unusable (subst (λ ksn. IsUsable ksn.counter) (at_end seen number) (are.usable (length seen) number (omega (arith, length-append seen (number ∷ [])))))
-  | inr is_used ↦ occurs_twice seen number ((lists.members number bad.serial).1 is_used) are.once
+  | inr is_used ↦ occurs_twice seen number ((lists.members number).1 is_used) are.once
 ]
 
 take_all : (numbers : Numbers) → take (length numbers) numbers ≡ numbers
@@ -148,7 +148,7 @@ pub all_are_seen : (numbers seen : Numbers) → take (length seen) numbers ≡ s
 all_are_seen numbers seen first counted = sym (take_all numbers) ∙ ap (λ count. take count numbers) counted ∙ first
 
 -- a number is read that is not to be used
-bad_reading : {L : Type 0} (meaning : LogMeaning L) (start mid now : L) (place count : ℕ) (used : List ℕ) → place < count → IsReading meaning start mid place used → IsBadPlace meaning mid now place used → AreBad meaning start now count
+bad_reading : {L : Type 0} (meaning : LogMeaning L) (start mid now : L) (place count : ℕ) (used : Numbers) → place < count → IsReading meaning start mid place used → IsBadPlace meaning mid now place used → AreBad meaning start now count
 bad_reading meaning start mid now place count used within reading bad = record {
   seen = reading.seen ++ bad.number ∷ [];
   read = read_up meaning start mid now reading.seen bad.number reading.read (subst (λ place. IsReadAt meaning mid now place bad.number) (sym reading.counted) bad.read);
@@ -157,7 +157,7 @@ bad_reading meaning start mid now place count used within reading bad = record {
 }
 
 -- a number is not read, or not taken in
-pub refused_reading : {L : Type 0} (meaning : LogMeaning L) (start mid now : L) (place count : ℕ) (used : List ℕ) (why : HostFault) → place < count → IsReading meaning start mid place used → ReadOneRefused meaning mid now place used why → ReadAllRefused meaning start now count why
+pub refused_reading : {L : Type 0} (meaning : LogMeaning L) (start mid now : L) (place count : ℕ) (used : Numbers) (why : HostFault) → place < count → IsReading meaning start mid place used → ReadOneRefused meaning mid now place used why → ReadAllRefused meaning start now count why
 refused_reading meaning start mid now place count used fault.NoMemory within reading stays = stays_on (meaning.state_of start) (meaning.state_of mid) (meaning.state_of now) reading.read.stays stays
 refused_reading meaning start mid now place count used (fault.Store why) within reading refused = elim refused [
   | inl failed ↦ inl (failed.0, stopped_on meaning start mid now reading.read.stays failed.1)

@@ -7,6 +7,7 @@ use Rattle.duk_frame.specs.declared.request.Request.{Request}
 use Rattle.duk_hsm.specs.Commands.{HasNoPin, IsOtherMac, IsPinOf, IsRequestMac, IsTransactionKey, IsTranslated}
 use Rattle.duk_hsm.specs.Keys.{HsmKeys, key_set_of}
 use Rattle.duk_pin.specs.PinBlock.{IsPinBlock, pin_block}
+use Rattle.duk_store.specs.Log.{Numbers}
 use Rattle.duk_tdes.specs.Tdes.{tdes_encrypted}
 use Rattle.duk_tree.specs.Derivation.{derived_key_of}
 use Rattle.duk_tree.specs.Serial.{Serial, prefix_of, serial_bytes}
@@ -35,12 +36,12 @@ no_other_mac keys ksn text mac other is =
     other.mac_is_other (rw (one_key keys ksn is.key other.key is.key_is other.key_is) at is.mac_is)
 
 -- what is said of a request: the least reason against it, or that there is none
-abbrev Says : HsmKeys → List ℕ → ℕ → Decision → Request → Option Reason → Type 0
+abbrev Says : HsmKeys → Numbers → ℕ → Decision → Request → Option Reason → Type 0
 Says keys used room decides request None = IsAcceptable (basis_with keys used room decides) request
 Says keys used room decides request (Some why) = IsReasonAgainst (basis_with keys used room decides) request why
 
 -- no two things are said of a request
-one_verdict : (keys : HsmKeys) (used : List ℕ) (room : ℕ) (decides : Decision) (request : Request) (verdict other : Option Reason)
+one_verdict : (keys : HsmKeys) (used : Numbers) (room : ℕ) (decides : Decision) (request : Request) (verdict other : Option Reason)
     → Says keys used room decides request verdict → Says keys used room decides request other → verdict ≡ other
 one_verdict keys used room decides request (Some reason.Malformed) other one two = absurd one
 one_verdict keys used room decides request (Some reason.UnknownKeySet) (Some reason.Malformed) one two = absurd two
@@ -128,7 +129,7 @@ some_reason : (why other : Reason) → Some why ≡ Some other → why ≡ other
 some_reason why other is = cc
 
 -- the frame of a refused request, and that of an accepted one
-module _ (keys : HsmKeys) (used : List ℕ) (room : ℕ) (decides : Decision) (one_request : OneRequest) (one_pin : OnePin) where
+module _ (keys : HsmKeys) (used : Numbers) (room : ℕ) (decides : Decision) (one_request : OneRequest) (one_pin : OnePin) where
   one_refusal : (bytes frame other : List ℕ) → IsRefusedRequest (basis_with keys used room decides) bytes frame → IsRefusedRequest (basis_with keys used room decides) bytes other → frame ≡ other
   one_refusal bytes frame other one two =
       let same : one.request ≡ two.request = one_request bytes one.request two.request one.is_request two.is_request in

@@ -1,5 +1,5 @@
 -- Lists of used numbers, and one more at their end.
-use Rattle.std.proofs.Common.{◌≡◌, ◌≢◌, ℕ, zero, suc, ◌<◌, List, [], ◌∷◌, ◌++◌, Contains, length, get_or, inl, inr, refl, sym, subst, arith}
+use Rattle.std.proofs.Common.{◌≡◌, ◌≢◌, ℕ, zero, suc, ◌<◌, [], ◌∷◌, ◌++◌, Contains, length, get_or, inl, inr, refl, sym, subst, arith}
 use Rattle.std.proofs.lemmas.List.Elements.{All-append, All-cons, All-nil, Contains-append_cases, Contains-append_left, Contains-append_right}
 use Rattle.std.proofs.lemmas.List.Quantifiers.{all_pairs_push}
 use Rattle.duk_store.specs.Log.{LogMeaning, Numbers, IsAppended}
@@ -23,21 +23,21 @@ contains_at (number ∷ numbers) (suc k) d ksn within is =
     let rest = contains_at numbers k d ksn (omega (arith, within)) is in (suc rest.0, omega (arith, rest.1), rest.2)
 
 -- the used ones are those of the list with the number that was taken in
-pub lists_more : (numbers : Numbers) (used : List ℕ) (ksn : Serial) (more : List ℕ) → Lists numbers used → IsTakenIn used ksn more → Lists (numbers ++ ksn ∷ []) more
+pub lists_more : (numbers : Numbers) (used : Numbers) (ksn : Serial) (more : Numbers) → Lists numbers used → IsTakenIn used ksn more → Lists (numbers ++ ksn ∷ []) more
 lists_more numbers used ksn more lists taken = record {
   usable = record {
     usable = All-append (λ number. IsUsable number.counter) numbers (ksn ∷ []) lists.usable.usable
         (All-cons (λ number. IsUsable number.counter) ksn [] taken.usable (All-nil (λ number. IsUsable number.counter)));
     once = all_pairs_push (λ earlier later. earlier ≢ later) numbers ksn lists.usable.once
-        (λ k d within same. taken.fresh ((lists.members ksn taken.serial).0 (contains_at numbers k d ksn within same)));
+        (λ k d within same. taken.fresh ((lists.members ksn).0 (contains_at numbers k d ksn within same)));
   };
-  members = λ other is_other. (
+  members = λ other. (
     λ contains. elim (Contains-append_cases numbers (ksn ∷ []) other contains) [
-      | inl before ↦ (taken.one_more other is_other).1 (inl ((lists.members other is_other).0 before))
-      | inr last ↦ (taken.one_more other is_other).1 (inr (sym (one_contains ksn other last)))
+      | inl before ↦ (taken.one_more other).1 (inl ((lists.members other).0 before))
+      | inr last ↦ (taken.one_more other).1 (inr (sym (one_contains ksn other last)))
     ],
-    λ is_used. elim ((taken.one_more other is_other).0 is_used) [
-      | inl was ↦ Contains-append_left numbers (ksn ∷ []) other ((lists.members other is_other).1 was)
+    λ is_used. elim ((taken.one_more other).0 is_used) [
+      | inl was ↦ Contains-append_left numbers (ksn ∷ []) other ((lists.members other).1 was)
       | inr same ↦ Contains-append_right numbers (ksn ∷ []) other (subst (λ number. Contains (ksn ∷ []) number) (sym same) (the_one ksn))
     ],
   );
@@ -45,7 +45,7 @@ lists_more numbers used ksn more lists taken = record {
 
 -- a log with one number more holds the used numbers with it
 pub holds_more :
-    {L : Type 0} (meaning : LogMeaning L) (old new : L) (used : List ℕ) (ksn : Serial) (more : List ℕ)
+    {L : Type 0} (meaning : LogMeaning L) (old new : L) (used : Numbers) (ksn : Serial) (more : Numbers)
     → LogHolds (meaning.state_of old) used → IsAppended meaning old new ksn → IsTakenIn used ksn more → LogHolds (meaning.state_of new) more
 holds_more meaning old new used ksn more holds appended taken = record {
   runs = appended.runs;

@@ -1,5 +1,5 @@
 -- A host's restart, from what its log's restart and the reading do.
-use Rattle.std.proofs.Common.{◌≡◌, ℕ, List, Some, None, inl, inr, refl, sym, ◌∙◌, subst}
+use Rattle.std.proofs.Common.{◌≡◌, ℕ, Some, None, inl, inr, refl, sym, ◌∙◌, subst}
 use Rattle.duk_store.specs.Log.{LogMeaning, Numbers, LogRestarted, ReadStopped}
 use Rattle.duk_store.specs.StoreState.{StoreState, Stays}
 use Rattle.duk_store.specs.Restart.{Restarted, RestartFailed}
@@ -10,6 +10,7 @@ use Rattle.duk_host.specs.Restart.{IsHostRestarted, KeepsEnds, HostRestartRefuse
 use Rattle.duk_host.specs.Used.{Lists}
 use Rattle.duk_host.specs.declared.fault.HostFault.{HostFault}
 use Rattle.duk_host.specs.declared.fault.HostFault.TheVariants as fault
+use Rattle.duk_host.specs.declared.running.Running.{Running}
 use Rattle.duk_host.proofs.NumbersAreRead.{all_are_seen, nature_on, not_all_usable}
 
 -- what a restart found stays found while the log is read
@@ -48,7 +49,7 @@ failed_on meaning old mid new numbers restarted stopped =
 
 -- the numbers read are those that the restart found
 lists_found :
-    {L : Type 0} (meaning : LogMeaning L) (old mid new : L) (kept : ℕ) (used : List ℕ) (restarted : LogRestarted meaning old mid kept)
+    {L : Type 0} (meaning : LogMeaning L) (old mid new : L) (kept : ℕ) (used : Numbers) (restarted : LogRestarted meaning old mid kept)
     → AreRead meaning mid new kept used → (meaning.state_of old).honest → Lists restarted.numbers used
 lists_found meaning old mid new kept used restarted read honest =
     let is_found = (restarted.restarted.settles.finds honest restarted.numbers).1 refl in
@@ -58,7 +59,7 @@ lists_found meaning old mid new kept used restarted read honest =
 
 -- the log of the host that is brought up holds its used numbers
 pub holds_read :
-    {L : Type 0} (meaning : LogMeaning L) (old mid new : L) (kept : ℕ) (used : List ℕ)
+    {L : Type 0} (meaning : LogMeaning L) (old mid new : L) (kept : ℕ) (used : Numbers)
     → LogRestarted meaning old mid kept → AreRead meaning mid new kept used → LogHolds (meaning.state_of new) used
 holds_read meaning old mid new kept used restarted read =
     let on = restarted_on (meaning.state_of old) (meaning.state_of mid) (meaning.state_of new) restarted.numbers restarted.restarted read.read.stays in
@@ -71,22 +72,22 @@ holds_read meaning old mid new kept used restarted read =
 
 -- the host is brought up
 pub is_restarted :
-    {L I : Type 0} (meaning : LogMeaning L) (old new : HostOf L I) (mid : L) (kept : ℕ) (used : List ℕ)
-    → LogRestarted meaning old.log mid kept → AreRead meaning mid new.log kept used → KeepsEnds old new → new.used ≡ Some used → IsHostRestarted meaning old new kept
-is_restarted meaning old new mid kept used restarted read ends used_are = record {
+    {L I : Type 0} (meaning : LogMeaning L) (old new : HostOf L I) (mid : L) (kept : ℕ) (running : Running)
+    → LogRestarted meaning old.log mid kept → AreRead meaning mid new.log kept running.used → KeepsEnds old new → new.state ≡ Some running → IsHostRestarted meaning old new kept
+is_restarted meaning old new mid kept running restarted read ends runs = record {
   numbers = restarted.numbers;
-  used = used;
+  running = running;
   ends = ends;
   log = restarted_on (meaning.state_of old.log) (meaning.state_of mid) (meaning.state_of new.log) restarted.numbers restarted.restarted read.read.stays;
   counted = restarted.counted;
-  used_are = used_are;
-  lists = lists_found meaning old.log mid new.log kept used restarted read;
+  runs = runs;
+  lists = lists_found meaning old.log mid new.log kept running.used restarted read;
 }
 
 -- the numbers are not read, and the host is stopped
 pub restart_refused :
     {L I : Type 0} (meaning : LogMeaning L) (old new : HostOf L I) (mid : L) (kept : ℕ) (why : HostFault)
-    → LogRestarted meaning old.log mid kept → KeepsEnds old new → new.used ≡ None → ReadAllRefused meaning mid new.log kept why → HostRestartRefused meaning old new why
+    → LogRestarted meaning old.log mid kept → KeepsEnds old new → new.state ≡ None → ReadAllRefused meaning mid new.log kept why → HostRestartRefused meaning old new why
 restart_refused meaning old new mid kept fault.NoMemory restarted ends stopped stays = record {
   numbers = restarted.numbers;
   ends = ends;

@@ -1,5 +1,8 @@
 -- What a host answers to bytes: this project's own.
 use Rattle.std.specs.Prelude.{◌≡◌, ◌+◌, ◌⊎◌, ℕ, List, Some, None}
+use Rattle.duk_frame.specs.Answer.{IsRefusal, IsReply}
+use Rattle.duk_frame.specs.declared.answer.AnswerFrame.{AnswerFrame}
+use Rattle.duk_frame.specs.declared.answer.AnswerFrame.TheVariants.{Refusal, Reply}
 use Rattle.duk_frame.specs.declared.request.Request.{Request}
 use Rattle.duk_frame.specs.Request.{IsRequest}
 use Rattle.duk_store.specs.Log.{AppendFailed, IsAppended}
@@ -11,35 +14,36 @@ use Rattle.duk_host.specs.Restart.{KeepsEnds}
 use Rattle.duk_host.specs.Used.{IsOneMore}
 use Rattle.duk_host.specs.declared.fault.HostFault.{HostFault}
 use Rattle.duk_host.specs.declared.fault.HostFault.TheVariants as fault
+use Rattle.duk_host.specs.declared.running.Running.{Running}
 
 -- a refusal: nothing changes
 pub record AnswersRefusal
     {L I : Type 0} (meaning : HostMeaning L I) (bytes : List ℕ) (old new : HostOf L I)
     (frame : List ℕ) : Type 0 where
-  pub used : List ℕ
-  pub was_running : old.used ≡ Some used
-  pub refused : IsRefusalFor (basis_of meaning old used) bytes frame
+  pub running : Running
+  pub was_running : old.state ≡ Some running
+  pub refused : IsRefusalFor (basis_of meaning old running) bytes frame
   pub same : new ≡ old
 
 -- the number is in the log, and is used
 pub record IsNumberKept
     {L I : Type 0} (meaning : HostMeaning L I) (old new : HostOf L I) (ksn : Serial) : Type 0 where
-  pub used : List ℕ
-  pub more : List ℕ
-  pub were_used : old.used ≡ Some used
+  pub before : Running
+  pub after : Running
+  pub was_running : old.state ≡ Some before
   pub ends : KeepsEnds old new
   pub appended : IsAppended meaning.log old.log new.log ksn
   pub counted : meaning.log.count new.log ≡ meaning.log.count old.log + 1
   pub capacity : meaning.log.capacity new.log ≡ meaning.log.capacity old.log
-  pub used_are : new.used ≡ Some more
-  pub one_more : IsOneMore used ksn more
+  pub runs : new.state ≡ Some after
+  pub one_more : IsOneMore before.used ksn after.used
 
 -- a request against which a running host has no reason
 pub record IsToAccept
     {L I : Type 0} (meaning : HostMeaning L I) (old : HostOf L I) (request : Request) : Type 0 where
-  pub used : List ℕ
-  pub was_running : old.used ≡ Some used
-  pub acceptable : IsAcceptable (basis_of meaning old used) request
+  pub running : Running
+  pub was_running : old.state ≡ Some running
+  pub acceptable : IsAcceptable (basis_of meaning old running) request
 
 -- the number of a request is kept, and the frame is its reply
 pub record IsReplied
@@ -52,10 +56,10 @@ pub record IsReplied
 pub record AnswersReply
     {L I : Type 0} (meaning : HostMeaning L I) (bytes : List ℕ) (old new : HostOf L I)
     (frame : List ℕ) : Type 0 where
-  pub used : List ℕ
+  pub running : Running
   pub request : Request
-  pub was_running : old.used ≡ Some used
-  pub accepted : IsAccepted (basis_of meaning old used) bytes request frame
+  pub was_running : old.state ≡ Some running
+  pub accepted : IsAccepted (basis_of meaning old running) bytes request frame
   pub kept : IsNumberKept meaning old new request.ksn
 
 -- what a host answers
@@ -64,12 +68,31 @@ abbrev pub Answers : {L I : Type 0} → HostMeaning L I → List ℕ → HostOf 
 Answers meaning bytes old new frame =
     AnswersRefusal meaning bytes old new frame ⊎ AnswersReply meaning bytes old new frame
 
+-- what is told of a frame is the refusal that it is
+abbrev pub IsToldRefusal : List ℕ → AnswerFrame → Type 0
+IsToldRefusal frame (Refusal ksn reason) = IsRefusal frame ksn reason
+IsToldRefusal frame _ = ⊥
+
+-- what is told of a frame is the accepted reply that it is
+abbrev pub IsToldReply : List ℕ → AnswerFrame → Type 0
+IsToldReply frame (Reply ksn code mac) = IsReply frame ksn code mac
+IsToldReply frame _ = ⊥
+
+-- what a host does, by what it tells of its frame: a request is accepted where that is an accepted
+-- reply, and refused where it is a refusal
+abbrev pub AnswersAs : {L I : Type 0} → HostMeaning L I → List ℕ → HostOf L I → HostOf L I → List ℕ
+    → AnswerFrame → Type 0
+AnswersAs meaning bytes old new frame (Reply ksn code mac) =
+    AnswersReply meaning bytes old new frame
+AnswersAs meaning bytes old new frame (Refusal ksn reason) =
+    AnswersRefusal meaning bytes old new frame
+
 -- the number was not kept: the host is stopped
 pub record IsNumberNotKept
     {L I : Type 0} (meaning : HostMeaning L I) (old new : HostOf L I) (ksn : Serial)
     (why : StoreFault) : Type 0 where
   pub ends : KeepsEnds old new
-  pub stopped : new.used ≡ None
+  pub stopped : new.state ≡ None
   pub capacity : meaning.log.capacity new.log ≡ meaning.log.capacity old.log
   pub not_appended : AppendFailed meaning.log old.log new.log ksn why
 
@@ -92,7 +115,7 @@ pub record AcceptFailed
 -- why there is no answer, and what that leaves
 abbrev pub HandleRefused : {L I : Type 0} → HostMeaning L I → List ℕ → HostOf L I → HostOf L I
     → HostFault → Type 0
-HandleRefused meaning bytes old new fault.Stopped = (old.used ≡ None) × (new ≡ old)
+HandleRefused meaning bytes old new fault.Stopped = (old.state ≡ None) × (new ≡ old)
 HandleRefused meaning bytes old new fault.NoMemory =
     AcceptFailed meaning bytes old new fault.NoMemory
 HandleRefused meaning bytes old new (fault.Store why) =

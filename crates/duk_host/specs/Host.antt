@@ -1,18 +1,30 @@
 -- A host: what it is, and what its log holds of it. This project's own.
-use Rattle.std.specs.Prelude.{◌≡◌, ◌-◌, ℕ, true, List, Option, Some, None, IsSome}
+use Rattle.std.specs.Prelude.{◌≡◌, ◌-◌, true, Option, Some, None, IsSome}
 use Rattle.duk_hsm.specs.Keys.{HsmKeys}
 use Rattle.duk_store.specs.Log.{LogMeaning, Numbers}
 use Rattle.duk_store.specs.StoreState.{StoreState, FindsOnly}
+use Rattle.duk_tree.specs.Serial.{Serial}
 use Rattle.duk_host.specs.Judgement.{JudgementBasis, Decision, basis_with}
-use Rattle.duk_host.specs.Used.{Lists}
+use Rattle.duk_host.specs.Used.{IsUsed, Lists}
+use Rattle.duk_host.specs.declared.running.Running.{Running}
 
--- a host: the keys of its security module, its issuer, its log, and the used numbers while it runs,
--- each as the number that the ten bytes of a key serial number spell
+-- a host: the keys of its security module, its issuer, its log, and what it has in memory while it
+-- runs; where it is stopped, that is nothing
 pub record HostOf (L I : Type 0) : Type 0 where
   pub keys : HsmKeys
   pub issuer : I
   pub log : L
-  pub used : Option (List ℕ)
+  pub state : Option Running
+
+-- a key serial number is used at a host in this state; one that is stopped tells none as used
+abbrev pub IsUsedIn : Option Running → Serial → Type 0
+IsUsedIn None ksn = ⊥
+IsUsedIn (Some running) ksn = IsUsed running.used ksn
+
+-- a host in this state runs, and the key serial number is not used
+abbrev pub IsFreshIn : Option Running → Serial → Type 0
+IsFreshIn None ksn = ⊥
+IsFreshIn (Some running) ksn = ¬ IsUsed running.used ksn
 
 -- what its log and its issuer mean
 pub record HostMeaning (L I : Type 0) : Type 1 where
@@ -23,25 +35,25 @@ pub record HostMeaning (L I : Type 0) : Type 1 where
 abbrev pub host_meaning_of : {L I : Type 0} → LogMeaning L → (I → Decision) → HostMeaning L I
 host_meaning_of log decides = record { log = log; decides = decides }
 
--- what a running host judges by, with these used numbers
-abbrev pub basis_of : {L I : Type 0} → HostMeaning L I → HostOf L I → List ℕ → JudgementBasis
-basis_of meaning host used =
+-- what a running host judges by
+abbrev pub basis_of : {L I : Type 0} → HostMeaning L I → HostOf L I → Running → JudgementBasis
+basis_of meaning host running =
     let room = meaning.log.capacity host.log - meaning.log.count host.log in
-    basis_with host.keys used room (meaning.decides host.issuer)
+    basis_with host.keys running.used room (meaning.decides host.issuer)
 
 -- the log runs, a restart would find one list alone, and the used numbers are those of that list
-pub record LogHolds (log : StoreState Numbers) (used : List ℕ) : Type 0 where
+pub record LogHolds (log : StoreState Numbers) (used : Numbers) : Type 0 where
   pub runs : log.running ≡ true
   pub lists : log.honest → (numbers : Numbers) × FindsOnly log numbers × Lists numbers used
 
 -- what the log of a running host holds
-abbrev pub LogAgrees : StoreState Numbers → Option (List ℕ) → Type 0
+abbrev pub LogAgrees : StoreState Numbers → Option Running → Type 0
 LogAgrees log None = Unit {0}
-LogAgrees log (Some used) = LogHolds log used
+LogAgrees log (Some running) = LogHolds log running.used
 
 -- what holds of a host at all times: a zone key is held, and the log of a running host holds its
 -- used numbers
 pub record AgreesWithLog
-    (keys : HsmKeys) (log : StoreState Numbers) (used : Option (List ℕ)) : Type 0 where
+    (keys : HsmKeys) (log : StoreState Numbers) (state : Option Running) : Type 0 where
   pub zone : IsSome keys.zone
-  pub holds : LogAgrees log used
+  pub holds : LogAgrees log state

@@ -10,6 +10,7 @@ use Rattle.duk_frame.specs.declared.code.Code.TheVariants.{Unreadable}
 use Rattle.duk_frame.specs.declared.request.Request.{Request}
 use Rattle.duk_hsm.specs.Commands.{HasBadCounter, HasNoPin, IsOtherMac, IsRequestMac, IsTransactionKey, IsTranslated}
 use Rattle.duk_hsm.specs.Keys.{HsmKeys, key_set_of}
+use Rattle.duk_store.specs.Log.{Numbers}
 use Rattle.duk_tree.specs.Serial.{Serial, serial_bytes, prefix_of}
 use Rattle.duk_host.specs.Used.{IsUsed}
 use Rattle.duk_host.specs.declared.reason.Reason.{Reason}
@@ -21,17 +22,16 @@ Decision = List ℕ → ℕ → List ℕ → Code
 
 -- what requests are judged by: the keys that are held, the used numbers, for how many more there is
 -- room, and the issuer's decision
-pub record JudgementBasis : Type 1 where
+pub record JudgementBasis : Type 0 where
   pub keys : HsmKeys
-  pub used : Serial → Type 0
+  pub used : Numbers
   pub room : ℕ
   pub decides : Decision
 
--- those things together, where the used numbers are given as the numbers that the ten bytes of key
--- serial numbers spell
-abbrev pub basis_with : HsmKeys → List ℕ → ℕ → Decision → JudgementBasis
+-- those things together
+abbrev pub basis_with : HsmKeys → Numbers → ℕ → Decision → JudgementBasis
 basis_with keys used room decides =
-    record { keys = keys; used = IsUsed used; room = room; decides = decides }
+    record { keys = keys; used = used; room = room; decides = decides }
 
 -- the body of a request before its MAC
 abbrev pub authenticated_text : Request → List ℕ
@@ -54,12 +54,12 @@ IsAuthentic keys request = IsRequestMac keys request.ksn (authenticated_text req
 -- the number is used
 pub record IsUsedAgain (basis : JudgementBasis) (request : Request) : Type 0 where
   pub authentic : IsAuthentic basis.keys request
-  pub used : basis.used request.ksn
+  pub used : IsUsed basis.used request.ksn
 
 -- there is no room for the number
 pub record HasNoRoom (basis : JudgementBasis) (request : Request) : Type 0 where
   pub authentic : IsAuthentic basis.keys request
-  pub fresh : ¬ basis.used request.ksn
+  pub fresh : ¬ IsUsed basis.used request.ksn
   pub full : basis.room ≡ 0
 
 -- the least reason against the MAC of a request: each says that those before it do not hold
@@ -108,7 +108,7 @@ IsRefusalFor basis bytes frame = IsMalformed bytes frame ⊎ IsRefusedRequest ba
 -- there is no reason against a request
 pub record IsAcceptable (basis : JudgementBasis) (request : Request) : Type 0 where
   pub authentic : IsAuthentic basis.keys request
-  pub fresh : ¬ basis.used request.ksn
+  pub fresh : ¬ IsUsed basis.used request.ksn
   pub room : 0 < basis.room
 
 -- the issuer says this of the PIN block, under the zone key

@@ -1,5 +1,5 @@
 -- A host's restart: this project's own.
-use Rattle.std.specs.Prelude.{◌≡◌, ◌⊎◌, ℕ, List, Some, None, length}
+use Rattle.std.specs.Prelude.{◌≡◌, ◌⊎◌, ℕ, Some, None, length}
 use Rattle.duk_store.specs.Log.{LogMeaning, Numbers}
 use Rattle.duk_store.specs.Restart.{Restarted, RestartFailed}
 use Rattle.duk_store.specs.declared.fault.StoreFault.{StoreFault}
@@ -8,23 +8,24 @@ use Rattle.duk_host.specs.Host.{HostOf}
 use Rattle.duk_host.specs.Used.{AreUsable, Lists}
 use Rattle.duk_host.specs.declared.fault.HostFault.{HostFault}
 use Rattle.duk_host.specs.declared.fault.HostFault.TheVariants as fault
+use Rattle.duk_host.specs.declared.running.Running.{Running}
 
--- all but the log and the used numbers is as it was
+-- all but the log and the state is as it was
 pub record KeepsEnds {L I : Type 0} (old new : HostOf L I) : Type 0 where
   pub keys : new.keys ≡ old.keys
   pub issuer : new.issuer ≡ old.issuer
 
--- a restart that is done: the log's restart is, and the used numbers are those of the list that it
--- found
+-- a restart that is done: the log's restart is, and the host runs, with the numbers of the list
+-- that it found as the used ones
 pub record IsHostRestarted
     {L I : Type 0} (meaning : LogMeaning L) (old new : HostOf L I) (found : ℕ) : Type 0 where
   pub numbers : Numbers
-  pub used : List ℕ
+  pub running : Running
   pub ends : KeepsEnds old new
   pub log : Restarted (meaning.state_of old.log) (meaning.state_of new.log) numbers
   pub counted : (meaning.state_of old.log).honest → length numbers ≡ found
-  pub used_are : new.used ≡ Some used
-  pub lists : (meaning.state_of old.log).honest → Lists numbers used
+  pub runs : new.state ≡ Some running
+  pub lists : (meaning.state_of old.log).honest → Lists numbers running.used
 
 -- the log kept a list in which a number occurs twice, or one that numbers no transaction
 pub record FoundUnusable
@@ -37,7 +38,7 @@ pub record FoundUnusable
 pub record HostRestartStopped
     {L I : Type 0} (meaning : LogMeaning L) (old new : HostOf L I) (why : StoreFault) : Type 0 where
   pub ends : KeepsEnds old new
-  pub stopped : new.used ≡ None
+  pub stopped : new.state ≡ None
   pub cause : RestartFailed (meaning.state_of old.log) (meaning.state_of new.log) why
       ⊎ ((why ≡ Damaged) × FoundUnusable meaning old new)
 
@@ -46,7 +47,7 @@ pub record HostRestartNoMemory
     {L I : Type 0} (meaning : LogMeaning L) (old new : HostOf L I) : Type 0 where
   pub numbers : Numbers
   pub ends : KeepsEnds old new
-  pub stopped : new.used ≡ None
+  pub stopped : new.state ≡ None
   pub log : Restarted (meaning.state_of old.log) (meaning.state_of new.log) numbers
 
 -- why a restart is refused

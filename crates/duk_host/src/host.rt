@@ -2,20 +2,21 @@
 
 ghost use Rattle.std.specs.Prelude.{◌≡◌, ◌↔◌, ◌<◌, ◌-◌, None, IfOk, IfErr, IsSome, IsTrue};
 ghost use Rattle.duk_store.specs.StoreState.{StaysButCalm};
+ghost use Rattle.duk_frame.specs.Answer.{IsAnswer};
 ghost use Rattle.duk_hsm.specs.Commands.{HasTransactionKey};
-ghost use Rattle.duk_host.specs.Handle.{Answers, HandleRefused, IsNumberKept, IsReplied, IsToAccept, KeepRefused};
+ghost use Rattle.duk_host.specs.Handle.{Answers, AnswersAs, HandleRefused, IsNumberKept, IsReplied, IsToAccept, IsToldReply, KeepRefused};
 ghost use Rattle.duk_host.specs.Judgement.{IsReplyTo};
-ghost use Rattle.duk_host.specs.Host.{host_meaning_of};
+ghost use Rattle.duk_host.specs.Host.{IsFreshIn, IsUsedIn, host_meaning_of};
 ghost use Rattle.duk_host.specs.Restart.{IsHostRestarted, KeepsEnds, HostRestartRefused};
-ghost use Rattle.duk_host.specs.Used.{IsFreshIn, IsUsedIn};
 ghost use Rattle.duk_tree.specs.Path.{IsUsable};
 
+use crate::answered::Answered;
 use crate::fault::HostFault;
 use crate::issuer::Issuer;
 use crate::judge::judge;
 use crate::reading::numbers_in;
-use crate::reply::{code_for, reply_frame};
-use crate::used::UsedNumbers;
+use crate::reply::{code_for, reply_with};
+use crate::running::Running;
 use duk_frame::{Frame, Request};
 use duk_hsm::Hsm;
 use duk_store::UsedLog;
@@ -24,14 +25,14 @@ use std::alloc::Global;
 use std::marker::Model;
 
 /// A host: a security module, the issuer of the cards, and the log of the used numbers. It is made
-/// stopped. While it runs, an index of the used numbers is in memory.
+/// stopped. While it runs, the used numbers are in memory.
 #[derive(Drop)]
 pub struct Host<const N: usize, L: UsedLog, I: Issuer> {
     alloc: Global,
     hsm: Hsm<N>,
     issuer: I,
     log: L,
-    used: Option<UsedNumbers>,
+    state: Option<Running>,
 }
 
 impl<const N: usize, L: UsedLog, I: Issuer> Model for Host<N, L, I> {
@@ -43,10 +44,10 @@ impl<const N: usize, L: UsedLog, I: Issuer> Model for Host<N, L, I> {
       keys = host.hsm;
       issuer = host.issuer;
       log = host.log;
-      used = host.used;
+      state = host.state;
     } };
 
-    ghost invariant = { λ host. AgreesWithLog host.hsm (L.meaning.state_of host.log) host.used };
+    ghost invariant = { λ host. AgreesWithLog host.hsm (L.meaning.state_of host.log) host.state };
 }
 
 impl<const N: usize, L: UsedLog, I: Issuer> Host<N, L, I> {
@@ -54,14 +55,14 @@ impl<const N: usize, L: UsedLog, I: Issuer> Host<N, L, I> {
     /// memory.
     pub fn new(alloc: Global, hsm: Hsm<N>, issuer: I, log: L) -> Self
         requires zone { IsSome hsm.zone }
-        ensures { result ≡ record { keys = hsm.entry; issuer = issuer; log = log; used = None } }
+        ensures { result ≡ record { keys = hsm.entry; issuer = issuer; log = log; state = None } }
     {
         Host {
             alloc,
             hsm,
             issuer,
             log,
-            used: None,
+            state: None,
         }
     }
 
@@ -77,12 +78,13 @@ impl<const N: usize, L: UsedLog, I: Issuer> Host<N, L, I> {
         ensures counted { IfOk result (λ found. L.meaning.count self.new.log ≡ found) }
         ensures capacity { L.meaning.capacity self.new.log ≡ L.meaning.capacity self.old.log }
     {
-        self.used = None;
+        self.state = None;
         let kept = match self.log.restart() {
             Ok(kept) => kept,
             Err(fault) => return Err(HostFault::Store(fault)),
         };
-        self.used = Some(numbers_in(self.alloc, &mut self.log, kept)?);
+        let used = numbers_in(self.alloc, &mut self.log, kept)?;
+        self.state = Some(Running { used });
         Ok(kept)
     }
 
@@ -103,21 +105,36 @@ impl<const N: usize, L: UsedLog, I: Issuer> Host<N, L, I> {
         ensures refused { IfErr result
             (HandleRefused (host_meaning_of L.meaning I.decides) bytes.now self.old self.new) }
     {
-        let Some(used) = &self.used else {
+        Ok(self.answer(bytes)?.frame)
+    }
+
+    /// Does with the bytes of a request what `handle` does, and tells beside the frame what it
+    /// says: an accepted reply where the request is accepted, and else a refusal.
+    pub fn answer(&mut self, bytes: &[u8]) -> Result<Answered, HostFault>
+        ensures told { IfOk result (λ answered. IsAnswer answered.frame.items answered.says) }
+        ensures answered { IfOk result (λ answered. AnswersAs
+            (host_meaning_of L.meaning I.decides)
+            bytes.now self.old self.new answered.frame.items answered.says) }
+        ensures refused { IfErr result
+            (HandleRefused (host_meaning_of L.meaning I.decides) bytes.now self.old self.new) }
+    {
+        let Some(running) = &self.state else {
             return Err(HostFault::Stopped);
         };
-        match judge(&self.hsm, used, self.log.room(), bytes) {
+        match judge(&self.hsm, &running.used, self.log.room(), bytes) {
             Ok(request) => self.accept(&request),
             Err(refusal) => Ok(refusal),
         }
     }
 
     /// Keeps the number of a request against which there is no reason, and then replies to it.
-    fn accept(&mut self, request: &Request) -> Result<Frame, HostFault>
+    fn accept(&mut self, request: &Request) -> Result<Answered, HostFault>
         requires acceptable { IsToAccept
             (host_meaning_of L.meaning I.decides) self.old request.now }
-        ensures replied { IfOk result (λ frame. IsReplied
-            (host_meaning_of L.meaning I.decides) self.old self.new request.now frame.items) }
+        ensures replied { IfOk result (λ answered. IsReplied
+            (host_meaning_of L.meaning I.decides)
+            self.old self.new request.now answered.frame.items) }
+        ensures told { IfOk result (λ answered. IsToldReply answered.frame.items answered.says) }
         ensures refused { IfErr result
             (KeepRefused (host_meaning_of L.meaning I.decides) self.old self.new request.now.ksn) }
     {
@@ -126,18 +143,20 @@ impl<const N: usize, L: UsedLog, I: Issuer> Host<N, L, I> {
     }
 
     /// The reply to a request that is accepted.
-    fn reply(&self, request: &Request) -> Frame
+    fn reply(&self, request: &Request) -> Answered
         requires key { HasTransactionKey self.now.keys request.now.ksn }
-        ensures { IsReplyTo self.now.keys (I.decides self.now.issuer) request.now result.items }
+        ensures reply { IsReplyTo
+            self.now.keys (I.decides self.now.issuer) request.now result.frame.items }
+        ensures told { IsToldReply result.frame.items result.says }
     {
         let code = code_for(&self.hsm, &self.issuer, request);
-        reply_frame(&self.hsm, request.ksn, code)
+        reply_with(&self.hsm, request.ksn, code)
     }
 
     /// Takes a number in as used, and appends it to the log. Where the log fails, the host is
     /// stopped.
     fn keep(&mut self, ksn: Ksn) -> Result<(), HostFault>
-        requires fresh { IsFreshIn self.old.used ksn }
+        requires fresh { IsFreshIn self.old.state ksn }
         requires usable { IsUsable ksn.counter }
         requires room { 0 < L.meaning.capacity self.old.log - L.meaning.count self.old.log }
         ensures kept { IfOk result
@@ -145,12 +164,12 @@ impl<const N: usize, L: UsedLog, I: Issuer> Host<N, L, I> {
         ensures refused { IfErr result
             (KeepRefused (host_meaning_of L.meaning I.decides) self.old self.new ksn) }
     {
-        let Some(used) = &mut self.used else {
+        let Some(Running { used }) = &mut self.state else {
             return Err(HostFault::Stopped);
         };
         used.insert(ksn)?;
         if let Err(fault) = self.log.append(ksn) {
-            self.used = None;
+            self.state = None;
             return Err(HostFault::Store(fault));
         }
         Ok(())
@@ -158,10 +177,10 @@ impl<const N: usize, L: UsedLog, I: Issuer> Host<N, L, I> {
 
     /// Whether a key serial number is used; none is while the host is stopped.
     pub fn is_used(&self, ksn: Ksn) -> bool
-        ensures { IsTrue result ↔ IsUsedIn self.now.used ksn }
+        ensures { IsTrue result ↔ IsUsedIn self.now.state ksn }
     {
-        match &self.used {
-            Some(used) => used.contains(ksn),
+        match &self.state {
+            Some(running) => running.used.contains(ksn),
             None => false,
         }
     }
@@ -181,7 +200,7 @@ impl<const N: usize, L: UsedLog, I: Issuer> Host<N, L, I> {
         ensures counted { L.meaning.count self.new.log ≡ L.meaning.count self.old.log }
         ensures capacity { L.meaning.capacity self.new.log ≡ L.meaning.capacity self.old.log }
         ensures ends { KeepsEnds self.old self.new }
-        ensures used { self.new.used ≡ self.old.used }
+        ensures state { self.new.state ≡ self.old.state }
     {
         self.log.arm(steps);
     }

@@ -3,12 +3,15 @@
 ghost use Rattle.std.specs.Prelude.{◌≡◌, ◌≤◌, ℕ, List, IfOk, IfErr, MatchOption, length};
 ghost use Rattle.duk_frame.specs.Frame.{mac_text_of};
 ghost use Rattle.duk_frame.specs.Request.{IsRequest};
+ghost use Rattle.duk_host.specs.Handle.{IsToldRefusal};
 ghost use Rattle.duk_host.specs.Judgement.{Decision, IsAcceptable, IsAuthentic, IsRefusalFor, IsReasonAgainstMac, IsReasonAgainst, basis_with, authenticated_text};
 
+use crate::answered::Answered;
 use crate::reason::Reason;
 use crate::used::UsedNumbers;
-use duk_frame::{Frame, Request, mac_text, read_request};
+use duk_frame::{Request, mac_text, read_request};
 use duk_hsm::{Hsm, HsmFault};
+use duk_tree::Ksn;
 
 /// The request in the bytes, where there is no reason against it, or else the refusal of the least
 /// reason.
@@ -17,20 +20,23 @@ pub(crate) fn judge<const N: usize>(
     used: &UsedNumbers,
     room: u64,
     bytes: &[u8],
-) -> Result<Request, Frame>
+) -> Result<Request, Answered>
     ensures acceptable { (decides : Decision)
         → IfOk result (IsAcceptable (basis_with hsm.now used.now room decides)) }
     ensures request { IfOk result (IsRequest bytes.now) }
     ensures refused { (decides : Decision) → IfErr result
-        (λ frame. IsRefusalFor (basis_with hsm.now used.now room decides) bytes.now frame.items) }
+        (λ answered. IsRefusalFor
+        (basis_with hsm.now used.now room decides) bytes.now answered.frame.items) }
+    ensures told { IfErr result
+        (λ answered. IsToldRefusal answered.frame.items answered.says) }
 {
     let Some(request) = read_request(bytes) else {
-        return Err(Reason::Malformed.frame([0; 10]));
+        return Err(Reason::Malformed.answer(Ksn::from_bytes([0; 10])));
     };
     duk_frame::laws::mac_texts();
     match reason_against(hsm, used, room, &request, mac_text(bytes)) {
         None => Ok(request),
-        Some(reason) => Err(reason.frame(request.ksn.bytes())),
+        Some(reason) => Err(reason.answer(request.ksn)),
     }
 }
 
@@ -73,6 +79,7 @@ fn reason_against_mac<const N: usize>(
         Ok(()) => None,
         Err(HsmFault::NoKeySet) => Some(Reason::UnknownKeySet),
         Err(HsmFault::BadCounter) => Some(Reason::BadCounter),
-        Err(_) => Some(Reason::BadMac),
+        Err(HsmFault::BadMac) => Some(Reason::BadMac),
+        Err(_) => unreachable!(),
     }
 }

@@ -6,6 +6,7 @@
 //! `Issuer`.
 #![tactic(auto)]
 
+mod answered;
 mod fault;
 mod host;
 mod issuer;
@@ -14,9 +15,11 @@ pub mod laws;
 mod reading;
 mod reason;
 mod reply;
+mod running;
 mod table;
 mod used;
 
+pub use answered::Answered;
 pub use fault::HostFault;
 pub use host::Host;
 pub use issuer::Issuer;

@@ -2,10 +2,13 @@
 
 ghost use Rattle.std.specs.Prelude.{◌≡◌};
 ghost use Rattle.duk_frame.specs.Answer.{IsRefusal};
-ghost use Rattle.duk_tree.specs.Serial.{IsSerial, Serial, serial_bytes};
+ghost use Rattle.duk_tree.specs.Serial.{serial_bytes};
+ghost use Rattle.duk_host.specs.Handle.{IsToldRefusal};
 ghost use Rattle.duk_host.specs.Judgement.{reason_number, refusal_frame};
 
-use duk_frame::{Frame, write_refusal};
+use crate::answered::Answered;
+use duk_frame::{AnswerFrame, write_refusal};
+use duk_tree::Ksn;
 
 /// Why a request is refused, in the order in which the reasons are tested.
 #[derive(Clone, Copy)]
@@ -39,12 +42,16 @@ impl Reason {
         }
     }
 
-    /// The frame of the refusal, with the ten bytes of a key serial number.
-    pub(crate) fn frame(self, ksn: [u8; 10]) -> Frame
-        ensures frame { result.items ≡ refusal_frame ksn self }
-        ensures refusal { (serial : Serial) → IsSerial serial → serial_bytes serial ≡ ksn
-            → IsRefusal result.items serial (reason_number self) }
+    /// The refusal of a request with this key serial number.
+    pub(crate) fn answer(self, ksn: Ksn) -> Answered
+        ensures frame { result.frame.items ≡ refusal_frame (serial_bytes ksn) self }
+        ensures refusal { IsRefusal result.frame.items ksn (reason_number self) }
+        ensures told { IsToldRefusal result.frame.items result.says }
     {
-        write_refusal(ksn, self.number())
+        let reason = self.number();
+        Answered {
+            frame: write_refusal(ksn.bytes(), reason),
+            says: AnswerFrame::Refusal { ksn, reason },
+        }
     }
 }

@@ -2,11 +2,13 @@
 
 ghost use Rattle.std.specs.Prelude.{◌≡◌, IsSome};
 ghost use Rattle.duk_hsm.specs.Commands.{HasTransactionKey};
+ghost use Rattle.duk_host.specs.Handle.{IsToldReply};
 ghost use Rattle.duk_host.specs.Judgement.{IsCodeOf, IsReplyWith};
 
+use crate::answered::Answered;
 use crate::issuer::Issuer;
-use duk_frame::{Code, Frame, Request, reply_text};
-use duk_hsm::Hsm;
+use duk_frame::{AnswerFrame, Code, Request, reply_text};
+use duk_hsm::{Hsm, HsmFault};
 use duk_tree::Ksn;
 
 /// The code for a request: what the issuer says of its PIN block under the zone key. Where the
@@ -22,16 +24,21 @@ pub(crate) fn code_for<const N: usize, I: Issuer>(
 {
     match hsm.translate(request.ksn, request.block, &request.pan) {
         Ok(block) => issuer.decide(&request.pan, request.amount, block),
-        Err(_) => Code::Unreadable,
+        Err(HsmFault::BadPinBlock) => Code::Unreadable,
+        Err(_) => unreachable!(),
     }
 }
 
 /// The accepted reply with this code.
-pub(crate) fn reply_frame<const N: usize>(hsm: &Hsm<N>, ksn: Ksn, code: Code) -> Frame
+pub(crate) fn reply_with<const N: usize>(hsm: &Hsm<N>, ksn: Ksn, code: Code) -> Answered
     requires key { HasTransactionKey hsm.now ksn }
-    ensures { IsReplyWith hsm.now ksn code result.items }
+    ensures reply { IsReplyWith hsm.now ksn code result.frame.items }
+    ensures told { IsToldReply result.frame.items result.says }
 {
     let text = reply_text(ksn, code);
     let mac = hsm.reply_mac(ksn, text.bytes()).unwrap();
-    text.with_mac(mac)
+    Answered {
+        frame: text.with_mac(mac),
+        says: AnswerFrame::Reply { ksn, code, mac },
+    }
 }

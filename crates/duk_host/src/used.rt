@@ -3,7 +3,8 @@
 ghost use Rattle.std.specs.Prelude.{◌≡◌, ◌↔◌, [], IsTrue, IfOk, OnErr};
 ghost use Rattle.std.specs.Bool.{MatchBool};
 ghost use Rattle.duk_tree.specs.Serial.{IsSerial};
-ghost use Rattle.duk_host.specs.Used.{IsOneMore, IsUsed, serial_number};
+ghost use Rattle.duk_host.specs.Index.{serial_number};
+ghost use Rattle.duk_host.specs.Used.{IsOneMore, IsUsed};
 
 use byteorder::{BigEndian, ByteOrder};
 use duk_tree::Ksn;
@@ -18,11 +19,12 @@ pub(crate) struct UsedNumbers {
 }
 
 impl Model for UsedNumbers {
-    ghost use Rattle.std.specs.Prelude.{List, ℕ};
+    ghost use Rattle.duk_host.specs.Index.{members_of};
+    ghost use Rattle.duk_store.specs.Log.{Numbers};
 
-    ghost Value = { List ℕ };
+    ghost Value = { Numbers };
 
-    ghost view = { λ used. used.numbers.keys };
+    ghost view = { λ used. members_of used.numbers };
 }
 
 impl UsedNumbers {
@@ -39,6 +41,7 @@ impl UsedNumbers {
     pub(crate) fn contains(&self, ksn: Ksn) -> bool
         ensures { IsTrue result ↔ IsUsed self.now ksn }
     {
+        duk_tree::laws::serials();
         self.numbers.contains(&number(ksn))
     }
 
@@ -47,7 +50,6 @@ impl UsedNumbers {
         ensures added { IfOk result (λ _. IsOneMore self.old ksn self.new) }
         ensures fresh { IfOk result
             (λ fresh. MatchBool fresh (¬ IsUsed self.old ksn) (IsUsed self.old ksn)) }
-        ensures serial { IsSerial ksn }
         ensures same { OnErr result (self.new ≡ self.old) }
     {
         duk_tree::laws::serials();
@@ -56,7 +58,7 @@ impl UsedNumbers {
 }
 
 /// The number that the ten bytes of a key serial number spell.
-#[tactic(auto, unfolding(crate::specs::Used::serial_number))]
+#[tactic(auto, unfolding(crate::specs::Index::serial_number))]
 fn number(ksn: Ksn) -> u128
     ensures value { result ≡ serial_number ksn }
     ensures serial { IsSerial ksn }

@@ -12,6 +12,7 @@ use Rattle.duk_host.specs.Handle.{AnswersReply, HandleRefused}
 use Rattle.duk_host.specs.Host.{HostOf}
 use Rattle.duk_host.specs.Restart.{HostRestartRefused}
 use Rattle.duk_host.specs.Used.{IsUsed}
+use Rattle.duk_host.specs.declared.running.Running.{Running}
 use Rattle.duk_host.specs.declared.fault.HostFault.{HostFault}
 use Rattle.duk_host.specs.declared.fault.HostFault.TheVariants as fault
 use Rattle.duk_store.specs.Log.{AppendFailed, LogMeaning, Numbers}
@@ -19,7 +20,7 @@ use Rattle.duk_store.specs.StoreState.{FindsOnly, StoreState}
 use Rattle.duk_store.specs.Restart.{Restarted}
 use Rattle.duk_store.specs.declared.fault.StoreFault.{StoreFault}
 use Rattle.duk_store.specs.declared.fault.StoreFault.TheVariants as store_fault
-use Rattle.duk_tree.specs.Serial.{IsSerial, Serial}
+use Rattle.duk_tree.specs.Serial.{Serial}
 use Rattle.duk_net.specs.Accepted.{AcceptOtherNumbers, Accepts, AcceptsOnce, IsAcceptedNumber}
 use Rattle.duk_net.specs.First.{IsFirst}
 use Rattle.duk_net.specs.Reached.{CallLeads, Reached}
@@ -69,20 +70,16 @@ accepted_cases answers frame ksn (code, is) = elim (Contains-push_cases answers 
   | inr last ↦ inr (code, is.mac, rw last is.reply)
 ]
 
--- a number that was accepted is a key serial number
-accepted_serial : (answers : List Frame) (ksn : Serial) → IsAcceptedNumber answers ksn → IsSerial ksn
-accepted_serial answers ksn (code, is) = is.reply.fields.0
-
--- while a host runs with these used numbers, a restart of its log would find one list alone, whose numbers are all used
-abbrev pub UsesAll : StoreState Numbers → Option (List ℕ) → Type 0
+-- while a host runs, a restart of its log would find one list alone, whose numbers are all used
+abbrev pub UsesAll : StoreState Numbers → Option Running → Type 0
 UsesAll log None = Unit {0}
-UsesAll log (Some used) = (numbers : Numbers) × FindsOnly log numbers × ((ksn : Serial) → IsSerial ksn → Contains numbers ksn → IsUsed used ksn)
+UsesAll log (Some running) = (numbers : Numbers) × FindsOnly log numbers × ((ksn : Serial) → Contains numbers ksn → IsUsed running.used ksn)
 
 -- the log of a host keeps each number that these answers accept, and a running host uses each number that its log keeps
 pub record HostKeepsAccepted {C L I : Type 0} (m : Meanings C L I) (at : HostOf L I) (answers : List Frame) : Type 0 where
   pub honest : (m.host.log.state_of at.log).honest
   pub keeps : (numbers : Numbers) → (m.host.log.state_of at.log).found numbers → (ksn : Serial) → IsAcceptedNumber answers ksn → Contains numbers ksn
-  pub uses : UsesAll (m.host.log.state_of at.log) at.used
+  pub uses : UsesAll (m.host.log.state_of at.log) at.state
 
 -- the log of a world's host keeps each accepted number
 abbrev pub KeepsAllAccepted : {C L I : Type 0} → Meanings C L I → WorldOf C L I → Type 0
@@ -121,7 +118,7 @@ append_failed_grows log old new ksn store_fault.NoMemory honest failed = absurd 
 
 -- a host whose log grows keeps each accepted number
 grown_safe : {C L I : Type 0} (m : Meanings C L I) (old new : HostOf L I) (answers : List Frame) → HostKeepsAccepted m old answers
-    → Grows (m.host.log.state_of old.log) (m.host.log.state_of new.log) → UsesAll (m.host.log.state_of new.log) new.used → HostKeepsAccepted m new answers
+    → Grows (m.host.log.state_of old.log) (m.host.log.state_of new.log) → UsesAll (m.host.log.state_of new.log) new.state → HostKeepsAccepted m new answers
 grown_safe m old new answers safe grows uses = record {
   honest = grows.honest;
   keeps = λ numbers found ksn accepted. let before = grows.within numbers found in before.2 ksn (safe.keeps before.0 before.1 ksn accepted);
@@ -158,30 +155,30 @@ restart_refused_safe m old new answers fault.Write safe refused = absurd refused
 restart_refused_safe m old new answers fault.Truncated safe refused = absurd refused
 restart_refused_safe m old new answers fault.TooLong safe refused = absurd refused
 
--- where a log finds the same lists as before, the same used numbers are all that it keeps
-uses_as_before : (old new : StoreState Numbers) (used : Option (List ℕ)) → ((numbers : Numbers) → new.found numbers ↔ old.found numbers) → UsesAll old used → UsesAll new used
+-- where a log finds the same lists as before, the used numbers are all that it keeps
+uses_as_before : (old new : StoreState Numbers) (state : Option Running) → ((numbers : Numbers) → new.found numbers ↔ old.found numbers) → UsesAll old state → UsesAll new state
 uses_as_before old new None same uses = tt
-uses_as_before old new (Some used) same uses =
+uses_as_before old new (Some running) same uses =
     (uses.0, λ other. ((λ found. (uses.1 other).0 ((same other).0 found)), (λ is. (same other).1 ((uses.1 other).1 is))), uses.2)
 
 -- whatever else happens to the host, it keeps each accepted number
 touched_safe : {C L I : Type 0} (m : Meanings C L I) (old new : HostOf L I) (answers : List Frame) → HostKeepsAccepted m old answers → TouchesHost m old new → HostKeepsAccepted m new answers
 touched_safe m old new answers safe (no_answer bytes why refused) = no_answer_safe m old new answers bytes why safe refused
 touched_safe m old new answers safe (host_restarted found restarted) = grown_safe m old new answers safe (restarted_grows _ _ restarted.numbers safe.honest restarted.log)
-    (rw restarted.used_are (restarted.numbers, restarted.log.settles.finds safe.honest, λ ksn serial. ((restarted.lists safe.honest).members ksn serial).0))
+    (rw restarted.runs (restarted.numbers, restarted.log.settles.finds safe.honest, λ ksn. ((restarted.lists safe.honest).members ksn).0))
 touched_safe m old new answers safe (host_restart_refused why refused) = restart_refused_safe m old new answers why safe refused
 touched_safe m old new answers safe (host_armed steps armed) = grown_safe m old new answers safe
     (finds_as_before _ _ (armed.stays.honest.0 safe.honest) (λ numbers. (armed.stays.found safe.honest numbers).0))
-    (rw armed.used (uses_as_before (m.host.log.state_of old.log) (m.host.log.state_of new.log) old.used (armed.stays.found safe.honest) safe.uses))
+    (rw armed.state (uses_as_before (m.host.log.state_of old.log) (m.host.log.state_of new.log) old.state (armed.stays.found safe.honest) safe.uses))
 
 -- the number that a host accepts was not accepted before
 accepts_fresh : {C L I : Type 0} (m : Meanings C L I) (old new : HostOf L I) (answers : List Frame) (bytes frame : List ℕ) (ksn : Serial) → OneReading → HostKeepsAccepted m old answers
     → AnswersReply m.host bytes old new frame → RepliesTo frame ksn → ¬ IsAcceptedNumber answers ksn
 accepts_fresh m old new answers bytes frame ksn one safe reply told accepted =
     let with = reply.accepted.reply.reply in
-    let uses : UsesAll (m.host.log.state_of old.log) (Some reply.used) = rw reply.was_running at safe.uses in
+    let uses : UsesAll (m.host.log.state_of old.log) (Some reply.running) = rw reply.was_running at safe.uses in
     let is : ksn ≡ reply.request.ksn = one_number one frame ksn reply.request.ksn told (_, _, with.is_reply) in
-    let used : IsUsed reply.used ksn = uses.2 ksn (accepted_serial answers ksn accepted) (safe.keeps uses.0 ((uses.1 uses.0).1 refl) ksn accepted) in
+    let used : IsUsed reply.running.used ksn = uses.2 ksn (safe.keeps uses.0 ((uses.1 uses.0).1 refl) ksn accepted) in
     reply.accepted.acceptable.fresh (rw is at used)
 
 -- a host that accepts a request keeps each accepted number, with that of the request
@@ -191,7 +188,7 @@ accepts_safe m old new answers bytes frame one safe reply =
     let kept = reply.kept in
     let with = reply.accepted.reply.reply in
     let number = reply.request.ksn in
-    let uses : UsesAll (m.host.log.state_of old.log) (Some kept.used) = rw kept.were_used at safe.uses in
+    let uses : UsesAll (m.host.log.state_of old.log) (Some kept.before) = rw kept.was_running at safe.uses in
     let finds : FindsOnly (m.host.log.state_of new.log) (uses.0 ++ number ∷ []) = kept.appended.finds safe.honest uses.0 uses.1 in
     record {
       honest = kept.appended.nature.honest.0 safe.honest;
@@ -199,11 +196,11 @@ accepts_safe m old new answers bytes frame one safe reply =
         | inl before ↦ Contains-append_left uses.0 (number ∷ []) ksn (safe.keeps uses.0 ((uses.1 uses.0).1 refl) ksn before)
         | inr told ↦ rw (one_number one frame.items ksn number told (_, _, with.is_reply)) (Contains-push uses.0 number)
       ]);
-      uses = rw kept.used_are (
+      uses = rw kept.runs (
         uses.0 ++ number ∷ [],
         finds,
-        λ ksn serial has. (kept.one_more ksn serial).1 (elim (Contains-push_cases uses.0 number ksn has) [
-          | inl before ↦ inl (uses.2 ksn serial before)
+        λ ksn has. (kept.one_more ksn).1 (elim (Contains-push_cases uses.0 number ksn has) [
+          | inl before ↦ inl (uses.2 ksn before)
           | inr is ↦ inr (sym is)
         ]),
       );

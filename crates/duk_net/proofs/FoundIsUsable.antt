@@ -11,13 +11,14 @@ use Rattle.duk_host.specs.Restart.{HostRestartRefused}
 use Rattle.duk_host.specs.Used.{AreUsable, IsUsed}
 use Rattle.duk_host.specs.declared.fault.HostFault.{HostFault}
 use Rattle.duk_host.specs.declared.fault.HostFault.TheVariants as fault
+use Rattle.duk_host.specs.declared.running.Running.{Running}
 use Rattle.duk_store.specs.Log.{AppendFailed, LogMeaning, Numbers}
 use Rattle.duk_store.specs.Restart.{Restarted}
 use Rattle.duk_store.specs.StoreState.{FindsOnly, StoreState}
 use Rattle.duk_store.specs.declared.fault.StoreFault.{StoreFault}
 use Rattle.duk_store.specs.declared.fault.StoreFault.TheVariants as store_fault
 use Rattle.duk_tree.specs.Path.{IsUsable}
-use Rattle.duk_tree.specs.Serial.{IsSerial, Serial}
+use Rattle.duk_tree.specs.Serial.{Serial}
 use Rattle.duk_net.specs.First.{IsFirst}
 use Rattle.duk_net.specs.Reached.{Reached}
 use Rattle.duk_net.specs.World.{Frame, Meanings, WorldOf}
@@ -43,16 +44,16 @@ with_one_more numbers ksn usable fits fresh = record {
 }
 
 -- a number that stands in a list that a restart of a running host's log may find is used
-used_in : (log : StoreState Numbers) (used : _) (numbers : Numbers) (ksn : Serial) → UsesAll log (Some used) → IsSerial ksn → log.found numbers → Contains numbers ksn → IsUsed used ksn
-used_in log used numbers ksn uses serial found has = uses.2 ksn serial (subst (λ list. Contains list ksn) ((uses.1 numbers).0 found) has)
+used_in : (log : StoreState Numbers) (running : Running) (numbers : Numbers) (ksn : Serial) → UsesAll log (Some running) → log.found numbers → Contains numbers ksn → IsUsed running.used ksn
+used_in log running numbers ksn uses found has = uses.2 ksn (subst (λ list. Contains list ksn) ((uses.1 numbers).0 found) has)
 
 -- the number of a request that a running host is to accept, behind a list that a restart of its log may find
-accepted_more : {C L I : Type 0} (m : Meanings C L I) (old : HostOf L I) (bytes : List ℕ) (request : Request) (numbers : Numbers) → UsesAll (m.host.log.state_of old.log) old.used → HostFindsUsable m old
+accepted_more : {C L I : Type 0} (m : Meanings C L I) (old : HostOf L I) (bytes : List ℕ) (request : Request) (numbers : Numbers) → UsesAll (m.host.log.state_of old.log) old.state → HostFindsUsable m old
     → IsRequest bytes request → IsToAccept m.host old request → (m.host.log.state_of old.log).found numbers → AreUsable (numbers ++ request.ksn ∷ [])
 accepted_more m old bytes request numbers uses usable is may found =
-    let running : UsesAll (m.host.log.state_of old.log) (Some may.used) = rw may.was_running at uses in
+    let all : UsesAll (m.host.log.state_of old.log) (Some may.running) = rw may.was_running at uses in
     with_one_more numbers request.ksn (usable numbers found) may.acceptable.authentic.key_is.usable
-    (λ has. may.acceptable.fresh (used_in (m.host.log.state_of old.log) may.used numbers request.ksn running is.fields.ksn_is found has))
+    (λ has. may.acceptable.fresh (used_in (m.host.log.state_of old.log) may.running numbers request.ksn all found has))
 
 -- a log that restarted finds what it might have found
 restarted_usable : (old new : StoreState Numbers) (numbers : Numbers) → old.honest → FindsUsable old → Restarted old new numbers → FindsUsable new
@@ -99,8 +100,8 @@ touched_usable m old new answers safe usable (host_armed steps armed) = λ numbe
 accepts_usable : {C L I : Type 0} (m : Meanings C L I) (old new : HostOf L I) (answers : List Frame) (bytes frame : List ℕ) → HostKeepsAccepted m old answers → HostFindsUsable m old
     → AnswersReply m.host bytes old new frame → HostFindsUsable m new
 accepts_usable m old new answers bytes frame safe usable reply numbers found =
-    let may : IsToAccept m.host old reply.request = record { used = reply.used; was_running = reply.was_running; acceptable = reply.accepted.acceptable } in
-    let uses : UsesAll (m.host.log.state_of old.log) (Some reply.used) = rw reply.was_running at safe.uses in
+    let may : IsToAccept m.host old reply.request = record { running = reply.running; was_running = reply.was_running; acceptable = reply.accepted.acceptable } in
+    let uses : UsesAll (m.host.log.state_of old.log) (Some reply.running) = rw reply.was_running at safe.uses in
     let is = (reply.kept.appended.finds safe.honest uses.0 uses.1 numbers).0 found in
     rw is (accepted_more m old bytes reply.request uses.0 safe.uses usable reply.accepted.is_request may ((uses.1 uses.0).1 refl))
 

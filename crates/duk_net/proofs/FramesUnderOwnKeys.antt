@@ -135,7 +135,7 @@ module _ {C L I : Type 0} (m : Meanings C L I) (laws : KeyLaws m) where
         | inl malformed ↦ absurd (malformed.no_request own.request own.is_request)
         | inr refused ↦
             let same = laws.one_request up.request.items own.request refused.request own.is_request refused.is_request in
-            let reason_is = used_or_full (basis_of m.host old.host up.refused.used) refused.request refused.reason (subst (IsAuthentic old.host.keys) same own.authentic) refused.refuses in
+            let reason_is = used_or_full (basis_of m.host old.host up.refused.running) refused.request refused.reason (subst (IsAuthentic old.host.keys) same own.authentic) refused.refuses in
             subst (λ answer. IsRefusedAsUsedOrFull (answer_outcome n answer)) (laws.one_answer up.frame.items (Refusal _ _) (Refusal ksn reason) refused.is_refusal up.told) reason_is
       ]
 

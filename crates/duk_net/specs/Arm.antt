@@ -25,7 +25,7 @@ pub record ArmsLog
   pub counted : m.host.log.count after.log ≡ m.host.log.count before.log
   pub capacity : m.host.log.capacity after.log ≡ m.host.log.capacity before.log
   pub ends : KeepsEnds before after
-  pub used : after.used ≡ before.used
+  pub state : after.state ≡ before.state
 
 -- what comes of arming the host's log
 abbrev pub ArmsHost : {C L I : Type 0} → Meanings C L I → WorldOf C L I → ℕ → Outcome

@@ -31,7 +31,7 @@ pub record IsNewTerminal
 
 -- a host, newly made over an unused log
 pub record IsNewHost {C L I : Type 0} (m : Meanings C L I) (host : HostOf L I) : Type 0 where
-  pub stopped : host.used ≡ None
+  pub stopped : host.state ≡ None
   pub log : IsUnused (m.host.log.state_of host.log) []
 
 -- all ends are newly made, and nothing was sent

@@ -5,7 +5,6 @@ use Rattle.duk_frame.specs.declared.answer.AnswerFrame.{AnswerFrame}
 use Rattle.duk_frame.specs.declared.answer.AnswerFrame.TheVariants.{Refusal, Reply}
 use Rattle.duk_frame.specs.declared.code.Code.{Code}
 use Rattle.duk_host.specs.Handle.{AnswersRefusal, AnswersReply, HandleRefused}
-use Rattle.duk_host.specs.Host.{HostMeaning, HostOf}
 use Rattle.duk_host.specs.declared.fault.HostFault.{HostFault}
 use Rattle.duk_host.specs.declared.fault.HostFault.TheVariants.{NoMemory}
 use Rattle.duk_tree.specs.Serial.{Serial}
@@ -17,14 +16,6 @@ use Rattle.duk_net.specs.declared.outcome.Outcome.TheVariants as outcome
 abbrev pub answer_outcome : ℕ → AnswerFrame → Outcome
 answer_outcome n (Reply ksn code mac) = outcome.Accepted n ksn code
 answer_outcome n (Refusal ksn reason) = outcome.Refused n ksn reason
-
--- the host accepts the request by this frame, where it is an accepted reply, and else refuses it
-abbrev pub AnswersAs : {L I : Type 0} → HostMeaning L I → List ℕ → HostOf L I → HostOf L I → List ℕ
-    → AnswerFrame → Type 0
-AnswersAs meaning bytes old new frame (Reply ksn code mac) =
-    AnswersReply meaning bytes old new frame
-AnswersAs meaning bytes old new frame (Refusal ksn reason) =
-    AnswersRefusal meaning bytes old new frame
 
 -- the host answers, and the answer is sent
 pub record IsAnswered

@@ -22,7 +22,7 @@ new_host_of lmk config = record {
   keys = keys_for lmk config;
   issuer = record { zone = bytes_of config.zone; cards = config.cards };
   log = new_log config.log;
-  used = None;
+  state = None;
 }
 
 -- the world of a configuration over stores in memory, as it is made

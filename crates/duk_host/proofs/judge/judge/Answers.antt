@@ -1,12 +1,14 @@
-use Rattle.std.proofs.Common.{rules, inl, inr, sym}
+use Rattle.std.proofs.Common.{rules, inl, inr, ap, ◌∙◌}
+use Rattle.duk_host.specs.Judgement.{refusal_frame}
+use Rattle.duk_host.specs.declared.reason.Reason.TheVariants.{Malformed}
 use Rattle.duk_host.proofs.MalformedIsRefused.{refusal_of_none}
 use Rattle.duk_host.proofs.judge.judge.Goals as goal
 
 pub returns-in_default-clause-refused : goal.returns-in_default-clause-refused
 returns-in_default-clause-refused g c decides = inl (record {
   no_request = search rules;
-  is_refusal = refusal_of_none _ c.frame.ensures.refusal;
-  frame_is = search rules;
+  is_refusal = refusal_of_none _ _ c.from_bytes.ensures.value c.answer.ensures.refusal;
+  frame_is = c.answer.ensures.frame ∙ ap (λ bytes. refusal_frame bytes Malformed) c.from_bytes.ensures.bytes;
 })
 
 pub returns-in-Some-reason_against-clause-refused : goal.returns-in-Some-reason_against-clause-refused
@@ -15,6 +17,6 @@ returns-in-Some-reason_against-clause-refused g c decides = inr (record {
   reason = c.in-Some-reason_against.reason;
   is_request = search rules;
   refuses = c.in-Some-reason_against.ensures decides;
-  is_refusal = c.frame-in-Some-reason_against.ensures.refusal _ c.bytes.ensures.serial (sym c.bytes.ensures.bytes);
-  frame_is = search rules;
+  is_refusal = c.answer-in-Some-reason_against.ensures.refusal;
+  frame_is = c.answer-in-Some-reason_against.ensures.frame;
 })

@@ -1,4 +1,4 @@
-use Rattle.std.proofs.Common.{inl, refl}
+use Rattle.std.proofs.Common.{inl}
 use Rattle.duk_pin.specs.PinBlock.{pin_block}
 use Rattle.duk_net.specs.World.{meanings_of}
 use Rattle.duk_net.proofs.FramesUnderOwnKeys.{KeyLaws, leads_refuses, reached_own}

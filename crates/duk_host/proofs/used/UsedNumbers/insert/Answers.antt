@@ -1,8 +1,9 @@
 use Rattle.std.proofs.Common.{◌≡◌, ℕ, true, cond, not, subst}
 use Rattle.std.specs.BTreeSet.{contains}
 use Rattle.std.specs.Ordering.{eq_by_cmp, nat_cmp}
-use Rattle.duk_host.specs.Used.{IsUsed, serial_number}
-use Rattle.duk_host.proofs.UsedNumberSet.{match_fresh, set_contains, set_one_more}
+use Rattle.duk_host.specs.Index.{members_of, serial_number}
+use Rattle.duk_host.specs.Used.{IsUsed}
+use Rattle.duk_host.proofs.UsedNumberSet.{index_has, match_fresh, set_one_more}
 use Rattle.duk_host.proofs.used.UsedNumbers.insert.Goals as goal
 
 pub returns-clause-added : goal.returns-clause-added
@@ -20,4 +21,4 @@ returns-clause-fresh c =
     let ksn = c.args.ksn in
     let added : c.in_ok-insert.field-0 ≡ not (contains nat_cmp old (serial_number ksn)) =
     subst (λ n. c.in_ok-insert.field-0 ≡ not (contains nat_cmp old n)) c.number.ensures.value c.in_ok-insert.ensures.added in
-    rw (← c.self.view_is, added) (match_fresh (contains nat_cmp old (serial_number ksn)) (IsUsed old.keys ksn) (set_contains old (serial_number ksn)))
+    rw (← c.self.view_is, added) (match_fresh (contains nat_cmp old (serial_number ksn)) (IsUsed (members_of old) ksn) (index_has c.serials.ensures.found old ksn c.number.ensures.serial))

@@ -1,5 +1,5 @@
 use Rattle.std.proofs.Common.{◌+◌, length, refl, ap, subst, ◌∙◌}
-use Rattle.duk_host.specs.Handle.{AcceptFailed, HandleRefused}
+use Rattle.duk_host.specs.Handle.{AcceptFailed, AnswersAs, HandleRefused}
 use Rattle.duk_host.specs.Host.{host_meaning_of}
 use Rattle.duk_host.specs.declared.fault.HostFault.TheVariants.{NoMemory}
 use Rattle.duk_net.proofs.PlacesInLists.{is_at}
@@ -9,9 +9,10 @@ use Rattle.duk_net.proofs.system.System.up.Goals as goal
 pub returns-in-Ok-clause-outcome : goal.returns-in-Ok-clause-outcome
 returns-in-Ok-clause-outcome g c =
     let requests = c.self.inside.requests in
-    rw (← c.self.view_is, c.outcome_of-outcome.ensures) (up_answered _ _ c.args.k _ c.index.result.now c.in-Ok.frame c.in-Ok.answer _
+    let meaning = host_meaning_of g.L.UsedLog.meaning g.I.Issuer.decides in
+    rw (← c.self.view_is, c.outcome_of-outcome.ensures) (up_answered _ _ c.args.k _ c.index.result.now c.in-Ok.answered.frame c.in-Ok.answered.says _
     (is_at requests.items c.args.k c.in-Some.sent c.len.result c.index.result.now c.in-Some.ensures.0 c.in-Some.ensures.1 (c.len.ensures ∙ requests.ok.0) c.index.ensures)
-    c.in-Ok.ensures.told c.in-Ok.ensures.answered
+    c.in-Ok.ensures.told (subst (λ bytes. AnswersAs meaning bytes c.self.inside.host c.answer.new.self c.in-Ok.answered.frame.items c.in-Ok.answered.says) c.as_slice.ensures.value c.in-Ok.ensures.answered)
     (record {
       number = ap (λ n. n + 1) (c.len-in-Ok.ensures ∙ c.reserve.new.self.ok.0 ∙ ap length c.reserve.ensures.items);
       rest = rw (c.push_within.ensures, c.reserve.ensures.items) refl;
@@ -20,11 +21,12 @@ returns-in-Ok-clause-outcome g c =
 pub returns-in-Err-clause-outcome : goal.returns-in-Err-clause-outcome
 returns-in-Err-clause-outcome g c =
     let requests = c.self.inside.requests in
+    let meaning = host_meaning_of g.L.UsedLog.meaning g.I.Issuer.decides in
     rw (← c.self.view_is) (if_ok _ _ (λ outcome told. rw told.0 (record {
       request = c.index.result.now;
       sent = is_at requests.items c.args.k c.in-Some.sent c.len.result c.index.result.now c.in-Some.ensures.0 c.in-Some.ensures.1 (c.len.ensures ∙ requests.ok.0) c.index.ensures;
       not_memory = told.1;
-      faulted = c.in-Err.ensures.refused;
+      faulted = subst (λ bytes. HandleRefused meaning bytes c.self.inside.host c.answer.new.self c.in-Err.fault) c.as_slice.ensures.value c.in-Err.ensures.refused;
       rest = rw c.reserve.ensures.items refl;
     })) c.outcome_of_fault.result c.outcome_of_fault.ensures.other)
 
@@ -32,6 +34,6 @@ pub returns-in-Err-clause-same : goal.returns-in-Err-clause-same
 returns-in-Err-clause-same g c =
     let meaning = host_meaning_of g.L.UsedLog.meaning g.I.Issuer.decides in
     on_err _ _ (λ is.
-    let failed : AcceptFailed meaning c.index.result.now.items c.self.inside.host c.answer_to.new.host NoMemory =
-    subst (λ why. HandleRefused meaning c.index.result.now.items c.self.inside.host c.answer_to.new.host why) is c.in-Err.ensures.refused in
+    let failed : AcceptFailed meaning c.as_slice.result.now c.self.inside.host c.answer.new.self NoMemory =
+    subst (λ why. HandleRefused meaning c.as_slice.result.now c.self.inside.host c.answer.new.self why) is c.in-Err.ensures.refused in
     rw (← c.self.view_is, failed.not_kept, c.reserve.ensures.items) refl) c.outcome_of_fault.result c.outcome_of_fault.ensures.memory

@@ -1,0 +1,10 @@
+//! What a host has in memory while it runs.
+
+use crate::used::UsedNumbers;
+
+/// What a host that runs has in memory.
+#[derive(Drop)]
+pub(crate) struct Running {
+    /// The used numbers.
+    pub(crate) used: UsedNumbers,
+}
