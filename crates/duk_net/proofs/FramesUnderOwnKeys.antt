@@ -22,7 +22,7 @@ use Rattle.duk_tree.specs.Path.{path_of}
 use Rattle.duk_tree.specs.Serial.{IsSerial, Serial, iksn_prefix_of, prefix_of}
 use Rattle.duk_net.specs.OwnKey.{IsOwnReply, IsOwnRequest, IsRefusedAsUsedOrFull}
 use Rattle.duk_net.specs.Reached.{CallLeads, Moves, Reached}
-use Rattle.duk_net.specs.UnusedKeys.{HoldsOfState, HoldsOfTerminal, StandsAboveUsed}
+use Rattle.duk_net.specs.UnusedKeys.{HoldsOfState, HoldsOfTerminals, OwnsAboveUsed, StandsAboveUsed}
 use Rattle.duk_net.specs.Up.{UpRefused, answer_outcome}
 use Rattle.duk_net.specs.World.{Frame, Meanings, WorldOf}
 use Rattle.duk_net.specs.declared.outcome.Outcome.{Outcome}
@@ -33,7 +33,7 @@ use Rattle.duk_net.proofs.StepChanges as shape
 
 -- what the laws of the crates below say of keys and frames, and that the registers of each terminal stand for its own initial key
 pub record KeyLaws {C L I : Type 0} (m : Meanings C L I) : Type 0 where
-  pub stands : (world : WorldOf C L I) → Reached m world → All (HoldsOfTerminal m (StandsAboveUsed world.host.keys world.requests)) world.terminals
+  pub stands : (world : WorldOf C L I) → Reached m world → HoldsOfTerminals m (OwnsAboveUsed world.host.keys world.requests world.owners) world.terminals
   pub one_request : (bytes : List ℕ) (request other : Request) → IsRequest bytes request → IsRequest bytes other → request ≡ other
   pub one_answer : (bytes : List ℕ) (answer other : AnswerFrame) → IsAnswer bytes answer → IsAnswer bytes other → answer ≡ other
   pub prefixes : (ksn : Serial) → IsSerial ksn → prefix_of ksn ≡ iksn_prefix_of ksn.iksn
@@ -103,8 +103,8 @@ module _ {C L I : Type 0} (m : Meanings C L I) (laws : KeyLaws m) where
   step_own old new outcome reached own (shape.send t k purchase ksn is sent) =
       let acts = sent.terminal in
       let begun = acts.changed.begun in
-      let holds = all_at (HoldsOfTerminal m (StandsAboveUsed old.host.keys old.requests)) old.terminals acts.place acts.before (laws.stands old reached) acts.was in
-      let stands : StandsAboveUsed old.host.keys old.requests begun.set = subst (HoldsOfState (StandsAboveUsed old.host.keys old.requests)) begun.takes.had holds.registers in
+      let holds = laws.stands old reached t acts.before (record { place = acts.place; number_is = acts.number_is; thing_is = acts.was }) in
+      let stands = (subst (HoldsOfState (OwnsAboveUsed old.host.keys old.requests old.owners t)) begun.takes.had holds.registers).above in
       rw sent.rest (All-push (IsOwnRequest old.host.keys) old.requests sent.frame own.0 (own_request old.host.keys old.requests purchase acts.before acts.after sent.frame begun stands), own.1)
   step_own old new outcome reached own (shape.terminal t change quiet) = rw change.rest own
   step_own old new outcome reached own (shape.accept k n ksn code is up) =

@@ -1,6 +1,5 @@
 -- Registers that stand above every used number hold the key of no used number, nor of an ancestor of one.
 use Rattle.std.proofs.Common.{pow_pos, ◌≡◌, ◌⊎◌, ◌<◌, ◌≤◌, ◌+◌, ◌^◌, [], ◌∷◌, ℕ, List, Some, None, All, length, get_or, inl, inr, refl, sym, ap, subst, ◌∙◌, arith}
-use Rattle.std.proofs.lemmas.Option.{slice_get-get_or}
 use Rattle.duk_regs.specs.Registers.{HoldsNode, RegisterSet, StandsFor, empty_register, register_at}
 use Rattle.duk_store.specs.Cell.{Kept}
 use Rattle.duk_term.specs.Body.{IsFoundAgain, IsTerminalBody, body_bytes, set_of_body}
@@ -9,8 +8,8 @@ use Rattle.duk_term.specs.declared.state.State.TheVariants.{Stopped, Empty, Load
 use Rattle.duk_tree.specs.Frontier.{IsAncestorOrSelf, IsHeld}
 use Rattle.duk_tree.specs.Path.{IsUsable, value_of}
 use Rattle.duk_net.specs.Reached.{Reached}
-use Rattle.duk_net.specs.UnusedKeys.{HoldNoUsedKey, HoldsNoUsedNode, HoldsOfKept, HoldsOfState, HoldsOfTerminal}
-use Rattle.duk_net.specs.World.{IsAt, Meanings, WorldOf}
+use Rattle.duk_net.specs.UnusedKeys.{HoldNoUsedKey, HoldsNoUsedNode, HoldsOfKept, HoldsOfState, HoldsOfTerminals}
+use Rattle.duk_net.specs.World.{Meanings, WorldOf}
 use Rattle.duk_net.proofs.AboveUsed.{again_counter, Books, KeptSafe, OneRequest, SetSafe, StateSafe, UsableFits, books_of}
 use Rattle.duk_net.proofs.WorldStaysAboveUsed.{reached_is_safe}
 
@@ -30,15 +29,13 @@ kept_holds books t P (Some body) follows safe =
     }
 
 -- what holds of safe registers holds of all that the terminals of a reached world keep
-pub terminals_hold : {C L I : Type 0} (m : Meanings C L I) (world : WorldOf C L I) (P : RegisterSet → Type 0) → UsableFits → OneRequest → Reached m world
-    → ((t : ℕ) (set : RegisterSet) → SetSafe (books_of world) t set → P set) → All (HoldsOfTerminal m P) world.terminals
-terminals_hold m world P fits reading reached follows k d within =
-    let terminal = get_or world.terminals k d in
-    let at : IsAt world.terminals (k + 1) terminal = record { place = k; number_is = refl; thing_is = slice_get-get_or world.terminals k d within } in
-    let safe = (reached_is_safe m world fits reading reached).terminals (k + 1) terminal at in
+pub terminals_hold : {C L I : Type 0} (m : Meanings C L I) (world : WorldOf C L I) (P : ℕ → RegisterSet → Type 0) → UsableFits → OneRequest → Reached m world
+    → ((t : ℕ) (set : RegisterSet) → SetSafe (books_of world) t set → P t set) → HoldsOfTerminals m P world.terminals
+terminals_hold m world P fits reading reached follows t terminal at =
+    let safe = (reached_is_safe m world fits reading reached).terminals t terminal at in
     record {
-      registers = state_holds (books_of world) (k + 1) P terminal.state (follows (k + 1)) safe.state;
-      images = λ kept found. kept_holds (books_of world) (k + 1) P kept (follows (k + 1)) (safe.kept kept found);
+      registers = state_holds (books_of world) t (P t) terminal.state (follows t) safe.state;
+      images = λ kept found. kept_holds (books_of world) t (P t) kept (follows t) (safe.kept kept found);
     }
 
 -- the frontier at a counter has no used number, nor an ancestor of one

@@ -14,7 +14,9 @@ use Rattle.duk_tree.specs.Path.{IsUsable}
 use Rattle.duk_tree.specs.Serial.{Serial}
 use Rattle.duk_net.specs.InitialKey.{IsInitialKeyOf}
 use Rattle.duk_net.specs.UsedNumbers.{IsUsedNumber}
-use Rattle.duk_net.specs.World.{Frame, Meanings}
+use Rattle.duk_net.specs.Owner.{owner_of}
+use Rattle.duk_net.specs.World.{Frame, IsAt, Meanings}
+use Rattle.duk_net.specs.declared.owner.Owner.{Owner}
 
 -- the counter is above every used one under this initial key serial number
 abbrev pub IsAboveUsed : List Frame → ℕ → ℕ → Type 0
@@ -82,3 +84,18 @@ pub record HoldsOfTerminal
     (terminal : TerminalOf C) : Type 0 where
   pub registers : HoldsOfState P terminal.state
   pub images : (kept : Kept) → (m.cell.state_of terminal.cell).found kept → HoldsOfKept P kept
+
+-- this holds of each terminal by its number: of its registers, if it runs, and of each image that
+-- its cell may find after a stop
+abbrev pub HoldsOfTerminals : {C L I : Type 0} → Meanings C L I → (ℕ → RegisterSet → Type 0)
+    → List (TerminalOf C) → Type 0
+HoldsOfTerminals m P terminals =
+    (t : ℕ) (terminal : TerminalOf _) → IsAt terminals t terminal → HoldsOfTerminal m (P t) terminal
+
+-- a terminal owns the initial key serial number of its registers, which stand for its own initial
+-- key above every used number
+pub record OwnsAboveUsed
+    (keys : HsmKeys) (requests : List Frame) (owners : List Owner) (t : ℕ)
+    (set : RegisterSet) : Type 0 where
+  pub owned : owner_of owners set.iksn ≡ Some t
+  pub above : StandsAboveUsed keys requests set

@@ -13,7 +13,7 @@ ghost use Rattle.duk_net.specs.Owner.{owner_of};
 ghost use Rattle.duk_net.specs.OwnKey.{IsOwnReply, IsOwnRequest, IsRefusedAsUsedOrFull};
 ghost use Rattle.duk_net.specs.Reached.{CallLeads, Reached};
 ghost use Rattle.duk_net.specs.Run.{Run};
-ghost use Rattle.duk_net.specs.UnusedKeys.{HoldNoUsedKey, HoldsOfTerminal, StandsAboveUsed};
+ghost use Rattle.duk_net.specs.UnusedKeys.{HoldNoUsedKey, HoldsOfTerminals, OwnsAboveUsed};
 ghost use Rattle.duk_net.specs.World.{WorldOf, meanings_of};
 
 use duk_host::Issuer;
@@ -39,12 +39,12 @@ pub fn no_number_twice<C: Cell, L: UsedLog, I: Issuer>()
 pub fn no_used_key<C: Cell, L: UsedLog, I: Issuer>()
     ensures above { (world : WorldOf C L I)
         → Reached (meanings_of C.meaning L.meaning I.decides) world
-        → All (HoldsOfTerminal (meanings_of C.meaning L.meaning I.decides)
-        (StandsAboveUsed world.host.keys world.requests)) world.terminals }
+        → HoldsOfTerminals (meanings_of C.meaning L.meaning I.decides)
+        (OwnsAboveUsed world.host.keys world.requests world.owners) world.terminals }
     ensures no_used_key { (world : WorldOf C L I)
         → Reached (meanings_of C.meaning L.meaning I.decides) world
-        → All (HoldsOfTerminal (meanings_of C.meaning L.meaning I.decides)
-        (HoldNoUsedKey world.host.keys world.requests)) world.terminals }
+        → HoldsOfTerminals (meanings_of C.meaning L.meaning I.decides)
+        (λ t. HoldNoUsedKey world.host.keys world.requests) world.terminals }
 {
     duk_frame::laws::one_reading();
     duk_tree::laws::bits();

@@ -11,7 +11,7 @@ ghost use Rattle.duk_net.specs.Owner.{owner_of};
 ghost use Rattle.duk_net.specs.OwnKey.{IsOwnReply, IsOwnRequest, IsRefusedAsUsedOrFull};
 ghost use Rattle.duk_net.specs.Run.{IsLeft, IsRun, IsStepInto, RunRefused};
 ghost use Rattle.duk_net.specs.Step.{Step};
-ghost use Rattle.duk_net.specs.UnusedKeys.{HoldNoUsedKey, HoldsOfTerminal, StandsAboveUsed};
+ghost use Rattle.duk_net.specs.UnusedKeys.{HoldNoUsedKey, HoldsOfTerminals, OwnsAboveUsed};
 ghost use Rattle.duk_net.specs.World.{meanings_of};
 
 use crate::event::{End, Event};
@@ -78,12 +78,11 @@ pub fn run<const N: usize, C: Cell, L: UsedLog, I: Issuer>(
         (Completed (meanings_of C.meaning L.meaning I.decides) world.old world.new.terminals)
         out.old.items out.new.items }
     // No terminal holds the key of a used number or of its ancestors, nor finds it after a stop.
-    ensures above_used { All
-        (HoldsOfTerminal (meanings_of C.meaning L.meaning I.decides)
-        (StandsAboveUsed world.new.host.keys world.new.requests)) world.new.terminals }
-    ensures no_used_key { All
-        (HoldsOfTerminal (meanings_of C.meaning L.meaning I.decides)
-        (HoldNoUsedKey world.new.host.keys world.new.requests)) world.new.terminals }
+    ensures above_used { HoldsOfTerminals (meanings_of C.meaning L.meaning I.decides)
+        (OwnsAboveUsed world.new.host.keys world.new.requests world.new.owners)
+        world.new.terminals }
+    ensures no_used_key { HoldsOfTerminals (meanings_of C.meaning L.meaning I.decides)
+        (λ t. HoldNoUsedKey world.new.host.keys world.new.requests) world.new.terminals }
     // Sound stores tell no damage, and calm ones fail only once they were armed.
     ensures sound { HasSoundStores (meanings_of C.meaning L.meaning I.decides) world.old
         → HasSoundStores (meanings_of C.meaning L.meaning I.decides) world.new }

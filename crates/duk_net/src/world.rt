@@ -5,7 +5,7 @@ ghost use Rattle.duk_net.specs.Accepted.{KeepsAccepted};
 ghost use Rattle.duk_net.specs.First.{IsNewHost, IsNewTerminal, first_world};
 ghost use Rattle.duk_net.specs.UsedNumbers.{NoneTwice};
 ghost use Rattle.duk_net.specs.OwnKey.{IsOwnReply, IsOwnRequest};
-ghost use Rattle.duk_net.specs.UnusedKeys.{HoldNoUsedKey, HoldsOfTerminal, StandsAboveUsed};
+ghost use Rattle.duk_net.specs.UnusedKeys.{HoldNoUsedKey, HoldsOfTerminals, OwnsAboveUsed};
 ghost use Rattle.duk_net.specs.World.{meanings_of};
 
 use crate::laws;
@@ -56,10 +56,10 @@ impl<const N: usize, C: Cell, L: UsedLog, I: Issuer> World<N, C, L, I> {
             (meanings_of C.meaning L.meaning I.decides) result }
         ensures own_requests { All (IsOwnRequest result.host.keys) result.requests }
         ensures own_replies { All (IsOwnReply result.host.keys) result.answers }
-        ensures above_used { All (HoldsOfTerminal (meanings_of C.meaning L.meaning I.decides)
-            (StandsAboveUsed result.host.keys result.requests)) result.terminals }
-        ensures no_used_key { All (HoldsOfTerminal (meanings_of C.meaning L.meaning I.decides)
-            (HoldNoUsedKey result.host.keys result.requests)) result.terminals }
+        ensures above_used { HoldsOfTerminals (meanings_of C.meaning L.meaning I.decides)
+            (OwnsAboveUsed result.host.keys result.requests result.owners) result.terminals }
+        ensures no_used_key { HoldsOfTerminals (meanings_of C.meaning L.meaning I.decides)
+            (λ t. HoldNoUsedKey result.host.keys result.requests) result.terminals }
     {
         laws::no_number_twice::<C, L, I>();
         laws::no_used_key::<C, L, I>();

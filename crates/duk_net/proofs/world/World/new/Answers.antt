@@ -8,7 +8,7 @@ returns-clause-none_twice g c =
 
 pub returns-clause-above_used : goal.returns-clause-above_used
 returns-clause-above_used g c =
-    rw c.new.ensures.items (c.no_used_key.ensures.above (first_world c.args.host c.args.loading c.args.terminals.items) (starts _ c.args.host c.args.loading c.args.terminals.items c.requires.host c.requires.terminals))
+    rw (c.new.ensures.items, c.new-3.ensures.items) (c.no_used_key.ensures.above (first_world c.args.host c.args.loading c.args.terminals.items) (starts _ c.args.host c.args.loading c.args.terminals.items c.requires.host c.requires.terminals))
 
 pub returns-clause-no_used_key : goal.returns-clause-no_used_key
 returns-clause-no_used_key g c =
