@@ -7,7 +7,7 @@ use Rattle.std.proofs.lemmas.Option.{same_Some}
 use Rattle.std.specs.List.{AllPairs, AllZip, Any, list_all}
 use Rattle.duk_host.specs.declared.table.Card.{Card}
 use Rattle.toml.specs.Data.{Data, Members, table}
-use Rattle.duk_config.specs.declared.base_key.BaseKey.{BaseKey}
+use Rattle.duk_config.specs.BaseKeys.{BaseKey, key_of, prefix_of}
 use Rattle.duk_config.specs.declared.fault.ConfigKey.{ConfigKey}
 use Rattle.duk_config.specs.declared.fault.ConfigKey.TheVariants as key
 use Rattle.duk_config.specs.declared.fault.ScriptFault.{ScriptFault}
@@ -28,8 +28,8 @@ no_value o x some none = let both : Some x ≡ None = sym some ∙ none in cc
 one_table : (value : Data) (a b : Members) → value ≡ table a → value ≡ table b → a ≡ b
 one_table value a b first second = cc
 
-base_key_same : (x y : BaseKey) → x.prefix ≡ y.prefix → x.key ≡ y.key → x ≡ y
-base_key_same x y prefix key = ap (λ p. let k : BaseKey = record { prefix = p; key = x.key } in k) prefix ∙ ap (λ p. let k : BaseKey = record { prefix = y.prefix; key = p } in k) key
+base_key_same : (x y : BaseKey) → prefix_of x ≡ prefix_of y → key_of x ≡ key_of y → x ≡ y
+base_key_same x y prefix key = ap (λ p. let k : BaseKey = (p, x.1) in k) prefix ∙ ap (λ p. let k : BaseKey = (y.0, p) in k) key
 
 -- a value states one base derivation key
 pub one_base_key : (value : Data) (x y : BaseKey) → StatesBaseKey value x → StatesBaseKey value y → x ≡ y

@@ -2,7 +2,7 @@
 use Rattle.std.specs.Prelude.{◌≡◌, ◌<◌, ℕ, true, List, Some, None, IsSome, codes, string_bytes}
 use Rattle.duk_host.specs.declared.table.Card.{Card}
 use Rattle.toml.specs.Data.{Data, Members}
-use Rattle.duk_config.specs.declared.base_key.BaseKey.{BaseKey}
+use Rattle.duk_config.specs.BaseKeys.{BaseKey}
 use Rattle.duk_config.specs.declared.fault.ConfigKey.{ConfigKey}
 use Rattle.duk_config.specs.declared.fault.ConfigKey.TheVariants as key
 use Rattle.duk_config.specs.declared.fault.ScriptFault.{ScriptFault}

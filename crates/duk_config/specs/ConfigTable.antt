@@ -4,7 +4,7 @@ use Rattle.std.specs.Option.{option_and_then, option_map}
 use Rattle.std.specs.Str.{bytes_eq}
 use Rattle.duk_host.specs.declared.table.Card.{Card}
 use Rattle.toml.specs.Data.{Data, Members, as_array, as_str, get_member}
-use Rattle.duk_config.specs.declared.base_key.BaseKey.{BaseKey}
+use Rattle.duk_config.specs.BaseKeys.{BaseKey}
 use Rattle.duk_config.specs.ConfigKeys.{is_config_key}
 use Rattle.duk_config.specs.Entries.{AreEntries, HaveOnePan, HaveOnePrefix, StatesBaseKey, StatesCard, values_of}
 use Rattle.duk_config.specs.Names.{has_only}

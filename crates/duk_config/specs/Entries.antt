@@ -5,7 +5,7 @@ use Rattle.duk_pin.specs.Pan.{IsPan}
 use Rattle.duk_pin.specs.Pin.{IsPin}
 use Rattle.duk_host.specs.declared.table.Card.{Card}
 use Rattle.toml.specs.Data.{Data, Members, table, Items, no_items, item}
-use Rattle.duk_config.specs.declared.base_key.BaseKey.{BaseKey}
+use Rattle.duk_config.specs.BaseKeys.{BaseKey, key_of, prefix_of}
 use Rattle.duk_config.specs.ConfigKeys.{is_bdk_key, is_card_key}
 use Rattle.duk_config.specs.Names.{has_only}
 use Rattle.duk_config.specs.Values.{double_key_at, number_at, prefix_at, text_at}
@@ -21,8 +21,8 @@ pub record StatesBaseKey (value : Data) (bdk : BaseKey) : Type 0 where
   pub members : Members
   pub is_table : value ≡ table members
   pub nothing_else : has_only is_bdk_key members ≡ true
-  pub prefix : prefix_at (codes "prefix") members ≡ Some bdk.prefix
-  pub key : double_key_at (codes "key") members ≡ Some bdk.key
+  pub prefix : prefix_at (codes "prefix") members ≡ Some (prefix_of bdk)
+  pub key : double_key_at (codes "key") members ≡ Some (key_of bdk)
 
 -- the value is a table that states this card, and nothing else: its account number, its PIN, and a
 -- limit
@@ -38,7 +38,7 @@ pub record StatesCard (value : Data) (card : Card) : Type 0 where
 
 -- two base derivation keys for one prefix
 abbrev pub HaveOnePrefix : BaseKey → BaseKey → Type 0
-HaveOnePrefix a b = a.prefix ≡ b.prefix
+HaveOnePrefix a b = prefix_of a ≡ prefix_of b
 
 -- two cards with one account number
 abbrev pub HaveOnePan : Card → Card → Type 0

@@ -1,3 +1,4 @@
+pub mod BaseKeys
 pub mod ConfigKeys
 pub mod Settings
 pub mod Values

@@ -1,6 +1,5 @@
 //! What a configuration says.
 
-use crate::base_key::BaseKey;
 use duk_host::Card;
 use duk_tdes::{Key, KeyBytes};
 use std::marker::Model;
@@ -21,8 +20,9 @@ pub struct Config {
     pub log: u32,
     /// Whether the stores are disks. They are memory so far, and this is false.
     pub disk: bool,
-    /// The base derivation keys, 1 to 8, with prefixes that differ.
-    pub bdks: Vec<BaseKey>,
+    /// The base derivation keys, 1 to 8, each behind the first five bytes of the key serial numbers
+    /// that it is for, which differ.
+    pub bdks: Vec<([u8; 5], Key<16>)>,
     /// The cards that the issuer knows, at most 1,000, with account numbers that differ.
     pub cards: Vec<Card>,
 }

@@ -7,9 +7,9 @@ ghost use Rattle.duk_block.specs.declared.key_use.KeyUse.{KeyUse};
 ghost use Rattle.duk_tdes.specs.KeyBytes.{bytes_of};
 ghost use Rattle.duk_hsm.specs.Keys.{key_set_of};
 ghost use Rattle.duk_hsm.specs.Load.{with_key_set};
+ghost use Rattle.duk_config.specs.BaseKeys.{key_of, prefix_of};
 ghost use Rattle.duk_config.specs.Opened.{WrapsAlone, keys_for};
 
-use crate::base_key::BaseKey;
 use crate::config::Config;
 use duk_block::{BlockText, KeyUse, ZERO_PADDING, wrap};
 use duk_hsm::{Hsm, HsmFault};
@@ -37,17 +37,17 @@ pub fn open_hsm<const N: usize>(lmk: &Key<N>, config: &Config) -> Result<Hsm<N>,
 fn load_base_key<const N: usize>(
     hsm: &mut Hsm<N>,
     lmk: &Key<N>,
-    bdk: &BaseKey,
+    bdk: &([u8; 5], Key<16>),
 ) -> Result<(), HsmFault>
     requires length { IsTdesLength N }
     requires lmk { hsm.old.lmk ≡ lmk.now }
-    requires prefix { key_set_of hsm.old bdk.now.prefix ≡ None }
+    requires prefix { key_set_of hsm.old (prefix_of bdk.now) ≡ None }
     requires slot { length hsm.old.key_sets < 8 }
     ensures ok { IsOk result }
-    ensures keys { hsm.new ≡ with_key_set hsm.old bdk.now.prefix bdk.now.key }
+    ensures keys { hsm.new ≡ with_key_set hsm.old (prefix_of bdk.now) (key_of bdk.now) }
 {
-    let block = wrap_key(lmk, KeyUse::BaseDerivationKey, &bdk.key);
-    hsm.load_bdk(bdk.prefix, block.as_slice())
+    let block = wrap_key(lmk, KeyUse::BaseDerivationKey, &bdk.1);
+    hsm.load_bdk(bdk.0, block.as_slice())
 }
 
 /// Wraps a zone key and loads it, where none is held.

@@ -2,14 +2,12 @@
 //! open.
 #![tactic(auto)]
 
-mod base_key;
 mod config;
 mod fault;
 mod hsm;
 pub mod laws;
 mod read;
 
-pub use base_key::BaseKey;
 pub use config::Config;
 pub use fault::{ConfigKey, ScriptFault};
 pub use hsm::open_hsm;

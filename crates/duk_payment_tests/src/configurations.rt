@@ -76,7 +76,7 @@ fn sizes(rt: HostRuntime) -> Result<(), Fail> {
 /// Whether this configuration has the sample base derivation key alone.
 fn has_sample_key(config: &Config) -> bool {
     match config.bdks.as_slice() {
-        [bdk] => bdk.prefix == PREFIX && u128::from_be_bytes(bdk.key.bytes()) == BDK,
+        [(prefix, key)] => *prefix == PREFIX && u128::from_be_bytes(key.bytes()) == BDK,
         _ => false,
     }
 }

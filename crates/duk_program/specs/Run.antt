@@ -9,7 +9,7 @@ use Rattle.duk_io.specs.Sink.{IsTried, IsUntouched}
 use Rattle.duk_script.specs.FaultLine.{fault_line}
 use Rattle.duk_script.specs.Session.{IsScriptDone, IsScriptRefused, Session, session}
 
--- status 0: the session is done, its lines are handed on, and no fault is told
+-- status 0: the session is done, and no fault is told
 pub record HasRun (Done : Session → Type 0) (s : Session) (fault fault' : Known) : Type 0 where
   pub done : Done s
   pub no_fault : IsUntouched fault fault'

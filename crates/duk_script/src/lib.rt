@@ -13,9 +13,7 @@ mod session;
 mod whole_text;
 mod words;
 
-pub use duk_config::{
-    BaseKey, Config, ConfigKey, LONGEST_FILE, ScriptFault, open_hsm, read_config,
-};
+pub use duk_config::{Config, ConfigKey, LONGEST_FILE, ScriptFault, open_hsm, read_config};
 pub use fault_line::print_fault;
 pub use line::{LINE_ROOM, LineText};
 pub use outcome_text::outcome_line;

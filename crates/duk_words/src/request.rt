@@ -1,5 +1,8 @@
 //! What the words of the command line ask for.
 
+ghost use Rattle.std.specs.Prelude.{IfSome, codes};
+ghost use Rattle.duk_words.specs.Asked.{AsksFor};
+
 use crate::commands::program;
 use clap::error::ErrorKind;
 use clap::{ArgMatches, Error};
@@ -105,13 +108,17 @@ fn request_of<'a>(matches: &ArgMatches<'a>) -> Option<Request<'a>> {
     }
 }
 
-fn derive_request<'a>(found: &ArgMatches<'a>) -> Option<Request<'a>> {
+fn derive_request<'a>(found: &ArgMatches<'a>) -> Option<Request<'a>>
+    ensures { IfSome result (AsksFor (codes "derive") found.now) }
+{
     let bdk = found.get_str("BDK")?;
     let ksn = found.get_str("KSN")?;
     Some(Request::Derive { bdk, ksn })
 }
 
-fn walk_request<'a>(found: &ArgMatches<'a>) -> Option<Request<'a>> {
+fn walk_request<'a>(found: &ArgMatches<'a>) -> Option<Request<'a>>
+    ensures { IfSome result (AsksFor (codes "walk") found.now) }
+{
     let bdk = found.get_str("BDK")?;
     let iksn = found.get_str("IKSN")?;
     let count = found.get_str("COUNT")?;
@@ -124,7 +131,9 @@ fn walk_request<'a>(found: &ArgMatches<'a>) -> Option<Request<'a>> {
     })
 }
 
-fn pin_request<'a>(found: &ArgMatches<'a>) -> Option<Request<'a>> {
+fn pin_request<'a>(found: &ArgMatches<'a>) -> Option<Request<'a>>
+    ensures { IfSome result (AsksFor (codes "pin") found.now) }
+{
     let pin = found.get_str("PIN")?;
     let pan = found.get_str("PAN")?;
     Some(Request::Pin {
@@ -134,7 +143,9 @@ fn pin_request<'a>(found: &ArgMatches<'a>) -> Option<Request<'a>> {
     })
 }
 
-fn wrap_request<'a>(found: &ArgMatches<'a>) -> Option<Request<'a>> {
+fn wrap_request<'a>(found: &ArgMatches<'a>) -> Option<Request<'a>>
+    ensures { IfSome result (AsksFor (codes "wrap") found.now) }
+{
     let kbpk = found.get_str("KBPK")?;
     let fields = found.get_str("FIELDS")?;
     let key = found.get_str("KEY")?;
@@ -147,13 +158,17 @@ fn wrap_request<'a>(found: &ArgMatches<'a>) -> Option<Request<'a>> {
     })
 }
 
-fn unwrap_request<'a>(found: &ArgMatches<'a>) -> Option<Request<'a>> {
+fn unwrap_request<'a>(found: &ArgMatches<'a>) -> Option<Request<'a>>
+    ensures { IfSome result (AsksFor (codes "unwrap") found.now) }
+{
     let kbpk = found.get_str("KBPK")?;
     let block = found.get_str("BLOCK")?;
     Some(Request::Unwrap { kbpk, block })
 }
 
-fn run_request<'a>(found: &ArgMatches<'a>) -> Option<Request<'a>> {
+fn run_request<'a>(found: &ArgMatches<'a>) -> Option<Request<'a>>
+    ensures { IfSome result (AsksFor (codes "run") found.now) }
+{
     let config = found.get_str("CONFIG")?;
     let script = found.get_str("SCRIPT")?;
     Some(Request::Run { config, script })

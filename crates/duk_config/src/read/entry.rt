@@ -7,9 +7,9 @@ ghost use Rattle.duk_config.specs.Entries.{HaveOnePan, HaveOnePrefix, StatesBase
 
 use super::names::{has_only_bdk_keys, has_only_card_keys};
 use super::value::{double_key_at, number_at, prefix_at, text_at};
-use crate::base_key::BaseKey;
 use duk_host::Card;
 use duk_pin::{Pan, Pin};
+use duk_tdes::Key;
 use toml::Value;
 
 /// What a value of an array states.
@@ -28,23 +28,24 @@ pub(crate) trait Entry: Copy {
         ensures { IsTrue result ↔ Repeats other.now self.now };
 }
 
-impl Entry for BaseKey {
+/// A base derivation key, behind the prefix of the key serial numbers that it is for.
+impl Entry for ([u8; 5], Key<16>) {
     ghost States = { StatesBaseKey };
 
     ghost Repeats = { HaveOnePrefix };
 
-    fn read(value: &Value) -> Option<BaseKey> {
+    fn read(value: &Value) -> Option<([u8; 5], Key<16>)> {
         let table = value.as_table()?;
         if !has_only_bdk_keys(table) {
             return None;
         }
         let prefix = prefix_at(table, "prefix")?;
         let key = double_key_at(table, "key")?;
-        Some(BaseKey { prefix, key })
+        Some((prefix, key))
     }
 
-    fn repeats(&self, other: &BaseKey) -> bool {
-        other.prefix == self.prefix
+    fn repeats(&self, other: &([u8; 5], Key<16>)) -> bool {
+        other.0 == self.0
     }
 }
 
