@@ -45,7 +45,7 @@ begin_stopped_safe cell books t before after why fits safe stopped =
       honest = put_failed_honest cell before.cell after.cell (body_bytes stopped.left) why stopped.stops.not_kept safe.honest;
       state = subst (λ state. StateSafe books t state) (sym stopped.stops.stopped) tt;
       kept = λ kept found. elim (stopped.stops.within safe.honest kept found) [
-        | inl is ↦ safe_body books t stopped.set kept set is
+        | inl (body, some, keeps) ↦ safe_body books t stopped.set kept set (some ∙ ap Some keeps)
         | inr is ↦ safe_body books t stopped.left kept left is
       ];
     }

@@ -24,7 +24,7 @@ kept_holds books t P (Some body) follows safe =
     let same : set_of_body body ≡ safe.set = ap set_of_body safe.body_is ∙ safe.safe.again.same in
     record {
       is_body = subst (λ body. IsTerminalBody body) (sym safe.body_is) safe.safe.again.is_body;
-      body_is = safe.body_is ∙ ap body_bytes (sym same);
+      keeps = safe.body_is ∙ ap body_bytes (sym same);
       holds = subst P (sym same) (follows safe.set safe.safe);
     }
 

@@ -3,7 +3,7 @@ use Rattle.std.specs.Prelude.{◌≡◌, ◌<◌, ◌⊎◌, ℕ, List, Some, No
 use Rattle.duk_hsm.specs.Keys.{HsmKeys}
 use Rattle.duk_regs.specs.Registers.{RegisterSet, StandsFor, empty_register, register_at}
 use Rattle.duk_store.specs.Cell.{Kept}
-use Rattle.duk_term.specs.Body.{IsTerminalBody, body_bytes, set_of_body}
+use Rattle.duk_term.specs.Body.{IsTerminalBody, KeepsRegisters, set_of_body}
 use Rattle.duk_term.specs.Terminal.{TerminalOf}
 use Rattle.duk_term.specs.declared.state.State.{State}
 use Rattle.duk_term.specs.declared.state.State.TheVariants.{Stopped, Empty, Loaded}
@@ -69,7 +69,7 @@ HoldsOfState P (Loaded set pending) = P set
 -- this holds of them
 pub record HoldsOfImage (P : RegisterSet → Type 0) (body : List ℕ) : Type 0 where
   pub is_body : IsTerminalBody body
-  pub body_is : body ≡ body_bytes (set_of_body body)
+  pub keeps : KeepsRegisters body (set_of_body body)
   pub holds : P (set_of_body body)
 
 -- this holds of what a cell keeps

@@ -1,1 +1,2 @@
 pub mod BodyIsFoundAgain
+mod ImageNotKept

@@ -13,7 +13,7 @@ use Rattle.duk_tree.specs.Derivation.{request_key_of, response_key_of, transacti
 use Rattle.duk_tree.specs.Next.{spent_counter}
 use Rattle.duk_tree.specs.Path.{IsUsable}
 use Rattle.duk_term.specs.Body.{body_bytes, IsFoundAgain}
-use Rattle.duk_term.specs.Terminal.{StopsBetween, TerminalOf, serial_of}
+use Rattle.duk_term.specs.Terminal.{HasRegistersIn, StopsBetween, TerminalOf, serial_of}
 use Rattle.duk_term.specs.declared.fault.TermFault.{TermFault}
 use Rattle.duk_term.specs.declared.fault.TermFault.TheVariants as fault
 use Rattle.duk_term.specs.declared.purchase.Purchase.{Purchase}
@@ -73,7 +73,7 @@ pub record IsBegun
   pub kept : IsPut meaning old.cell new.cell (body_bytes left)
 
 -- no request goes out, since the image was not kept: the terminal is stopped, and a restart would
--- find the image of the registers before the number was taken, or after
+-- find the registers as they were before the number was taken, or as they are after
 pub record BeginStopped
     {C : Type 0} (meaning : CellMeaning C) (old new : TerminalOf C)
     (why : StoreFault) : Type 0 where
@@ -82,7 +82,7 @@ pub record BeginStopped
   pub left : RegisterSet
   pub takes : TakesFrom old.state set key left
   pub again : IsFoundAgain left
-  pub stops : StopsBetween meaning (Some (body_bytes set)) left old new why
+  pub stops : StopsBetween meaning (HasRegistersIn set) left old new why
 
 -- a state whose registers have no number left
 abbrev pub IsSpent : State → Type 0

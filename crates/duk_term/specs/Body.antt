@@ -7,6 +7,10 @@ use Rattle.duk_regs.specs.Registers.{RegisterSet}
 abbrev pub body_bytes : RegisterSet → List ℕ
 body_bytes set = image_bytes set ++ replicate 153 0
 
+-- a body keeps these registers
+abbrev pub KeepsRegisters : List ℕ → RegisterSet → Type 0
+KeepsRegisters body set = body ≡ body_bytes set
+
 -- bytes that are a body
 pub record IsTerminalBody (body : List ℕ) : Type 0 where
   pub image : IsImage (take 350 body)

@@ -49,7 +49,7 @@ pub record LoadStopped
   pub was_empty : old.state ≡ Empty
   pub set_is : IsFirstSet asked set
   pub again : IsFoundAgain set
-  pub stops : StopsBetween meaning None set old new why
+  pub stops : StopsBetween meaning (λ kept. kept ≡ None) set old new why
 
 -- why a load is refused, and what that leaves
 abbrev pub LoadRefused : {C : Type 0} → CellMeaning C → Loading → TerminalOf C → TerminalOf C

@@ -6,7 +6,7 @@ use Rattle.duk_store.specs.StoreState.{StoreState, FindsOnly, FindsWithin}
 use Rattle.duk_regs.specs.Registers.{RegisterSet}
 use Rattle.duk_tree.specs.Next.{spent_counter}
 use Rattle.duk_tree.specs.Serial.{Serial}
-use Rattle.duk_term.specs.Body.{body_bytes}
+use Rattle.duk_term.specs.Body.{KeepsRegisters, body_bytes}
 use Rattle.duk_term.specs.declared.answer.Next.{Next}
 use Rattle.duk_term.specs.declared.answer.Next.TheVariants as next
 use Rattle.duk_term.specs.declared.fault.TermFault.{TermFault}
@@ -29,11 +29,20 @@ pub record CellHolds (cell : StoreState Kept) (kept : Kept) : Type 0 where
   pub runs : cell.running ≡ true
   pub finds : cell.honest → FindsOnly cell kept
 
--- what the cell of a running terminal holds: nothing, or the image of its registers
+-- a cell keeps these registers, where it keeps this
+abbrev pub HasRegistersIn : RegisterSet → Kept → Type 0
+HasRegistersIn set kept = (body : List ℕ) × (kept ≡ Some body) × KeepsRegisters body set
+
+-- the cell runs, and a restart would find one body alone, which keeps these registers
+pub record CellHoldsRegisters (cell : StoreState Kept) (set : RegisterSet) : Type 0 where
+  pub runs : cell.running ≡ true
+  pub finds : cell.honest → (kept : Kept) × FindsOnly cell kept × HasRegistersIn set kept
+
+-- what the cell of a running terminal holds: nothing, or a body that keeps its registers
 abbrev pub Agrees : StoreState Kept → State → Type 0
 Agrees cell Stopped = Unit {0}
 Agrees cell Empty = CellHolds cell None
-Agrees cell (Loaded set pending) = CellHolds cell (Some (body_bytes set))
+Agrees cell (Loaded set pending) = CellHoldsRegisters cell set
 
 -- what a terminal tells of its next number
 abbrev pub next_of : State → Next
@@ -46,15 +55,15 @@ next_of (Loaded set pending) =
 abbrev pub HasRegisters : State → Type 0
 HasRegisters state = (set : RegisterSet) × (pending : _) × (state ≡ Loaded set pending)
 
--- the image of these registers was not kept: the terminal is stopped, and a restart would find what
--- the cell held before, or that image
+-- the image of these registers was not kept: the terminal is stopped, and a restart would find such
+-- a thing as the cell held before, or that image
 pub record StopsBetween
-    {C : Type 0} (meaning : CellMeaning C) (held : Kept) (set : RegisterSet)
+    {C : Type 0} (meaning : CellMeaning C) (held : Kept → Type 0) (set : RegisterSet)
     (old new : TerminalOf C) (why : StoreFault) : Type 0 where
   pub stopped : new.state ≡ Stopped
   pub not_kept : PutFailed meaning old.cell new.cell (body_bytes set) why
   pub within : (meaning.state_of old.cell).honest → FindsWithin (meaning.state_of new.cell)
-      (λ kept. (kept ≡ held) ⊎ (kept ≡ Some (body_bytes set)))
+      (λ kept. held kept ⊎ (kept ≡ Some (body_bytes set)))
 
 -- an image that was not kept: the terminal is stopped
 abbrev pub IsImageNotKept : {C : Type 0} → CellMeaning C → List ℕ → TerminalOf C → TerminalOf C
