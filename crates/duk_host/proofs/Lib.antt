@@ -3,5 +3,5 @@ mod OneNumberMore
 mod NumbersAreRead
 mod AcceptedIsAnswered
 mod RestartReadsAll
-mod MalformedIsRefused
+mod RefusalsAreRead
 mod OneAnswer

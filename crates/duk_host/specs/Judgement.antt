@@ -1,7 +1,7 @@
 -- The judgement of a request: this project's own, over the transaction keys of ANSI X9.24-1:2009
 -- annex A.
 use Rattle.std.specs.Prelude.{◌≡◌, ◌⊎◌, ◌<◌, ℕ, List, None, replicate}
-use Rattle.duk_frame.specs.Answer.{IsRefusal, IsReply, refusal_text}
+use Rattle.duk_frame.specs.Answer.{IsReply, refusal_text}
 use Rattle.duk_frame.specs.Frame.{framed}
 use Rattle.duk_frame.specs.Payment.{payment_reply}
 use Rattle.duk_frame.specs.Request.{IsRequest, request_text}
@@ -86,10 +86,9 @@ refusal_frame ksn reason = framed (refusal_text ksn (reason_number reason))
 abbrev pub no_serial : Serial
 no_serial = record { iksn = 0; counter = 0 }
 
--- the bytes are no request, and the refusal's key serial number is ten zero bytes
+-- the bytes are no request, and the refusal has ten zero bytes as its key serial number
 pub record IsMalformed (bytes frame : List ℕ) : Type 0 where
   pub no_request : (request : Request) → ¬ IsRequest bytes request
-  pub is_refusal : IsRefusal frame no_serial 1
   pub frame_is : frame ≡ refusal_frame (replicate 10 0) reason.Malformed
 
 -- the bytes are a request that is refused
@@ -98,7 +97,6 @@ pub record IsRefusedRequest (basis : JudgementBasis) (bytes frame : List ℕ) : 
   pub reason : Reason
   pub is_request : IsRequest bytes request
   pub refuses : IsReasonAgainst basis request reason
-  pub is_refusal : IsRefusal frame request.ksn (reason_number reason)
   pub frame_is : frame ≡ refusal_frame (serial_bytes request.ksn) reason
 
 -- the frame is the refusal of the bytes

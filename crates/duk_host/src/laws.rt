@@ -3,7 +3,8 @@
 ghost use Rattle.std.specs.Prelude.{◌≡◌, ℕ, List};
 ghost use Rattle.duk_hsm.specs.Keys.{HsmKeys};
 ghost use Rattle.duk_store.specs.Log.{Numbers};
-ghost use Rattle.duk_host.specs.Judgement.{Decision, IsAnswerTo, basis_with};
+ghost use Rattle.duk_frame.specs.Answer.{IsRefusal};
+ghost use Rattle.duk_host.specs.Judgement.{Decision, IsAnswerTo, IsMalformed, IsRefusedRequest, JudgementBasis, basis_with, no_serial, reason_number};
 
 /// By one set of keys, used numbers, room and issuer, bytes have at most one answer.
 pub fn one_answer()
@@ -16,3 +17,13 @@ pub fn one_answer()
     duk_frame::laws::one_reading();
     duk_pin::laws::one_pin();
 }
+
+/// The frame of a refusal is read as that refusal, with the key serial number of the request, or,
+/// where the bytes are no request, with that of ten zero bytes.
+pub fn refusals()
+    ensures malformed { (bytes frame : List ℕ) → IsMalformed bytes frame
+        → IsRefusal frame no_serial 1 }
+    ensures request { (basis : JudgementBasis) (bytes frame : List ℕ)
+        → (refused : IsRefusedRequest basis bytes frame)
+        → IsRefusal frame refused.request.ksn (reason_number refused.reason) }
+{}

@@ -1,7 +1,6 @@
 //! Why a request is refused.
 
 ghost use Rattle.std.specs.Prelude.{◌≡◌};
-ghost use Rattle.duk_frame.specs.Answer.{IsRefusal};
 ghost use Rattle.duk_tree.specs.Serial.{serial_bytes};
 ghost use Rattle.duk_host.specs.Handle.{IsToldRefusal};
 ghost use Rattle.duk_host.specs.Judgement.{reason_number, refusal_frame};
@@ -45,7 +44,6 @@ impl Reason {
     /// The refusal of a request with this key serial number.
     pub(crate) fn answer(self, ksn: Ksn) -> Answered
         ensures frame { result.frame.items ≡ refusal_frame (serial_bytes ksn) self }
-        ensures refusal { IsRefusal result.frame.items ksn (reason_number self) }
         ensures told { IsToldRefusal result.frame.items result.says }
     {
         let reason = self.number();

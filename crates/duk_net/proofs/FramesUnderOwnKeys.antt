@@ -3,13 +3,13 @@ use Rattle.std.proofs.Common.{◌≡◌, ◌⊎◌, ℕ, List, Some, All, inl, i
 use Rattle.std.specs.List.{slice_get}
 use Rattle.std.proofs.lemmas.List.Elements.{All-nil, All-push}
 use Rattle.std.proofs.lemmas.Option.{get_or_from_slice_get, slice_get_within}
-use Rattle.duk_frame.specs.Answer.{IsAnswer}
+use Rattle.duk_frame.specs.Answer.{IsAnswer, IsRefusal}
 use Rattle.duk_frame.specs.Request.{IsRequest}
 use Rattle.duk_frame.specs.declared.answer.AnswerFrame.{AnswerFrame}
 use Rattle.duk_frame.specs.declared.answer.AnswerFrame.TheVariants.{Refusal, Reply}
 use Rattle.duk_frame.specs.declared.request.Request.{Request}
 use Rattle.duk_host.specs.Host.{basis_of}
-use Rattle.duk_host.specs.Judgement.{JudgementBasis, IsAuthentic, IsReplyWith, IsReasonAgainst, reason_number}
+use Rattle.duk_host.specs.Judgement.{JudgementBasis, IsAuthentic, IsReplyWith, IsReasonAgainst, IsRefusedRequest, reason_number}
 use Rattle.duk_hsm.specs.Keys.{HsmKeys, key_set_of}
 use Rattle.duk_pin.specs.PinBlock.{IsPinBlock, pin_block}
 use Rattle.duk_tdes.specs.Key.{IsKey}
@@ -36,6 +36,7 @@ pub record KeyLaws {C L I : Type 0} (m : Meanings C L I) : Type 0 where
   pub stands : (world : WorldOf C L I) → Reached m world → HoldsOfTerminals m (OwnsAboveUsed world.host.keys world.requests world.owners) world.terminals
   pub one_request : (bytes : List ℕ) (request other : Request) → IsRequest bytes request → IsRequest bytes other → request ≡ other
   pub one_answer : (bytes : List ℕ) (answer other : AnswerFrame) → IsAnswer bytes answer → IsAnswer bytes other → answer ≡ other
+  pub refusals : (basis : JudgementBasis) (bytes frame : List ℕ) (refused : IsRefusedRequest basis bytes frame) → IsRefusal frame refused.request.ksn (reason_number refused.reason)
   pub prefixes : (ksn : Serial) → IsSerial ksn → prefix_of ksn ≡ iksn_prefix_of ksn.iksn
   pub node : (initial : List ℕ) (iksn : ℕ) (path : List ℕ) → IsKey 16 initial → IsKey 16 (node_key initial iksn path)
   pub pin_key : (key : List ℕ) → IsKey 16 key → IsKey 16 (pin_key_of key)
@@ -136,7 +137,7 @@ module _ {C L I : Type 0} (m : Meanings C L I) (laws : KeyLaws m) where
         | inr refused ↦
             let same = laws.one_request up.request.items own.request refused.request own.is_request refused.is_request in
             let reason_is = used_or_full (basis_of m.host old.host up.refused.running) refused.request refused.reason (subst (IsAuthentic old.host.keys) same own.authentic) refused.refuses in
-            subst (λ answer. IsRefusedAsUsedOrFull (answer_outcome n answer)) (laws.one_answer up.frame.items (Refusal _ _) (Refusal ksn reason) refused.is_refusal up.told) reason_is
+            subst (λ answer. IsRefusedAsUsedOrFull (answer_outcome n answer)) (laws.one_answer up.frame.items (Refusal _ _) (Refusal ksn reason) (laws.refusals _ up.request.items up.frame.items refused) up.told) reason_is
       ]
 
   -- a step refuses no request that was sent but because its number is used or the log is full

@@ -82,6 +82,7 @@ pub fn own_key<C: Cell, L: UsedLog, I: Issuer>()
         → All IsRefusedAsUsedOrFull outcomes }
 {
     no_used_key::<C, L, I>();
+    duk_host::laws::refusals();
     duk_frame::laws::one_reading();
     duk_tree::laws::keys();
     duk_tree::laws::prefixes();

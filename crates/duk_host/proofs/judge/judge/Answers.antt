@@ -1,13 +1,11 @@
 use Rattle.std.proofs.Common.{rules, inl, inr, ap, ◌∙◌}
 use Rattle.duk_host.specs.Judgement.{refusal_frame}
 use Rattle.duk_host.specs.declared.reason.Reason.TheVariants.{Malformed}
-use Rattle.duk_host.proofs.MalformedIsRefused.{refusal_of_none}
 use Rattle.duk_host.proofs.judge.judge.Goals as goal
 
 pub returns-in_default-clause-refused : goal.returns-in_default-clause-refused
 returns-in_default-clause-refused g c decides = inl (record {
   no_request = search rules;
-  is_refusal = refusal_of_none _ _ c.from_bytes.ensures.value c.answer.ensures.refusal;
   frame_is = c.answer.ensures.frame ∙ ap (λ bytes. refusal_frame bytes Malformed) c.from_bytes.ensures.bytes;
 })
 
@@ -17,6 +15,5 @@ returns-in-Some-reason_against-clause-refused g c decides = inr (record {
   reason = c.in-Some-reason_against.reason;
   is_request = search rules;
   refuses = c.in-Some-reason_against.ensures decides;
-  is_refusal = c.answer-in-Some-reason_against.ensures.refusal;
   frame_is = c.answer-in-Some-reason_against.ensures.frame;
 })

@@ -10,6 +10,7 @@ laws_of g c = record {
   stands = c.no_used_key.ensures.above;
   one_request = c.one_reading.ensures.request;
   one_answer = c.one_reading.ensures.answer;
+  refusals = c.refusals.ensures.request;
   prefixes = c.prefixes.ensures;
   node = c.keys.ensures.node;
   pin_key = c.keys.ensures.pin;
