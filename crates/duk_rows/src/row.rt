@@ -1,6 +1,6 @@
 //! What the program writes on one row of words.
 
-use duk_program::{Todo, command, run_files};
+use duk_program::run_words;
 use std::alloc::AllocError;
 use std::io::Write;
 use std::rt::Files;
@@ -11,10 +11,7 @@ pub fn write_row(rt: &(impl Files + AllocGlobal), row: &str) -> Result<Vec<u8>, 
     let words = words_of(rt, row)?;
     let mut output = Vec::new(rt.alloc());
     let mut fault = Vec::new(rt.alloc());
-    let status = match command(rt.alloc(), words.as_slice(), &mut output, &mut fault) {
-        Todo::Exit(status) => status,
-        Todo::Run { config, script } => run_files(rt, config, script, &mut output, &mut fault),
-    };
+    let status = run_words(rt.alloc(), rt, words.as_slice(), &mut output, &mut fault);
     if !fault.is_empty() {
         output.extend_from_slice(b"! ")?;
         output.extend_from_slice(fault.as_slice())?;
