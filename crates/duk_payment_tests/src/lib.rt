@@ -9,6 +9,8 @@ mod configurations;
 #[cfg(test)]
 mod deciding;
 #[cfg(test)]
+mod files;
+#[cfg(test)]
 mod loading;
 #[cfg(test)]
 mod names;

@@ -271,3 +271,20 @@ fn refused_memory_is_told(rt: HostRuntime) -> Result<(), Fail> {
     }
     Ok(())
 }
+
+/// Lines that cannot be handed on are told, behind a run that is done and behind one that was
+/// refused memory. Here it is ample, unless the tests run with an allocation that fails.
+#[test]
+fn lines_that_are_lost(rt: HostRuntime) -> Result<(), Fail> {
+    let mut script = ANY_ORDER.0.as_bytes();
+    let mut output = Pipe {
+        room: 999,
+        flushes: false,
+    };
+    let mut fault = Vec::with_capacity(rt.alloc(), 80)?;
+    let config = BANK.as_bytes();
+    let status = run_status(rt.alloc(), config, &mut script, &mut output, &mut fault);
+    assert_eq!(rt; status, 1);
+    assert!(rt; fault.as_slice() == b"script: write failed\n".as_slice());
+    Ok(())
+}

@@ -1,2 +1,4 @@
+pub mod Files
 pub mod Run
+pub mod RunFiles
 pub mod Status

@@ -1,32 +1,26 @@
 //! The files of `run`.
 
 ghost use Rattle.std.specs.Prelude.{◌≡◌, ◌⊎◌};
-ghost use Rattle.duk_config.specs.declared.fault.ScriptFault.{ScriptFault};
-ghost use Rattle.duk_script.specs.FaultLine.{fault_line};
 ghost use Rattle.duk_io.specs.Sink.{IsTried};
-ghost use Rattle.duk_program.specs.Run.{HasRunFiles, HasToldFault, unread_line};
+ghost use Rattle.duk_program.specs.RunFiles.{HasRunFiles, HasToldFault, config_line, file_run, script_line};
 
+use crate::file_system::{FileFault, FileSystem, HeldBytes};
 use crate::run::{play_status, refuse};
 use duk_io::{Sink, write_text};
 use duk_script::{LONGEST_FILE, ScriptFault, read_config};
-use std::io::{ErrorKind, Read};
-use std::rt::Files;
-use std::{fs, io};
-
-/// How many bytes of a configuration are read at most: one more than it may have, so that a longer
-/// one is known.
-const MOST_READ: u64 = LONGEST_FILE as u64 + 1;
+use std::alloc::Global;
 
 /// Runs the script of one file under the configuration of another, and gives the status: 0, or 1
 /// with a line on `fault`.
 ///
-/// The configuration is read and tested before the script is opened. The faults, in this order:
-/// `config: cannot read`, where the file cannot be opened or a read fails; those of the
-/// configuration; `script: cannot read`, where the file cannot be opened; those of the script and
-/// of its lines, as `run_status` tells them. A folder cannot be read. Where the cause is want of
-/// memory, `out of memory` stands in place of either.
-pub fn run_files<R: Files + AllocGlobal, W: Sink, F: Sink>(
-    rt: &R,
+/// The configuration is read and tested before the script is read. The faults, in this order:
+/// `config: cannot read` and `config: too long`; those of the configuration; `script: cannot read`
+/// and `script: too long`; those of the script and of its lines, as `run_status` tells them. A file
+/// cannot be read where it cannot be opened or a read fails, so a folder cannot. Where the cause is
+/// want of memory, `out of memory` stands in place of any.
+pub(crate) fn run_files<S: FileSystem, W: Sink, F: Sink>(
+    alloc: Global,
+    files: &S,
     config: &str,
     script: &str,
     output: &mut W,
@@ -34,61 +28,62 @@ pub fn run_files<R: Files + AllocGlobal, W: Sink, F: Sink>(
 ) -> u8
     ensures status { (result ≡ 0) ⊎ (result ≡ 1) }
     ensures done { result ≡ 0
-        → HasRunFiles (W.known output.old) (W.known output.new)
-        (F.known fault.old) (F.known fault.new) }
+        → HasRunFiles (file_run (S.held files.now config.now) (S.held files.now script.now)
+        (W.known output.old) (W.known output.new) (F.known fault.old) (F.known fault.new)) }
     ensures told { result ≡ 1
-        → HasToldFault (W.known output.old) (W.known output.new)
-        (F.known fault.old) (F.known fault.new) }
+        → HasToldFault (file_run (S.held files.now config.now) (S.held files.now script.now)
+        (W.known output.old) (W.known output.new) (F.known fault.old) (F.known fault.new)) }
 {
     duk_io::laws::writes();
-    let config = match read_file(rt, config) {
+    let config = match files.read_file(alloc, config, LONGEST_FILE) {
         Ok(config) => config,
-        Err(error) => return refuse_file(&error, fault),
+        Err(why) => return refuse_config(why, fault),
     };
-    let config = match read_config(rt.alloc(), config.as_slice()) {
+    let config = match read_config(alloc, config.as_slice()) {
         Ok(config) => config,
         Err(why) => return refuse(&why, fault),
     };
-    match fs::open(rt, script) {
-        Ok(mut script) => play_status(rt.alloc(), config, &mut script, output, fault),
-        Err(error) => refuse(&opening_fault(&error), fault),
-    }
+    let script = match files.read_file(alloc, script, LONGEST_FILE) {
+        Ok(script) => script,
+        Err(why) => return refuse_script(why, fault),
+    };
+    let mut script = HeldBytes {
+        left: script.as_slice(),
+    };
+    play_status(alloc, config, &mut script, output, fault)
 }
 
-/// Why a script could not be opened.
-fn opening_fault(error: &io::Error) -> ScriptFault {
-    if error.kind() == ErrorKind::OutOfMemory {
-        ScriptFault::NoMemory
-    } else {
-        ScriptFault::CannotRead
-    }
-}
-
-/// The bytes of a file, but for those that no configuration has.
-fn read_file<R: Files + AllocGlobal>(rt: &R, path: &str) -> io::Result<Vec<u8>> {
-    let mut bytes = Vec::new(rt.alloc());
-    let mut file = fs::open(rt, path)?.take(MOST_READ);
-    file.read_to_end(&mut bytes)?;
-    Ok(bytes)
-}
-
-/// Tells why a configuration could not be read, and gives the status 1.
-fn refuse_file<F: Sink>(error: &io::Error, fault: &mut F) -> u8
+/// Tells why the file of a configuration is not read, and gives the status 1.
+fn refuse_config<F: Sink>(why: FileFault, fault: &mut F) -> u8
     ensures status { result ≡ 1 }
-    ensures told { IsTried (F.known fault.old) (F.known fault.new) unread_line
-        ⊎ IsTried (F.known fault.old) (F.known fault.new) (fault_line ScriptFault.NoMemory) }
+    ensures line { IsTried (F.known fault.old) (F.known fault.new) (config_line why) }
 {
-    if error.kind() == ErrorKind::OutOfMemory {
-        return refuse(&ScriptFault::NoMemory, fault);
+    match why {
+        FileFault::CannotRead => refuse_unread(fault),
+        FileFault::TooLong => refuse(&ScriptFault::ConfigTooLong, fault),
+        FileFault::NoMemory => refuse(&ScriptFault::NoMemory, fault),
     }
-    refuse_unread(fault)
 }
 
-/// Writes the line of a configuration that cannot be read, and gives the status 1.
+/// Tells that the file of a configuration cannot be read, and gives the status 1.
 fn refuse_unread<F: Sink>(fault: &mut F) -> u8
     ensures status { result ≡ 1 }
-    ensures line { IsTried (F.known fault.old) (F.known fault.new) unread_line }
+    ensures line { IsTried (F.known fault.old) (F.known fault.new)
+        (config_line FileFault.CannotRead) }
 {
     let _ = write_text(fault, b"config: cannot read\n");
     1
+}
+
+/// Tells why the file of a script is not read, and gives the status 1.
+fn refuse_script<F: Sink>(why: FileFault, fault: &mut F) -> u8
+    ensures status { result ≡ 1 }
+    ensures line { IsTried (F.known fault.old) (F.known fault.new) (script_line why) }
+{
+    let why = match why {
+        FileFault::CannotRead => ScriptFault::CannotRead,
+        FileFault::TooLong => ScriptFault::TooLong,
+        FileFault::NoMemory => ScriptFault::NoMemory,
+    };
+    refuse(&why, fault)
 }

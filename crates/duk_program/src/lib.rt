@@ -2,11 +2,12 @@
 #![tactic(auto)]
 
 mod dispatch;
+mod file_system;
 mod files;
-mod process;
+mod program;
 mod run;
 
 pub use dispatch::{Todo, command};
-pub use files::run_files;
-pub use process::run_process;
+pub use file_system::{FileFault, FileSystem};
+pub use program::run_words;
 pub use run::run_status;

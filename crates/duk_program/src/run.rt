@@ -3,7 +3,7 @@
 ghost use Rattle.std.specs.Prelude.{◌≡◌, ◌⊎◌};
 ghost use Rattle.duk_config.specs.declared.fault.ScriptFault.{ScriptFault};
 ghost use Rattle.duk_io.specs.Sink.{IsTried, IsUntouched};
-ghost use Rattle.duk_program.specs.Run.{HasNotRun, HasRun, IsFlushLost};
+ghost use Rattle.duk_program.specs.Run.{HasNotRun, HasRun, IsFlushLost, IsMemoryTold};
 ghost use Rattle.duk_script.specs.FaultLine.{fault_line};
 ghost use Rattle.duk_script.specs.Session.{IsRunDone, IsRunRefused, IsScriptDone, IsScriptRefused, session};
 
@@ -16,7 +16,9 @@ use std::alloc::Global;
 ///
 /// The faults, in this order: those of the configuration, before which nothing is read; those of
 /// the script, before which nothing is written; then, as they come, `out of memory` and `script:
-/// write failed`, the latter also where `output` cannot hand on what it holds back.
+/// write failed`. Behind the last line, and behind the lines of the events that were done before
+/// memory was refused, `output` is flushed; where it cannot hand on what it holds back, that is
+/// told, as `script: write failed`, in place of `out of memory` too.
 pub fn run_status<R: Source, W: Sink, F: Sink>(
     alloc: Global,
     config: &[u8],
@@ -36,6 +38,7 @@ pub fn run_status<R: Source, W: Sink, F: Sink>(
 {
     match run_script(alloc, config, reader, output) {
         Ok(()) => hand_on(output, fault),
+        Err(ScriptFault::NoMemory) => refuse_memory(output, fault),
         Err(why) => refuse(&why, fault),
     }
 }
@@ -60,6 +63,7 @@ pub(crate) fn play_status<R: Source, W: Sink, F: Sink>(
 {
     match play_script(alloc, config, reader, output) {
         Ok(()) => hand_on(output, fault),
+        Err(ScriptFault::NoMemory) => refuse_memory(output, fault),
         Err(cause) => refuse(&cause, fault),
     }
 }
@@ -77,6 +81,20 @@ fn hand_on<W: Sink, F: Sink>(output: &mut W, fault: &mut F) -> u8
         Ok(()) => 0,
         Err(_) => refuse(&ScriptFault::WriteFailed, fault),
     }
+}
+
+/// Hands on the lines of the events that were done before memory was refused, and gives the status
+/// 1: with `out of memory`, or, where the lines cannot be handed on, with `script: write failed`.
+fn refuse_memory<W: Sink, F: Sink>(output: &mut W, fault: &mut F) -> u8
+    ensures status { result ≡ 1 }
+    ensures told { IsMemoryTold (W.known output.old) (W.known output.new)
+        (F.known fault.old) (F.known fault.new) }
+{
+    let why = match output.flush() {
+        Ok(()) => ScriptFault::NoMemory,
+        Err(_) => ScriptFault::WriteFailed,
+    };
+    refuse(&why, fault)
 }
 
 /// Writes the line of a fault and gives the status 1.

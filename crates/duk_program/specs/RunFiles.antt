@@ -1,0 +1,111 @@
+-- What `run` answers over files (this project's own, over the sessions of a script). Where files
+-- make nothing known, what they hold may be any bytes.
+use Rattle.std.specs.Prelude.{◌⊎◌, ℕ, List, Option, codes}
+use Rattle.duk_config.specs.ConfigFile.{IsConfigFault, IsConfigFile, longest_file}
+use Rattle.duk_config.specs.Settings.{Settings}
+use Rattle.duk_config.specs.declared.fault.ScriptFault.{ScriptFault}
+use Rattle.duk_config.specs.declared.fault.ScriptFault.TheVariants as fault
+use Rattle.duk_io.specs.Known.{Known}
+use Rattle.duk_io.specs.Sink.{IsTried, IsUntouched}
+use Rattle.duk_program.specs.Files.{IsFileUnread, IsHeld, held_bytes}
+use Rattle.duk_program.specs.declared.file_system.FileFault.{FileFault}
+use Rattle.duk_program.specs.declared.file_system.FileFault.TheVariants as file
+use Rattle.duk_program.specs.Run.{HasNotRun, HasRun}
+use Rattle.duk_script.specs.FaultLine.{fault_line}
+use Rattle.duk_script.specs.Session.{IsScriptDone, IsScriptRefused, Session, session}
+
+-- what the files of a configuration and of a script hold, and what the writers of lines and of
+-- faults make known before and after
+pub record FileRun : Type 0 where
+  pub config_held : Option (Option (List ℕ))
+  pub script_held : Option (Option (List ℕ))
+  pub output_before : Known
+  pub output_after : Known
+  pub fault_before : Known
+  pub fault_after : Known
+
+abbrev pub file_run : Option (Option (List ℕ)) → Option (Option (List ℕ)) → Known → Known → Known
+    → Known → FileRun
+file_run config_held script_held output_before output_after fault_before fault_after = record {
+  config_held = config_held;
+  script_held = script_held;
+  output_before = output_before;
+  output_after = output_after;
+  fault_before = fault_before;
+  fault_after = fault_after;
+}
+
+-- the configuration's file states this configuration
+pub record IsConfigured (r : FileRun) (config : Settings) : Type 0 where
+  pub bytes : List ℕ
+  pub held : IsHeld r.config_held bytes
+  pub states : IsConfigFile bytes config
+
+-- the session of a script's bytes, of which these are left in the end
+abbrev pub session_of : FileRun → List ℕ → List ℕ → Session
+session_of r script left =
+    session (held_bytes script) (held_bytes left) r.output_before r.output_after
+
+-- status 0: the script of its file was played to its end under the configuration of its file, and
+-- nothing was told as a fault
+pub record HasRunFiles (r : FileRun) : Type 0 where
+  pub config : Settings
+  pub configured : IsConfigured r config
+  pub script : List ℕ
+  pub script_held : IsHeld r.script_held script
+  pub left : List ℕ
+  pub run : HasRun (IsScriptDone config) (session_of r script left) r.fault_before r.fault_after
+
+-- the line where the file of a configuration is not read
+abbrev pub config_line : FileFault → List ℕ
+config_line file.CannotRead = codes "config: cannot read\n"
+config_line file.TooLong = fault_line fault.ConfigTooLong
+config_line file.NoMemory = fault_line fault.NoMemory
+
+-- the line where the file of a script is not read
+abbrev pub script_line : FileFault → List ℕ
+script_line file.CannotRead = fault_line fault.CannotRead
+script_line file.TooLong = fault_line fault.TooLong
+script_line file.NoMemory = fault_line fault.NoMemory
+
+-- a line was told, but for what a failed write cut off, and nothing was written to the output
+pub record HasToldAlone (r : FileRun) (line : List ℕ) : Type 0 where
+  pub quiet : IsUntouched r.output_before r.output_after
+  pub told : IsTried r.fault_before r.fault_after line
+
+-- the configuration's file is not read
+pub record HasUnreadConfig (r : FileRun) : Type 0 where
+  pub why : FileFault
+  pub cause : IsFileUnread r.config_held longest_file why
+  pub told : HasToldAlone r (config_line why)
+
+-- the configuration's file is read, and refused
+pub record HasBadConfig (r : FileRun) : Type 0 where
+  pub bytes : List ℕ
+  pub held : IsHeld r.config_held bytes
+  pub why : ScriptFault
+  pub cause : IsConfigFault bytes why
+  pub told : HasToldAlone r (fault_line why)
+
+-- there is a configuration, and the script's file is not read
+pub record HasUnreadScript (r : FileRun) : Type 0 where
+  pub config : Settings
+  pub configured : IsConfigured r config
+  pub why : FileFault
+  pub cause : IsFileUnread r.script_held longest_file why
+  pub told : HasToldAlone r (script_line why)
+
+-- both files are read, and the script is refused under the configuration, or what it wrote could
+-- not be handed on
+pub record HasFailedRun (r : FileRun) : Type 0 where
+  pub config : Settings
+  pub configured : IsConfigured r config
+  pub script : List ℕ
+  pub script_held : IsHeld r.script_held script
+  pub left : List ℕ
+  pub run : HasNotRun (IsScriptDone config) (IsScriptRefused config) (session_of r script left)
+      r.fault_before r.fault_after
+
+-- status 1: the first of these
+abbrev pub HasToldFault : FileRun → Type 0
+HasToldFault r = HasUnreadConfig r ⊎ HasBadConfig r ⊎ HasUnreadScript r ⊎ HasFailedRun r

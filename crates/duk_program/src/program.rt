@@ -1,0 +1,35 @@
+//! One run of the program over its words and its files.
+
+ghost use Rattle.std.specs.Prelude.{◌≡◌};
+ghost use Rattle.std.specs.Io.KnownBytes.{Keeps};
+ghost use Rattle.duk_io.specs.Sink.{IsUntouched};
+ghost use Rattle.duk_program.specs.Status.{IsStatus};
+
+use crate::dispatch::{Todo, command};
+use crate::file_system::FileSystem;
+use crate::files::run_files;
+use duk_io::Sink;
+use std::alloc::Global;
+
+/// Does what the words ask, the first of which is the program's name, and gives the status: 0 where
+/// all is done, 1 behind the line of a fault, 2 where the words were refused.
+///
+/// What a command prints goes to `output`, and so does help that was asked for; the line of a fault
+/// and the text that refuses the words go to `fault`.
+pub fn run_words<S: FileSystem, W: Sink, F: Sink>(
+    alloc: Global,
+    files: &S,
+    words: &[String],
+    output: &mut W,
+    fault: &mut F,
+) -> u8
+    ensures status { IsStatus result }
+    ensures no_fault { result ≡ 0 → IsUntouched (F.known fault.old) (F.known fault.new) }
+    ensures refused { result ≡ 2
+        → Keeps (W.known output.old).contents (W.known output.new).contents }
+{
+    match command(alloc, words, output, fault) {
+        Todo::Exit(status) => status,
+        Todo::Run { config, script } => run_files(alloc, files, config, script, output, fault),
+    }
+}

@@ -1,0 +1,24 @@
+//! The words that the process is started with.
+
+ghost use Rattle.duk_program.specs.Status.{IsStatus};
+
+use duk_commands::{Fault, tell};
+use duk_io::{Sink, write_text};
+use std::rt::Env;
+use std::{env, io};
+
+/// The words of the process, the program's name first.
+pub fn process_words<R: Env + AllocGlobal>(rt: &R) -> io::Result<Vec<String>> {
+    Ok(env::args(rt)?.collect(rt.alloc())?)
+}
+
+/// Tells why the words of the process could not be read, and gives the status.
+pub fn refuse_words<F: Sink>(error: &io::Error, fault: &mut F) -> u8
+    ensures { IsStatus result }
+{
+    if error.kind() == io::ErrorKind::OutOfMemory {
+        return tell(fault, Fault::OutOfMemory);
+    }
+    let _ = write_text(fault, b"error: a word is not UTF-8\n");
+    2
+}
