@@ -13,6 +13,12 @@ pub fn inverse_on_bits()
         → encipher key (decipher key block) ≡ block }
 {}
 
+/// Whatever is enciphered or deciphered under whatever key, it comes to a block.
+pub fn blocks()
+    ensures encrypted { (key block : List ℕ) → IsBlock (encrypted key block) }
+    ensures decrypted { (key block : List ℕ) → IsBlock (decrypted key block) }
+{}
+
 /// On bytes: under each key deciphering undoes enciphering, and the reverse, for every block. Both
 /// make blocks of blocks.
 pub fn inverse()

@@ -38,7 +38,10 @@ request_of key ksn pan pin amount =
       mac = retail_of (request_key_of key) (request_text ksn pan amount block);
     }
 
--- the accepted reply of a payment under its transaction key, with a MAC under the key's variant for
--- responses
+-- the MAC of an accepted reply under the transaction key's variant for responses
+abbrev pub reply_mac : List ℕ → Serial → Code → List ℕ
+reply_mac key ksn code = retail_of (response_key_of key) (reply_text ksn code)
+
+-- the accepted reply of a payment under its transaction key, with that MAC
 abbrev pub payment_reply : List ℕ → Serial → Code → List ℕ
 payment_reply key ksn code = authenticated (response_key_of key) (reply_text ksn code)

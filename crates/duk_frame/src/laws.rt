@@ -1,10 +1,12 @@
 //! Laws of frames, each the contract of a function that does nothing.
 
-ghost use Rattle.std.specs.Prelude.{◌≡◌, ◌≤◌, List, ℕ, length};
+ghost use Rattle.std.specs.Prelude.{◌≡◌, ◌<◌, ◌≤◌, ◌^◌, List, ℕ, length};
 ghost use Rattle.duk_frame.specs.Answer.{IsAnswer, IsReply, reply_text};
 ghost use Rattle.duk_frame.specs.Frame.{mac_text_of};
+ghost use Rattle.duk_frame.specs.Payment.{payment_reply, payment_request, reply_mac, request_of};
 ghost use Rattle.duk_frame.specs.Request.{IsRequest, request_text};
-ghost use Rattle.duk_tree.specs.Serial.{Serial};
+ghost use Rattle.duk_pin.specs.Pan.{IsPan};
+ghost use Rattle.duk_tree.specs.Serial.{IsSerial, Serial};
 
 use crate::answer::AnswerFrame;
 use crate::code::Code;
@@ -21,6 +23,18 @@ pub fn one_reading()
         → ¬ IsAnswer bytes answer }
 {
     duk_tree::laws::serials();
+}
+
+/// The request and the accepted reply of a payment are read as what they were made of.
+pub fn payments()
+    ensures request { (key : List ℕ) (ksn : Serial) (pan pin : List ℕ) (amount : ℕ)
+        → IsSerial ksn → IsPan pan → amount < 2 ^ 32
+        → IsRequest (payment_request key ksn pan pin amount) (request_of key ksn pan pin amount) }
+    ensures reply { (key : List ℕ) (ksn : Serial) (code : Code) → IsSerial ksn
+        → IsReply (payment_reply key ksn code) ksn code (reply_mac key ksn code) }
+{
+    duk_tdes::laws::blocks();
+    duk_mac::laws::retail_is_a_block();
 }
 
 /// A request and an accepted reply are long enough for `mac_text`, which is the body before the

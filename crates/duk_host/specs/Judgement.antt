@@ -1,7 +1,7 @@
 -- The judgement of a request: this project's own, over the transaction keys of ANSI X9.24-1:2009
 -- annex A.
 use Rattle.std.specs.Prelude.{◌≡◌, ◌⊎◌, ◌<◌, ℕ, List, None, replicate}
-use Rattle.duk_frame.specs.Answer.{IsReply, refusal_text}
+use Rattle.duk_frame.specs.Answer.{refusal_text}
 use Rattle.duk_frame.specs.Frame.{framed}
 use Rattle.duk_frame.specs.Payment.{payment_reply}
 use Rattle.duk_frame.specs.Request.{IsRequest, request_text}
@@ -129,9 +129,7 @@ IsCodeOf keys decides request code =
 -- the accepted reply with this code, under the transaction key of the number
 pub record IsReplyWith (keys : HsmKeys) (ksn : Serial) (code : Code) (frame : List ℕ) : Type 0 where
   pub key : List ℕ
-  pub mac : List ℕ
   pub key_is : IsTransactionKey keys ksn key
-  pub is_reply : IsReply frame ksn code mac
   pub frame_is : frame ≡ payment_reply key ksn code
 
 -- the accepted reply to a request

@@ -1,19 +1,26 @@
 -- What holds of the terminals of every world that is reached: what they keep is above every used number.
 use Rattle.std.proofs.Common.{◌≡◌, ◌≢◌, ◌⊎◌, ◌<◌, ◌≤◌, ◌^◌, ◌++◌, ◌∷◌, [], ℕ, List, Some, None, length, inl, inr, sym, ap, subst, ◌∙◌, arith}
 use Rattle.std.proofs.lemmas.List.Elements.{Contains-push_cases}
+use Rattle.duk_frame.specs.Payment.{request_of}
 use Rattle.duk_frame.specs.Request.{IsRequest}
 use Rattle.duk_frame.specs.declared.request.Request.{Request}
+use Rattle.duk_hsm.specs.Commands.{IsIssued}
 use Rattle.duk_hsm.specs.Keys.{HsmKeys}
-use Rattle.duk_regs.specs.Registers.{RegisterSet}
+use Rattle.duk_regs.specs.Registers.{IsRegisterSet, IsTaken, RegisterSet, StandsFor}
 use Rattle.duk_store.specs.Cell.{CellMeaning, Kept}
-use Rattle.duk_term.specs.Begin.{TakesNumber}
+use Rattle.duk_term.specs.Begin.{IsBegun, TakesNumber}
 use Rattle.duk_term.specs.Body.{IsFoundAgain, body_bytes}
+use Rattle.duk_term.specs.Loading.{WrapsInitialKey}
 use Rattle.duk_term.specs.Terminal.{TerminalOf, serial_of}
+use Rattle.duk_term.specs.declared.purchase.Purchase.{Purchase}
 use Rattle.duk_term.specs.declared.state.State.{State}
 use Rattle.duk_term.specs.declared.state.State.TheVariants.{Stopped, Empty, Loaded}
-use Rattle.duk_tree.specs.Next.{ComesAfter, spent_counter}
+use Rattle.duk_tdes.specs.Key.{IsKey}
+use Rattle.duk_tdes.specs.Tdes.{IsTdesKey}
+use Rattle.duk_tree.specs.Next.{ComesAfter}
 use Rattle.duk_tree.specs.Path.{IsUsable, path_of}
 use Rattle.duk_tree.specs.Serial.{Serial}
+use Rattle.duk_net.specs.InitialKey.{IsInitialKeyOf}
 use Rattle.duk_net.specs.UsedNumbers.{HasNumber, IsUsedNumber, NoneTwice}
 use Rattle.duk_net.specs.Owner.{owner_of}
 use Rattle.duk_net.specs.UnusedKeys.{StandsAboveUsed}
@@ -38,6 +45,7 @@ HasSentNothing books t = (ksn : Serial) → IsUsedNumber books.requests ksn → 
 pub record SetSafe (books : Books) (t : ℕ) (set : RegisterSet) : Type 0 where
   pub owned : owner_of books.owners set.iksn ≡ Some t
   pub stands : StandsAboveUsed books.keys books.requests set
+  pub set_is : IsRegisterSet set
   pub again : IsFoundAgain set
 
 abbrev pub StateSafe : Books → ℕ → State → Type 0
@@ -100,6 +108,7 @@ owners_follow old t new keys requests stays owned = record {
   set = λ set safe. record {
     owned = stays set.iksn t safe.owned;
     stands = subst (λ list. StandsAboveUsed new.keys list set) (sym requests) (subst (λ keys. StandsAboveUsed keys old.requests set) (sym keys) safe.stands);
+    set_is = safe.set_is;
     again = safe.again;
   };
 }
@@ -131,28 +140,50 @@ next_is_above counter next fits usable after =
       | inr last ↦ omega (arith, below, last.1)
     ]
 
--- the counter of registers that are found again is usable, or spent
-pub again_counter : (set : RegisterSet) → IsFoundAgain set → IsUsable set.counter ⊎ (set.counter ≡ spent_counter)
-again_counter set again = subst (λ counter. IsUsable counter ⊎ (counter ≡ spent_counter)) (ap (λ set. set.counter) again.same) again.is_body.image.counter_is
+-- what the laws of the crates below say of counters and registers
+pub record RegisterLaws : Type 0 where
+  pub fits : UsableFits
+  pub set : (old new : RegisterSet) (key : List ℕ) → IsUsable old.counter → IsTaken old key new → IsRegisterSet old → IsRegisterSet new
+  pub stands : (initial : List ℕ) (old new : RegisterSet) (key : List ℕ) → IsUsable old.counter → IsTaken old key new → StandsFor initial old → StandsFor initial new
+  pub again : (initial : List ℕ) (set : RegisterSet) → IsKey 16 initial → IsRegisterSet set → StandsFor initial set → IsFoundAgain set
+
+-- the frame of a transaction that is begun is a request
+abbrev pub BegunIsRequest : {C : Type 0} → CellMeaning C → Type 0
+BegunIsRequest cell = (purchase : Purchase) (old new : TerminalOf _) (frame : List ℕ) → (begun : IsBegun cell purchase old new frame)
+    → IsRequest frame (request_of begun.key (serial_of begun.set) purchase.pan purchase.pin purchase.amount)
+
+-- a terminal finds no other key in what is issued for it than its own initial key
+abbrev pub IssuedIsOwnKey : Type 0
+IssuedIsOwnKey = (keys : HsmKeys) (iksn : ℕ) (loading padding block initial : List ℕ) → IsTdesKey loading → IsIssued keys iksn loading padding block → WrapsInitialKey loading block initial → IsInitialKeyOf keys iksn initial
+
+-- and what they say of requests and of what is issued
+pub record WorldLaws {C : Type 0} (cell : CellMeaning C) : Type 0 where
+  pub registers : RegisterLaws
+  pub reading : OneRequest
+  pub request : BegunIsRequest cell
+  pub own_key : IssuedIsOwnKey
 
 -- a number is taken: what is left is safe with the request of that number among the sent ones
-pub left_is_safe : (books : Books) (t : ℕ) (set left : RegisterSet) (key : List ℕ) (requests : List Frame) → UsableFits → SetSafe books t set → TakesNumber set key left → IsFoundAgain left
+pub left_is_safe : (books : Books) (t : ℕ) (set left : RegisterSet) (key : List ℕ) (requests : List Frame) → RegisterLaws → SetSafe books t set → TakesNumber set key left
     → ((ksn : Serial) → IsUsedNumber requests ksn → IsUsedNumber books.requests ksn ⊎ (ksn ≡ serial_of set))
     → SetSafe (record books { requests = requests }) t left
-left_is_safe books t set left key requests fits safe takes again used =
+left_is_safe books t set left key requests laws safe takes used =
     let iksn = takes.taken.same_iksn in
-    let above = next_is_above set.counter left.counter fits takes.usable takes.taken.next_counter in
+    let above = next_is_above set.counter left.counter laws.fits takes.usable takes.taken.next_counter in
+    let set_is = laws.set set left key takes.usable takes.taken safe.set_is in
+    let stands = laws.stands safe.stands.initial set left key takes.usable takes.taken safe.stands.stands in
     record {
       owned = ap (λ iksn. owner_of books.owners iksn) iksn ∙ safe.owned;
       stands = record {
         initial = safe.stands.initial;
         initial_is = rw iksn safe.stands.initial_is;
-        counter_is = again_counter left again;
-        stands = (takes.stands safe.stands.initial safe.stands.stands).1;
+        counter_is = set_is.counter_is;
+        stands = stands;
         above = λ ksn is same. elim (used ksn is) [
           | inl before ↦ let below = safe.stands.above ksn before (same ∙ iksn) in omega (arith, below, above)
           | inr new ↦ subst (λ ksn. ksn.counter < left.counter) (sym new) above
         ];
       };
-      again = again;
+      set_is = set_is;
+      again = laws.again safe.stands.initial left safe.stands.initial_is.is_key set_is stands;
     }

@@ -8,6 +8,9 @@ use Rattle.duk_frame.specs.Answer.{IsRefusal, IsReply}
 use Rattle.duk_frame.specs.declared.answer.AnswerFrame.{AnswerFrame}
 use Rattle.duk_frame.specs.declared.answer.AnswerFrame.TheVariants.{Refusal, Reply}
 use Rattle.duk_frame.specs.declared.code.Code.{Code}
+use Rattle.duk_frame.specs.declared.request.Request.{Request}
+use Rattle.duk_frame.specs.Payment.{reply_mac}
+use Rattle.duk_host.specs.Judgement.{IsAccepted, JudgementBasis}
 use Rattle.duk_host.specs.Handle.{AnswersReply, HandleRefused}
 use Rattle.duk_host.specs.Host.{HostOf}
 use Rattle.duk_host.specs.Restart.{HostRestartRefused}
@@ -53,6 +56,16 @@ RepliesTo bytes ksn = (code : Code) × (mac : List ℕ) × IsReply bytes ksn cod
 -- a frame is an accepted reply to at most one number
 one_number : OneReading → (bytes : List ℕ) (ksn other : Serial) → RepliesTo bytes ksn → RepliesTo bytes other → ksn ≡ other
 one_number one bytes ksn other reply again = ap ksn_of (one bytes _ _ reply.2 again.2)
+
+-- an accepted reply is read as one to the number of its request
+abbrev pub RepliesAreRead : Type 0
+RepliesAreRead = (basis : JudgementBasis) (bytes : List ℕ) (request : Request) (frame : List ℕ) → (accepted : IsAccepted basis bytes request frame)
+    → IsReply frame request.ksn accepted.reply.code (reply_mac accepted.reply.reply.key request.ksn accepted.reply.code)
+
+-- what the laws of the crates below say of answers
+pub record AnswerLaws : Type 0 where
+  pub reading : OneReading
+  pub replies : RepliesAreRead
 
 -- an accepted number stays one as an answer is sent
 stays_accepted : (answers : List Frame) (frame : Frame) (ksn : Serial) → IsAcceptedNumber answers ksn → IsAcceptedNumber (answers ++ frame ∷ []) ksn
@@ -172,21 +185,19 @@ touched_safe m old new answers safe (host_armed steps armed) = grown_safe m old 
     (rw armed.state (uses_as_before (m.host.log.state_of old.log) (m.host.log.state_of new.log) old.state (armed.stays.found safe.honest) safe.uses))
 
 -- the number that a host accepts was not accepted before
-accepts_fresh : {C L I : Type 0} (m : Meanings C L I) (old new : HostOf L I) (answers : List Frame) (bytes frame : List ℕ) (ksn : Serial) → OneReading → HostKeepsAccepted m old answers
+accepts_fresh : {C L I : Type 0} (m : Meanings C L I) (old new : HostOf L I) (answers : List Frame) (bytes frame : List ℕ) (ksn : Serial) → AnswerLaws → HostKeepsAccepted m old answers
     → AnswersReply m.host bytes old new frame → RepliesTo frame ksn → ¬ IsAcceptedNumber answers ksn
-accepts_fresh m old new answers bytes frame ksn one safe reply told accepted =
-    let with = reply.accepted.reply.reply in
+accepts_fresh m old new answers bytes frame ksn laws safe reply told accepted =
     let uses : UsesAll (m.host.log.state_of old.log) (Some reply.running) = rw reply.was_running at safe.uses in
-    let is : ksn ≡ reply.request.ksn = one_number one frame ksn reply.request.ksn told (_, _, with.is_reply) in
+    let is : ksn ≡ reply.request.ksn = one_number laws.reading frame ksn reply.request.ksn told (_, _, laws.replies _ bytes reply.request frame reply.accepted) in
     let used : IsUsed reply.running.used ksn = uses.2 ksn (safe.keeps uses.0 ((uses.1 uses.0).1 refl) ksn accepted) in
     reply.accepted.acceptable.fresh (rw is at used)
 
 -- a host that accepts a request keeps each accepted number, with that of the request
-accepts_safe : {C L I : Type 0} (m : Meanings C L I) (old new : HostOf L I) (answers : List Frame) (bytes : List ℕ) (frame : Frame) → OneReading → HostKeepsAccepted m old answers
+accepts_safe : {C L I : Type 0} (m : Meanings C L I) (old new : HostOf L I) (answers : List Frame) (bytes : List ℕ) (frame : Frame) → AnswerLaws → HostKeepsAccepted m old answers
     → AnswersReply m.host bytes old new frame.items → HostKeepsAccepted m new (answers ++ frame ∷ [])
-accepts_safe m old new answers bytes frame one safe reply =
+accepts_safe m old new answers bytes frame laws safe reply =
     let kept = reply.kept in
-    let with = reply.accepted.reply.reply in
     let number = reply.request.ksn in
     let uses : UsesAll (m.host.log.state_of old.log) (Some kept.before) = rw kept.was_running at safe.uses in
     let finds : FindsOnly (m.host.log.state_of new.log) (uses.0 ++ number ∷ []) = kept.appended.finds safe.honest uses.0 uses.1 in
@@ -194,7 +205,7 @@ accepts_safe m old new answers bytes frame one safe reply =
       honest = kept.appended.nature.honest.0 safe.honest;
       keeps = λ numbers found ksn accepted. rw ((finds numbers).0 found) (elim (accepted_cases answers frame ksn accepted) [
         | inl before ↦ Contains-append_left uses.0 (number ∷ []) ksn (safe.keeps uses.0 ((uses.1 uses.0).1 refl) ksn before)
-        | inr told ↦ rw (one_number one frame.items ksn number told (_, _, with.is_reply)) (Contains-push uses.0 number)
+        | inr told ↦ rw (one_number laws.reading frame.items ksn number told (_, _, laws.replies _ bytes reply.request frame.items reply.accepted)) (Contains-push uses.0 number)
       ]);
       uses = rw kept.runs (
         uses.0 ++ number ∷ [],
@@ -207,13 +218,13 @@ accepts_safe m old new answers bytes frame one safe reply =
     }
 
 -- a host that refuses a request keeps each accepted number
-refuses_safe : {C L I : Type 0} (m : Meanings C L I) (at : HostOf L I) (answers : List Frame) (frame : Frame) (number : Serial) (reason : ℕ) → OneReading → HostKeepsAccepted m at answers
+refuses_safe : {C L I : Type 0} (m : Meanings C L I) (at : HostOf L I) (answers : List Frame) (frame : Frame) (number : Serial) (reason : ℕ) → AnswerLaws → HostKeepsAccepted m at answers
     → IsRefusal frame.items number reason → HostKeepsAccepted m at (answers ++ frame ∷ [])
-refuses_safe m at answers frame number reason one safe refusal = record {
+refuses_safe m at answers frame number reason laws safe refusal = record {
   honest = safe.honest;
   keeps = λ numbers found ksn accepted. elim (accepted_cases answers frame ksn accepted) [
     | inl before ↦ safe.keeps numbers found ksn before
-    | inr told ↦ absurd (no_reply one frame.items number ksn reason told.0 told.1 refusal told.2)
+    | inr told ↦ absurd (no_reply laws.reading frame.items number ksn reason told.0 told.1 refusal told.2)
   ];
   uses = safe.uses;
 }
@@ -242,33 +253,33 @@ same_view : {C L I : Type 0} (m : Meanings C L I) (old next new : WorldOf C L I)
 same_view m old next new outcome safe is hosts answers none = rw is (rw (hosts, answers) safe, gains_none old.answers next.answers outcome answers none)
 
 -- what a step does to accepted numbers
-view_safe : {C L I : Type 0} (m : Meanings C L I) (old : WorldOf C L I) (outcome : Outcome) (new : WorldOf C L I) → OneReading → KeepsAllAccepted m old → View m old outcome new
+view_safe : {C L I : Type 0} (m : Meanings C L I) (old : WorldOf C L I) (outcome : Outcome) (new : WorldOf C L I) → AnswerLaws → KeepsAllAccepted m old → View m old outcome new
     → KeepsAllAccepted m new × Gains old.answers outcome new.answers
-view_safe m old outcome new one safe (nothing same quiet) = same_view m old _ new outcome safe same refl refl (quiet_accepts outcome quiet)
-view_safe m old outcome new one safe (load t iksn given quiet) = same_view m old _ new outcome safe given.rest refl refl (quiet_accepts outcome quiet)
-view_safe m old outcome new one safe (send t k purchase ksn is sent) = same_view m old _ new outcome safe sent.rest refl refl (rw is (λ ksn accepts. accepts))
-view_safe m old outcome new one safe (terminal t change quiet) = same_view m old _ new outcome safe change.rest refl refl (quiet_accepts outcome quiet)
-view_safe m old outcome new one safe (done k t frame ksn code is sent change) = same_view m old _ new outcome safe change.rest refl refl (rw is (λ ksn accepts. accepts))
-view_safe m old outcome new one safe (accept k n ksn code is up) =
+view_safe m old outcome new laws safe (nothing same quiet) = same_view m old _ new outcome safe same refl refl (quiet_accepts outcome quiet)
+view_safe m old outcome new laws safe (load t iksn given quiet) = same_view m old _ new outcome safe given.rest refl refl (quiet_accepts outcome quiet)
+view_safe m old outcome new laws safe (send t k purchase ksn is sent) = same_view m old _ new outcome safe sent.rest refl refl (rw is (λ ksn accepts. accepts))
+view_safe m old outcome new laws safe (terminal t change quiet) = same_view m old _ new outcome safe change.rest refl refl (quiet_accepts outcome quiet)
+view_safe m old outcome new laws safe (done k t frame ksn code is sent change) = same_view m old _ new outcome safe change.rest refl refl (rw is (λ ksn accepts. accepts))
+view_safe m old outcome new laws safe (accept k n ksn code is up) =
     let answers : new.answers ≡ old.answers ++ up.frame ∷ [] = ap (λ world. world.answers) up.answered.rest in
     let told : RepliesTo up.frame.items ksn = (code, up.mac, up.told) in
     rw answers (
-      accepts_safe m old.host new.host old.answers up.request.items up.frame one safe up.accepted,
+      accepts_safe m old.host new.host old.answers up.request.items up.frame laws safe up.accepted,
       record {
         stays = stays_accepted old.answers up.frame;
         accepts = rw is (λ number same. subst (λ number. (¬ IsAcceptedNumber old.answers number) × IsAcceptedNumber (old.answers ++ up.frame ∷ []) number) same (
-          accepts_fresh m old.host new.host old.answers up.request.items up.frame.items ksn one safe up.accepted told,
+          accepts_fresh m old.host new.host old.answers up.request.items up.frame.items ksn laws safe up.accepted told,
           now_accepted old.answers up.frame ksn told,
         ));
       },
     )
-view_safe m old outcome new one safe (refuse k n ksn reason is up) =
+view_safe m old outcome new laws safe (refuse k n ksn reason is up) =
     let answers : new.answers ≡ old.answers ++ up.frame ∷ [] = ap (λ world. world.answers) up.answered.rest in
     rw (answers, up.refused.same) (
-      refuses_safe m old.host old.answers up.frame ksn reason one safe up.told,
+      refuses_safe m old.host old.answers up.frame ksn reason laws safe up.told,
       record { stays = stays_accepted old.answers up.frame; accepts = rw is (λ number accepts. absurd accepts) },
     )
-view_safe m old outcome new one safe (host touches rest quiet) =
+view_safe m old outcome new laws safe (host touches rest quiet) =
     let answers : new.answers ≡ old.answers = ap (λ world. world.answers) rest in
     (rw answers (touched_safe m old.host new.host old.answers safe touches), gains_none old.answers new.answers outcome answers (quiet_accepts outcome quiet))
 
@@ -289,9 +300,9 @@ first_safe m world first = record {
 }
 
 -- each world that is reached keeps each accepted number
-pub reached_safe : {C L I : Type 0} (m : Meanings C L I) → OneReading → (world : WorldOf C L I) → Reached m world → KeepsAllAccepted m world
-reached_safe m one = reached_all m (KeepsAllAccepted m) (first_safe m) (λ old new reached safe moves. elim moves [
-  | inl happens ↦ (view_safe m old happens.outcome new one safe (step_view m old happens.event happens.outcome new happens.step)).0
+pub reached_safe : {C L I : Type 0} (m : Meanings C L I) → AnswerLaws → (world : WorldOf C L I) → Reached m world → KeepsAllAccepted m world
+reached_safe m laws = reached_all m (KeepsAllAccepted m) (first_safe m) (λ old new reached safe moves. elim moves [
+  | inl happens ↦ (view_safe m old happens.outcome new laws safe (step_view m old happens.event happens.outcome new happens.step)).0
   | inr left ↦ left_safe m old new safe left
 ])
 
@@ -331,8 +342,8 @@ once_more first outcomes old outcome new once gains = record {
 }
 
 -- a call accepts no number twice, and none that was accepted before
-pub leads_once : {C L I : Type 0} (m : Meanings C L I) → OneReading → (old new : WorldOf C L I) (outcomes : List Outcome) → Reached m old → CallLeads m old outcomes new → AcceptsOnce old.answers outcomes
-leads_once m one old new outcomes reached leads =
+pub leads_once : {C L I : Type 0} (m : Meanings C L I) → AnswerLaws → (old new : WorldOf C L I) (outcomes : List Outcome) → Reached m old → CallLeads m old outcomes new → AcceptsOnce old.answers outcomes
+leads_once m laws old new outcomes reached leads =
     let first : Once old.answers [] old.answers = record {
       stays = λ ksn accepted. accepted;
       told = λ ksn any. absurd (any_none (Accepts ksn) any);
@@ -340,6 +351,6 @@ leads_once m one old new outcomes reached leads =
     } in
     (leads_all m (λ outcomes world. Once old.answers outcomes world.answers)
     (λ outcomes before after event outcome reached once step. once_more old.answers outcomes before.answers outcome after.answers once
-    (view_safe m before outcome after one (reached_safe m one before reached) (step_view m before event outcome after step)).1)
+    (view_safe m before outcome after laws (reached_safe m laws before reached) (step_view m before event outcome after step)).1)
     (λ outcomes before after reached once left. rw (ap (λ world. world.answers) left.rest) once)
     old new outcomes reached first leads).once

@@ -4,7 +4,8 @@ use Rattle.std.proofs.lemmas.List.Elements.{All-push, Contains-get_or}
 use Rattle.std.proofs.lemmas.List.Quantifiers.{all_pairs_push}
 use Rattle.duk_regs.specs.Registers.{RegisterSet}
 use Rattle.duk_store.specs.Cell.{CellMeaning}
-use Rattle.duk_term.specs.Begin.{IsBegun, requested}
+use Rattle.duk_frame.specs.Payment.{request_of}
+use Rattle.duk_term.specs.Begin.{IsBegun}
 use Rattle.duk_term.specs.Terminal.{TerminalOf, serial_of}
 use Rattle.duk_term.specs.declared.purchase.Purchase.{Purchase}
 use Rattle.duk_tree.specs.Serial.{Serial}
@@ -12,7 +13,7 @@ use Rattle.duk_net.specs.UsedNumbers.{HasNumber, HasUsableNumber, HaveOtherNumbe
 use Rattle.duk_net.specs.Owner.{owner_of}
 use Rattle.duk_net.specs.World.{Frame}
 use Rattle.duk_net.proofs.OwnersStay.{one_owner}
-use Rattle.duk_net.proofs.AboveUsed.{AreOwned, Books, Follows, OneRequest, SetSafe, StateSafe, TermSafe, UsableFits, left_is_safe, one_number, used_before}
+use Rattle.duk_net.proofs.AboveUsed.{AreOwned, BegunIsRequest, Books, Follows, OneRequest, SetSafe, StateSafe, TermSafe, WorldLaws, left_is_safe, one_number, used_before}
 use Rattle.duk_net.proofs.TerminalStaysAboveUsed.{safe_body, taken_from_safe}
 
 -- the books after a request is sent
@@ -20,8 +21,12 @@ abbrev pub after_begin : Books → Frame → Books
 after_begin books frame = record books { requests = books.requests ++ frame ∷ [] }
 
 -- the number of the request that goes out
-pub begun_number : {C : Type 0} (cell : CellMeaning C) (purchase : Purchase) (frame : Frame) (before after : TerminalOf C) (begun : IsBegun cell purchase before after frame.items) → HasNumber frame (serial_of begun.set)
-begun_number cell purchase frame before after begun = record { request = requested begun.set begun.key purchase; is_request = begun.request; ksn_is = refl }
+pub begun_number : {C : Type 0} (cell : CellMeaning C) (purchase : Purchase) (frame : Frame) (before after : TerminalOf C) → BegunIsRequest cell → (begun : IsBegun cell purchase before after frame.items) → HasNumber frame (serial_of begun.set)
+begun_number cell purchase frame before after request begun = record {
+  request = request_of begun.key (serial_of begun.set) purchase.pan purchase.pin purchase.amount;
+  is_request = request purchase before after frame.items begun;
+  ksn_is = refl;
+}
 
 -- the registers from which it was taken are safe
 pub begun_safe : {C : Type 0} (cell : CellMeaning C) (books : Books) (t : ℕ) (purchase : Purchase) (frame : Frame) (before after : TerminalOf C) (begun : IsBegun cell purchase before after frame.items)
@@ -36,14 +41,14 @@ used_then books frame new ksn reading number used = elim (used_before books.requ
 ]
 
 -- the terminal is safe
-pub begin_safe : {C : Type 0} (cell : CellMeaning C) (books : Books) (t : ℕ) (purchase : Purchase) (frame : Frame) (before after : TerminalOf C) → UsableFits → OneRequest → TermSafe cell books t before
+pub begin_safe : {C : Type 0} (cell : CellMeaning C) (books : Books) (t : ℕ) (purchase : Purchase) (frame : Frame) (before after : TerminalOf C) → WorldLaws cell → TermSafe cell books t before
     → IsBegun cell purchase before after frame.items → TermSafe cell (after_begin books frame) t after
-begin_safe cell books t purchase frame before after fits reading safe begun =
+begin_safe cell books t purchase frame before after laws safe begun =
     let now = after_begin books frame in
-    let number = begun_number cell purchase frame before after begun in
+    let number = begun_number cell purchase frame before after laws.request begun in
     let set = begun_safe cell books t purchase frame before after begun safe in
-    let left : SetSafe now t begun.left = left_is_safe books t begun.set begun.left begun.key now.requests fits set begun.takes.takes begun.again
-    (λ ksn used. used_then books frame (serial_of begun.set) ksn reading number used) in
+    let left : SetSafe now t begun.left = left_is_safe books t begun.set begun.left begun.key now.requests laws.registers set begun.takes.takes
+    (λ ksn used. used_then books frame (serial_of begun.set) ksn laws.reading number used) in
     record {
       honest = begun.kept.settles.nature.honest.0 safe.honest;
       state = subst (λ state. StateSafe now t state) (sym begun.state_is) left;
@@ -69,6 +74,7 @@ begin_follows books t u frame new reading number owned other = record {
         | inr is ↦ absurd (other (one_owner books.owners set.iksn u t safe.owned (ap (owner_of books.owners) (sym same ∙ ap (λ ksn. ksn.iksn) is) ∙ owned)))
       ];
     };
+    set_is = safe.set_is;
     again = safe.again;
   };
 }

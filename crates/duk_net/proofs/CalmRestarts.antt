@@ -1,5 +1,5 @@
 -- Where all stores are sound and calm, restarts bring up the ends that are there.
-use Rattle.std.proofs.Common.{◌≡◌, ◌≢◌, ◌⊎◌, ◌+◌, ◌<◌, ◌∷◌, [], zero, suc, ℕ, List, Some, length, inl, inr, refl, sym, ap, subst, ◌∙◌, arith}
+use Rattle.std.proofs.Common.{◌≡◌, ◌≢◌, ◌⊎◌, ◌<◌, ◌∷◌, [], zero, suc, ℕ, List, length, inl, inr, refl, sym, ap, subst, ◌∙◌, arith}
 use Rattle.std.specs.List.{All, slice_set}
 use Rattle.std.proofs.lemmas.List.Elements.{All-cons, All-head, All-nil, All-tail}
 use Rattle.std.proofs.Math.ListN.{get_or}
@@ -17,19 +17,19 @@ use Rattle.duk_term.specs.declared.fault.TermFault.{TermFault}
 use Rattle.duk_term.specs.declared.fault.TermFault.TheVariants as term_fault
 use Rattle.duk_net.specs.Calm.{HasSoundStores, IsBroughtUp, IsCalmAt, IsCellFault, IsLogFault, IsRestart, TellsArming}
 use Rattle.duk_net.specs.Reached.{Reached}
-use Rattle.duk_net.specs.Restart.{RestartsHost, RestartsTerminal, TakesRestart}
+use Rattle.duk_net.specs.Restart.{RestartsHost, TakesRestart}
 use Rattle.duk_net.specs.Run.{Run}
 use Rattle.duk_net.specs.Step.{Step}
-use Rattle.duk_net.specs.World.{ChangesOnly, FindsNoTerminal, HasNone, HasOne, Meanings, WorldOf}
+use Rattle.duk_net.specs.World.{ChangesOnly, HasNone, HasOne, Meanings, WorldOf}
 use Rattle.duk_net.specs.declared.event.End.{End}
 use Rattle.duk_net.specs.declared.event.End.TheVariants as ends
 use Rattle.duk_net.specs.declared.event.Event.{Event}
 use Rattle.duk_net.specs.declared.event.Event.TheVariants as event
 use Rattle.duk_net.specs.declared.outcome.Outcome.{Outcome}
 use Rattle.duk_net.specs.declared.outcome.Outcome.TheVariants as came
-use Rattle.duk_net.proofs.AboveUsed.{OneRequest, UsableFits}
-use Rattle.duk_net.proofs.CalmStores.{KnownStores, StepFacts, reached_stores, step_facts}
-use Rattle.duk_net.proofs.HostAnswers.{OneReading}
+use Rattle.duk_net.proofs.AboveUsed.{WorldLaws}
+use Rattle.duk_net.proofs.CalmStores.{StepFacts, reached_stores, step_facts}
+use Rattle.duk_net.proofs.AcceptedIsKept.{AnswerLaws}
 use Rattle.duk_net.proofs.ReachedByMoves.{reached_step}
 
 -- a list in which an item is put at a place is as long as before
@@ -110,15 +110,15 @@ restart_there old new (event.RestartTerm t) as_many there = record { place = the
 restart_there old new event.RestartHost as_many there = tt
 restart_there old new _ as_many there = absurd there
 
-pub all_up : {C L I : Type 0} (m : Meanings C L I) → UsableFits → OneRequest → OneReading → (old new : WorldOf C L I) (events : List Event) (outcomes : List Outcome) → Reached m old
+pub all_up : {C L I : Type 0} (m : Meanings C L I) → WorldLaws m.cell → AnswerLaws → (old new : WorldOf C L I) (events : List Event) (outcomes : List Outcome) → Reached m old
     → HasSoundStores m old → ((end : End) → IsCalmAt m old end) → All (IsRestart old) events → Run m old events outcomes new → All IsBroughtUp outcomes × ((end : End) → IsCalmAt m new end)
-all_up m fits request answer old new [] [] reached sound calm there run = (All-nil IsBroughtUp, rw run calm)
-all_up m fits request answer old new [] (outcome ∷ outcomes) reached sound calm there run = absurd run
-all_up m fits request answer old new (event ∷ events) [] reached sound calm there run = absurd run
-all_up m fits request answer old new (event ∷ events) (outcome ∷ outcomes) reached sound calm there run =
-    let facts = step_facts m old event outcome run.0 (reached_stores m fits request answer old reached) run.1 in
+all_up m laws answer old new [] [] reached sound calm there run = (All-nil IsBroughtUp, rw run calm)
+all_up m laws answer old new [] (outcome ∷ outcomes) reached sound calm there run = absurd run
+all_up m laws answer old new (event ∷ events) [] reached sound calm there run = absurd run
+all_up m laws answer old new (event ∷ events) (outcome ∷ outcomes) reached sound calm there run =
+    let facts = step_facts m old event outcome run.0 (reached_stores m laws answer old reached) run.1 in
     let up = step_up m old event outcome run.0 (All-head (IsRestart old) event events there) run.1 sound calm facts in
-    let rest = all_up m fits request answer run.0 new events outcomes (reached_step m old run.0 event outcome reached run.1) (facts.sound sound)
+    let rest = all_up m laws answer run.0 new events outcomes (reached_step m old run.0 event outcome reached run.1) (facts.sound sound)
     (λ end. facts.calm end (calm end) (not_armed end outcome up.0))
     (λ k default within. restart_there old run.0 (get_or events k default) up.1 (All-tail (IsRestart old) event events there k default within)) run.2 in
     (All-cons IsBroughtUp outcome outcomes up.0 rest.0, rest.1)

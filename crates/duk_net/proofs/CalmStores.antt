@@ -1,46 +1,40 @@
 -- Sound stores tell no damage, and a calm store tells no failed device step before it is armed.
 use Rattle.std.proofs.Common.{◌≡◌, ◌≢◌, ◌⊎◌, ◌+◌, ◌++◌, ◌∷◌, [], zero, suc, ℕ, List, Some, None, inl, inr, refl, sym, ap, subst, ◌∙◌, arith}
-use Rattle.std.specs.List.{All, Any, Contains}
+use Rattle.std.specs.List.{All, Any}
 use Rattle.std.proofs.lemmas.List.Elements.{All-contains, All-nil, All-push}
 use Rattle.std.proofs.lemmas.Option.{slice_get-get_or}
 use Rattle.std.proofs.Math.ListN.{get_or}
 use Rattle.std.proofs.lemmas.List.Quantifiers.{Any-push}
-use Rattle.duk_frame.specs.Request.{IsRequest}
 use Rattle.duk_host.specs.Host.{HostOf}
 use Rattle.duk_host.specs.declared.fault.HostFault.{HostFault}
 use Rattle.duk_host.specs.declared.fault.HostFault.TheVariants as host_fault
 use Rattle.duk_store.specs.Cell.{CellMeaning, Kept}
-use Rattle.duk_store.specs.Log.{LogMeaning}
-use Rattle.duk_store.specs.StoreState.{StoreState}
 use Rattle.duk_store.specs.declared.fault.StoreFault.{StoreFault}
 use Rattle.duk_store.specs.declared.fault.StoreFault.TheVariants.{Damaged, Device}
-use Rattle.duk_term.specs.Body.{IsTerminalBody}
 use Rattle.duk_term.specs.Load.{Loading}
 use Rattle.duk_term.specs.Terminal.{TerminalOf}
 use Rattle.duk_term.specs.declared.fault.TermFault.{TermFault}
-use Rattle.duk_term.specs.declared.fault.TermFault.TheVariants as term_fault
 use Rattle.duk_term.specs.declared.purchase.Purchase.{Purchase}
 use Rattle.duk_net.specs.Arm.{ArmsCell, ArmsHost, ArmsTerminal}
 use Rattle.duk_net.specs.Begin.{Begins}
-use Rattle.duk_net.specs.Calm.{FailsOnceArmed, HasSoundCell, HasSoundStores, IsCalmAt, IsCellFault, IsLogFault, TellsArming, TellsFault, TellsNoDamage}
+use Rattle.duk_net.specs.Calm.{FailsOnceArmed, HasSoundCell, HasSoundStores, IsCalmAt, TellsArming, TellsFault, TellsNoDamage}
 use Rattle.duk_net.specs.Down.{TakesAnswer}
 use Rattle.duk_net.specs.Load.{TakesLoad}
 use Rattle.duk_net.specs.Reached.{CallLeads, Reached}
 use Rattle.duk_net.specs.Restart.{IsHostLeft, RestartsHost, TakesRestart}
 use Rattle.duk_net.specs.Step.{Step}
 use Rattle.duk_net.specs.Up.{ReachesHost}
-use Rattle.duk_net.specs.World.{ChangesOnly, ChangesTerminal, Frame, IsAt, Meanings, WorldOf}
+use Rattle.duk_net.specs.World.{ChangesOnly, Frame, IsAt, Meanings, WorldOf}
 use Rattle.duk_net.specs.declared.event.End.{End}
 use Rattle.duk_net.specs.declared.event.End.TheVariants as ends
 use Rattle.duk_net.specs.declared.event.Event.{Event}
 use Rattle.duk_net.specs.declared.event.Event.TheVariants as event
 use Rattle.duk_net.specs.declared.outcome.Outcome.{Outcome}
 use Rattle.duk_net.specs.declared.outcome.Outcome.TheVariants as came
-use Rattle.duk_net.proofs.AboveUsed.{BodySafe, KeptSafe, OneRequest, UsableFits, books_of}
-use Rattle.duk_net.proofs.AcceptedIsKept.{any_cases, reached_safe}
+use Rattle.duk_net.proofs.AboveUsed.{KeptSafe, WorldLaws, books_of}
+use Rattle.duk_net.proofs.AcceptedIsKept.{AnswerLaws, reached_safe}
 use Rattle.duk_net.proofs.CompletedByHost.{any_stays, last_or_before}
 use Rattle.duk_net.proofs.FoundIsUsable.{FindsUsable, reached_usable}
-use Rattle.duk_net.proofs.HostAnswers.{OneReading}
 use Rattle.duk_net.proofs.ReachedByMoves.{leads_all}
 use Rattle.duk_net.proofs.StoreFaults.{FindsBodies, IsKeptBody, KeepsCalm, RefusesHost, RefusesTerm, begin_refused, handle_refused, host_restart_refused, load_refused, nature_kept, reply_refused, same_kept, term_restart_refused}
 use Rattle.duk_net.proofs.TerminalsAfterwards.{after_acts, at_contains, before_acts}
@@ -59,9 +53,9 @@ kept_body books t None safe = tt
 kept_body books t (Some body) safe = rw safe.body_is safe.safe.again.is_body
 
 -- so it is in every world that is reached
-pub reached_stores : {C L I : Type 0} (m : Meanings C L I) → UsableFits → OneRequest → OneReading → (world : WorldOf C L I) → Reached m world → KnownStores m world
-reached_stores m fits request answer world reached =
-    let safe = reached_is_safe m world fits request reached in
+pub reached_stores : {C L I : Type 0} (m : Meanings C L I) → WorldLaws m.cell → AnswerLaws → (world : WorldOf C L I) → Reached m world → KnownStores m world
+reached_stores m laws answer world reached =
+    let safe = reached_is_safe m world laws reached in
     record {
       log = (reached_safe m answer world reached).honest;
       usable = reached_usable m answer world reached;
@@ -330,14 +324,14 @@ record SoundSince {C L I : Type 0} (m : Meanings C L I) (outcomes : List Outcome
   sound : HasSoundStores m world
   none : All TellsNoDamage outcomes
 
-pub leads_sound : {C L I : Type 0} (m : Meanings C L I) → UsableFits → OneRequest → OneReading → (old new : WorldOf C L I) (outcomes : List Outcome) → Reached m old → HasSoundStores m old → CallLeads m old outcomes new
+pub leads_sound : {C L I : Type 0} (m : Meanings C L I) → WorldLaws m.cell → AnswerLaws → (old new : WorldOf C L I) (outcomes : List Outcome) → Reached m old → HasSoundStores m old → CallLeads m old outcomes new
     → HasSoundStores m new × All TellsNoDamage outcomes
-leads_sound m fits request answer old new outcomes reached sound leads =
+leads_sound m laws answer old new outcomes reached sound leads =
     let since = leads_all m (SoundSince m)
     (λ outcomes before after event outcome reached since step.
-    let facts = step_facts m before event outcome after (reached_stores m fits request answer before reached) step in
+    let facts = step_facts m before event outcome after (reached_stores m laws answer before reached) step in
     record { sound = facts.sound since.sound; none = All-push TellsNoDamage outcomes outcome since.none (facts.damaged since.sound) })
-    (λ outcomes before after reached since left. record { sound = (left_facts m before after (reached_stores m fits request answer before reached) left).sound since.sound; none = since.none })
+    (λ outcomes before after reached since left. record { sound = (left_facts m before after (reached_stores m laws answer before reached) left).sound since.sound; none = since.none })
     old new outcomes reached (record { sound = sound; none = All-nil TellsNoDamage }) leads in
     (since.sound, since.none)
 
@@ -415,11 +409,11 @@ calm_left m end outcomes old new since facts = record {
 none_armed : (end : End) → ¬ Any (TellsArming end) []
 none_armed end any = omega (arith, any.2)
 
-pub leads_calm : {C L I : Type 0} (m : Meanings C L I) → UsableFits → OneRequest → OneReading → (end : End) (old new : WorldOf C L I) (outcomes : List Outcome) → Reached m old → IsCalmAt m old end → CallLeads m old outcomes new
+pub leads_calm : {C L I : Type 0} (m : Meanings C L I) → WorldLaws m.cell → AnswerLaws → (end : End) (old new : WorldOf C L I) (outcomes : List Outcome) → Reached m old → IsCalmAt m old end → CallLeads m old outcomes new
     → (Any (TellsArming end) outcomes ⊎ IsCalmAt m new end) × FailsOnceArmed end outcomes
-leads_calm m fits request answer end old new outcomes reached calm leads =
+leads_calm m laws answer end old new outcomes reached calm leads =
     let since = leads_all m (CalmSince m end)
-    (λ outcomes before after event outcome reached since step. calm_more m end outcomes before outcome after since (step_facts m before event outcome after (reached_stores m fits request answer before reached) step))
-    (λ outcomes before after reached since left. calm_left m end outcomes before after since (left_facts m before after (reached_stores m fits request answer before reached) left))
+    (λ outcomes before after event outcome reached since step. calm_more m end outcomes before outcome after since (step_facts m before event outcome after (reached_stores m laws answer before reached) step))
+    (λ outcomes before after reached since left. calm_left m end outcomes before after since (left_facts m before after (reached_stores m laws answer before reached) left))
     old new outcomes reached (record { calm = inr calm; armed = none_fails end }) leads in
     (since.calm, since.armed)

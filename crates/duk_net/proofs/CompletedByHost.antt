@@ -21,6 +21,7 @@ use Rattle.duk_net.specs.declared.outcome.Outcome.TheVariants as came
 use Rattle.duk_net.proofs.AcceptedIsKept.{any_cases}
 use Rattle.duk_net.proofs.PendingIsSent.{OwnPending, SendsNumber, SentByOwners, Tells, done_by_host, done_is_over, pending_comes, pending_safe, sends_number, step_tells, used_stays}
 use Rattle.duk_net.proofs.ReachedByMoves.{leads_all, reached_step}
+use Rattle.duk_net.proofs.AboveUsed.{BegunIsRequest}
 use Rattle.duk_net.proofs.HostAnswers.{OneReading}
 use Rattle.duk_net.proofs.StepChanges.{View, step_view}
 use Rattle.duk_net.proofs.StepChanges as step
@@ -157,11 +158,11 @@ module _ {C L I : Type 0} (m : Meanings C L I) (terminals : List (TerminalOf C))
       ended.over ksn (among.0, get_or outcomes place other, among.1, among.2, one) (was_pending ksn last))
 
   -- what a step completes is over, and what was over stays so
-  over_on : NoneTwice new.requests → (ksn : Serial) → Any (Completes ksn) (outcomes ++ outcome ∷ []) → ¬ IsPendingIn new.terminals ksn
-  over_on none ksn any (t, waits) = elim (any_cases (Completes ksn) outcomes outcome any) [
+  over_on : BegunIsRequest m.cell → NoneTwice new.requests → (ksn : Serial) → Any (Completes ksn) (outcomes ++ outcome ∷ []) → ¬ IsPendingIn new.terminals ksn
+  over_on request none ksn any (t, waits) = elim (any_cases (Completes ksn) outcomes outcome any) [
     | inl before ↦ elim (pending_comes m old outcome new t ksn view waits) [
       | inl still ↦ ended.over ksn before (t, still)
-      | inr sends ↦ fresh_number old new ksn none (sends_number m old outcome new t ksn (step_tells m old outcome new view) sends) (ended.used ksn before)
+      | inr sends ↦ fresh_number old new ksn none (sends_number m request old outcome new t ksn (step_tells m old outcome new view) sends) (ended.used ksn before)
     ]
     | inr last ↦
         let at = done_at m old outcome new ksn (step_tells m old outcome new view) last in
@@ -192,11 +193,11 @@ module _ {C L I : Type 0} (m : Meanings C L I) (terminals : List (TerminalOf C))
   ]
 
   -- with one step more they end so too
-  ended_on : OneReading → NoneTwice new.requests → Ended terminals new.terminals answers new.answers new.requests (outcomes ++ outcome ∷ [])
-  ended_on one none = record {
+  ended_on : OneReading → BegunIsRequest m.cell → NoneTwice new.requests → Ended terminals new.terminals answers new.answers new.requests (outcomes ++ outcome ∷ [])
+  ended_on one request none = record {
     accepted = accepted_on;
     once = once_on;
-    over = over_on none;
+    over = over_on request none;
     pending = pending_on;
     used = used_on;
     replied = replied_on one;
@@ -209,14 +210,14 @@ done_has_its_reply m before after event t ksn code step =
     record { pending = told.0; replied = told.1 }
 
 -- the transactions of a call end each once, and by the host's reply
-pub completed_by_call : {C L I : Type 0} (m : Meanings C L I) → OneReading → ((world : WorldOf C L I) → Reached m world → NoneTwice world.requests) → SentByOwners m
+pub completed_by_call : {C L I : Type 0} (m : Meanings C L I) → OneReading → BegunIsRequest m.cell → ((world : WorldOf C L I) → Reached m world → NoneTwice world.requests) → SentByOwners m
     → (old new : WorldOf C L I) (outcomes : List Outcome) → Reached m old → CallLeads m old outcomes new → Completed m old new.terminals outcomes
-completed_by_call {C} {L} {I} m one none owners old new outcomes reached leads =
+completed_by_call {C} {L} {I} m one request none owners old new outcomes reached leads =
     let HasEnded : List Outcome → WorldOf C L I → Type 0 = λ outcomes world. Ended old.terminals world.terminals old.answers world.answers world.requests outcomes in
     let ended = leads_all m HasEnded
     (λ outcomes before after event outcome reached ended step.
-    ended_on m old.terminals old.answers outcomes before outcome after ended (pending_safe m owners before reached) (step_view m before event outcome after step)
-    one (none after (reached_step m before after event outcome reached step)))
+    ended_on m old.terminals old.answers outcomes before outcome after ended (pending_safe m request owners before reached) (step_view m before event outcome after step)
+    one request (none after (reached_step m before after event outcome reached step)))
     (λ outcomes before after reached ended left. subst (λ world. HasEnded outcomes world) (sym left.rest) ended)
     old new outcomes reached (none_ended old.terminals old.answers old.requests) leads in
     record {

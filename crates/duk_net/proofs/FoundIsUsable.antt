@@ -1,6 +1,6 @@
 -- Each list that a restart of the host's log may find is one of numbers that it may have used: each numbers a transaction, and none occurs twice.
-use Rattle.std.proofs.Common.{◌≡◌, ◌≢◌, ◌++◌, ◌∷◌, [], ℕ, List, Some, inl, inr, refl, sym, ap, subst, arith}
-use Rattle.std.specs.List.{All, AllPairs, Contains}
+use Rattle.std.proofs.Common.{◌≢◌, ◌++◌, ◌∷◌, [], ℕ, List, Some, inl, inr, refl, subst, arith}
+use Rattle.std.specs.List.{Contains}
 use Rattle.std.proofs.lemmas.List.Elements.{All-nil, All-push, Contains-get_or}
 use Rattle.std.proofs.lemmas.List.Quantifiers.{all_pairs_push}
 use Rattle.duk_frame.specs.Request.{IsRequest}
@@ -14,7 +14,7 @@ use Rattle.duk_host.specs.declared.fault.HostFault.TheVariants as fault
 use Rattle.duk_host.specs.declared.running.Running.{Running}
 use Rattle.duk_store.specs.Log.{AppendFailed, LogMeaning, Numbers}
 use Rattle.duk_store.specs.Restart.{Restarted}
-use Rattle.duk_store.specs.StoreState.{FindsOnly, StoreState}
+use Rattle.duk_store.specs.StoreState.{StoreState}
 use Rattle.duk_store.specs.declared.fault.StoreFault.{StoreFault}
 use Rattle.duk_store.specs.declared.fault.StoreFault.TheVariants as store_fault
 use Rattle.duk_tree.specs.Path.{IsUsable}
@@ -23,8 +23,7 @@ use Rattle.duk_net.specs.First.{IsFirst}
 use Rattle.duk_net.specs.Reached.{Reached}
 use Rattle.duk_net.specs.World.{Frame, Meanings, WorldOf}
 use Rattle.duk_net.specs.declared.outcome.Outcome.{Outcome}
-use Rattle.duk_net.proofs.AcceptedIsKept.{HostKeepsAccepted, KeepsAllAccepted, UsesAll, reached_safe}
-use Rattle.duk_net.proofs.HostAnswers.{OneReading}
+use Rattle.duk_net.proofs.AcceptedIsKept.{AnswerLaws, HostKeepsAccepted, KeepsAllAccepted, UsesAll, reached_safe}
 use Rattle.duk_net.proofs.ReachedByMoves.{reached_all}
 use Rattle.duk_net.proofs.StepChanges.{TouchesHost, View, accept, done, host, host_armed, host_restart_refused, host_restarted, left_touches, load, no_answer, nothing, refuse, send, step_view, terminal}
 
@@ -124,8 +123,8 @@ first_usable m world first numbers found = rw ((first.host.log.finds numbers).0 
 })
 
 -- in each world that is reached, a restart of the host's log finds such a list
-pub reached_usable : {C L I : Type 0} (m : Meanings C L I) → OneReading → (world : WorldOf C L I) → Reached m world → HostFindsUsable m world.host
-reached_usable m one = reached_all m (λ world. HostFindsUsable m world.host) (first_usable m) (λ old new reached usable moves. elim moves [
-  | inl happens ↦ view_usable m old happens.outcome new (reached_safe m one old reached) usable (step_view m old happens.event happens.outcome new happens.step)
-  | inr left ↦ touched_usable m old.host new.host old.answers (reached_safe m one old reached) usable (left_touches m old new left)
+pub reached_usable : {C L I : Type 0} (m : Meanings C L I) → AnswerLaws → (world : WorldOf C L I) → Reached m world → HostFindsUsable m world.host
+reached_usable m laws = reached_all m (λ world. HostFindsUsable m world.host) (first_usable m) (λ old new reached usable moves. elim moves [
+  | inl happens ↦ view_usable m old happens.outcome new (reached_safe m laws old reached) usable (step_view m old happens.event happens.outcome new happens.step)
+  | inr left ↦ touched_usable m old.host new.host old.answers (reached_safe m laws old reached) usable (left_touches m old new left)
 ])

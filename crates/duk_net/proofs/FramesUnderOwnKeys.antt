@@ -4,6 +4,7 @@ use Rattle.std.specs.List.{slice_get}
 use Rattle.std.proofs.lemmas.List.Elements.{All-nil, All-push}
 use Rattle.std.proofs.lemmas.Option.{get_or_from_slice_get, slice_get_within}
 use Rattle.duk_frame.specs.Answer.{IsAnswer, IsRefusal}
+use Rattle.duk_frame.specs.Payment.{request_of}
 use Rattle.duk_frame.specs.Request.{IsRequest}
 use Rattle.duk_frame.specs.declared.answer.AnswerFrame.{AnswerFrame}
 use Rattle.duk_frame.specs.declared.answer.AnswerFrame.TheVariants.{Refusal, Reply}
@@ -12,13 +13,14 @@ use Rattle.duk_host.specs.Host.{basis_of}
 use Rattle.duk_host.specs.Judgement.{JudgementBasis, IsAuthentic, IsReplyWith, IsReasonAgainst, IsRefusedRequest, reason_number}
 use Rattle.duk_hsm.specs.Keys.{HsmKeys, key_set_of}
 use Rattle.duk_pin.specs.PinBlock.{IsPinBlock, pin_block}
+use Rattle.duk_regs.specs.Registers.{IsTaken, RegisterSet, StandsFor}
 use Rattle.duk_tdes.specs.Key.{IsKey}
 use Rattle.duk_tdes.specs.Tdes.{tdes_decrypted, tdes_encrypted}
-use Rattle.duk_term.specs.Begin.{IsBegun, requested}
+use Rattle.duk_term.specs.Begin.{IsBegun}
 use Rattle.duk_term.specs.Terminal.{TerminalOf, serial_of}
 use Rattle.duk_term.specs.declared.purchase.Purchase.{Purchase}
 use Rattle.duk_tree.specs.Derivation.{node_key, pin_key_of, transaction_key_of}
-use Rattle.duk_tree.specs.Path.{path_of}
+use Rattle.duk_tree.specs.Path.{IsUsable, path_of}
 use Rattle.duk_tree.specs.Serial.{IsSerial, Serial, iksn_prefix_of, prefix_of}
 use Rattle.duk_net.specs.OwnKey.{IsOwnReply, IsOwnRequest, IsRefusedAsUsedOrFull}
 use Rattle.duk_net.specs.Reached.{CallLeads, Moves, Reached}
@@ -27,6 +29,8 @@ use Rattle.duk_net.specs.Up.{UpRefused, answer_outcome}
 use Rattle.duk_net.specs.World.{Frame, Meanings, WorldOf}
 use Rattle.duk_net.specs.declared.outcome.Outcome.{Outcome}
 use Rattle.duk_net.specs.declared.outcome.Outcome.TheVariants as came
+use Rattle.duk_net.proofs.AboveUsed.{BegunIsRequest}
+use Rattle.duk_net.proofs.AcceptedIsKept.{RepliesAreRead}
 use Rattle.duk_net.proofs.ReachedByMoves.{leads_all, reached_all}
 use Rattle.duk_net.proofs.StepChanges.{IsQuiet, View, left_touches, step_view, touched_keys}
 use Rattle.duk_net.proofs.StepChanges as shape
@@ -36,6 +40,10 @@ pub record KeyLaws {C L I : Type 0} (m : Meanings C L I) : Type 0 where
   pub stands : (world : WorldOf C L I) → Reached m world → HoldsOfTerminals m (OwnsAboveUsed world.host.keys world.requests world.owners) world.terminals
   pub one_request : (bytes : List ℕ) (request other : Request) → IsRequest bytes request → IsRequest bytes other → request ≡ other
   pub one_answer : (bytes : List ℕ) (answer other : AnswerFrame) → IsAnswer bytes answer → IsAnswer bytes other → answer ≡ other
+  pub replies : RepliesAreRead
+  pub request : BegunIsRequest m.cell
+  pub readable : (purchase : Purchase) (before after : TerminalOf C) (frame : List ℕ) → IsBegun m.cell purchase before after frame → IsPinBlock purchase.pin purchase.pan (pin_block purchase.pin purchase.pan)
+  pub taken : (initial : List ℕ) (old new : RegisterSet) (key : List ℕ) → IsUsable old.counter → IsTaken old key new → StandsFor initial old → key ≡ transaction_key_of initial old.iksn old.counter
   pub refusals : (basis : JudgementBasis) (bytes frame : List ℕ) (refused : IsRefusedRequest basis bytes frame) → IsRefusal frame refused.request.ksn (reason_number refused.reason)
   pub prefixes : (ksn : Serial) → IsSerial ksn → prefix_of ksn ≡ iksn_prefix_of ksn.iksn
   pub node : (initial : List ℕ) (iksn : ℕ) (path : List ℕ) → IsKey 16 initial → IsKey 16 (node_key initial iksn path)
@@ -71,26 +79,29 @@ module _ {C L I : Type 0} (m : Meanings C L I) (laws : KeyLaws m) where
       let set = begun.set in
       let key = begun.key in
       let initial = stands.initial_is in
-      let taken = (begun.takes.takes.stands stands.initial stands.stands).0 in
+      let takes = begun.takes.takes in
+      let is_request = laws.request purchase before after frame.items begun in
+      let readable = laws.readable purchase before after frame.items begun in
+      let taken = laws.taken stands.initial set begun.left key takes.usable takes.taken stands.stands in
       let is_key : IsKey 16 key = subst (IsKey 16) (sym taken) (laws.node stands.initial set.iksn (path_of set.counter) initial.is_key) in
       record {
-        request = requested set key purchase;
+        request = request_of key (serial_of set) purchase.pan purchase.pin purchase.amount;
         pin = purchase.pin;
-        is_request = begun.request;
+        is_request = is_request;
         authentic = record {
           key = key;
           key_is = record {
             bdk = initial.bdk;
-            held = ap (key_set_of keys) (laws.prefixes (serial_of set) begun.request.fields.ksn_is) ∙ initial.held;
-            usable = begun.takes.takes.usable;
+            held = ap (key_set_of keys) (laws.prefixes (serial_of set) is_request.fields.ksn_is) ∙ initial.held;
+            usable = takes.usable;
             key_is = taken ∙ ap (λ root. transaction_key_of root set.iksn set.counter) initial.initial_is;
           };
           mac_is = refl;
         };
         frame_is = begun.frame_is;
         pin_is_found = subst (IsPinBlock purchase.pin purchase.pan)
-            (sym (laws.deciphered (pin_key_of key) purchase.pin purchase.pan (laws.pin_key key is_key) begun.pin_is_readable))
-            begun.pin_is_readable;
+            (sym (laws.deciphered (pin_key_of key) purchase.pin purchase.pan (laws.pin_key key is_key) readable))
+            readable;
       }
 
   -- an accepted reply under the transaction key of its number has no other reading, and a refusal none as an accepted reply
@@ -110,7 +121,7 @@ module _ {C L I : Type 0} (m : Meanings C L I) (laws : KeyLaws m) where
   step_own old new outcome reached own (shape.terminal t change quiet) = rw change.rest own
   step_own old new outcome reached own (shape.accept k n ksn code is up) =
       let reply = up.accepted.accepted.reply.reply in
-      rw (up.answered.rest, up.accepted.kept.ends.keys) (own.0, All-push (IsOwnReply old.host.keys) old.answers up.frame own.1 (own_reply old.host.keys up.frame (Reply _ _ reply.mac) reply.is_reply reply))
+      rw (up.answered.rest, up.accepted.kept.ends.keys) (own.0, All-push (IsOwnReply old.host.keys) old.answers up.frame own.1 (own_reply old.host.keys up.frame (Reply _ _ _) (laws.replies _ up.request.items up.accepted.request up.frame.items up.accepted.accepted) reply))
   step_own old new outcome reached own (shape.refuse k n ksn reason is up) =
       rw (up.answered.rest, up.refused.same) (own.0, All-push (IsOwnReply old.host.keys) old.answers up.frame own.1 (own_reply old.host.keys up.frame (Refusal ksn reason) up.told tt))
   step_own old new outcome reached own (shape.done k t frame ksn code is at change) = rw change.rest own

@@ -33,9 +33,9 @@ OneKeyBlock = (text protection_key : List ℕ) (header other_header : Header) (k
     → IsKeyBlock text protection_key header key → IsKeyBlock text protection_key other_header other_key → (header ≡ other_header) × (key ≡ other_key)
 
 -- a terminal finds no other key in what is issued for it than its own initial key
-pub own_key : (keys : HsmKeys) (iksn : ℕ) (loading padding text : List ℕ) → OneKeyBlock → IsTdesKey loading → IsIssued keys iksn loading padding text
-    → (initial : List ℕ) → WrapsInitialKey loading text initial → IsInitialKeyOf keys iksn initial
-own_key keys iksn loading padding text one loading_is issued initial wrapped = record {
+pub own_key : OneKeyBlock → (keys : HsmKeys) (iksn : ℕ) (loading padding text initial : List ℕ) → IsTdesKey loading → IsIssued keys iksn loading padding text → WrapsInitialKey loading text initial
+    → IsInitialKeyOf keys iksn initial
+own_key one keys iksn loading padding text initial loading_is issued wrapped = record {
   bdk = issued.bdk;
   held = issued.held;
   initial_is = (one text loading _ _ _ _ loading_is wrapped.wraps.block issued.written.block).1;

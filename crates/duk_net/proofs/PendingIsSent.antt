@@ -30,6 +30,7 @@ use Rattle.duk_net.specs.World.{ChangesOnly, Frame, IsAt, Meanings, ChangesTermi
 use Rattle.duk_net.specs.declared.outcome.Outcome.{Outcome}
 use Rattle.duk_net.specs.declared.outcome.Outcome.TheVariants as came
 use Rattle.duk_net.specs.declared.owner.Owner.{Owner}
+use Rattle.duk_net.proofs.AboveUsed.{BegunIsRequest}
 use Rattle.duk_net.proofs.TerminalsAfterwards.{after_acts, at_contains, before_acts}
 use Rattle.duk_net.proofs.ReachedByMoves.{reached_all}
 use Rattle.duk_net.proofs.WorldStaysAboveUsed.{step_owners_stay}
@@ -224,15 +225,15 @@ pub record SendsNumber {C L I : Type 0} (old new : WorldOf C L I) (ksn : Serial)
   pub number : HasNumber frame ksn
 
 -- where a request is sent, it is one more
-pub sends_number : {C L I : Type 0} (m : Meanings C L I) (old : WorldOf C L I) (outcome : Outcome) (new : WorldOf C L I) (t : ℕ) (ksn : Serial)
+pub sends_number : {C L I : Type 0} (m : Meanings C L I) → BegunIsRequest m.cell → (old : WorldOf C L I) (outcome : Outcome) (new : WorldOf C L I) (t : ℕ) (ksn : Serial)
     → Tells m old outcome new → Sends t ksn outcome → SendsNumber old new ksn
-sends_number m old (came.Sent u k sent) new t ksn tells sends =
+sends_number m request old (came.Sent u k sent) new t ksn tells sends =
     let hands = tells.1.terminal.changed in record {
       frame = tells.1.frame;
       requests = ap (λ world. world.requests) tells.1.rest;
-      number = record { request = _; is_request = hands.begun.request; ksn_is = sym sends.1 ∙ hands.ksn_is };
+      number = record { request = _; is_request = request tells.0 _ _ tells.1.frame.items hands.begun; ksn_is = sym sends.1 ∙ hands.ksn_is };
     }
-sends_number m old _ new t ksn tells sends = absurd sends
+sends_number m request old _ new t ksn tells sends = absurd sends
 
 -- a terminal that sends owns the initial key serial number
 sends_by_owner : (owners : List Owner) (outcome : Outcome) (t : ℕ) (ksn : Serial) → IsSentByOwner owners outcome → Sends t ksn outcome → owner_of owners ksn.iksn ≡ Some t
@@ -256,31 +257,31 @@ first_safe m world first t ksn waits =
     absurd (stopped_waits waits.terminal.state waits.pending stopped waits.is_pending)
 
 -- a step leaves no other number pending than such ones
-step_safe : {C L I : Type 0} (m : Meanings C L I) (old : WorldOf C L I) (outcome : Outcome) (new : WorldOf C L I)
+step_safe : {C L I : Type 0} (m : Meanings C L I) → BegunIsRequest m.cell → (old : WorldOf C L I) (outcome : Outcome) (new : WorldOf C L I)
     → OwnPending old → View m old outcome new → IsSentByOwner new.owners outcome → OwnPending new
-step_safe m old outcome new safe view owned t ksn waits = elim (pending_comes m old outcome new t ksn view waits) [
+step_safe m request old outcome new safe view owned t ksn waits = elim (pending_comes m old outcome new t ksn view waits) [
   | inl before ↦
       let was = safe t ksn before in
       (used_stays m old outcome new ksn view was.0, step_owners_stay m old new outcome view ksn.iksn t was.1)
   | inr sends ↦
-      let sent = sends_number m old outcome new t ksn (step_tells m old outcome new view) sends in
+      let sent = sends_number m request old outcome new t ksn (step_tells m old outcome new view) sends in
       let stands : Contains new.requests sent.frame = subst (λ requests. Contains requests sent.frame) (sym sent.requests) (Contains-push old.requests sent.frame) in
       (record { frame = sent.frame; sent = stands; number = sent.number }, sends_by_owner new.owners outcome t ksn owned sends)
 ]
 
 -- so it is as a world moves on
-moves_safe : {C L I : Type 0} (m : Meanings C L I) → SentByOwners m → (old new : WorldOf C L I) → Reached m old → OwnPending old → Moves m old new → OwnPending new
-moves_safe m owners old new reached safe moves = elim moves [
+moves_safe : {C L I : Type 0} (m : Meanings C L I) → BegunIsRequest m.cell → SentByOwners m → (old new : WorldOf C L I) → Reached m old → OwnPending old → Moves m old new → OwnPending new
+moves_safe m request owners old new reached safe moves = elim moves [
   | inl happens ↦
       let led : CallLeads m old (happens.outcome ∷ []) new = record { events = happens.event ∷ []; mid = new; run = (new, happens.step, refl); left = inl refl } in
       let owned = owners old new (happens.outcome ∷ []) reached led in
-      step_safe m old happens.outcome new safe (step_view m old happens.event happens.outcome new happens.step) (All-head (IsSentByOwner new.owners) happens.outcome [] owned)
+      step_safe m request old happens.outcome new safe (step_view m old happens.event happens.outcome new happens.step) (All-head (IsSentByOwner new.owners) happens.outcome [] owned)
   | inr left ↦ subst (λ world. OwnPending world) (sym left.rest) safe
 ]
 
 -- so it is in each world that is reached
-pub pending_safe : {C L I : Type 0} (m : Meanings C L I) → SentByOwners m → (world : WorldOf C L I) → Reached m world → OwnPending world
-pending_safe m owners world reached = reached_all m OwnPending (first_safe m) (moves_safe m owners) world reached
+pub pending_safe : {C L I : Type 0} (m : Meanings C L I) → BegunIsRequest m.cell → SentByOwners m → (world : WorldOf C L I) → Reached m world → OwnPending world
+pending_safe m request owners world reached = reached_all m OwnPending (first_safe m) (moves_safe m request owners) world reached
 
 -- a transaction that is done was pending, and the accepted reply to it was sent
 pub done_by_host : {C L I : Type 0} (m : Meanings C L I) (old : WorldOf C L I) (t : ℕ) (ksn : Serial) (code : Code) (new : WorldOf C L I)

@@ -1,5 +1,5 @@
 -- What the calls of terminals and the host leave of their stores' soundness and calm, and which faults of stores they tell.
-use Rattle.std.proofs.Common.{◌≡◌, ◌≢◌, ℕ, List, Some, None, inl, inr, refl, sym, ap, subst, ◌∙◌}
+use Rattle.std.proofs.Common.{◌≡◌, ◌≢◌, ℕ, List, Some, None, inl, inr, sym, subst}
 use Rattle.duk_host.specs.Handle.{HandleRefused}
 use Rattle.duk_host.specs.Host.{HostMeaning, HostOf}
 use Rattle.duk_host.specs.Restart.{HostRestartRefused}
@@ -8,9 +8,9 @@ use Rattle.duk_host.specs.declared.fault.HostFault.TheVariants as host_fault
 use Rattle.duk_store.specs.Cell.{CellMeaning, Kept, PutFailed}
 use Rattle.duk_store.specs.Log.{AppendFailed, LogMeaning}
 use Rattle.duk_store.specs.Restart.{RestartFailed, Restarted}
-use Rattle.duk_store.specs.StoreState.{KeepsNature, StaysButCalm, StoreState}
+use Rattle.duk_store.specs.StoreState.{KeepsNature, StoreState}
 use Rattle.duk_store.specs.declared.fault.StoreFault.{StoreFault}
-use Rattle.duk_store.specs.declared.fault.StoreFault.TheVariants.{Damaged, Device, NoMemory, Stopped, Worn}
+use Rattle.duk_store.specs.declared.fault.StoreFault.TheVariants.{Damaged, Device, Stopped, Worn}
 use Rattle.duk_term.specs.Begin.{BeginRefused}
 use Rattle.duk_term.specs.Body.{IsTerminalBody}
 use Rattle.duk_term.specs.Load.{LoadRefused, Loading}

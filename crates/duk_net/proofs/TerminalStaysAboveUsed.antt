@@ -17,7 +17,7 @@ use Rattle.duk_term.specs.declared.state.State.{State}
 use Rattle.duk_term.specs.declared.state.State.TheVariants.{Stopped, Empty, Loaded}
 use Rattle.duk_net.specs.Arm.{ArmsCell}
 use Rattle.duk_net.specs.World.{Meanings}
-use Rattle.duk_net.proofs.AboveUsed.{Books, KeptSafe, SetSafe, StateSafe, TermSafe, UsableFits, left_is_safe}
+use Rattle.duk_net.proofs.AboveUsed.{Books, KeptSafe, RegisterLaws, SetSafe, StateSafe, TermSafe, left_is_safe}
 use Rattle.duk_net.proofs.StepChanges.{Touches, armed, begin_refused, restart_refused, restarted}
 
 -- what a failed put leaves is as honest as it was
@@ -37,10 +37,10 @@ taken_from_safe books t state set left key takes safe = subst (λ state. StateSa
 pub safe_body : (books : Books) (t : ℕ) (set : RegisterSet) (kept : Kept) → SetSafe books t set → kept ≡ Some (body_bytes set) → KeptSafe books t kept
 safe_body books t set kept safe is = subst (λ kept. KeptSafe books t kept) (sym is) (record { set = set; body_is = refl; safe = safe })
 
-begin_stopped_safe : {C : Type 0} (cell : CellMeaning C) (books : Books) (t : ℕ) (before after : TerminalOf C) (why : StoreFault) → UsableFits → TermSafe cell books t before → BeginStopped cell before after why → TermSafe cell books t after
-begin_stopped_safe cell books t before after why fits safe stopped =
+begin_stopped_safe : {C : Type 0} (cell : CellMeaning C) (books : Books) (t : ℕ) (before after : TerminalOf C) (why : StoreFault) → RegisterLaws → TermSafe cell books t before → BeginStopped cell before after why → TermSafe cell books t after
+begin_stopped_safe cell books t before after why laws safe stopped =
     let set = taken_from_safe books t before.state stopped.set stopped.left stopped.key stopped.takes safe.state in
-    let left = left_is_safe books t stopped.set stopped.left stopped.key books.requests fits set stopped.takes.takes stopped.again (λ ksn used. inl used) in
+    let left = left_is_safe books t stopped.set stopped.left stopped.key books.requests laws set stopped.takes.takes (λ ksn used. inl used) in
     record {
       honest = put_failed_honest cell before.cell after.cell (body_bytes stopped.left) why stopped.stops.not_kept safe.honest;
       state = subst (λ state. StateSafe books t state) (sym stopped.stops.stopped) tt;
@@ -50,12 +50,12 @@ begin_stopped_safe cell books t before after why fits safe stopped =
       ];
     }
 
-begin_refused_safe : {C : Type 0} (cell : CellMeaning C) (books : Books) (t : ℕ) (before after : TerminalOf C) (why : TermFault) → UsableFits → TermSafe cell books t before → BeginRefused cell before after why → TermSafe cell books t after
-begin_refused_safe cell books t before after fault.Stopped fits safe refused = subst (λ terminal. TermSafe cell books t terminal) (sym refused.1) safe
-begin_refused_safe cell books t before after fault.NotLoaded fits safe refused = subst (λ terminal. TermSafe cell books t terminal) (sym refused.1) safe
-begin_refused_safe cell books t before after fault.Spent fits safe refused = subst (λ terminal. TermSafe cell books t terminal) (sym refused.1) safe
-begin_refused_safe cell books t before after (fault.Store why) fits safe refused = begin_stopped_safe cell books t before after why fits safe refused
-begin_refused_safe cell books t before after _ fits safe refused = absurd refused
+begin_refused_safe : {C : Type 0} (cell : CellMeaning C) (books : Books) (t : ℕ) (before after : TerminalOf C) (why : TermFault) → RegisterLaws → TermSafe cell books t before → BeginRefused cell before after why → TermSafe cell books t after
+begin_refused_safe cell books t before after fault.Stopped laws safe refused = subst (λ terminal. TermSafe cell books t terminal) (sym refused.1) safe
+begin_refused_safe cell books t before after fault.NotLoaded laws safe refused = subst (λ terminal. TermSafe cell books t terminal) (sym refused.1) safe
+begin_refused_safe cell books t before after fault.Spent laws safe refused = subst (λ terminal. TermSafe cell books t terminal) (sym refused.1) safe
+begin_refused_safe cell books t before after (fault.Store why) laws safe refused = begin_stopped_safe cell books t before after why laws safe refused
+begin_refused_safe cell books t before after _ laws safe refused = absurd refused
 
 -- what was found and is kept now is safe
 restarted_kept : (old new : StoreState Kept) (books : Books) (t : ℕ) (value kept : Kept) → Restarted old new value → old.honest → ((kept : Kept) → old.found kept → KeptSafe books t kept) → new.found kept → KeptSafe books t kept
@@ -104,11 +104,11 @@ armed_safe m books t steps before after safe arms = record {
 }
 
 -- a terminal that is touched stays safe
-pub touched_safe : {C L I : Type 0} (m : Meanings C L I) (books : Books) (t : ℕ) (before after : TerminalOf C) → UsableFits → TermSafe m.cell books t before → Touches m before after → TermSafe m.cell books t after
-touched_safe m books t before after fits safe (begin_refused why refused) = begin_refused_safe m.cell books t before after why fits safe refused
-touched_safe m books t before after fits safe (restarted is) = restarted_safe m.cell books t before after safe is
-touched_safe m books t before after fits safe (restart_refused why refused) = restart_refused_safe m.cell books t before after why safe refused
-touched_safe m books t before after fits safe (armed steps arms) = armed_safe m books t steps before after safe arms
+pub touched_safe : {C L I : Type 0} (m : Meanings C L I) (books : Books) (t : ℕ) (before after : TerminalOf C) → RegisterLaws → TermSafe m.cell books t before → Touches m before after → TermSafe m.cell books t after
+touched_safe m books t before after laws safe (begin_refused why refused) = begin_refused_safe m.cell books t before after why laws safe refused
+touched_safe m books t before after laws safe (restarted is) = restarted_safe m.cell books t before after safe is
+touched_safe m books t before after laws safe (restart_refused why refused) = restart_refused_safe m.cell books t before after why safe refused
+touched_safe m books t before after laws safe (armed steps arms) = armed_safe m books t steps before after safe arms
 
 completed_safe : (books : Books) (t : ℕ) (state : State) → StateSafe books t state → StateSafe books t (completed state)
 completed_safe books t Stopped safe = safe

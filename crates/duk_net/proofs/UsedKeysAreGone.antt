@@ -1,16 +1,17 @@
 -- Registers that stand above every used number hold the key of no used number, nor of an ancestor of one.
-use Rattle.std.proofs.Common.{pow_pos, ◌≡◌, ◌⊎◌, ◌<◌, ◌≤◌, ◌+◌, ◌^◌, [], ◌∷◌, ℕ, List, Some, None, All, length, get_or, inl, inr, refl, sym, ap, subst, ◌∙◌, arith}
+use Rattle.std.proofs.Common.{pow_pos, ◌≡◌, ◌⊎◌, ◌<◌, ◌≤◌, ◌^◌, [], ◌∷◌, ℕ, List, Some, None, length, inl, inr, sym, ap, subst, ◌∙◌, arith}
 use Rattle.duk_regs.specs.Registers.{HoldsNode, RegisterSet, StandsFor, empty_register, register_at}
 use Rattle.duk_store.specs.Cell.{Kept}
-use Rattle.duk_term.specs.Body.{IsFoundAgain, IsTerminalBody, body_bytes, set_of_body}
+use Rattle.duk_term.specs.Body.{IsTerminalBody, body_bytes, set_of_body}
 use Rattle.duk_term.specs.declared.state.State.{State}
 use Rattle.duk_term.specs.declared.state.State.TheVariants.{Stopped, Empty, Loaded}
 use Rattle.duk_tree.specs.Frontier.{IsAncestorOrSelf, IsHeld}
+use Rattle.duk_tree.specs.Next.{spent_counter}
 use Rattle.duk_tree.specs.Path.{IsUsable, value_of}
 use Rattle.duk_net.specs.Reached.{Reached}
 use Rattle.duk_net.specs.UnusedKeys.{HoldNoUsedKey, HoldsNoUsedNode, HoldsOfKept, HoldsOfState, HoldsOfTerminals}
 use Rattle.duk_net.specs.World.{Meanings, WorldOf}
-use Rattle.duk_net.proofs.AboveUsed.{again_counter, Books, KeptSafe, OneRequest, SetSafe, StateSafe, UsableFits, books_of}
+use Rattle.duk_net.proofs.AboveUsed.{Books, KeptSafe, SetSafe, StateSafe, UsableFits, WorldLaws, books_of}
 use Rattle.duk_net.proofs.WorldStaysAboveUsed.{reached_is_safe}
 
 state_holds : (books : Books) (t : ℕ) (P : RegisterSet → Type 0) (state : State) → ((set : RegisterSet) → SetSafe books t set → P set) → StateSafe books t state → HoldsOfState P state
@@ -29,10 +30,10 @@ kept_holds books t P (Some body) follows safe =
     }
 
 -- what holds of safe registers holds of all that the terminals of a reached world keep
-pub terminals_hold : {C L I : Type 0} (m : Meanings C L I) (world : WorldOf C L I) (P : ℕ → RegisterSet → Type 0) → UsableFits → OneRequest → Reached m world
+pub terminals_hold : {C L I : Type 0} (m : Meanings C L I) (world : WorldOf C L I) (P : ℕ → RegisterSet → Type 0) → WorldLaws m.cell → Reached m world
     → ((t : ℕ) (set : RegisterSet) → SetSafe (books_of world) t set → P t set) → HoldsOfTerminals m P world.terminals
-terminals_hold m world P fits reading reached follows t terminal at =
-    let safe = (reached_is_safe m world fits reading reached).terminals t terminal at in
+terminals_hold m world P laws reached follows t terminal at =
+    let safe = (reached_is_safe m world laws reached).terminals t terminal at in
     record {
       registers = state_holds (books_of world) t (P t) terminal.state (follows t) safe.state;
       images = λ kept found. kept_holds (books_of world) t (P t) kept (follows t) (safe.kept kept found);
@@ -55,11 +56,11 @@ path_above_zero counter (place ∷ parent) is some = let above = pow_pos place i
 usable_above_zero : (counter : ℕ) → IsUsable counter → 1 ≤ counter
 usable_above_zero counter usable = path_above_zero counter usable.path usable.value_is usable.not_the_root
 
--- the counter of registers that are found again is from one to spent
-counter_fits : (set : RegisterSet) → UsableFits → IsFoundAgain set → (1 ≤ set.counter) × (set.counter ≤ 2 ^ 21)
-counter_fits set fits again =
-    elim (again_counter set again) [
-      | inl usable ↦ let below = (fits set.counter usable).0 in (usable_above_zero set.counter usable, omega (arith, below))
+-- a counter that is usable or spent is from one to spent
+counter_fits : (counter : ℕ) → UsableFits → IsUsable counter ⊎ (counter ≡ spent_counter) → (1 ≤ counter) × (counter ≤ 2 ^ 21)
+counter_fits counter fits either =
+    elim either [
+      | inl usable ↦ let below = (fits counter usable).0 in (usable_above_zero counter usable, omega (arith, below))
       | inr spent ↦ (omega (arith, spent), omega (arith, spent))
     ]
 
@@ -67,7 +68,7 @@ counter_fits set fits again =
 holds_no_used_node : (books : Books) (t : ℕ) (set : RegisterSet) → UsableFits → NoneUsed → EachRegister → (safe : SetSafe books t set) → (place : ℕ) → place < 21
     → HoldsNoUsedNode books.requests safe.stands.initial set place
 holds_no_used_node books t set fits unused each safe place within =
-    let counter = counter_fits set fits safe.again in
+    let counter = counter_fits set.counter fits safe.stands.counter_is in
     elim (each safe.stands.initial set place counter.0 safe.stands.stands within) [
       | inl empty ↦ inl empty
       | inr held ↦

@@ -16,7 +16,7 @@ use Rattle.duk_net.proofs.BeginStaysAboveUsed.{after_begin, begin_follows, begin
 use Rattle.duk_net.proofs.LoadStaysAboveUsed.{MayBeGiven, after_load, load_follows, load_safe}
 use Rattle.duk_net.proofs.OwnersStay.{owner_stays}
 use Rattle.duk_net.proofs.ReachedByMoves.{leads_all, reached_all}
-use Rattle.duk_net.proofs.AboveUsed.{AreOwned, Books, Follows, KeptSafe, OneRequest, StateSafe, TermSafe, UsableFits, WorldSafe, books_of, term_follows}
+use Rattle.duk_net.proofs.AboveUsed.{AreOwned, Books, Follows, KeptSafe, StateSafe, TermSafe, WorldLaws, WorldSafe, books_of, term_follows}
 use Rattle.duk_net.proofs.StepChanges.{IsQuiet, View, accept, done, host, left_touches, load, nothing, refuse, send, step_view, terminal, touched_keys}
 use Rattle.duk_net.proofs.TerminalStaysAboveUsed.{done_safe, touched_safe}
 
@@ -66,63 +66,63 @@ same_books_follow : (books : Books) (u : ℕ) → Follows books u books
 same_books_follow books u = record { nothing = λ nothing. nothing; set = λ set safe. safe }
 
 -- a step leaves a safe world safe
-step_is_safe : {C L I : Type 0} (m : Meanings C L I) (old new : WorldOf C L I) (outcome : Outcome) → UsableFits → OneRequest → WorldSafe m old → View m old outcome new → WorldSafe m new
-step_is_safe m old new outcome fits reading safe (nothing same quiet) = subst (WorldSafe m) (sym same) safe
-step_is_safe m old new outcome fits reading safe (host touches rest quiet) =
+step_is_safe : {C L I : Type 0} (m : Meanings C L I) (old new : WorldOf C L I) (outcome : Outcome) → WorldLaws m.cell → WorldSafe m old → View m old outcome new → WorldSafe m new
+step_is_safe m old new outcome laws safe (nothing same quiet) = subst (WorldSafe m) (sym same) safe
+step_is_safe m old new outcome laws safe (host touches rest quiet) =
     stays_safe m old new safe (ap (λ world. world.terminals) rest)
     (ap (λ world. books_of world) rest ∙ ap (λ keys. record { keys = keys; requests = old.requests; owners = old.owners }) (touched_keys m old.host new.host touches))
-step_is_safe m old new outcome fits reading safe (accept k n ksn code is up) =
+step_is_safe m old new outcome laws safe (accept k n ksn code is up) =
     stays_safe m old new safe (ap (λ world. world.terminals) up.answered.rest)
     (ap (λ world. books_of world) up.answered.rest ∙ ap (λ keys. record { keys = keys; requests = old.requests; owners = old.owners }) up.accepted.kept.ends.keys)
-step_is_safe m old new outcome fits reading safe (refuse k n ksn reason is up) =
+step_is_safe m old new outcome laws safe (refuse k n ksn reason is up) =
     stays_safe m old new safe (ap (λ world. world.terminals) up.answered.rest)
     (ap (λ world. books_of world) up.answered.rest ∙ ap (λ host. record { keys = host.keys; requests = old.requests; owners = old.owners }) up.refused.same)
-step_is_safe m old new outcome fits reading safe (terminal t change quiet) =
+step_is_safe m old new outcome laws safe (terminal t change quiet) =
     let books : books_of new ≡ books_of old = ap (λ world. books_of world) change.rest in
     acts_safe m old new t _ change.terminal safe
-    (λ before. subst (λ books. TermSafe m.cell books t change.terminal.after) (sym books) (touched_safe m (books_of old) t change.terminal.before change.terminal.after fits before change.terminal.changed))
+    (λ before. subst (λ books. TermSafe m.cell books t change.terminal.after) (sym books) (touched_safe m (books_of old) t change.terminal.before change.terminal.after laws.registers before change.terminal.changed))
     (λ u other. subst (λ books. Follows (books_of old) u books) (sym books) (same_books_follow (books_of old) u))
     (subst AreOwned (sym books) safe.owned) (subst NoneTwice (sym (ap (λ books. books.requests) books)) safe.none_twice)
-step_is_safe m old new outcome fits reading safe (done k t frame ksn code is sent change) =
+step_is_safe m old new outcome laws safe (done k t frame ksn code is sent change) =
     let books : books_of new ≡ books_of old = ap (λ world. books_of world) change.rest in
     acts_safe m old new t _ change.terminal safe
     (λ before. subst (λ books. TermSafe m.cell books t change.terminal.after) (sym books) (done_safe m.cell (books_of old) t change.terminal.before change.terminal.after before change.terminal.changed.after_is))
     (λ u other. subst (λ books. Follows (books_of old) u books) (sym books) (same_books_follow (books_of old) u))
     (subst AreOwned (sym books) safe.owned) (subst NoneTwice (sym (ap (λ books. books.requests) books)) safe.none_twice)
-step_is_safe m old new outcome fits reading safe (load t iksn given quiet) =
+step_is_safe m old new outcome laws safe (load t iksn given quiet) =
     let asked_is = given.issued.asked_is in
     let may : MayBeGiven (books_of old) t iksn given.asked = record {
       not_elsewhere = given.may.not_elsewhere;
       iksn_is = ap (λ asked. asked.iksn) asked_is;
-      own_key = rw asked_is given.issued.own_key;
+      own_key = λ initial wrapped. laws.own_key old.host.keys iksn old.loading _ given.issued.block initial given.issued.loading_is given.issued.issued (rw asked_is at wrapped);
       owned = safe.owned;
     } in
     let books : books_of new ≡ after_load (books_of old) outcome iksn t = ap (λ world. books_of world) given.rest in
     acts_safe m old new t _ given.terminal safe
-    (λ before. subst (λ books. TermSafe m.cell books t given.terminal.after) (sym books) (load_safe m.cell (books_of old) t iksn given.asked outcome given.terminal.before given.terminal.after may before given.terminal.changed))
+    (λ before. subst (λ books. TermSafe m.cell books t given.terminal.after) (sym books) (load_safe m.cell (books_of old) t iksn given.asked outcome given.terminal.before given.terminal.after laws.registers may before given.terminal.changed))
     (λ u other. subst (λ books. Follows (books_of old) u books) (sym books) (load_follows (books_of old) t iksn u outcome safe.owned))
     (subst AreOwned (sym books) (λ ksn used. let had = safe.owned ksn used in (had.0, owner_stays outcome old.owners iksn t ksn.iksn had.0 had.1)))
     (subst NoneTwice (sym (ap (λ books. books.requests) books)) safe.none_twice)
-step_is_safe m old new outcome fits reading safe (send t k purchase ksn is sent) =
+step_is_safe m old new outcome laws safe (send t k purchase ksn is sent) =
     let acts = sent.terminal in
     let begun = acts.changed.begun in
     let frame = sent.frame in
     let books : books_of new ≡ after_begin (books_of old) frame = ap (λ world. books_of world) sent.rest in
-    let number = begun_number m.cell purchase frame acts.before acts.after begun in
+    let number = begun_number m.cell purchase frame acts.before acts.after laws.request begun in
     let set = begun_safe m.cell (books_of old) t purchase frame acts.before acts.after begun (safe.terminals t acts.before (before_acts t _ old.terminals new.terminals acts)) in
     acts_safe m old new t _ acts safe
-    (λ before. subst (λ books. TermSafe m.cell books t acts.after) (sym books) (begin_safe m.cell (books_of old) t purchase frame acts.before acts.after fits reading before begun))
-    (λ u other. subst (λ books. Follows (books_of old) u books) (sym books) (begin_follows (books_of old) t u frame (serial_of begun.set) reading number set.owned other))
-    (subst AreOwned (sym books) (begin_owned (books_of old) t frame (serial_of begun.set) reading number set.owned safe.owned))
+    (λ before. subst (λ books. TermSafe m.cell books t acts.after) (sym books) (begin_safe m.cell (books_of old) t purchase frame acts.before acts.after laws before begun))
+    (λ u other. subst (λ books. Follows (books_of old) u books) (sym books) (begin_follows (books_of old) t u frame (serial_of begun.set) laws.reading number set.owned other))
+    (subst AreOwned (sym books) (begin_owned (books_of old) t frame (serial_of begun.set) laws.reading number set.owned safe.owned))
     (subst NoneTwice (sym (ap (λ books. books.requests) books))
-    (begin_none_twice (books_of old) t frame begun.set reading number (record { ksn = serial_of begun.set; number = number; usable = begun.takes.takes.usable }) set safe.none_twice))
+    (begin_none_twice (books_of old) t frame begun.set laws.reading number (record { ksn = serial_of begun.set; number = number; usable = begun.takes.takes.usable }) set safe.none_twice))
 
 -- every world that is reached is safe
-pub reached_is_safe : {C L I : Type 0} (m : Meanings C L I) (world : WorldOf C L I) → UsableFits → OneRequest → Reached m world → WorldSafe m world
-reached_is_safe m world fits reading reached =
+pub reached_is_safe : {C L I : Type 0} (m : Meanings C L I) (world : WorldOf C L I) → WorldLaws m.cell → Reached m world → WorldSafe m world
+reached_is_safe m world laws reached =
     reached_all m (WorldSafe m) (first_is_safe m) (λ old new reached safe moves. elim moves [
-      | inl happens ↦ step_is_safe m old new happens.outcome fits reading safe (step_view m old happens.event happens.outcome new happens.step)
-      | inr left ↦ step_is_safe m old new came.NoSuchFrame fits reading safe (host (left_touches m old new left) left.rest tt)
+      | inl happens ↦ step_is_safe m old new happens.outcome laws safe (step_view m old happens.event happens.outcome new happens.step)
+      | inr left ↦ step_is_safe m old new came.NoSuchFrame laws safe (host (left_touches m old new left) left.rest tt)
     ]) world reached
 
 -- of a quiet outcome nothing is owed
@@ -165,14 +165,14 @@ step_by_owner m old new outcome safe (send t k purchase ksn is sent) =
     by_owner_as new.owners outcome (came.Sent t k ksn) is (ap (λ world. owner_of world.owners ksn.iksn) sent.rest ∙ ap (λ ksn. owner_of old.owners ksn.iksn) acts.changed.ksn_is ∙ set.owned)
 
 -- what a call sends is sent by owners
-pub leads_by_owner : {C L I : Type 0} (m : Meanings C L I) (old new : WorldOf C L I) (outcomes : List Outcome) → UsableFits → OneRequest → Reached m old → CallLeads m old outcomes new → All (IsSentByOwner new.owners) outcomes
-leads_by_owner m old new outcomes fits reading reached leads =
+pub leads_by_owner : {C L I : Type 0} (m : Meanings C L I) (old new : WorldOf C L I) (outcomes : List Outcome) → WorldLaws m.cell → Reached m old → CallLeads m old outcomes new → All (IsSentByOwner new.owners) outcomes
+leads_by_owner m old new outcomes laws reached leads =
     leads_all m (λ outcomes world. All (IsSentByOwner world.owners) outcomes)
     (λ outcomes old new event outcome reached holds step.
     let view = step_view m old event outcome new step in
     All-push (IsSentByOwner new.owners) outcomes outcome
     (λ k d within. sent_stays old.owners new.owners (step_owners_stay m old new outcome view) (get_or outcomes k d) (holds k d within))
-    (step_by_owner m old new outcome (reached_is_safe m old fits reading reached) view))
+    (step_by_owner m old new outcome (reached_is_safe m old laws reached) view))
     (λ outcomes old new reached holds left. subst (λ owners. All (IsSentByOwner owners) outcomes) (sym (ap (λ world. world.owners) left.rest)) holds)
     old new outcomes reached (All-nil (IsSentByOwner old.owners)) leads
 

@@ -1,5 +1,5 @@
 -- What sound and calm stores spare a world: this project's own.
-use Rattle.std.specs.Prelude.{◌≡◌, ◌⊎◌, ◌++◌, ◌∷◌, ℕ, List, All, Any}
+use Rattle.std.specs.Prelude.{◌≡◌, ◌⊎◌, ◌++◌, ◌∷◌, List, All, Any}
 use Rattle.duk_host.specs.declared.fault.HostFault.{HostFault}
 use Rattle.duk_host.specs.declared.fault.HostFault.TheVariants as host_fault
 use Rattle.duk_store.specs.declared.fault.StoreFault.{StoreFault}

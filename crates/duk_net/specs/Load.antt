@@ -2,13 +2,12 @@
 use Rattle.std.specs.Prelude.{◌≡◌, ◌⊎◌, ℕ, List, None, replicate}
 use Rattle.duk_hsm.specs.Commands.{IsIssued}
 use Rattle.duk_hsm.specs.Keys.{key_set_of}
+use Rattle.duk_tdes.specs.Tdes.{IsTdesKey}
 use Rattle.duk_tree.specs.Serial.{iksn_prefix_of}
 use Rattle.duk_store.specs.Cell.{CellMeaning}
 use Rattle.duk_term.specs.Load.{IsTerminalLoaded, LoadRefused, Loading, loading_of}
-use Rattle.duk_term.specs.Loading.{WrapsInitialKey}
 use Rattle.duk_term.specs.Terminal.{TerminalOf}
 use Rattle.duk_term.specs.declared.fault.TermFault.TheVariants.{Store}
-use Rattle.duk_net.specs.InitialKey.{IsInitialKeyOf}
 use Rattle.duk_net.specs.Owner.{IsElsewhere, owned_by}
 use Rattle.duk_net.specs.World.{ChangesOnly, FindsNoTerminal, HasOne, Meanings, WorldOf}
 use Rattle.duk_net.specs.declared.owner.Owner.{Owner}
@@ -21,15 +20,13 @@ pub record MayLoad {C L I : Type 0} (old : WorldOf C L I) (t iksn : ℕ) : Type 
   pub not_elsewhere : ¬ IsElsewhere old.owners iksn t
 
 -- what the terminal is given: the key block that the host's security module issues under the
--- loading key, with six zero bytes of padding. A terminal finds no other key in it than its own
--- initial key
+-- loading key, a TDES key, with six zero bytes of padding
 pub record IsIssuedFor
     {C L I : Type 0} (old : WorldOf C L I) (iksn : ℕ) (asked : Loading) : Type 0 where
   pub block : List ℕ
+  pub loading_is : IsTdesKey old.loading
   pub issued : IsIssued old.host.keys iksn old.loading (replicate 6 0) block
   pub asked_is : asked ≡ loading_of old.loading block iksn
-  pub own_key : (initial : List ℕ) → WrapsInitialKey old.loading block initial
-      → IsInitialKeyOf old.host.keys iksn initial
 
 -- what the terminal makes of it
 abbrev pub TakesLoad : {C : Type 0} → CellMeaning C → ℕ → Loading → Outcome → TerminalOf C

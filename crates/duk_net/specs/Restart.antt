@@ -18,13 +18,13 @@ pub record Reopens
   pub restarted : IsTerminalRestarted meaning before after
   pub next_is : next ≡ next_of after.state
 
--- how a terminal is restarted
+-- how a terminal is restarted; whatever comes of it, its cell is armed no more
 abbrev pub TakesRestart : {C : Type 0} → CellMeaning C → ℕ → Outcome → TerminalOf C → TerminalOf C
     → Type 0
 TakesRestart meaning t (outcome.TermNext u next) before after =
-    (u ≡ t) × Reopens meaning next before after
+    (u ≡ t) × Reopens meaning next before after × meaning.disarmed after.cell
 TakesRestart meaning t (outcome.TermFaulted u why) before after =
-    (u ≡ t) × TerminalRestartRefused meaning before after why
+    (u ≡ t) × TerminalRestartRefused meaning before after why × meaning.disarmed after.cell
 TakesRestart meaning t _ before after = ⊥
 
 -- what comes of a terminal's restart
@@ -33,13 +33,14 @@ abbrev pub RestartsTerminal : {C L I : Type 0} → Meanings C L I → WorldOf C 
 RestartsTerminal m old t outcome new =
     FindsNoTerminal old t outcome new ⊎ ChangesTerminal t (TakesRestart m.cell t outcome) old new
 
--- the host is restarted, and tells how many numbers are used
+-- the host is restarted, and tells how many numbers are used; its log is armed no more
 pub record IsHostReopened
     {C L I : Type 0} (m : Meanings C L I) (old : WorldOf C L I) (used : ℕ)
     (new : WorldOf C L I) : Type 0 where
   pub host : IsHostRestarted m.host.log old.host new.host used
   pub counted : m.host.log.count new.host.log ≡ used
   pub capacity : m.host.log.capacity new.host.log ≡ m.host.log.capacity old.host.log
+  pub disarmed : m.host.log.disarmed new.host.log
   pub rest : new ≡ record old { host = new.host }
 
 -- the host's restart is refused, but not for want of memory
@@ -49,6 +50,7 @@ pub record HostReopenFaulted
   pub not_memory : why ≢ NoMemory
   pub host : HostRestartRefused m.host.log old.host new.host why
   pub capacity : m.host.log.capacity new.host.log ≡ m.host.log.capacity old.host.log
+  pub disarmed : m.host.log.disarmed new.host.log
   pub rest : new ≡ record old { host = new.host }
 
 -- what comes of the host's restart
@@ -62,4 +64,5 @@ RestartsHost m old _ new = ⊥
 pub record IsHostLeft {C L I : Type 0} (m : Meanings C L I) (old new : WorldOf C L I) : Type 0 where
   pub host : HostRestartNoMemory m.host.log old.host new.host
   pub capacity : m.host.log.capacity new.host.log ≡ m.host.log.capacity old.host.log
+  pub disarmed : m.host.log.disarmed new.host.log
   pub rest : new ≡ record old { host = new.host }

@@ -2,12 +2,17 @@
 //! that was new once and then moved on by events alone, and of what came of every call.
 
 ghost use Rattle.std.specs.Prelude.{◌≡◌, ℕ, All, List, Some};
+ghost use Rattle.duk_hsm.specs.Commands.{IsIssued};
+ghost use Rattle.duk_hsm.specs.Keys.{HsmKeys};
+ghost use Rattle.duk_tdes.specs.Tdes.{IsTdesKey};
+ghost use Rattle.duk_term.specs.Loading.{WrapsInitialKey};
 ghost use Rattle.duk_net.specs.Accepted.{AcceptsOnce, KeepsAccepted};
 ghost use Rattle.duk_net.specs.Calm.{FailsOnceArmed, HasSoundStores, IsBroughtUp, IsCalmAt, IsRestart, StaysCalm, TellsNoDamage};
 ghost use Rattle.duk_net.specs.Completed.{Completed};
 ghost use Rattle.duk_net.specs.declared.event.End.{End};
 ghost use Rattle.duk_net.specs.declared.event.Event.{Event};
 ghost use Rattle.duk_net.specs.declared.outcome.Outcome.{Outcome};
+ghost use Rattle.duk_net.specs.InitialKey.{IsInitialKeyOf};
 ghost use Rattle.duk_net.specs.UsedNumbers.{IsSentByOwner, NoneTwice};
 ghost use Rattle.duk_net.specs.Owner.{owner_of};
 ghost use Rattle.duk_net.specs.OwnKey.{IsOwnReply, IsOwnRequest, IsRefusedAsUsedOrFull};
@@ -18,6 +23,16 @@ ghost use Rattle.duk_net.specs.World.{WorldOf, meanings_of};
 
 use duk_host::Issuer;
 use duk_store::{Cell, UsedLog};
+
+/// A terminal finds no other key in the key block that is issued for it than its own initial key.
+pub fn own_initial_key()
+    ensures { (keys : HsmKeys) (iksn : ℕ) (loading padding block initial : List ℕ)
+        → IsTdesKey loading
+        → IsIssued keys iksn loading padding block → WrapsInitialKey loading block initial
+        → IsInitialKeyOf keys iksn initial }
+{
+    duk_block::laws::one_reading();
+}
 
 /// No two transactions use one number, and a terminal sends none but under an initial key serial
 /// number that it owns.
@@ -30,6 +45,10 @@ pub fn no_number_twice<C: Cell, L: UsedLog, I: Issuer>()
         → CallLeads (meanings_of C.meaning L.meaning I.decides) old outcomes new
         → All (IsSentByOwner new.owners) outcomes }
 {
+    own_initial_key();
+    duk_term::laws::requests::<C>();
+    duk_term::laws::found_again();
+    duk_regs::laws::transactions();
     duk_frame::laws::one_reading();
     duk_tree::laws::bits();
 }
@@ -46,6 +65,10 @@ pub fn no_used_key<C: Cell, L: UsedLog, I: Issuer>()
         → HoldsOfTerminals (meanings_of C.meaning L.meaning I.decides)
         (λ t. HoldNoUsedKey world.host.keys world.requests) world.terminals }
 {
+    own_initial_key();
+    duk_term::laws::requests::<C>();
+    duk_term::laws::found_again();
+    duk_regs::laws::transactions();
     duk_frame::laws::one_reading();
     duk_tree::laws::bits();
     duk_tree::laws::frontier();
@@ -64,6 +87,7 @@ pub fn one_acceptance<C: Cell, L: UsedLog, I: Issuer>()
         → AcceptsOnce old.answers outcomes }
 {
     duk_frame::laws::one_reading();
+    duk_host::laws::replies();
 }
 
 /// Each request and each accepted reply is made under the transaction key of its number, from the
@@ -82,7 +106,10 @@ pub fn own_key<C: Cell, L: UsedLog, I: Issuer>()
         → All IsRefusedAsUsedOrFull outcomes }
 {
     no_used_key::<C, L, I>();
+    duk_regs::laws::transactions();
+    duk_term::laws::requests::<C>();
     duk_host::laws::refusals();
+    duk_host::laws::replies();
     duk_frame::laws::one_reading();
     duk_tree::laws::keys();
     duk_tree::laws::prefixes();
@@ -99,6 +126,7 @@ pub fn completion_by_host<C: Cell, L: UsedLog, I: Issuer>()
         → Completed (meanings_of C.meaning L.meaning I.decides) old new.terminals outcomes }
 {
     no_number_twice::<C, L, I>();
+    duk_term::laws::requests::<C>();
     duk_frame::laws::one_reading();
 }
 
@@ -126,8 +154,13 @@ pub fn calm_stores<C: Cell, L: UsedLog, I: Issuer>()
         → CallLeads (meanings_of C.meaning L.meaning I.decides) old outcomes new
         → FailsOnceArmed end outcomes }
 {
+    own_initial_key();
+    duk_term::laws::requests::<C>();
+    duk_term::laws::found_again();
+    duk_regs::laws::transactions();
     duk_frame::laws::one_reading();
     duk_tree::laws::bits();
+    duk_host::laws::replies();
 }
 
 /// Restarts of ends that are there bring them all up, where all stores are sound and calm, and
@@ -140,6 +173,11 @@ pub fn calm_restarts<C: Cell, L: UsedLog, I: Issuer>()
         → All (IsRestart old) events
         → Run (meanings_of C.meaning L.meaning I.decides) old events outcomes new
         → All IsBroughtUp outcomes }
+    ensures sound { (old new : WorldOf C L I) (events : List Event) (outcomes : List Outcome)
+        → Reached (meanings_of C.meaning L.meaning I.decides) old
+        → HasSoundStores (meanings_of C.meaning L.meaning I.decides) old
+        → Run (meanings_of C.meaning L.meaning I.decides) old events outcomes new
+        → HasSoundStores (meanings_of C.meaning L.meaning I.decides) new }
     ensures calm { (old new : WorldOf C L I) (events : List Event) (outcomes : List Outcome)
         → Reached (meanings_of C.meaning L.meaning I.decides) old
         → HasSoundStores (meanings_of C.meaning L.meaning I.decides) old
@@ -148,8 +186,14 @@ pub fn calm_restarts<C: Cell, L: UsedLog, I: Issuer>()
         → Run (meanings_of C.meaning L.meaning I.decides) old events outcomes new
         → (end : End) → IsCalmAt (meanings_of C.meaning L.meaning I.decides) new end }
 {
+    calm_stores::<C, L, I>();
+    own_initial_key();
+    duk_term::laws::requests::<C>();
+    duk_term::laws::found_again();
+    duk_regs::laws::transactions();
     duk_frame::laws::one_reading();
     duk_tree::laws::bits();
+    duk_host::laws::replies();
 }
 
 /// Who owns an initial key serial number owns it for good, and the security module keeps its keys.

@@ -1,6 +1,7 @@
 //! Laws of the registers, each the contract of a function that does nothing.
 
 ghost use Rattle.std.specs.Prelude.{◌≡◌, ◌<◌, ◌≤◌, ◌⊎◌, ◌^◌, ℕ, List, length};
+ghost use Rattle.duk_tdes.specs.Key.{IsKey};
 ghost use Rattle.duk_tree.specs.Path.{IsUsable};
 ghost use Rattle.duk_tree.specs.Derivation.{step_of, transaction_key_of};
 ghost use Rattle.duk_tree.specs.Serial.{low_bytes};
@@ -58,6 +59,17 @@ pub fn uniqueness()
         → one ≡ other }
 {
     duk_tree::laws::candidates();
+}
+
+/// Registers that stand for an initial key have sixteen bytes each.
+pub fn sixteen_bytes()
+    ensures { (initial : List ℕ) (set : RegisterSet) → IsKey 16 initial → IsRegisterSet set
+        → StandsFor initial set
+        → (place : ℕ) → place < 21 → length (register_at set.registers place) ≡ 16 }
+{
+    duk_tree::laws::keys();
+    duk_tree::laws::bits();
+    uniqueness();
 }
 
 /// What a terminal keeps is found again in its image.

@@ -73,6 +73,7 @@ impl Registers {
     /// handed back.
     pub fn take(self) -> Result<(Key<16>, Ksn, Registers), Registers>
         ensures spent { IsErr result ↔ (self.counter ≡ spent_counter) }
+        ensures set { IsRegisterSet self }
         ensures usable { OnOk result (IsUsable self.counter) }
         ensures unchanged { IfErr result (λ registers. registers ≡ self) }
         ensures serial { IfOk result

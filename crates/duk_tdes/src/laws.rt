@@ -23,6 +23,14 @@ pub fn inverse()
     duk_des::laws::inverse();
 }
 
+/// Whatever is enciphered or deciphered under whatever key, it comes to a block.
+pub fn blocks()
+    ensures encrypted { (key block : List ℕ) → IsBlock (tdes_encrypted key block) }
+    ensures decrypted { (key block : List ℕ) → IsBlock (tdes_decrypted key block) }
+{
+    duk_des::laws::blocks();
+}
+
 /// The bytes of a key of 16 or 24 bytes are those of a TDES key, as many as its type says.
 pub fn tdes_key<const N: usize>(key: &Key<N>)
     requires { IsTdesLength N }

@@ -6,7 +6,7 @@ use Rattle.duk_store.specs.StoreState.{StoreState}
 use Rattle.duk_store.specs.declared.fault.StoreFault.{StoreFault}
 use Rattle.duk_store.specs.declared.fault.StoreFault.TheVariants as store_fault
 use Rattle.duk_term.specs.Begin.{BeginRefused, TakesFrom}
-use Rattle.duk_term.specs.Body.{IsFoundAgain, body_bytes}
+use Rattle.duk_term.specs.Body.{body_bytes}
 use Rattle.duk_term.specs.Terminal.{Agrees, CellHoldsRegisters, HasRegistersIn, IsImageNotKept, TerminalOf}
 use Rattle.duk_term.specs.declared.fault.TermFault.{TermFault}
 use Rattle.duk_term.specs.declared.fault.TermFault.TheVariants as fault
@@ -26,8 +26,8 @@ held cell set kept holds honest found = let finds = holds.finds honest in subst 
 -- no request goes out where the image of the registers that are left was not kept
 pub begin_stopped :
     {C : Type 0} (meaning : CellMeaning C) (old mid new : TerminalOf C) (set left : RegisterSet) (key : List ℕ) (why : TermFault) → Agrees (meaning.state_of old.cell) old.state
-    → TakesFrom old.state set key left → mid.cell ≡ old.cell → IsFoundAgain left → IsImageNotKept meaning (body_bytes left) mid new why → BeginRefused meaning old new why
-begin_stopped meaning old mid new set left key (fault.Store why) agrees takes cell again not =
+    → TakesFrom old.state set key left → mid.cell ≡ old.cell → IsImageNotKept meaning (body_bytes left) mid new why → BeginRefused meaning old new why
+begin_stopped meaning old mid new set left key (fault.Store why) agrees takes cell not =
     let holds : CellHoldsRegisters (meaning.state_of old.cell) set = subst (Agrees (meaning.state_of old.cell)) takes.had agrees in
     let failed : PutFailed meaning old.cell new.cell (body_bytes left) why = subst (λ cell. PutFailed meaning cell new.cell (body_bytes left) why) cell not.1 in
     record {
@@ -35,7 +35,6 @@ begin_stopped meaning old mid new set left key (fault.Store why) agrees takes ce
       key = key;
       left = left;
       takes = takes;
-      again = again;
       stops = record {
         stopped = not.0;
         not_kept = failed;
@@ -45,4 +44,4 @@ begin_stopped meaning old mid new set left key (fault.Store why) agrees takes ce
         ];
       };
     }
-begin_stopped meaning old mid new set left key _ agrees takes cell again not = absurd not
+begin_stopped meaning old mid new set left key _ agrees takes cell not = absurd not

@@ -1,18 +1,16 @@
 -- Beginning a transaction: this project's own, over the transaction keys of ANSI X9.24-1:2009 annex
 -- A.
-use Rattle.std.specs.Prelude.{◌≡◌, ℕ, List, Option, Some}
-use Rattle.duk_frame.specs.Payment.{enciphered_pin, payment_request}
-use Rattle.duk_frame.specs.Request.{IsRequest, request_text}
-use Rattle.duk_frame.specs.declared.request.Request.{Request}
-use Rattle.duk_mac.specs.Retail.{retail_of}
-use Rattle.duk_pin.specs.PinBlock.{IsPinBlock, pin_block}
-use Rattle.duk_regs.specs.Registers.{RegisterSet, StandsFor, IsTaken}
+use Rattle.std.specs.Prelude.{◌≡◌, ◌<◌, ◌^◌, ℕ, List, Option, Some}
+use Rattle.duk_frame.specs.Payment.{payment_request}
+use Rattle.duk_pin.specs.Pan.{IsPan}
+use Rattle.duk_pin.specs.Pin.{IsPin}
+use Rattle.duk_regs.specs.Registers.{IsRegisterSet, IsTaken, RegisterSet}
 use Rattle.duk_store.specs.Cell.{CellMeaning, IsPut}
 use Rattle.duk_store.specs.declared.fault.StoreFault.{StoreFault}
-use Rattle.duk_tree.specs.Derivation.{request_key_of, response_key_of, transaction_key_of}
+use Rattle.duk_tree.specs.Derivation.{response_key_of}
 use Rattle.duk_tree.specs.Next.{spent_counter}
 use Rattle.duk_tree.specs.Path.{IsUsable}
-use Rattle.duk_term.specs.Body.{body_bytes, IsFoundAgain}
+use Rattle.duk_term.specs.Body.{body_bytes}
 use Rattle.duk_term.specs.Terminal.{HasRegistersIn, StopsBetween, TerminalOf, serial_of}
 use Rattle.duk_term.specs.declared.fault.TermFault.{TermFault}
 use Rattle.duk_term.specs.declared.fault.TermFault.TheVariants as fault
@@ -21,14 +19,11 @@ use Rattle.duk_term.specs.declared.state.Pending.{Pending}
 use Rattle.duk_term.specs.declared.state.State.{State}
 use Rattle.duk_term.specs.declared.state.State.TheVariants.{Stopped, Empty, Loaded}
 
--- the next number is taken: its key comes out of these registers and leaves those, and of registers
--- that stand for an initial key it is the key of the number's node, and those that are left stand
--- for the same initial key
+-- the next number is taken: its key comes out of these registers and leaves those
 pub record TakesNumber (set : RegisterSet) (key : List ℕ) (left : RegisterSet) : Type 0 where
+  pub set_is : IsRegisterSet set
   pub usable : IsUsable set.counter
   pub taken : IsTaken set key left
-  pub stands : (initial : List ℕ) → StandsFor initial set
-      → (key ≡ transaction_key_of initial set.iksn set.counter) × StandsFor initial left
 
 -- the state has these registers, and the next number is taken from them
 pub record TakesFrom
@@ -42,18 +37,11 @@ pub record TakesFrom
 abbrev pub pending_of : RegisterSet → List ℕ → Pending
 pending_of set key = record { ksn = serial_of set; response_key = response_key_of key }
 
--- the fields of the request of a purchase
-abbrev pub requested : RegisterSet → List ℕ → Purchase → Request
-requested set key purchase =
-    let ksn = serial_of set in
-    let block = enciphered_pin key purchase.pin purchase.pan in
-    record {
-      ksn = ksn;
-      pan = purchase.pan;
-      amount = purchase.amount;
-      block = block;
-      mac = retail_of (request_key_of key) (request_text ksn purchase.pan purchase.amount block);
-    }
+-- what a customer pays: a PAN and its PIN, and an amount in four bytes
+pub record IsPurchase (purchase : Purchase) : Type 0 where
+  pub pan_is : IsPan purchase.pan
+  pub pin_is : IsPin purchase.pin
+  pub amount_fits : purchase.amount < 2 ^ 32
 
 -- a request goes out: it is that of the number taken, and the image of the registers that are left
 -- is kept
@@ -64,9 +52,7 @@ pub record IsBegun
   pub key : List ℕ
   pub left : RegisterSet
   pub takes : TakesFrom old.state set key left
-  pub again : IsFoundAgain left
-  pub request : IsRequest frame (requested set key purchase)
-  pub pin_is_readable : IsPinBlock purchase.pin purchase.pan (pin_block purchase.pin purchase.pan)
+  pub purchase_is : IsPurchase purchase
   pub frame_is : frame
       ≡ payment_request key (serial_of set) purchase.pan purchase.pin purchase.amount
   pub state_is : new.state ≡ Loaded left (Some (pending_of set key))
@@ -81,7 +67,6 @@ pub record BeginStopped
   pub key : List ℕ
   pub left : RegisterSet
   pub takes : TakesFrom old.state set key left
-  pub again : IsFoundAgain left
   pub stops : StopsBetween meaning (HasRegistersIn set) left old new why
 
 -- a state whose registers have no number left

@@ -1,10 +1,10 @@
 -- Loading a terminal: this project's own.
 use Rattle.std.specs.Prelude.{◌≡◌, ℕ, List, None}
 use Rattle.duk_block.specs.Faults.{IsFirstFault}
-use Rattle.duk_regs.specs.Registers.{RegisterSet, StandsFor}
+use Rattle.duk_regs.specs.Registers.{IsRegisterSet, RegisterSet, StandsFor}
 use Rattle.duk_store.specs.Cell.{CellMeaning, IsPut}
 use Rattle.duk_store.specs.declared.fault.StoreFault.{StoreFault}
-use Rattle.duk_term.specs.Body.{body_bytes, IsFoundAgain}
+use Rattle.duk_term.specs.Body.{body_bytes}
 use Rattle.duk_term.specs.Loading.{WrapsInitialKey, WrapsOtherKey}
 use Rattle.duk_term.specs.Terminal.{StopsBetween, TerminalOf, HasRegisters}
 use Rattle.duk_term.specs.declared.fault.TermFault.{TermFault}
@@ -26,6 +26,7 @@ loading_of loading block iksn = record { loading_key = loading; block = block; i
 pub record IsFirstSet (asked : Loading) (set : RegisterSet) : Type 0 where
   pub initial : List ℕ
   pub wrapped : WrapsInitialKey asked.loading_key asked.block initial
+  pub set_is : IsRegisterSet set
   pub stands : StandsFor initial set
   pub iksn_is : set.iksn ≡ asked.iksn
   pub counter_is : set.counter ≡ 1
@@ -36,7 +37,6 @@ pub record IsTerminalLoaded
   pub set : RegisterSet
   pub was_empty : old.state ≡ Empty
   pub set_is : IsFirstSet asked set
-  pub again : IsFoundAgain set
   pub state_is : new.state ≡ Loaded set None
   pub kept : IsPut meaning old.cell new.cell (body_bytes set)
 
@@ -48,7 +48,6 @@ pub record LoadStopped
   pub set : RegisterSet
   pub was_empty : old.state ≡ Empty
   pub set_is : IsFirstSet asked set
-  pub again : IsFoundAgain set
   pub stops : StopsBetween meaning (λ kept. kept ≡ None) set old new why
 
 -- why a load is refused, and what that leaves

@@ -1,16 +1,16 @@
 //! The bytes that a terminal keeps in its cell.
 
 ghost use Rattle.std.specs.Prelude.{◌≡◌, ◌↔◌, ◌++◌, IsTrue, IsSome, IfSome, length, replicate};
-ghost use Rattle.duk_term.specs.Body.{IsFoundAgain, IsTerminalBody, body_bytes, set_of_body};
+ghost use Rattle.duk_regs.specs.Registers.{IsRegisterSet};
+ghost use Rattle.duk_term.specs.Body.{IsTerminalBody, body_bytes, set_of_body};
 
 use duk_regs::{IMAGE_LENGTH, Registers};
 use duk_store::{BODY_LENGTH, Body};
 
 /// The body of these registers: their image, with zero bytes behind it.
-#[tactic(auto, using(crate::proofs::BodyIsFoundAgain::found_again))]
 pub(crate) fn body_of(registers: &Registers) -> Body
     ensures body { result ≡ body_bytes registers.now }
-    ensures again { IsFoundAgain registers.now }
+    ensures set { IsRegisterSet registers.now }
 {
     let mut body = [0; BODY_LENGTH];
     body[..IMAGE_LENGTH].copy_from_slice(&registers.image());

@@ -10,6 +10,7 @@
 mod answer;
 mod body;
 mod fault;
+pub mod laws;
 mod purchase;
 mod state;
 mod terminal;

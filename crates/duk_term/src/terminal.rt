@@ -4,7 +4,8 @@ ghost use Rattle.std.specs.Prelude.{◌≡◌, ℕ, IfOk, IfErr};
 ghost use Rattle.duk_store.specs.StoreState.{StaysButCalm};
 ghost use Rattle.duk_tdes.specs.Tdes.{IsTdesLength};
 ghost use Rattle.duk_term.specs.Begin.{BeginRefused, IsBegun};
-ghost use Rattle.duk_term.specs.Body.{IsFoundAgain, body_bytes};
+ghost use Rattle.duk_regs.specs.Registers.{IsRegisterSet};
+ghost use Rattle.duk_term.specs.Body.{body_bytes};
 ghost use Rattle.duk_store.specs.Cell.{IsPut};
 ghost use Rattle.duk_term.specs.Load.{IsTerminalLoaded, LoadRefused, loading_of};
 ghost use Rattle.duk_term.specs.Reply.{IsTold, ReplyRefused, after_answer};
@@ -145,7 +146,7 @@ impl<C: Cell> Terminal<C> {
             (λ _. IsPut C.meaning self.old.cell self.new.cell (body_bytes registers)) }
         ensures state { IfOk result (λ _. self.new.state ≡ state.Loaded registers pending) }
         ensures after_put { IfOk result (λ _. C.meaning.after_put self.new.cell) }
-        ensures again { IsFoundAgain registers }
+        ensures set { IsRegisterSet registers }
         ensures refused { IfErr result
             (IsImageNotKept C.meaning (body_bytes registers) self.old self.new) }
     {

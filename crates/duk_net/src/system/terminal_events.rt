@@ -39,7 +39,6 @@ impl<const N: usize, C: Cell, L: UsedLog, I: Issuer> System<N, C, L, I> {
             return Ok(Outcome::IksnElsewhere { t });
         }
         self.owners.reserve(1)?;
-        duk_block::laws::one_reading();
         duk_tdes::laws::tdes_key(&self.loading);
         let Ok(block) = self.host.hsm().issue(iksn, &self.loading, &ZERO_PADDING) else {
             return Ok(Outcome::NoKeySet { t });
@@ -137,6 +136,7 @@ fn begin<C: Cell>(
     ensures refused { IfErr result (BeginRefused C.meaning terminal.old terminal.new) }
 {
     let frame = terminal.begin(purchase)?;
+    duk_term::laws::requests::<C>();
     let ksn = ksn_of_request(&frame);
     Ok((frame, ksn))
 }

@@ -1,10 +1,30 @@
+use Rattle.std.proofs.Common.{inl, refl}
 use Rattle.duk_net.proofs.CalmRestarts.{all_up}
+use Rattle.duk_net.proofs.AboveUsed.{WorldLaws}
 use Rattle.duk_net.proofs.laws.calm_restarts.Goals as goal
+use Rattle.duk_net.proofs.laws.calm_restarts.Goals.{After-replies}
+
+laws_of : (g : _) → After-replies g → WorldLaws g.C.Cell.meaning
+laws_of g c = record {
+  registers = record {
+    fits = c.bits.ensures.usable;
+    set = c.transactions.ensures.set;
+    stands = c.transactions.ensures.stands;
+    again = c.found_again.ensures;
+  };
+  reading = c.one_reading.ensures.request;
+  request = c.requests.ensures.request;
+  own_key = c.own_initial_key.ensures;
+}
 
 pub returns-clause-brought_up : goal.returns-clause-brought_up
 returns-clause-brought_up g c old new events outcomes reached sound calm there run =
-    (all_up _ c.bits.ensures.usable c.one_reading.ensures.request c.one_reading.ensures.answer old new events outcomes reached sound calm there run).0
+    (all_up _ (laws_of g c) (record { reading = c.one_reading.ensures.answer; replies = c.replies.ensures }) old new events outcomes reached sound calm there run).0
 
 pub returns-clause-calm : goal.returns-clause-calm
 returns-clause-calm g c old new events outcomes reached sound calm there run =
-    (all_up _ c.bits.ensures.usable c.one_reading.ensures.request c.one_reading.ensures.answer old new events outcomes reached sound calm there run).1
+    (all_up _ (laws_of g c) (record { reading = c.one_reading.ensures.answer; replies = c.replies.ensures }) old new events outcomes reached sound calm there run).1
+
+pub returns-clause-sound : goal.returns-clause-sound
+returns-clause-sound g c old new events outcomes reached sound run =
+    c.calm_stores.ensures.sound old new outcomes reached sound (record { events = events; mid = new; run = run; left = inl refl })

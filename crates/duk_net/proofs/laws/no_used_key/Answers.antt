@@ -1,12 +1,27 @@
 use Rattle.duk_net.proofs.AboveUsed.{books_of}
 use Rattle.duk_net.proofs.UsedKeysAreGone.{hold_no_used_key, terminals_hold}
+use Rattle.duk_net.proofs.AboveUsed.{WorldLaws}
 use Rattle.duk_net.proofs.laws.no_used_key.Goals as goal
+use Rattle.duk_net.proofs.laws.no_used_key.Goals.{After-uniqueness}
+
+laws_of : (g : _) → After-uniqueness g → WorldLaws g.C.Cell.meaning
+laws_of g c = record {
+  registers = record {
+    fits = c.bits.ensures.usable;
+    set = c.transactions.ensures.set;
+    stands = c.transactions.ensures.stands;
+    again = c.found_again.ensures;
+  };
+  reading = c.one_reading.ensures.request;
+  request = c.requests.ensures.request;
+  own_key = c.own_initial_key.ensures;
+}
 
 pub returns-clause-above : goal.returns-clause-above
 returns-clause-above g c world reached =
-    terminals_hold _ world _ c.bits.ensures.usable c.one_reading.ensures.request reached (λ t set safe. record { owned = safe.owned; above = safe.stands })
+    terminals_hold _ world _ (laws_of g c) reached (λ t set safe. record { owned = safe.owned; above = safe.stands })
 
 pub returns-clause-no_used_key : goal.returns-clause-no_used_key
 returns-clause-no_used_key g c world reached =
-    terminals_hold _ world _ c.bits.ensures.usable c.one_reading.ensures.request reached
+    terminals_hold _ world _ (laws_of g c) reached
     (λ t set safe. hold_no_used_key (books_of world) t set c.bits.ensures.usable c.frontier.ensures.none_used c.uniqueness.ensures.register safe)

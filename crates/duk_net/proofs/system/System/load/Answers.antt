@@ -3,7 +3,7 @@ use Rattle.duk_hsm.specs.Commands.{IsIssued}
 use Rattle.duk_hsm.specs.Keys.{key_set_of}
 use Rattle.duk_tree.specs.Serial.{iksn_prefix_of}
 use Rattle.duk_net.specs.Owner.{IsElsewhere}
-use Rattle.duk_net.proofs.IssuedForTerminal.{no_key_set, own_key}
+use Rattle.duk_net.proofs.IssuedForTerminal.{no_key_set}
 use Rattle.duk_net.proofs.PlacesInLists.{acts_at, has_one}
 use Rattle.duk_net.proofs.system.System.load.Goals as goal
 
@@ -46,9 +46,9 @@ returns-clause-outcome g c =
       };
       issued = record {
         block = c.as_slice-2.result.now;
+        loading_is = c.tdes_key.ensures.key;
         issued = issued;
         asked_is = refl;
-        own_key = own_key c.self.inside.host.keys c.args.iksn c.self.inside.loading (replicate 6 0) c.as_slice-2.result.now c.one_reading.ensures c.tdes_key.ensures.key issued;
       };
       terminal = acts_at c.args.t c.in-Some.place c.len.result _ terminals.items c.index_mut-terminal.result.now _ c.in-Some.ensures.0 c.in-Some.ensures.1 (c.len.ensures ∙ terminals.ok.0) c.index_mut-terminal.ensures.value c.load-outcome.ensures;
       rest = rw (c.record_owner.ensures, c.reserve.ensures.items) refl;

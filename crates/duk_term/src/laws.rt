@@ -1,0 +1,40 @@
+//! Laws of terminals, each the contract of a function that does nothing.
+
+ghost use Rattle.std.specs.Prelude.{ℕ, List};
+ghost use Rattle.duk_frame.specs.Payment.{request_of};
+ghost use Rattle.duk_frame.specs.Request.{IsRequest};
+ghost use Rattle.duk_pin.specs.PinBlock.{IsPinBlock, pin_block};
+ghost use Rattle.duk_regs.specs.Registers.{IsRegisterSet, RegisterSet, StandsFor};
+ghost use Rattle.duk_tdes.specs.Key.{IsKey};
+ghost use Rattle.duk_term.specs.Begin.{IsBegun};
+ghost use Rattle.duk_term.specs.Body.{IsFoundAgain};
+ghost use Rattle.duk_term.specs.Terminal.{TerminalOf, serial_of};
+
+use crate::purchase::Purchase;
+use duk_store::Cell;
+
+/// Registers that stand for an initial key are found again in the body that keeps them.
+pub fn found_again()
+    ensures { (initial : List ℕ) (set : RegisterSet) → IsKey 16 initial → IsRegisterSet set
+        → StandsFor initial set
+        → IsFoundAgain set }
+{
+    duk_regs::laws::sixteen_bytes();
+    duk_regs::laws::images();
+}
+
+/// The frame of a transaction that is begun is a request: that of the number taken and of the
+/// purchase, with a PIN block of which the PIN is found again.
+pub fn requests<C: Cell>()
+    ensures request { (purchase : Purchase) (old new : TerminalOf C) (frame : List ℕ)
+        → (begun : IsBegun C.meaning purchase old new frame)
+        → IsRequest frame (request_of
+        begun.key (serial_of begun.set) purchase.pan purchase.pin purchase.amount) }
+    ensures pin_block { (purchase : Purchase) (old new : TerminalOf C) (frame : List ℕ)
+        → IsBegun C.meaning purchase old new frame
+        → IsPinBlock purchase.pin purchase.pan (pin_block purchase.pin purchase.pan) }
+{
+    duk_tree::laws::bits();
+    duk_frame::laws::payments();
+    duk_pin::laws::one_block();
+}
