@@ -196,8 +196,13 @@ pub fn calm_restarts<C: Cell, L: UsedLog, I: Issuer>()
     duk_host::laws::replies();
 }
 
-/// Who owns an initial key serial number owns it for good, and the security module keeps its keys.
+/// A call leads to a world that is reached too. Who owns an initial key serial number owns it for
+/// good, and the security module keeps its keys.
 pub fn what_stays<C: Cell, L: UsedLog, I: Issuer>()
+    ensures reached { (old new : WorldOf C L I) (outcomes : List Outcome)
+        → Reached (meanings_of C.meaning L.meaning I.decides) old
+        → CallLeads (meanings_of C.meaning L.meaning I.decides) old outcomes new
+        → Reached (meanings_of C.meaning L.meaning I.decides) new }
     ensures owners { (old new : WorldOf C L I) (outcomes : List Outcome)
         → Reached (meanings_of C.meaning L.meaning I.decides) old
         → CallLeads (meanings_of C.meaning L.meaning I.decides) old outcomes new

@@ -1,10 +1,7 @@
 -- What a script does, from what its parts do.
-use Rattle.std.proofs.Common.{◌≡◌, ◌⊎◌, ◌++◌, [], ℕ, List, Result, Ok, Err, OnOk, IfErr, All, take, inl, inr, sym, ap, subst, ◌∙◌}
+use Rattle.std.proofs.Common.{◌≡◌, ◌⊎◌, ◌++◌, [], ℕ, List, Result, Ok, Err, OnOk, IfErr, take, inl, inr, sym, ap, subst, ◌∙◌}
 use Rattle.duk_tdes.specs.KeyBytes.{bytes_of}
-use Rattle.duk_net.specs.Calm.{FailsOnceArmed, HasSoundStores, IsCalmAt, TellsNoDamage}
-use Rattle.duk_net.specs.Gained.{EachGained, HoldsOfGained}
 use Rattle.duk_net.specs.Run.{IsRun, Run, RunRefused}
-use Rattle.duk_net.specs.declared.event.End.{End}
 use Rattle.duk_net.specs.declared.event.Event.{Event}
 use Rattle.duk_net.specs.declared.outcome.Outcome.{Outcome}
 use Rattle.duk_net.specs.declared.runs.NetFault.{NetFault}
@@ -34,52 +31,37 @@ if_err P Q follows (Err e) holds = follows e holds
 gained_none : (before after outcomes : List Outcome) → before ≡ [] → after ≡ before ++ outcomes → outcomes ≡ after
 gained_none before after outcomes none gained = sym (gained ∙ ap (λ list. list ++ outcomes) none)
 
--- what holds of what a call put at the end of no outcomes holds of what there is then
-holds_then : (P : List Outcome → Type 0) (before after : List Outcome) → before ≡ [] → HoldsOfGained P before after → P after
-holds_then P before after none holds = subst P (gained_none before after holds.outcomes none holds.gained) holds.holds
-
--- a world of a configuration whose ends were brought up, and whose stores are sound and calm yet
+-- a world of a configuration whose ends were brought up
 pub record IsReady (config : Settings) (world : MemoryWorld) : Type 0 where
   pub starts : StartsCalm in_memory (new_world_of (bytes_of config.lmk) config)
   pub opened : IsOpened in_memory (new_world_of (bytes_of config.lmk) config) world
-  pub sound : HasSoundStores in_memory world
-  pub calm : (end : End) → IsCalmAt in_memory world end
 
 pub ready : (config : Settings) (lmk : List ℕ) (world : MemoryWorld) → lmk ≡ bytes_of config.lmk → StartsCalm in_memory (new_world_of lmk config) → IsOpened in_memory (new_world_of lmk config) world
-    → HasSoundStores in_memory world → ((end : End) → IsCalmAt in_memory world end) → IsReady config world
-ready config lmk world is starts opened sound calm = record {
+    → IsReady config world
+ready config lmk world is starts opened = record {
   starts = subst (λ lmk. StartsCalm in_memory (new_world_of lmk config)) is starts;
   opened = subst (λ lmk. IsOpened in_memory (new_world_of lmk config) world) is opened;
-  sound = sound;
-  calm = calm;
 }
 
--- what a call tells of sound and calm stores
-pub record TellsOfCalm (start : MemoryWorld) (before after : List Outcome) : Type 0 where
-  pub no_damage : HasSoundStores in_memory start → EachGained TellsNoDamage before after
-  pub once_armed : (end : End) → IsCalmAt in_memory start end → HoldsOfGained (FailsOnceArmed end) before after
-
 -- a run from a world whose ends were brought up
-pub played : (config : Settings) (start last : MemoryWorld) (events : List Event) (before after : List Outcome) → IsReady config start → before ≡ [] → TellsOfCalm start before after
+pub played : (config : Settings) (start last : MemoryWorld) (events : List Event) (before after : List Outcome) → IsReady config start → before ≡ []
     → IsRun in_memory start events before after last → ArePlayed config events after
-played config start last events before after ready none tells run = record {
+played config start last events before after ready none run = record {
   start = start;
   last = last;
   starts = ready.starts;
   opened = ready.opened;
   run = subst (λ outcomes. Run in_memory start events outcomes last) (gained_none before after run.outcomes none run.gained) run.run;
-  no_damage = holds_then (All TellsNoDamage) before after none (tells.no_damage ready.sound);
-  once_armed = λ end. holds_then (FailsOnceArmed end) before after none (tells.once_armed end (ready.calm end));
 }
 
 -- a run that was refused memory did the first events
-pub played_up_to : (config : Settings) (start new : MemoryWorld) (events : List Event) (before after : List Outcome) (why : NetFault) → IsReady config start → before ≡ [] → TellsOfCalm start before after
+pub played_up_to : (config : Settings) (start new : MemoryWorld) (events : List Event) (before after : List Outcome) (why : NetFault) → IsReady config start → before ≡ []
     → RunRefused in_memory start events before after new why → ArePlayedInPart config events after
-played_up_to config start new events before after (net.NoMemory done) ready none tells part = record {
+played_up_to config start new events before after (net.NoMemory done) ready none part = record {
   done = done;
   refused = part.refused;
   next = part.next;
-  played = played config start part.mid (take done events) before after ready none tells part.done_part;
+  played = played config start part.mid (take done events) before after ready none part.done_part;
 }
 
 -- the writing of outcomes is cut off

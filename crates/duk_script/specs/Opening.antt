@@ -1,5 +1,5 @@
 -- The first world of a script, and its ends brought up: this project's own.
-use Rattle.std.specs.Prelude.{◌≡◌, ◌+◌, ◌++◌, ◌∷◌, zero, suc, ℕ, List, [], None, All, length, replicate}
+use Rattle.std.specs.Prelude.{◌+◌, ◌++◌, ◌∷◌, zero, suc, ℕ, List, [], None, All, length, replicate}
 use Rattle.duk_config.specs.Opened.{keys_for}
 use Rattle.duk_config.specs.Settings.{Settings}
 use Rattle.duk_host.specs.Host.{HostOf}

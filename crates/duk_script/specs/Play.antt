@@ -1,15 +1,13 @@
 -- What the events of a script do, and what is written of it: this project's own.
-use Rattle.std.specs.Prelude.{Some, slice_get, ◌≡◌, ◌⊎◌, ℕ, List, All, take}
+use Rattle.std.specs.Prelude.{Some, slice_get, ◌≡◌, ◌⊎◌, ℕ, List, take}
 use Rattle.duk_config.specs.Settings.{Settings}
 use Rattle.duk_config.specs.declared.fault.ScriptFault.{ScriptFault}
 use Rattle.duk_config.specs.declared.fault.ScriptFault.TheVariants as fault
 use Rattle.duk_io.specs.Known.{Known}
 use Rattle.duk_io.specs.Sink.{IsCut, IsUntouched, IsWritten}
-use Rattle.duk_net.specs.Calm.{FailsOnceArmed, TellsNoDamage}
 use Rattle.duk_net.specs.InMemory.{in_memory}
 use Rattle.duk_net.specs.Run.{Run}
 use Rattle.duk_net.specs.World.{Meanings, WorldOf}
-use Rattle.duk_net.specs.declared.event.End.{End}
 use Rattle.duk_net.specs.declared.event.Event.{Event}
 use Rattle.duk_net.specs.declared.outcome.Outcome.{Outcome}
 use Rattle.duk_tdes.specs.KeyBytes.{bytes_of}
@@ -17,9 +15,8 @@ use Rattle.duk_script.specs.Opening.{IsOpened, StartsCalm, new_world_of}
 use Rattle.duk_script.specs.OutcomeText.{lines_of}
 
 -- events have these outcomes in a first world, once its ends were brought up. Its stores were
--- honest, sound and calm: so no end tells that its store is damaged, and none that a device step of
--- its store failed before that store was armed
-pub record AreDone
+-- honest, sound and calm
+pub record ArePlayedIn
     {C L I : Type 0} (m : Meanings C L I) (first : WorldOf C L I) (events : List Event)
     (outcomes : List Outcome) : Type 0 where
   pub start : WorldOf C L I
@@ -27,13 +24,11 @@ pub record AreDone
   pub starts : StartsCalm m first
   pub opened : IsOpened m first start
   pub run : Run m start events outcomes last
-  pub no_damage : All TellsNoDamage outcomes
-  pub once_armed : (end : End) → FailsOnceArmed end outcomes
 
 -- the events of a script have these outcomes in the world of a configuration
 abbrev pub ArePlayed : Settings → List Event → List Outcome → Type 0
 ArePlayed config events outcomes =
-    AreDone in_memory (new_world_of (bytes_of config.lmk) config) events outcomes
+    ArePlayedIn in_memory (new_world_of (bytes_of config.lmk) config) events outcomes
 
 -- all events are done, and their outcomes are written
 abbrev pub IsPlayed : Settings → List Event → Known → Known → Type 0

@@ -4,6 +4,7 @@
 mod event_line;
 mod fault_line;
 mod fault_name;
+pub mod laws;
 mod line;
 mod opening;
 mod outcome_lines;

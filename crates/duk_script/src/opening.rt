@@ -2,8 +2,6 @@
 
 ghost use Rattle.std.specs.Prelude.{◌≡◌, IfOk, IfErr, replicate};
 ghost use Rattle.duk_tdes.specs.KeyBytes.{bytes_of};
-ghost use Rattle.duk_net.specs.Calm.{HasSoundStores, IsCalmAt};
-ghost use Rattle.duk_net.specs.declared.event.End.{End};
 ghost use Rattle.duk_net.specs.InMemory.{in_memory, new_terminal};
 ghost use Rattle.duk_script.specs.Opening.{IsOpened, StartsCalm, new_world_of, opening};
 ghost use Rattle.duk_tdes.specs.Tdes.{IsTdesLength};
@@ -28,8 +26,6 @@ pub(crate) fn open_world<const N: usize>(
     requires { IsTdesLength N }
     ensures starts { StartsCalm in_memory (new_world_of lmk.now config) }
     ensures opened { IfOk result (IsOpened in_memory (new_world_of lmk.now config)) }
-    ensures sound { IfOk result (HasSoundStores in_memory) }
-    ensures calm { IfOk result (λ world. (end : End) → IsCalmAt in_memory world end) }
     ensures refused { IfErr result (λ why. why ≡ ScriptFault.NoMemory) }
 {
     let events = restarts(alloc, config.terminals)?;

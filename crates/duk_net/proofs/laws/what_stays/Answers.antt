@@ -1,3 +1,4 @@
+use Rattle.duk_net.proofs.ReachedByMoves.{reached_leads}
 use Rattle.duk_net.proofs.WorldStaysAboveUsed.{leads_keys_stay, leads_owners_stay}
 use Rattle.duk_net.proofs.laws.what_stays.Goals as goal
 
@@ -6,3 +7,6 @@ returns-clause-owners g c old new outcomes reached leads = leads_owners_stay _ o
 
 pub returns-clause-keys : goal.returns-clause-keys
 returns-clause-keys g c old new outcomes reached leads = leads_keys_stay _ old new outcomes reached leads
+
+pub returns-clause-reached : goal.returns-clause-reached
+returns-clause-reached g c old new outcomes reached leads = reached_leads _ old new outcomes reached leads
