@@ -7,7 +7,7 @@ use Rattle.std.specs.Prelude.{All}
 use Rattle.duk_net.specs.Gained.{HoldsOfGained}
 use Rattle.duk_net.specs.Reached.{CallLeads, Moves, Reached}
 use Rattle.duk_net.specs.Restart.{IsHostLeft}
-use Rattle.duk_net.specs.Run.{IsLeft, IsRun, Run, RunRefused}
+use Rattle.duk_net.specs.Run.{IsRefusedMemory, IsRun, Run, RunRefused}
 use Rattle.duk_net.specs.Step.{Step}
 use Rattle.duk_net.specs.World.{Meanings, WorldOf}
 use Rattle.duk_net.specs.declared.event.Event.{Event}
@@ -71,7 +71,7 @@ leads_all m P steps lefts old new outcomes reached holds leads =
     ]
 
 -- what an event that was refused memory leaves
-left_alone : {C L I : Type 0} (m : Meanings C L I) (old : WorldOf C L I) (event : Event) (new : WorldOf C L I) → IsLeft m old event new → (new ≡ old) ⊎ IsHostLeft m old new
+left_alone : {C L I : Type 0} (m : Meanings C L I) (old : WorldOf C L I) (event : Event) (new : WorldOf C L I) → IsRefusedMemory m old event new → (new ≡ old) ⊎ IsHostLeft m old new
 left_alone m old event.RestartHost new left = left
 left_alone m old _ new left = inl left
 

@@ -1,4 +1,4 @@
--- What sound and calm stores spare a world: this project's own.
+-- Which faults a world with sound and calm stores tells: this project's own.
 use Rattle.std.specs.Prelude.{◌≡◌, ◌⊎◌, ◌++◌, ◌∷◌, List, All, Any}
 use Rattle.duk_host.specs.declared.fault.HostFault.{HostFault}
 use Rattle.duk_host.specs.declared.fault.HostFault.TheVariants as host_fault

@@ -20,10 +20,10 @@ Run m old (event ∷ events) [] new = ⊥
 
 -- an event that was refused memory leaves the world as it was; of the host's restart it may leave
 -- the host stopped
-abbrev pub IsLeft : {C L I : Type 0} → Meanings C L I → WorldOf C L I → Event → WorldOf C L I
+abbrev pub IsRefusedMemory : {C L I : Type 0} → Meanings C L I → WorldOf C L I → Event → WorldOf C L I
     → Type 0
-IsLeft m old event.RestartHost new = (new ≡ old) ⊎ IsHostLeft m old new
-IsLeft m old _ new = new ≡ old
+IsRefusedMemory m old event.RestartHost new = (new ≡ old) ⊎ IsHostLeft m old new
+IsRefusedMemory m old _ new = new ≡ old
 
 -- one event is done
 pub record IsStepInto
@@ -49,7 +49,7 @@ pub record IsRunUpTo
   pub refused : Event
   pub done_part : IsRun m old (take done events) before after mid
   pub next : slice_get events done ≡ Some refused
-  pub left : IsLeft m mid refused new
+  pub left : IsRefusedMemory m mid refused new
 
 -- why a run ends before all events are done, and what that leaves
 abbrev pub RunRefused : {C L I : Type 0} → Meanings C L I → WorldOf C L I → List Event

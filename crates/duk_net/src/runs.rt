@@ -9,7 +9,7 @@ ghost use Rattle.duk_net.specs.Gained.{EachGained, HoldsOfGained};
 ghost use Rattle.duk_net.specs.UsedNumbers.{IsSentByOwner, NoneTwice};
 ghost use Rattle.duk_net.specs.Owner.{owner_of};
 ghost use Rattle.duk_net.specs.OwnKey.{IsOwnReply, IsOwnRequest, IsRefusedAsUsedOrFull};
-ghost use Rattle.duk_net.specs.Run.{IsLeft, IsRun, IsStepInto, RunRefused};
+ghost use Rattle.duk_net.specs.Run.{IsRefusedMemory, IsRun, IsStepInto, RunRefused};
 ghost use Rattle.duk_net.specs.Step.{Step};
 ghost use Rattle.duk_net.specs.UnusedKeys.{HoldNoUsedKey, HoldsOfTerminals, OwnsAboveUsed};
 ghost use Rattle.duk_net.specs.World.{meanings_of};
@@ -136,7 +136,7 @@ fn step_into<const N: usize, C: Cell, L: UsedLog, I: Issuer>(
     ensures step { IfOk result (λ _. IsStepInto (meanings_of C.meaning L.meaning I.decides)
         system.old event.now out.old.items out.new.items system.new) }
     ensures out { OnErr result (out.new.items ≡ out.old.items) }
-    ensures left { OnErr result (IsLeft
+    ensures left { OnErr result (IsRefusedMemory
         (meanings_of C.meaning L.meaning I.decides) system.old event.now system.new) }
 {
     out.reserve(1)?;
@@ -152,7 +152,7 @@ fn step<const N: usize, C: Cell, L: UsedLog, I: Issuer>(
 ) -> Result<Outcome, AllocError>
     ensures step { IfOk result (λ outcome. Step
         (meanings_of C.meaning L.meaning I.decides) system.old event.now outcome system.new) }
-    ensures left { OnErr result (IsLeft
+    ensures left { OnErr result (IsRefusedMemory
         (meanings_of C.meaning L.meaning I.decides) system.old event.now system.new) }
 {
     match *event {

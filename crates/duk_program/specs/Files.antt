@@ -5,37 +5,42 @@ use Rattle.duk_io.specs.Known.{Known}
 use Rattle.duk_program.specs.declared.file_system.FileFault.{FileFault}
 use Rattle.duk_program.specs.declared.file_system.FileFault.TheVariants as fault
 
+-- what files make known of what there is under a path: nothing, that there is no file that can be
+-- read, or the bytes of one
+abbrev pub FileKnown : Type 0
+FileKnown = Option (Option (List ℕ))
+
 -- the file has these bytes
-abbrev pub IsHeld : Option (Option (List ℕ)) → List ℕ → Type 0
+abbrev pub IsHeld : FileKnown → List ℕ → Type 0
 IsHeld None bytes = ⊤
 IsHeld (Some None) bytes = ⊥
 IsHeld (Some (Some held)) bytes = bytes ≡ held
 
 -- there is a file that can be read
-abbrev pub IsReadable : Option (Option (List ℕ)) → Type 0
+abbrev pub IsReadable : FileKnown → Type 0
 IsReadable None = ⊤
 IsReadable (Some None) = ⊥
 IsReadable (Some (Some held)) = ⊤
 
 -- there is no file that can be read
-abbrev pub IsUnreadable : Option (Option (List ℕ)) → Type 0
+abbrev pub IsUnreadable : FileKnown → Type 0
 IsUnreadable None = ⊤
 IsUnreadable (Some None) = ⊤
 IsUnreadable (Some (Some held)) = ⊥
 
 -- the file has more bytes than this
-abbrev pub IsLongerThan : ℕ → Option (Option (List ℕ)) → Type 0
+abbrev pub IsLongerThan : ℕ → FileKnown → Type 0
 IsLongerThan most None = ⊤
 IsLongerThan most (Some None) = ⊥
 IsLongerThan most (Some (Some held)) = most < length held
 
 -- the file has these bytes, and they are not too many
-pub record IsFileRead (held : Option (Option (List ℕ))) (most : ℕ) (bytes : List ℕ) : Type 0 where
+pub record IsFileRead (held : FileKnown) (most : ℕ) (bytes : List ℕ) : Type 0 where
   pub bytes_are : IsHeld held bytes
   pub fits : length bytes ≤ most
 
 -- why a file is not read; want of memory is told of files that can be read alone
-abbrev pub IsFileUnread : Option (Option (List ℕ)) → ℕ → FileFault → Type 0
+abbrev pub IsFileUnread : FileKnown → ℕ → FileFault → Type 0
 IsFileUnread held most fault.CannotRead = IsUnreadable held
 IsFileUnread held most fault.TooLong = IsLongerThan most held
 IsFileUnread held most fault.NoMemory = IsReadable held

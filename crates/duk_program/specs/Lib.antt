@@ -2,3 +2,4 @@ pub mod Files
 pub mod Run
 pub mod RunFiles
 pub mod Status
+pub mod Told

@@ -46,7 +46,7 @@ HasNotRun Done Refused s fault fault' =
 
 -- memory was refused: that is told behind the lines that were handed on, or that they could not be.
 -- What a private function of `run_status` answers
-abbrev pub IsMemoryTold : Known → Known → Known → Known → Type 0
-IsMemoryTold output output' fault fault' =
+abbrev pub TellsWantOfMemory : Known → Known → Known → Known → Type 0
+TellsWantOfMemory output output' fault fault' =
     (IsUntouched output output' × IsTried fault fault' (fault_line NoMemory))
     ⊎ (IsFlushLost output output' × IsTried fault fault' (fault_line WriteFailed))

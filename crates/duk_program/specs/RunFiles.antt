@@ -1,13 +1,13 @@
 -- What `run` answers over files (this project's own, over the sessions of a script). Where files
 -- make nothing known, what they hold may be any bytes.
-use Rattle.std.specs.Prelude.{◌⊎◌, ℕ, List, Option, codes}
+use Rattle.std.specs.Prelude.{◌⊎◌, ℕ, List, codes}
 use Rattle.duk_config.specs.ConfigFile.{IsConfigFault, IsConfigFile, longest_file}
 use Rattle.duk_config.specs.Settings.{Settings}
 use Rattle.duk_config.specs.declared.fault.ScriptFault.{ScriptFault}
 use Rattle.duk_config.specs.declared.fault.ScriptFault.TheVariants as fault
 use Rattle.duk_io.specs.Known.{Known}
 use Rattle.duk_io.specs.Sink.{IsTried, IsUntouched}
-use Rattle.duk_program.specs.Files.{IsFileUnread, IsHeld, held_bytes}
+use Rattle.duk_program.specs.Files.{FileKnown, IsFileUnread, IsHeld, held_bytes}
 use Rattle.duk_program.specs.declared.file_system.FileFault.{FileFault}
 use Rattle.duk_program.specs.declared.file_system.FileFault.TheVariants as file
 use Rattle.duk_program.specs.Run.{HasNotRun, HasRun}
@@ -17,15 +17,14 @@ use Rattle.duk_script.specs.Session.{IsScriptDone, IsScriptRefused, Session, ses
 -- what the files of a configuration and of a script hold, and what the writers of lines and of
 -- faults make known before and after
 pub record FileRun : Type 0 where
-  pub config_held : Option (Option (List ℕ))
-  pub script_held : Option (Option (List ℕ))
+  pub config_held : FileKnown
+  pub script_held : FileKnown
   pub output_before : Known
   pub output_after : Known
   pub fault_before : Known
   pub fault_after : Known
 
-abbrev pub file_run : Option (Option (List ℕ)) → Option (Option (List ℕ)) → Known → Known → Known
-    → Known → FileRun
+abbrev pub file_run : FileKnown → FileKnown → Known → Known → Known → Known → FileRun
 file_run config_held script_held output_before output_after fault_before fault_after = record {
   config_held = config_held;
   script_held = script_held;
@@ -69,7 +68,7 @@ script_line file.TooLong = fault_line fault.TooLong
 script_line file.NoMemory = fault_line fault.NoMemory
 
 -- a line was told, but for what a failed write cut off, and nothing was written to the output
-pub record HasToldAlone (r : FileRun) (line : List ℕ) : Type 0 where
+pub record TellsOnlyFault (r : FileRun) (line : List ℕ) : Type 0 where
   pub quiet : IsUntouched r.output_before r.output_after
   pub told : IsTried r.fault_before r.fault_after line
 
@@ -77,7 +76,7 @@ pub record HasToldAlone (r : FileRun) (line : List ℕ) : Type 0 where
 pub record HasUnreadConfig (r : FileRun) : Type 0 where
   pub why : FileFault
   pub cause : IsFileUnread r.config_held longest_file why
-  pub told : HasToldAlone r (config_line why)
+  pub told : TellsOnlyFault r (config_line why)
 
 -- the configuration's file is read, and refused
 pub record HasBadConfig (r : FileRun) : Type 0 where
@@ -85,7 +84,7 @@ pub record HasBadConfig (r : FileRun) : Type 0 where
   pub held : IsHeld r.config_held bytes
   pub why : ScriptFault
   pub cause : IsConfigFault bytes why
-  pub told : HasToldAlone r (fault_line why)
+  pub told : TellsOnlyFault r (fault_line why)
 
 -- there is a configuration, and the script's file is not read
 pub record HasUnreadScript (r : FileRun) : Type 0 where
@@ -93,7 +92,7 @@ pub record HasUnreadScript (r : FileRun) : Type 0 where
   pub configured : IsConfigured r config
   pub why : FileFault
   pub cause : IsFileUnread r.script_held longest_file why
-  pub told : HasToldAlone r (script_line why)
+  pub told : TellsOnlyFault r (script_line why)
 
 -- both files are read, and the script is refused under the configuration, or what it wrote could
 -- not be handed on

@@ -1,7 +1,7 @@
 //! Files as the program sees them: they may make known what they hold.
 
-ghost use Rattle.std.specs.Prelude.{ℕ, List, Option, None, IfOk, IfErr};
-ghost use Rattle.duk_program.specs.Files.{IsFileRead, IsFileUnread, held_bytes};
+ghost use Rattle.std.specs.Prelude.{ℕ, List, None, IfOk, IfErr};
+ghost use Rattle.duk_program.specs.Files.{FileKnown, IsFileRead, IsFileUnread, held_bytes};
 
 use duk_io::Source;
 use std::alloc::Global;
@@ -27,7 +27,7 @@ pub enum FileFault {
 pub trait FileSystem {
     /// What there is under a path, where the files make it known: the bytes of a file, or none that
     /// can be read.
-    ghost held: { Self → List ℕ → Option (Option (List ℕ)) };
+    ghost held: { Self → List ℕ → FileKnown };
 
     /// All bytes of the file under a path, where they are at most so many.
     fn read_file(&self, alloc: Global, path: &str, most: usize) -> Result<Vec<u8>, FileFault>

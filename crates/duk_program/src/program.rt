@@ -4,6 +4,7 @@ ghost use Rattle.std.specs.Prelude.{◌≡◌};
 ghost use Rattle.std.specs.Io.KnownBytes.{Keeps};
 ghost use Rattle.duk_io.specs.Sink.{IsUntouched};
 ghost use Rattle.duk_program.specs.Status.{IsStatus};
+ghost use Rattle.duk_program.specs.Told.{IsLineTold};
 
 use crate::dispatch::{Todo, command};
 use crate::file_system::FileSystem;
@@ -25,9 +26,11 @@ pub fn run_words<S: FileSystem, W: Sink, F: Sink>(
 ) -> u8
     ensures status { IsStatus result }
     ensures no_fault { result ≡ 0 → IsUntouched (F.known fault.old) (F.known fault.new) }
+    ensures fault { result ≡ 1 → IsLineTold (F.known fault.old) (F.known fault.new) }
     ensures refused { result ≡ 2
         → Keeps (W.known output.old).contents (W.known output.new).contents }
 {
+    duk_io::laws::writes();
     match command(alloc, words, output, fault) {
         Todo::Exit(status) => status,
         Todo::Run { config, script } => run_files(alloc, files, config, script, output, fault),

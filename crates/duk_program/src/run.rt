@@ -3,7 +3,7 @@
 ghost use Rattle.std.specs.Prelude.{◌≡◌, ◌⊎◌};
 ghost use Rattle.duk_config.specs.declared.fault.ScriptFault.{ScriptFault};
 ghost use Rattle.duk_io.specs.Sink.{IsTried, IsUntouched};
-ghost use Rattle.duk_program.specs.Run.{HasNotRun, HasRun, IsFlushLost, IsMemoryTold};
+ghost use Rattle.duk_program.specs.Run.{HasNotRun, HasRun, IsFlushLost, TellsWantOfMemory};
 ghost use Rattle.duk_script.specs.FaultLine.{fault_line};
 ghost use Rattle.duk_script.specs.Session.{IsRunDone, IsRunRefused, IsScriptDone, IsScriptRefused, session};
 
@@ -87,7 +87,7 @@ fn hand_on<W: Sink, F: Sink>(output: &mut W, fault: &mut F) -> u8
 /// 1: with `out of memory`, or, where the lines cannot be handed on, with `script: write failed`.
 fn refuse_memory<W: Sink, F: Sink>(output: &mut W, fault: &mut F) -> u8
     ensures status { result ≡ 1 }
-    ensures told { IsMemoryTold (W.known output.old) (W.known output.new)
+    ensures told { TellsWantOfMemory (W.known output.old) (W.known output.new)
         (F.known fault.old) (F.known fault.new) }
 {
     let why = match output.flush() {

@@ -1,7 +1,7 @@
 //! What the words of the command line ask for.
 
-ghost use Rattle.std.specs.Prelude.{IfSome, codes};
-ghost use Rattle.duk_words.specs.Asked.{AsksFor};
+ghost use Rattle.std.specs.Prelude.{◌∷◌, [], IfSome, IsSome, codes};
+ghost use Rattle.duk_words.specs.Asked.{AsksBehind, AsksFor, HasWords};
 
 use crate::commands::program;
 use clap::error::ErrorKind;
@@ -96,7 +96,10 @@ fn match_words<'a>(alloc: Global, words: &'a [String]) -> Result<Request<'a>, Er
     }
 }
 
-fn request_of<'a>(matches: &ArgMatches<'a>) -> Option<Request<'a>> {
+/// What was found behind the command that was used asks for.
+fn request_of<'a>(matches: &ArgMatches<'a>) -> Option<Request<'a>>
+    ensures { IfSome result (AsksBehind matches.now) }
+{
     match matches.subcommand()? {
         ("derive", found) => derive_request(found),
         ("walk", found) => walk_request(found),
@@ -109,7 +112,8 @@ fn request_of<'a>(matches: &ArgMatches<'a>) -> Option<Request<'a>> {
 }
 
 fn derive_request<'a>(found: &ArgMatches<'a>) -> Option<Request<'a>>
-    ensures { IfSome result (AsksFor (codes "derive") found.now) }
+    ensures asks { IfSome result (AsksFor (codes "derive") found.now) }
+    ensures there { HasWords found.now (codes "BDK" ∷ codes "KSN" ∷ []) → IsSome result }
 {
     let bdk = found.get_str("BDK")?;
     let ksn = found.get_str("KSN")?;
@@ -117,7 +121,10 @@ fn derive_request<'a>(found: &ArgMatches<'a>) -> Option<Request<'a>>
 }
 
 fn walk_request<'a>(found: &ArgMatches<'a>) -> Option<Request<'a>>
-    ensures { IfSome result (AsksFor (codes "walk") found.now) }
+    ensures asks { IfSome result (AsksFor (codes "walk") found.now) }
+    ensures there { HasWords found.now
+        (codes "BDK" ∷ codes "IKSN" ∷ codes "COUNT" ∷ [])
+        → IsSome result }
 {
     let bdk = found.get_str("BDK")?;
     let iksn = found.get_str("IKSN")?;
@@ -132,7 +139,8 @@ fn walk_request<'a>(found: &ArgMatches<'a>) -> Option<Request<'a>>
 }
 
 fn pin_request<'a>(found: &ArgMatches<'a>) -> Option<Request<'a>>
-    ensures { IfSome result (AsksFor (codes "pin") found.now) }
+    ensures asks { IfSome result (AsksFor (codes "pin") found.now) }
+    ensures there { HasWords found.now (codes "PIN" ∷ codes "PAN" ∷ []) → IsSome result }
 {
     let pin = found.get_str("PIN")?;
     let pan = found.get_str("PAN")?;
@@ -144,7 +152,10 @@ fn pin_request<'a>(found: &ArgMatches<'a>) -> Option<Request<'a>>
 }
 
 fn wrap_request<'a>(found: &ArgMatches<'a>) -> Option<Request<'a>>
-    ensures { IfSome result (AsksFor (codes "wrap") found.now) }
+    ensures asks { IfSome result (AsksFor (codes "wrap") found.now) }
+    ensures there { HasWords found.now
+        (codes "KBPK" ∷ codes "FIELDS" ∷ codes "KEY" ∷ codes "PAD" ∷ [])
+        → IsSome result }
 {
     let kbpk = found.get_str("KBPK")?;
     let fields = found.get_str("FIELDS")?;
@@ -159,7 +170,8 @@ fn wrap_request<'a>(found: &ArgMatches<'a>) -> Option<Request<'a>>
 }
 
 fn unwrap_request<'a>(found: &ArgMatches<'a>) -> Option<Request<'a>>
-    ensures { IfSome result (AsksFor (codes "unwrap") found.now) }
+    ensures asks { IfSome result (AsksFor (codes "unwrap") found.now) }
+    ensures there { HasWords found.now (codes "KBPK" ∷ codes "BLOCK" ∷ []) → IsSome result }
 {
     let kbpk = found.get_str("KBPK")?;
     let block = found.get_str("BLOCK")?;
@@ -167,7 +179,8 @@ fn unwrap_request<'a>(found: &ArgMatches<'a>) -> Option<Request<'a>>
 }
 
 fn run_request<'a>(found: &ArgMatches<'a>) -> Option<Request<'a>>
-    ensures { IfSome result (AsksFor (codes "run") found.now) }
+    ensures asks { IfSome result (AsksFor (codes "run") found.now) }
+    ensures there { HasWords found.now (codes "CONFIG" ∷ codes "SCRIPT" ∷ []) → IsSome result }
 {
     let config = found.get_str("CONFIG")?;
     let script = found.get_str("SCRIPT")?;
