@@ -38,7 +38,7 @@ abbrev pub pending_of : RegisterSet → List ℕ → Pending
 pending_of set key = record { ksn = serial_of set; response_key = response_key_of key }
 
 -- what a customer pays: a PAN and its PIN, and an amount in four bytes
-pub record IsPurchase (purchase : Purchase) : Type 0 where
+pub record ArePurchaseFields (purchase : Purchase) : Type 0 where
   pub pan_is : IsPan purchase.pan
   pub pin_is : IsPin purchase.pin
   pub amount_fits : purchase.amount < 2 ^ 32
@@ -52,7 +52,7 @@ pub record IsBegun
   pub key : List ℕ
   pub left : RegisterSet
   pub takes : TakesFrom old.state set key left
-  pub purchase_is : IsPurchase purchase
+  pub purchase_is : ArePurchaseFields purchase
   pub frame_is : frame
       ≡ payment_request key (serial_of set) purchase.pan purchase.pin purchase.amount
   pub state_is : new.state ≡ Loaded left (Some (pending_of set key))
