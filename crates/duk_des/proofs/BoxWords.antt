@@ -1,6 +1,6 @@
 -- The boxes and P as tables of words.
-use Rattle.std.proofs.Common.{◌≡◌, ℕ, zero, suc, ◌+◌, ◌-◌, ◌*◌, ◌^◌, ◌<◌, true, List, [], ◌∷◌, length, map, get_or, nat_lt, nat_le, ◌&&◌, cond, ap, ◌∙◌, arith}
-use Rattle.std.proofs.lemmas.List.{length-map}
+use Rattle.std.proofs.Common.{◌≡◌, ℕ, zero, suc, ◌+◌, ◌-◌, ◌*◌, ◌^◌, ◌<◌, true, List, [], ◌∷◌, ◌++◌, length, map, take, drop, get_or, nat_lt, nat_le, ◌&&◌, cond, sym, ap, ◌∙◌, arith}
+use Rattle.std.proofs.lemmas.List.{length-map, get_or-drop, get_or-take}
 use Rattle.duk_des.specs.Bits.{permute, bits_of}
 use Rattle.duk_des.specs.Des.{substitute}
 use Rattle.duk_des.specs.Tables.{output_places}
@@ -36,7 +36,7 @@ among_four number place = cond (nat_lt (4 * (number - 1)) place && nat_le place 
 abbrev pub four_places : ℕ → List ℕ
 four_places number = map (among_four number) output_places
 
-pub entry_of : (number : ℕ) (places : List ℕ) (x : ℕ) → x < 64 → length places ≡ 4 → gathers 32 (bits_at places) (four_places number) ≡ true
+entry_of : (number : ℕ) (places : List ℕ) (x : ℕ) → x < 64 → length places ≡ 4 → gathers 32 (bits_at places) (four_places number) ≡ true
     → ((n : ℕ) → permute (four_places number) (bits_of 4 n) ≡ permute output_places (at_box number (bits_of 4 n)))
     → word_bits (get_or (words_for number places) x 0) ≡ selected number (bits_of 6 x)
 unfolding word_bits selected
@@ -45,3 +45,19 @@ entry_of number places x below four tested spread =
     ap (bits_of 32) (get_or-listed (word_for number places) 0 64 x below ∙ ap (word_for number places) same)
     ∙ gathered 32 (bits_at places) (four_places number) (substitute (box_at number) (bits_of 6 x)) tested (length-map places (λ place. 2 ^ (32 - place)) ∙ four)
     ∙ spread _
+
+-- the words of the boxes, one box after another
+abbrev pub all_words : List ℕ
+all_words =
+    words_for 1 (9 ∷ 17 ∷ 23 ∷ 31 ∷ []) ++ (words_for 2 (13 ∷ 28 ∷ 2 ∷ 18 ∷ []) ++ (words_for 3 (24 ∷ 16 ∷ 30 ∷ 6 ∷ []) ++ (words_for 4 (26 ∷ 20 ∷ 10 ∷ 1 ∷ []) ++
+    (words_for 5 (8 ∷ 14 ∷ 25 ∷ 3 ∷ []) ++ (words_for 6 (4 ∷ 29 ∷ 11 ∷ 19 ∷ []) ++ (words_for 7 (32 ∷ 12 ∷ 22 ∷ 7 ∷ []) ++ words_for 8 (5 ∷ 27 ∷ 15 ∷ 21 ∷ [])))))))
+
+-- the same where the words of the box stand behind those of the boxes before it
+pub entry_in : (start number : ℕ) (places : List ℕ) (x : ℕ) → x < 64 → take 64 (drop start all_words) ≡ words_for number places
+    → length places ≡ 4 → gathers 32 (bits_at places) (four_places number) ≡ true
+    → ((n : ℕ) → permute (four_places number) (bits_of 4 n) ≡ permute output_places (at_box number (bits_of 4 n)))
+    → word_bits (get_or all_words (start + x) 0) ≡ selected number (bits_of 6 x)
+entry_in start number places x below stands four tested spread =
+    ap word_bits (sym (get_or-take 64 (drop start all_words) x 0 below ∙ get_or-drop start all_words x 0))
+    ∙ ap (λ words. word_bits (get_or words x 0)) stands
+    ∙ entry_of number places x below four tested spread

@@ -15,4 +15,5 @@ pub mod RoundsOfWords
 pub mod BitExchanges
 pub mod BlocksOfWords
 pub mod PermutationsByExchanges
+pub mod LinearSchedule
 pub mod DecipheringUndoes

@@ -11,7 +11,7 @@ use Rattle.duk_des.proofs.OneMoreRound.{one_round, no_round}
 abbrev pub halves_of : ℕ → ℕ → Halves
 halves_of left right = record { left = word_bits left; right = word_bits right }
 
-abbrev no_key : RoundKey
+abbrev pub no_key : RoundKey
 no_key = record { odd = 0; even = 0 }
 
 -- the rounds that are left after a round, and those before it

@@ -61,6 +61,12 @@ schedule (count ∷ counts) c d =
 unfoldable pub round_keys : List Bool → List (List Bool)
 round_keys key = schedule rotations (permute left_key_places key) (permute right_key_places key)
 
+-- round keys xored bit by bit, each with the one at its place
+abbrev pub xor_keys : List (List Bool) → List (List Bool) → List (List Bool)
+xor_keys [] masks = []
+xor_keys (key ∷ keys) [] = []
+xor_keys (key ∷ keys) (mask ∷ masks) = xor_bits key mask ∷ xor_keys keys masks
+
 -- the cipher block of a block under a key
 unfoldable pub encipher : List Bool → List Bool → List Bool
 encipher key block = des_computation (round_keys key) block

@@ -3,3 +3,4 @@ pub mod Tables
 pub mod Des
 pub mod Words
 pub mod Block
+pub mod Bytes

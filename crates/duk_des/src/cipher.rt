@@ -2,9 +2,11 @@
 
 ghost use Rattle.std.specs.Prelude.{◌≡◌};
 ghost use Rattle.duk_des.specs.Bits.{bits_of_bytes};
+ghost use Rattle.duk_des.specs.Bytes.{xor_bytes};
 ghost use Rattle.duk_des.specs.Des.{encipher, decipher, encrypted, decrypted};
 
-use crate::words::{RoundKey, crypt_block, reverse_keys, round_keys};
+use crate::bytes::xor_bytes;
+use crate::words::{RoundKey, crypt_block, crypt_both, reverse_keys, round_keys, xor_keys};
 use std::marker::Model;
 
 /// DES under one key of 8 bytes, whose sixteen round keys are made once. It has neither `Debug` nor
@@ -39,6 +41,18 @@ impl Des {
         }
     }
 
+    /// DES under this key, xored with a mask. Its round keys are those of the key, xored with those
+    /// of the mask, so a mask that is known when the program is built costs no key schedule.
+    #[inline(always)]
+    pub fn under_mask(&self, mask: &[u8; 8]) -> Self
+        ensures { result ≡ xor_bytes self.now mask.now }
+    {
+        Des {
+            key: xor_bytes(&self.key, mask),
+            keys: xor_keys(&self.keys, &round_keys(mask)),
+        }
+    }
+
     /// Enciphers a block of 8 bytes (NIST SP 800-67 section 2).
     pub fn encrypt(&self, block: [u8; 8]) -> [u8; 8]
         ensures bytes { result ≡ encrypted self.now block }
@@ -56,6 +70,20 @@ impl Des {
     {
         crypt_block(&reverse_keys(&self.keys), &block)
     }
+}
+
+/// Enciphers two blocks of 8 bytes, each under a key of its own. It answers what `encrypt` does, in
+/// less time than two calls take.
+pub fn encrypt_both(
+    first: &Des,
+    first_block: [u8; 8],
+    second: &Des,
+    second_block: [u8; 8],
+) -> ([u8; 8], [u8; 8])
+    ensures first { result.0 ≡ encrypted first.now first_block }
+    ensures second { result.1 ≡ encrypted second.now second_block }
+{
+    crypt_both(&first.keys, &first_block, &second.keys, &second_block)
 }
 
 /// Enciphers a block of 8 bytes under a key of 8 bytes (NIST SP 800-67 section 2).

@@ -1,8 +1,10 @@
 //! Laws of the cipher, each the contract of a function that does nothing.
 
 ghost use Rattle.std.specs.Prelude.{◌≡◌, ℕ, Bool, List, length};
+ghost use Rattle.duk_des.specs.Bits.{bits_of_bytes, xor_bits};
 ghost use Rattle.duk_des.specs.Block.{IsBlock};
-ghost use Rattle.duk_des.specs.Des.{encipher, decipher, encrypted, decrypted};
+ghost use Rattle.duk_des.specs.Bytes.{xor_bytes};
+ghost use Rattle.duk_des.specs.Des.{round_keys, xor_keys, encipher, decipher, encrypted, decrypted};
 
 /// On bits: under each key deciphering undoes enciphering, and the reverse, for every block of 64
 /// bits.
@@ -30,4 +32,14 @@ pub fn inverse()
         → IsBlock (encrypted key block) }
     ensures plain_block { (key block : List ℕ) → IsBlock key → IsBlock block
         → IsBlock (decrypted key block) }
+{}
+
+/// The key schedule is linear over xor, since it only moves bits: the round keys of a key under a
+/// mask are those of the key, xored with those of the mask. Of bytes as of the bits that they are.
+pub fn linear_schedule()
+    ensures bits { (key mask : List Bool) → length key ≡ 64 → length mask ≡ 64
+        → round_keys (xor_bits key mask) ≡ xor_keys (round_keys key) (round_keys mask) }
+    ensures bytes { (key mask : List ℕ) → IsBlock key → IsBlock mask
+        → round_keys (bits_of_bytes (xor_bytes key mask))
+        ≡ xor_keys (round_keys (bits_of_bytes key)) (round_keys (bits_of_bytes mask)) }
 {}

@@ -6,6 +6,7 @@
 #![tactic(auto)]
 
 mod bits;
+mod bytes;
 mod cipher;
 mod cipher_function;
 pub mod laws;
@@ -13,5 +14,6 @@ pub mod plain;
 mod schedule;
 mod words;
 
-pub use cipher::{Des, decrypt_block, encrypt_block};
+pub use bytes::xor_bytes;
+pub use cipher::{Des, decrypt_block, encrypt_block, encrypt_both};
 pub use words::entry;

@@ -13,7 +13,7 @@ mod round_keys;
 pub use entries::entry;
 use entries::group_of;
 use permutations::{final_permutation, initial_permutation};
-pub(crate) use round_keys::{RoundKey, reverse_keys, round_keys};
+pub(crate) use round_keys::{RoundKey, reverse_keys, round_keys, xor_keys};
 
 /// A round for each of the keys with these indexes: L' = R, and R' = L xor f(R, K).
 macro_rules! rounds {
@@ -26,6 +26,21 @@ macro_rules! rounds {
     };
 }
 
+/// The same rounds on the halves of two blocks, each under its own keys.
+macro_rules! rounds_of_both {
+    ($left:ident $right:ident $keys:ident, $other_left:ident $other_right:ident $other_keys:ident:
+        $($index:literal)*) => {
+        $(
+            let next = next_half($left, $right, &$keys[$index]);
+            let other = next_half($other_left, $other_right, &$other_keys[$index]);
+            $left = $right;
+            $right = next;
+            $other_left = $other_right;
+            $other_right = other;
+        )*
+    };
+}
+
 /// The initial permutation, the rounds, and the final permutation of the halves, exchanged.
 pub(crate) fn crypt_block(keys: &[RoundKey; 16], block: &[u8; 8]) -> [u8; 8]
     ensures { result
@@ -34,6 +49,29 @@ pub(crate) fn crypt_block(keys: &[RoundKey; 16], block: &[u8; 8]) -> [u8; 8]
     let (left, right) = initial_permutation(block);
     let (left, right) = rounds(left, right, keys);
     final_permutation(right, left)
+}
+
+/// Two blocks, each by its own round keys. A round waits for its look-ups, and those of the other
+/// block fill that time.
+pub(crate) fn crypt_both(
+    keys: &[RoundKey; 16],
+    block: &[u8; 8],
+    other_keys: &[RoundKey; 16],
+    other_block: &[u8; 8],
+) -> ([u8; 8], [u8; 8])
+    ensures first { result.0
+        ≡ bytes_of_bits 8 (des_computation (map key_bits keys.now) (bits_of_bytes block.now)) }
+    ensures second { result.1
+        ≡ bytes_of_bits 8
+        (des_computation (map key_bits other_keys.now) (bits_of_bytes other_block.now)) }
+{
+    let halves = initial_permutation(block);
+    let other_halves = initial_permutation(other_block);
+    let (halves, other_halves) = rounds_of_both(halves, keys, other_halves, other_keys);
+    (
+        final_permutation(halves.1, halves.0),
+        final_permutation(other_halves.1, other_halves.0),
+    )
 }
 
 /// Sixteen rounds on the halves L and R.
@@ -49,6 +87,28 @@ fn rounds(left: u32, right: u32, keys: &[RoundKey; 16]) -> (u32, u32)
     let mut right = right;
     rounds!(left right keys: 0 1 2 3 4 5 6 7 8 9 10 11 12 13 14 15);
     (left, right)
+}
+
+/// Sixteen rounds on the halves L and R of two blocks, a round of the one after that of the other.
+#[inline(always)]
+fn rounds_of_both(
+    halves: (u32, u32),
+    keys: &[RoundKey; 16],
+    other_halves: (u32, u32),
+    other_keys: &[RoundKey; 16],
+) -> ((u32, u32), (u32, u32))
+    ensures first { record { left = word_bits result.0.0; right = word_bits result.0.1 }
+        ≡ rounds (map key_bits keys.now)
+        (record { left = word_bits halves.0; right = word_bits halves.1 }) }
+    ensures second { record { left = word_bits result.1.0; right = word_bits result.1.1 }
+        ≡ rounds (map key_bits other_keys.now)
+        (record { left = word_bits other_halves.0; right = word_bits other_halves.1 }) }
+{
+    let (mut left, mut right) = halves;
+    let (mut other_left, mut other_right) = other_halves;
+    rounds_of_both!(left right keys, other_left other_right other_keys:
+        0 1 2 3 4 5 6 7 8 9 10 11 12 13 14 15);
+    ((left, right), (other_left, other_right))
 }
 
 /// L xor f(R, K).

@@ -7,7 +7,7 @@ ghost use Rattle.duk_tree.specs.Derivation.{step_of};
 ghost use Rattle.duk_regs.specs.Registers.{IsEmptyAt, LeavesEmpty, lowest_place, empty_register, register_at};
 
 use duk_tdes::Key;
-use duk_tree::{Iksn, Ksn, MOST_ONES, step, usable};
+use duk_tree::{Iksn, MOST_ONES, Parent, usable};
 
 /// The bit places of a counter, each with a register.
 pub(crate) const PLACES: usize = 21;
@@ -30,16 +30,16 @@ pub(crate) fn first_registers(initial: &Key<16>, iksn: Iksn) -> [Key<16>; PLACES
         → register_at result place
         ≡ step_of initial.now (low_bytes (record { iksn = iksn; counter = 2 ^ place })) }
 {
-    let root = iksn.with_counter(0);
+    let root = Parent::new(initial);
     let mut registers = [no_key(); PLACES];
     for place in 0..PLACES {
-        registers[place] = child_key(initial, root.with_counter(1 << place));
+        registers[place] = root.child(iksn.with_counter(1 << place));
     }
     registers
 }
 
 /// Where the counter has fewer than ten one bits, gives each register below its lowest one bit the
-/// key of the child at that place.
+/// key of the child at that place. An odd counter has no such register, and costs no key schedule.
 pub(crate) fn fill_below(registers: &mut [Key<16>; PLACES], key: &Key<16>, iksn: Iksn, counter: u32)
     requires { IsUsable counter }
     ensures are_21 { length registers.new ≡ 21 }
@@ -52,18 +52,13 @@ pub(crate) fn fill_below(registers: &mut [Key<16>; PLACES], key: &Key<16>, iksn:
 {
     duk_tree::laws::bits();
     duk_tree::laws::children();
-    if counter.count_ones() < MOST_ONES {
-        for place in 0..counter.trailing_zeros() {
-            registers[place as usize] = child_key(key, iksn.with_counter(counter + (1 << place)));
+    let places = counter.trailing_zeros();
+    if places > 0 && counter.count_ones() < MOST_ONES {
+        let parent = Parent::new(key);
+        for place in 0..places {
+            registers[place as usize] = parent.child(iksn.with_counter(counter + (1 << place)));
         }
     }
-}
-
-/// The key of a node of the key tree, from its parent's.
-fn child_key(parent: &Key<16>, number: Ksn) -> Key<16>
-    ensures { result ≡ step_of parent.now (low_bytes number) }
-{
-    step(parent, number.low_bytes())
 }
 
 /// Whether each register holds no key where the frontier has no node for it.

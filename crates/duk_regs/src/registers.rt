@@ -89,20 +89,13 @@ impl Registers {
         if self.counter == SPENT {
             return Err(self);
         }
-        let Registers {
-            iksn,
-            counter,
-            mut registers,
-        } = self;
+        let mut left = self;
+        let (iksn, counter) = (left.iksn, left.counter);
         let place = counter.trailing_zeros() as usize;
-        let key = registers[place];
-        registers[place] = no_key();
-        fill_below(&mut registers, &key, iksn, counter);
-        let left = Registers {
-            iksn,
-            counter: next_usable(counter).unwrap_or(SPENT),
-            registers,
-        };
+        let key = left.registers[place];
+        left.registers[place] = no_key();
+        fill_below(&mut left.registers, &key, iksn, counter);
+        left.counter = next_usable(counter).unwrap_or(SPENT);
         Ok((key, iksn.with_counter(counter), left))
     }
 

@@ -1,7 +1,7 @@
 //! Arrays of bytes, as keys and blocks are made of them.
 
 ghost use Rattle.std.specs.Prelude.{◌≡◌, length};
-ghost use Rattle.duk_tdes.specs.Key.{IsKey, xor_bytes};
+ghost use Rattle.duk_tdes.specs.Key.{IsKey};
 
 /// The array of these bytes.
 pub fn array_of<const N: usize>(bytes: &[u8]) -> [u8; N]
@@ -12,15 +12,4 @@ pub fn array_of<const N: usize>(bytes: &[u8]) -> [u8; N]
     let mut array = [0; N];
     array.copy_from_slice(bytes);
     array
-}
-
-/// Each byte xored with the mask's byte at its place.
-pub fn xor_bytes<const N: usize>(bytes: &[u8; N], mask: &[u8; N]) -> [u8; N]
-    ensures { result ≡ xor_bytes bytes.now mask.now }
-{
-    let mut sum = *bytes;
-    for (i, byte) in mask.iter().enumerate() {
-        sum[i] ^= *byte;
-    }
-    sum
 }

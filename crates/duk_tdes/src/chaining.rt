@@ -4,9 +4,10 @@ ghost use Rattle.std.specs.Prelude.{◌≡◌, ◌%◌, length};
 ghost use Rattle.duk_tdes.specs.Cbc.{cbc_encrypted, cbc_decrypted};
 ghost use Rattle.duk_tdes.specs.Tdes.{IsTdesLength};
 
-use crate::bytes::{array_of, xor_bytes};
+use crate::bytes::array_of;
 use crate::cipher::Tdes;
 use crate::key::Key;
+use duk_des::xor_bytes;
 
 /// Enciphers whole blocks in place, from an initial vector of one block. `N` is 16 or 24.
 pub fn cbc_encrypt<const N: usize>(key: &Key<N>, iv: [u8; 8], bytes: &mut [u8])

@@ -4,7 +4,8 @@ ghost use Rattle.std.specs.Prelude.{◌≡◌, ℕ, List};
 ghost use Rattle.duk_tdes.specs.Key.{IsKey, xor_bytes};
 ghost use Rattle.duk_tdes.specs.Tdes.{first_key, second_key};
 
-use crate::bytes::{array_of, xor_bytes};
+use crate::bytes::array_of;
+use duk_des::xor_bytes;
 use std::marker::Model;
 
 /// A key of `N` bytes, 8 for single DES and 16 or 24 for TDES. It has neither `Debug` nor `==`, so

@@ -11,7 +11,8 @@ mod key;
 mod key_text;
 pub mod laws;
 
-pub use bytes::{array_of, xor_bytes};
+pub use bytes::array_of;
 pub use chaining::{cbc_decrypt, cbc_encrypt};
 pub use cipher::{Tdes, tdes_decrypt, tdes_encrypt};
+pub use duk_des::xor_bytes;
 pub use key::{Key, KeyBytes};

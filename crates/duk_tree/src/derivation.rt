@@ -3,11 +3,10 @@
 
 ghost use Rattle.std.specs.Prelude.{◌≡◌, ◌++◌};
 ghost use Rattle.duk_tdes.specs.Key.{xor_bytes};
-ghost use Rattle.duk_tree.specs.Derivation.{derivation_mask, initial_key_of, half_step_of, step_of, transaction_key_of, derived_key_of};
-ghost use Rattle.duk_tree.specs.Serial.{low_bytes};
+ghost use Rattle.duk_tree.specs.Derivation.{derivation_mask, initial_key_of, step_of, transaction_key_of, derived_key_of};
 
+use crate::parent::Parent;
 use crate::serial::{COUNTER_BITS, Iksn, Ksn};
-use duk_des::encrypt_block;
 use duk_tdes::{Key, array_of, tdes_encrypt};
 
 /// Masks the base derivation key for the right half of an initial key, and a key of the tree for
@@ -28,13 +27,10 @@ pub fn initial_key(bdk: &Key<16>, iksn: Iksn) -> Key<16>
 
 /// The key of a child in the key tree, from its parent's key and the low 64 bits of the child's key
 /// serial number: the non-reversible key generation process.
-#[tactic(auto, unfolding(crate::specs::Derivation::step_of))]
 pub fn step(key: &Key<16>, crypto_register: [u8; 8]) -> Key<16>
     ensures { result ≡ step_of key.now crypto_register }
 {
-    let left = half_step(&mask(key), crypto_register);
-    let right = half_step(key, crypto_register);
-    join(left, right)
+    Parent::new(key).step(crypto_register)
 }
 
 /// The transaction key of a key serial number, under the base derivation key; counter zero gives
@@ -53,30 +49,21 @@ fn transaction_key(initial: &Key<16>, ksn: Ksn) -> Key<16>
     for place in (0..COUNTER_BITS).rev() {
         let reached = ksn.counter() >> place;
         if reached % 2 == 1 {
-            key = step(&key, ksn.with_counter(reached << place).low_bytes());
+            key = Parent::new(&key).child(ksn.with_counter(reached << place));
         }
     }
     key
 }
 
-/// One half of a step.
-#[tactic(auto, unfolding(crate::specs::Derivation::half_step_of))]
-fn half_step(key: &Key<16>, crypto_register: [u8; 8]) -> [u8; 8]
-    ensures { result ≡ half_step_of key.now crypto_register }
-{
-    let (left, right) = key.halves();
-    let input = right.xor(&crypto_register).bytes();
-    let output = encrypt_block(&left.bytes(), input);
-    right.xor(&output).bytes()
-}
-
+/// The key under the derivation mask.
 fn mask(key: &Key<16>) -> Key<16>
     ensures { result ≡ xor_bytes key.now derivation_mask }
 {
     key.xor(&DERIVATION_MASK.to_be_bytes())
 }
 
-fn join(left: [u8; 8], right: [u8; 8]) -> Key<16>
+/// The key of two halves.
+pub(crate) fn join(left: [u8; 8], right: [u8; 8]) -> Key<16>
     ensures { result ≡ left ++ right }
 {
     let mut bytes = [0; 16];

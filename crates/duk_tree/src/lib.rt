@@ -10,11 +10,13 @@ mod counter;
 mod derivation;
 pub mod laws;
 mod next;
+mod parent;
 mod serial;
 mod variants;
 
 pub use counter::usable;
 pub use derivation::{derive, initial_key, step};
 pub use next::{MOST_ONES, next_usable};
+pub use parent::Parent;
 pub use serial::{Iksn, Ksn, PREFIX_LENGTH};
 pub use variants::{pin_key, request_key, response_key};

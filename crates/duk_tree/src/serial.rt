@@ -158,7 +158,8 @@ impl Ksn {
     pub fn low_bytes(self) -> [u8; 8]
         ensures { result ≡ low_bytes self }
     {
-        array_of(&self.bytes()[2..])
+        let Ksn { iksn, counter } = self;
+        ((iksn.number << COUNTER_BITS) + counter as u64).to_be_bytes()
     }
 
     /// The initial key serial number.

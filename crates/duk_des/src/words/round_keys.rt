@@ -1,8 +1,8 @@
 //! The key schedule in halves of 28 bits (NIST SP 800-67 appendix A).
 
 ghost use Rattle.std.specs.Prelude.{◌≡◌, ◌+◌, ◌≤◌, ◌<◌, ◌^◌, ◌++◌, map, reverse};
-ghost use Rattle.duk_des.specs.Bits.{permute, bits_of_bytes};
-ghost use Rattle.duk_des.specs.Des.{rotate, round_keys};
+ghost use Rattle.duk_des.specs.Bits.{permute, xor_bits, bits_of_bytes};
+ghost use Rattle.duk_des.specs.Des.{rotate, round_keys, xor_keys};
 ghost use Rattle.duk_des.specs.Tables.{left_key_places, right_key_places, round_key_places};
 ghost use Rattle.duk_des.specs.Words.{half_bits, key_bits};
 
@@ -28,6 +28,13 @@ macro_rules! schedule {
     };
 }
 
+/// Each of the round keys with these indexes, xored with the mask's.
+macro_rules! masked {
+    ($keys:ident $masks:ident: $($index:literal)*) => {
+        [$(xor_key(&$keys[$index], &$masks[$index])),*]
+    };
+}
+
 /// The sixteen round keys of a key.
 #[inline(always)]
 pub fn round_keys(key: &[u8; 8]) -> [RoundKey; 16]
@@ -44,6 +51,24 @@ pub fn reverse_keys(keys: &[RoundKey; 16]) -> [RoundKey; 16]
     let mut keys = *keys;
     keys.reverse();
     keys
+}
+
+/// Each round key, xored with the mask's at its place.
+#[inline(always)]
+pub fn xor_keys(keys: &[RoundKey; 16], masks: &[RoundKey; 16]) -> [RoundKey; 16]
+    ensures { map key_bits result ≡ xor_keys (map key_bits keys.now) (map key_bits masks.now) }
+{
+    masked!(keys masks: 0 1 2 3 4 5 6 7 8 9 10 11 12 13 14 15)
+}
+
+#[inline(always)]
+fn xor_key(key: &RoundKey, mask: &RoundKey) -> RoundKey
+    ensures { key_bits result ≡ xor_bits (key_bits key.now) (key_bits mask.now) }
+{
+    RoundKey {
+        odd: key.odd ^ mask.odd,
+        even: key.even ^ mask.even,
+    }
 }
 
 /// The halves C and D of permuted choice 1.

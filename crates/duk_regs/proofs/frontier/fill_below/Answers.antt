@@ -32,10 +32,13 @@ loop-place-preserved c =
     let laws : BitLaws = record { usable = c.bits.ensures.usable; place = c.bits.ensures.place; ones = c.bits.ensures.ones; lowest = c.bits.ensures.lowest } in
     let at = c.loop-place.place in
     let registers = c.loop-place.registers in
-    let key = c.child_key.result in
+    let key = c.child.result in
     let within = (place_below laws c.args.counter at c.requires c.loop-place-test.true).1 in
     let counter : c.args.counter + 1 * 2 ^ at % 2 ^ 32 ≡ c.args.counter + 2 ^ at = omega (arith, (shifted at within).0) in
-    let is_key = c.child_key.ensures ∙ ap (λ n. step_of c.args.key.now (low_bytes n)) (c.with_counter.ensures.value ∙ ap (λ n. record { iksn = c.args.iksn; counter = n }) counter) in
+    let is_key =
+    c.child.ensures
+    ∙ ap (λ parent. step_of parent (low_bytes c.with_counter.result)) c.new-parent.ensures
+    ∙ ap (λ n. step_of c.args.key.now (low_bytes n)) (c.with_counter.ensures.value ∙ ap (λ n. record { iksn = c.args.iksn; counter = n }) counter) in
     record {
       are_21 = length-set registers at key ∙ c.loop-place.invariant.are_21;
       filled = filled_more registers at key (λ (place : ℕ). step_of c.args.key.now (low_bytes (record { iksn = c.args.iksn; counter = c.args.counter + 2 ^ place }))) (omega (arith, c.loop-place.invariant.are_21)) is_key c.loop-place.invariant.filled;

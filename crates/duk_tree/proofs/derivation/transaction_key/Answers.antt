@@ -19,7 +19,7 @@ loop-place-preserved-then-reached-eq1 c =
     let taken = node_key-taken initial iksn counter place c.loop-place.key c.loop-place-test.true c.loop-place.auto.place fits odd c.loop-place.invariant in
     let number : c.with_counter.result ≡ record { iksn = iksn; counter = counter / 2 ^ (place - 1) * 2 ^ (place - 1) } =
     c.with_counter.ensures.value ∙ ap (λ n. record { iksn = iksn; counter = n }) reached in
-    c.step-key.ensures ∙ ap (step_of c.loop-place.key) (c.low_bytes.ensures ∙ ap low_bytes number) ∙ taken
+    c.child-key.ensures ∙ ap (λ key. step_of key (low_bytes c.with_counter.result)) c.new.ensures ∙ ap (λ serial. step_of c.loop-place.key (low_bytes serial)) number ∙ taken
 
 pub loop-place-preserved : goal.loop-place-preserved
 loop-place-preserved c =

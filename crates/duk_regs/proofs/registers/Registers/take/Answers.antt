@@ -13,7 +13,7 @@ invariant_of-left c =
     let before : RegisterSet = record { iksn = c.self.inside.iksn; counter = c.self.inside.counter; registers = c.self.inside.registers } in
     let is_usable = usable_counter before.counter c.self.invariant.counter_is c.if-self-eq-SPENT.false in
     let fill = c.fill_below.ensures in
-    let taken = taken_by laws before c.index-registers-place.result c.no_key.result c.next_usable.result c.fill_below.new.registers is_usable c.self.invariant.are_21 c.no_key.ensures fill.are_21 fill.filled fill.not_filled fill.others_stay c.next_usable.ensures.found c.next_usable.ensures.none in
+    let taken = taken_by laws before c.index-left-place.result c.no_key.result c.next_usable.result c.fill_below.new.registers is_usable c.self.invariant.are_21 c.no_key.ensures fill.are_21 fill.filled fill.not_filled fill.others_stay c.next_usable.ensures.found c.next_usable.ensures.none in
     rw c.unwrap_or.ensures (c.transactions.ensures.set before _ _ is_usable taken c.self.invariant)
 
 pub returns-clause-usable : goal.returns-clause-usable
@@ -27,8 +27,8 @@ returns-clause-taken c =
     let before : RegisterSet = record { iksn = c.self.inside.iksn; counter = c.self.inside.counter; registers = c.self.inside.registers } in
     let is_usable = usable_counter before.counter c.self.invariant.counter_is c.if-self-eq-SPENT.false in
     let fill = c.fill_below.ensures in
-    let taken = taken_by laws before c.index-registers-place.result c.no_key.result c.next_usable.result c.fill_below.new.registers is_usable c.self.invariant.are_21 c.no_key.ensures fill.are_21 fill.filled fill.not_filled fill.others_stay c.next_usable.ensures.found c.next_usable.ensures.none in
-    let key = get_or c.self.inside.registers (trailing_zeros w32 c.self.inside.counter) c.index-registers-place.result in
+    let taken = taken_by laws before c.index-left-place.result c.no_key.result c.next_usable.result c.fill_below.new.registers is_usable c.self.invariant.are_21 c.no_key.ensures fill.are_21 fill.filled fill.not_filled fill.others_stay c.next_usable.ensures.found c.next_usable.ensures.none in
+    let key = get_or c.self.inside.registers (trailing_zeros w32 c.self.inside.counter) c.index-left-place.result in
     let left : RegisterSet = record { iksn = c.self.inside.iksn; counter = c.unwrap_or.result; registers = c.fill_below.new.registers } in
     let here : IsTaken before key left = rw c.unwrap_or.ensures taken in
     subst (λ old. IsTaken old key left) c.self.view_is here
@@ -39,7 +39,7 @@ returns-clause-stands c =
     let before : RegisterSet = record { iksn = c.self.inside.iksn; counter = c.self.inside.counter; registers = c.self.inside.registers } in
     let is_usable = usable_counter before.counter c.self.invariant.counter_is c.if-self-eq-SPENT.false in
     let fill = c.fill_below.ensures in
-    let taken = taken_by laws before c.index-registers-place.result c.no_key.result c.next_usable.result c.fill_below.new.registers is_usable c.self.invariant.are_21 c.no_key.ensures fill.are_21 fill.filled fill.not_filled fill.others_stay c.next_usable.ensures.found c.next_usable.ensures.none in
+    let taken = taken_by laws before c.index-left-place.result c.no_key.result c.next_usable.result c.fill_below.new.registers is_usable c.self.invariant.are_21 c.no_key.ensures fill.are_21 fill.filled fill.not_filled fill.others_stay c.next_usable.ensures.found c.next_usable.ensures.none in
     λ initial stands.
     let stands_before : StandsFor initial before = subst (StandsFor initial) (sym c.self.view_is) stands in (
       c.transactions.ensures.key initial before _ _ is_usable taken stands_before ∙ ap (λ (old : RegisterSet). transaction_key_of initial old.iksn old.counter) c.self.view_is,
