@@ -3,7 +3,7 @@
 ghost use Rattle.std.specs.Prelude.{◌≡◌, ◌↔◌, ◌<◌, ◌-◌, None, IfOk, IfErr, IsSome, IsTrue};
 ghost use Rattle.duk_store.specs.StoreState.{StaysButCalm};
 ghost use Rattle.duk_frame.specs.Answer.{IsAnswer};
-ghost use Rattle.duk_hsm.specs.Commands.{HasTransactionKey};
+ghost use Rattle.duk_hsm.specs.Opened.{IsOpened};
 ghost use Rattle.duk_host.specs.Handle.{Answers, AnswersAs, HandleRefused, IsNumberKept, IsReplied, IsToAccept, IsToldReply, KeepRefused};
 ghost use Rattle.duk_host.specs.Judgement.{IsReplyTo};
 ghost use Rattle.duk_host.specs.Host.{IsFreshIn, IsUsedIn, host_meaning_of};
@@ -14,10 +14,11 @@ use crate::answered::Answered;
 use crate::fault::HostFault;
 use crate::issuer::Issuer;
 use crate::judge::judge;
+use crate::payment::Payment;
 use crate::reading::numbers_in;
 use crate::reply::{code_for, reply_with};
 use crate::running::Running;
-use duk_frame::{Frame, Request};
+use duk_frame::Frame;
 use duk_hsm::Hsm;
 use duk_store::UsedLog;
 use duk_tree::Ksn;
@@ -122,35 +123,38 @@ impl<const N: usize, L: UsedLog, I: Issuer> Host<N, L, I> {
             return Err(HostFault::Stopped);
         };
         match judge(&self.hsm, &running.used, self.log.room(), bytes) {
-            Ok(request) => self.accept(&request),
+            Ok(payment) => self.accept(&payment),
             Err(refusal) => Ok(refusal),
         }
     }
 
     /// Keeps the number of a request against which there is no reason, and then replies to it.
-    fn accept(&mut self, request: &Request) -> Result<Answered, HostFault>
+    fn accept(&mut self, payment: &Payment) -> Result<Answered, HostFault>
         requires acceptable { IsToAccept
-            (host_meaning_of L.meaning I.decides) self.old request.now }
+            (host_meaning_of L.meaning I.decides) self.old payment.now.request }
+        requires opened { IsOpened
+            self.old.keys payment.now.request.ksn payment.now.transaction }
         ensures replied { IfOk result (λ answered. IsReplied
             (host_meaning_of L.meaning I.decides)
-            self.old self.new request.now answered.frame.items) }
+            self.old self.new payment.now.request answered.frame.items) }
         ensures told { IfOk result (λ answered. IsToldReply answered.frame.items answered.says) }
-        ensures refused { IfErr result
-            (KeepRefused (host_meaning_of L.meaning I.decides) self.old self.new request.now.ksn) }
+        ensures refused { IfErr result (KeepRefused
+            (host_meaning_of L.meaning I.decides) self.old self.new payment.now.request.ksn) }
     {
-        self.keep(request.ksn)?;
-        Ok(self.reply(request))
+        self.keep(payment.request.ksn)?;
+        Ok(self.reply(payment))
     }
 
     /// The reply to a request that is accepted.
-    fn reply(&self, request: &Request) -> Answered
-        requires key { HasTransactionKey self.now.keys request.now.ksn }
+    fn reply(&self, payment: &Payment) -> Answered
+        requires opened { IsOpened
+            self.now.keys payment.now.request.ksn payment.now.transaction }
         ensures reply { IsReplyTo
-            self.now.keys (I.decides self.now.issuer) request.now result.frame.items }
+            self.now.keys (I.decides self.now.issuer) payment.now.request result.frame.items }
         ensures told { IsToldReply result.frame.items result.says }
     {
-        let code = code_for(&self.hsm, &self.issuer, request);
-        reply_with(&self.hsm, request.ksn, code)
+        let code = code_for(payment, &self.issuer);
+        reply_with(&payment.transaction, payment.request.ksn, code)
     }
 
     /// Takes a number in as used, and appends it to the log. Where the log fails, the host is

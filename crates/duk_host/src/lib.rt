@@ -12,6 +12,7 @@ mod host;
 mod issuer;
 mod judge;
 pub mod laws;
+mod payment;
 mod reading;
 mod reason;
 mod reply;

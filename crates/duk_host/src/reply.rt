@@ -1,28 +1,30 @@
 //! The reply to a request that is accepted.
 
 ghost use Rattle.std.specs.Prelude.{◌≡◌, IsSome};
-ghost use Rattle.duk_hsm.specs.Commands.{HasTransactionKey};
+ghost use Rattle.duk_hsm.specs.Keys.{HsmKeys};
+ghost use Rattle.duk_hsm.specs.Opened.{IsOpened};
 ghost use Rattle.duk_host.specs.Handle.{IsToldReply};
 ghost use Rattle.duk_host.specs.Judgement.{IsCodeOf, IsReplyWith};
 
 use crate::answered::Answered;
 use crate::issuer::Issuer;
-use duk_frame::{AnswerFrame, Code, Request, reply_text};
-use duk_hsm::{Hsm, HsmFault};
+use crate::payment::Payment;
+use duk_frame::{AnswerFrame, Code, reply_text};
+use duk_hsm::{HsmFault, Transaction};
 use duk_tree::Ksn;
 
 /// The code for a request: what the issuer says of its PIN block under the zone key. Where the
 /// block is that of no PIN, the issuer is not asked.
-pub(crate) fn code_for<const N: usize, I: Issuer>(
-    hsm: &Hsm<N>,
-    issuer: &I,
-    request: &Request,
-) -> Code
-    requires zone { IsSome hsm.now.zone }
-    requires key { HasTransactionKey hsm.now request.now.ksn }
-    ensures { IsCodeOf hsm.now (I.decides issuer.now) request.now result }
+pub(crate) fn code_for<I: Issuer>(payment: &Payment, issuer: &I) -> Code
+    requires opened { (keys : HsmKeys)
+        × IsOpened keys payment.now.request.ksn payment.now.transaction }
+    requires zone { IsSome payment.now.transaction.zone }
+    ensures { (keys : HsmKeys)
+        → IsOpened keys payment.now.request.ksn payment.now.transaction
+        → IsCodeOf keys (I.decides issuer.now) payment.now.request result }
 {
-    match hsm.translate(request.ksn, request.block, &request.pan) {
+    let request = &payment.request;
+    match payment.transaction.translate(request.block, &request.pan) {
         Ok(block) => issuer.decide(&request.pan, request.amount, block),
         Err(HsmFault::BadPinBlock) => Code::Unreadable,
         Err(_) => unreachable!(),
@@ -30,13 +32,13 @@ pub(crate) fn code_for<const N: usize, I: Issuer>(
 }
 
 /// The accepted reply with this code.
-pub(crate) fn reply_with<const N: usize>(hsm: &Hsm<N>, ksn: Ksn, code: Code) -> Answered
-    requires key { HasTransactionKey hsm.now ksn }
-    ensures reply { IsReplyWith hsm.now ksn code result.frame.items }
+pub(crate) fn reply_with(transaction: &Transaction, ksn: Ksn, code: Code) -> Answered
+    ensures reply { (keys : HsmKeys) → IsOpened keys ksn transaction.now
+        → IsReplyWith keys ksn code result.frame.items }
     ensures told { IsToldReply result.frame.items result.says }
 {
     let text = reply_text(ksn, code);
-    let mac = hsm.reply_mac(ksn, text.bytes()).unwrap();
+    let mac = transaction.reply_mac(text.bytes());
     Answered {
         frame: text.with_mac(mac),
         says: AnswerFrame::Reply { ksn, code, mac },

@@ -1,3 +1,4 @@
 pub mod Keys
 pub mod Load
 pub mod Commands
+pub mod Opened

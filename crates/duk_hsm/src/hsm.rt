@@ -4,17 +4,17 @@ ghost use Rattle.std.specs.Prelude.{◌≡◌, ◌↔◌, ◌<◌, None, [], IfO
 ghost use Rattle.duk_tdes.specs.Tdes.{IsTdesLength};
 ghost use Rattle.duk_hsm.specs.Keys.{AreHsmKeys, key_set_of};
 ghost use Rattle.duk_hsm.specs.Load.{IsBdkLoaded, IsZoneLoaded, LoadBdkRefused, LoadZoneRefused};
-ghost use Rattle.duk_hsm.specs.Commands.{IsIssued, IsReplyMac, IsRequestMac, IsTransactionKey, IsTranslated, IssueRefused, NoTransactionKey, TranslateRefused, VerifyRefused};
+ghost use Rattle.duk_hsm.specs.Commands.{IsIssued, IsReplyMac, IsRequestMac, IsTranslated, IssueRefused, NoTransactionKey, TranslateRefused, VerifyRefused};
+ghost use Rattle.duk_hsm.specs.Opened.{IsOpened};
 
 use crate::fault::HsmFault;
 use crate::key_set::{KeySet, SLOTS, bdk_with};
-use crate::pin_block::pin_in;
+use crate::transaction::Transaction;
 use arrayvec::ArrayVec;
 use duk_block::{BlockText, KeyUse, unwrap_double_for, unwrap_for, wrap};
-use duk_mac::retail;
-use duk_pin::{Pan, encode};
+use duk_pin::Pan;
 use duk_tdes::{Key, KeyBytes};
-use duk_tree::{Iksn, Ksn, PREFIX_LENGTH, derive, initial_key, request_key, response_key, usable};
+use duk_tree::{Iksn, Ksn, PREFIX_LENGTH, derive, initial_key, usable};
 use std::marker::Model;
 
 /// A host security module: a local master key of `N` bytes (16 or 24), up to eight base derivation
@@ -127,6 +127,23 @@ impl<const N: usize> Hsm<N> {
         wrap(loading, &header, &initial_key(&bdk, iksn), pad).map_err(HsmFault::Block)
     }
 
+    /// Opens a key serial number: its transaction key is derived, once for all commands of the
+    /// transaction.
+    ///
+    /// Refused with `NoKeySet`, and then with `BadCounter`, where the counter numbers no
+    /// transaction.
+    pub fn open(&self, ksn: Ksn) -> Result<Transaction, HsmFault>
+        ensures opened { IfOk result (IsOpened self.now ksn) }
+        ensures refused { IfErr result (NoTransactionKey self.now ksn) }
+    {
+        let bdk = self.key_set(&ksn.prefix()).ok_or(HsmFault::NoKeySet)?;
+        if usable(ksn.counter()) {
+            Ok(Transaction::new(derive(&bdk, ksn), self.zone))
+        } else {
+            Err(HsmFault::BadCounter)
+        }
+    }
+
     /// Tells whether `mac` is the retail MAC of a text, which is not empty, under the transaction
     /// key's variant for requests.
     ///
@@ -137,12 +154,7 @@ impl<const N: usize> Hsm<N> {
         ensures verified { IsOk result ↔ IsRequestMac self.now ksn text.now mac }
         ensures refused { IfErr result (VerifyRefused self.now ksn text.now mac) }
     {
-        let key = self.transaction_key(ksn)?;
-        if retail(&request_key(&key), text) == mac {
-            Ok(())
-        } else {
-            Err(HsmFault::BadMac)
-        }
+        self.open(ksn)?.verify(text, mac)
     }
 
     /// The retail MAC of a text, which is not empty, under the transaction key's variant for
@@ -155,8 +167,7 @@ impl<const N: usize> Hsm<N> {
         ensures made { IfOk result (IsReplyMac self.now ksn text.now) }
         ensures refused { IfErr result (NoTransactionKey self.now ksn) }
     {
-        let key = self.transaction_key(ksn)?;
-        Ok(retail(&response_key(&key), text))
+        Ok(self.open(ksn)?.reply_mac(text))
     }
 
     /// Turns a PIN block that is enciphered under the transaction key's variant for PINs into one
@@ -170,23 +181,7 @@ impl<const N: usize> Hsm<N> {
         ensures translated { IfOk result (IsTranslated self.now ksn block pan.now) }
         ensures refused { IfErr result (TranslateRefused self.now ksn block pan.now) }
     {
-        let key = self.transaction_key(ksn)?;
-        let zone = self.zone.as_ref().ok_or(HsmFault::NoZone)?;
-        let pin = pin_in(&key, block, pan).ok_or(HsmFault::BadPinBlock)?;
-        Ok(zone.encrypt(encode(&pin, pan)))
-    }
-
-    /// The transaction key of a key serial number.
-    fn transaction_key(&self, ksn: Ksn) -> Result<Key<16>, HsmFault>
-        ensures found { IfOk result (IsTransactionKey self.now ksn) }
-        ensures refused { IfErr result (NoTransactionKey self.now ksn) }
-    {
-        let bdk = self.key_set(&ksn.prefix()).ok_or(HsmFault::NoKeySet)?;
-        if usable(ksn.counter()) {
-            Ok(derive(&bdk, ksn))
-        } else {
-            Err(HsmFault::BadCounter)
-        }
+        self.open(ksn)?.translate(block, pan)
     }
 
     /// The base derivation key of the key set with this prefix.

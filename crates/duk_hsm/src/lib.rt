@@ -10,6 +10,8 @@ mod fault;
 mod hsm;
 mod key_set;
 mod pin_block;
+mod transaction;
 
 pub use fault::HsmFault;
 pub use hsm::Hsm;
+pub use transaction::Transaction;

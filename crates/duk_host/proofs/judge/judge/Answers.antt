@@ -9,11 +9,11 @@ returns-in_default-clause-refused g c decides = inl (record {
   frame_is = c.answer.ensures.frame ∙ ap (λ bytes. refusal_frame bytes Malformed) c.from_bytes.ensures.bytes;
 })
 
-pub returns-in-Some-reason_against-clause-refused : goal.returns-in-Some-reason_against-clause-refused
-returns-in-Some-reason_against-clause-refused g c decides = inr (record {
+pub returns-in-Err-clause-refused : goal.returns-in-Err-clause-refused
+returns-in-Err-clause-refused g c decides = inr (record {
   request = c.in-Some.request;
-  reason = c.in-Some-reason_against.reason;
+  reason = c.in-Err.reason;
   is_request = search rules;
-  refuses = c.in-Some-reason_against.ensures decides;
-  frame_is = c.answer-in-Some-reason_against.ensures.frame;
+  refuses = c.in-Err.ensures.refused decides;
+  frame_is = c.answer-in-Err.ensures.frame;
 })

@@ -1,0 +1,149 @@
+/* The key tree of ANSI X9.24-1:2009 annex A. Each block is enciphered under a schedule of its own,
+   as the standard's equations read. */
+#include "work.h"
+
+#include <openssl/des.h>
+#include <stdio.h>
+#include <string.h>
+
+enum { COUNTER_BITS = 21, LAST_COUNTER = 0x1FFFFF, MOST_ONES = 10 };
+
+static const uint8_t mask[KEY] = {
+    0xC0, 0xC0, 0xC0, 0xC0, 0, 0, 0, 0, 0xC0, 0xC0, 0xC0, 0xC0, 0, 0, 0, 0,
+};
+
+static void masked(const uint8_t key[KEY], uint8_t out[KEY])
+{
+    for (int i = 0; i < KEY; i++)
+        out[i] = key[i] ^ mask[i];
+}
+
+static void tdes_encrypt(const uint8_t key[KEY], const uint8_t in[BLOCK], uint8_t out[BLOCK])
+{
+    DES_key_schedule first, second;
+    DES_set_key_unchecked((const_DES_cblock *)key, &first);
+    DES_set_key_unchecked((const_DES_cblock *)(key + BLOCK), &second);
+    DES_ecb2_encrypt((const_DES_cblock *)in, (DES_cblock *)out, &first, &second, DES_ENCRYPT);
+}
+
+static void initial_key(const uint8_t bdk[KEY], const uint8_t iksn[SERIAL], uint8_t out[KEY])
+{
+    uint8_t other[KEY];
+    tdes_encrypt(bdk, iksn, out);
+    masked(bdk, other);
+    tdes_encrypt(other, iksn, out + BLOCK);
+}
+
+static void half_step(const uint8_t key[KEY], const uint8_t number[BLOCK], uint8_t out[BLOCK])
+{
+    DES_key_schedule schedule;
+    const uint8_t *right = key + BLOCK;
+    uint8_t block[BLOCK];
+    for (int i = 0; i < BLOCK; i++)
+        block[i] = right[i] ^ number[i];
+    DES_set_key_unchecked((const_DES_cblock *)key, &schedule);
+    DES_ecb_encrypt((const_DES_cblock *)block, (DES_cblock *)block, &schedule, DES_ENCRYPT);
+    for (int i = 0; i < BLOCK; i++)
+        out[i] = right[i] ^ block[i];
+}
+
+/* A child's key, of its parent's key and the low 64 bits of its key serial number. */
+static void step(const uint8_t key[KEY], const uint8_t number[BLOCK], uint8_t out[KEY])
+{
+    uint8_t other[KEY];
+    masked(key, other);
+    half_step(other, number, out);
+    half_step(key, number, out + BLOCK);
+}
+
+/* The key serial number of a counter. */
+static void with_counter(const uint8_t iksn[SERIAL], uint32_t counter, uint8_t out[SERIAL])
+{
+    memcpy(out, iksn, SERIAL);
+    out[7] |= (uint8_t)(counter >> 16);
+    out[8] = (uint8_t)(counter >> 8);
+    out[9] = (uint8_t)counter;
+}
+
+/* The keys of a number's children, each in the register of its last place. */
+static void fill_below(uint8_t registers[COUNTER_BITS][KEY], int places, const uint8_t key[KEY],
+                       const uint8_t iksn[SERIAL], uint32_t counter)
+{
+    uint8_t ksn[SERIAL];
+    for (int place = 0; place < places; place++) {
+        with_counter(iksn, counter | 1u << place, ksn);
+        step(key, ksn + 2, registers[place]);
+    }
+}
+
+void walk(const uint8_t bdk[KEY], const uint8_t iksn[SERIAL], long count)
+{
+    uint8_t registers[COUNTER_BITS][KEY], key[KEY], ksn[SERIAL];
+    uint32_t counter = 1;
+    initial_key(bdk, iksn, key);
+    fill_below(registers, COUNTER_BITS, key, iksn, 0);
+    while (count-- > 0 && counter >> COUNTER_BITS == 0) {
+        int last_place = __builtin_ctz(counter);
+        memcpy(key, registers[last_place], KEY);
+        with_counter(iksn, counter, ksn);
+        print_hex(ksn, SERIAL, ' ');
+        print_hex(key, KEY, '\n');
+        if (__builtin_popcount(counter) < MOST_ONES) {
+            fill_below(registers, last_place, key, iksn, counter);
+            counter += 1;
+        } else {
+            counter += 1u << last_place;
+        }
+    }
+}
+
+/* One step for each one bit of the counter, from the highest down. */
+static void derive(const uint8_t bdk[KEY], const uint8_t iksn[SERIAL], uint32_t counter,
+                   uint8_t key[KEY])
+{
+    uint8_t ksn[SERIAL], child[KEY];
+    uint32_t reached = 0;
+    initial_key(bdk, iksn, key);
+    for (int place = COUNTER_BITS - 1; place >= 0; place--) {
+        if ((counter >> place & 1) == 0)
+            continue;
+        reached |= 1u << place;
+        with_counter(iksn, reached, ksn);
+        step(key, ksn + 2, child);
+        memcpy(key, child, KEY);
+    }
+}
+
+/* Marsaglia's generator xorshift64: the numbers need only differ, and be the same in both programs. */
+static uint64_t next_random(uint64_t *state)
+{
+    *state ^= *state << 13;
+    *state ^= *state >> 7;
+    *state ^= *state << 17;
+    return *state;
+}
+
+/* The low bits of a number as a counter. Where they have more than ten ones, the others are at most
+   ten. */
+static uint32_t counter_of(uint64_t number)
+{
+    uint32_t counter = number & LAST_COUNTER;
+    int ones = __builtin_popcount(counter);
+    return 1 <= ones && ones <= MOST_ONES ? counter : LAST_COUNTER - counter;
+}
+
+void derive_at_random(long count)
+{
+    uint8_t bdk[KEY], iksn[SERIAL] = {0xFF, 0xFF}, key[KEY];
+    uint64_t state = 88172645463325252u;
+    read_hex("0123456789ABCDEFFEDCBA9876543210", bdk, KEY);
+    while (count-- > 0) {
+        uint64_t number = next_random(&state);
+        for (int i = 0; i < BLOCK; i++)
+            iksn[2 + i] = (uint8_t)(number >> (56 - 8 * i));
+        iksn[7] &= 0xE0;
+        iksn[8] = iksn[9] = 0;
+        derive(bdk, iksn, counter_of(number), key);
+        fwrite(key, 1, KEY, stdout);
+    }
+}

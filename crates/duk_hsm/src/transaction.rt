@@ -1,0 +1,86 @@
+//! A key serial number that was opened, and the commands over its transaction key.
+
+ghost use Rattle.std.specs.Prelude.{◌≡◌, ◌↔◌, ◌<◌, IfOk, IfErr, IsOk, length};
+ghost use Rattle.duk_tree.specs.Serial.{Serial};
+ghost use Rattle.duk_hsm.specs.Keys.{HsmKeys};
+ghost use Rattle.duk_hsm.specs.Commands.{IsReplyMac, IsRequestMac, IsTranslated, TranslateRefused, VerifyRefused};
+ghost use Rattle.duk_hsm.specs.Opened.{IsOpened, opened_with};
+
+use crate::fault::HsmFault;
+use crate::pin_block::pin_in;
+use duk_mac::retail;
+use duk_pin::{Pan, encode};
+use duk_tdes::{Key, KeyBytes};
+use duk_tree::{request_key, response_key};
+use std::marker::Model;
+
+/// A key serial number that a host security module opened: its transaction key, which is derived
+/// once for all commands of the transaction, and the module's zone key.
+///
+/// It shows neither: it has no `Debug` and no `==`, and its commands answer as those of the module
+/// do. It is not copied either.
+#[derive(Drop)]
+pub struct Transaction {
+    key: Key<16>,
+    zone: Option<KeyBytes>,
+}
+
+impl Model for Transaction {
+    ghost use Rattle.duk_hsm.specs.Opened.{Opened, opened_with};
+
+    ghost Value = { Opened };
+
+    ghost view = { λ transaction. opened_with transaction.key transaction.zone };
+}
+
+impl Transaction {
+    /// The transaction with this key, in a module that holds this zone key.
+    pub(crate) fn new(key: Key<16>, zone: Option<KeyBytes>) -> Self
+        ensures { result ≡ opened_with key zone }
+    {
+        Transaction { key, zone }
+    }
+
+    /// Tells whether `mac` is the retail MAC of a text, which is not empty, under the transaction
+    /// key's variant for requests. Refused with `BadMac`.
+    pub fn verify(&self, text: &[u8], mac: [u8; 8]) -> Result<(), HsmFault>
+        requires { 0 < length text.now }
+        ensures verified { (keys : HsmKeys) (ksn : Serial) → IsOpened keys ksn self.now
+            → IsOk result ↔ IsRequestMac keys ksn text.now mac }
+        ensures refused { (keys : HsmKeys) (ksn : Serial) → IsOpened keys ksn self.now
+            → IfErr result (VerifyRefused keys ksn text.now mac) }
+    {
+        if retail(&request_key(&self.key), text) == mac {
+            Ok(())
+        } else {
+            Err(HsmFault::BadMac)
+        }
+    }
+
+    /// The retail MAC of a text, which is not empty, under the transaction key's variant for
+    /// responses.
+    pub fn reply_mac(&self, text: &[u8]) -> [u8; 8]
+        requires { 0 < length text.now }
+        ensures made { (keys : HsmKeys) (ksn : Serial) → IsOpened keys ksn self.now
+            → IsReplyMac keys ksn text.now result }
+    {
+        retail(&response_key(&self.key), text)
+    }
+
+    /// Turns a PIN block that is enciphered under the transaction key's variant for PINs into one
+    /// that is enciphered under the zone key: it is deciphered, its PIN is read with the PAN and
+    /// encoded again.
+    ///
+    /// Refused with `NoZone`, and then with `BadPinBlock`, where the deciphered block is that of no
+    /// PIN under the PAN.
+    pub fn translate(&self, block: [u8; 8], pan: &Pan) -> Result<[u8; 8], HsmFault>
+        ensures translated { (keys : HsmKeys) (ksn : Serial) → IsOpened keys ksn self.now
+            → IfOk result (IsTranslated keys ksn block pan.now) }
+        ensures refused { (keys : HsmKeys) (ksn : Serial) → IsOpened keys ksn self.now
+            → IfErr result (TranslateRefused keys ksn block pan.now) }
+    {
+        let zone = self.zone.as_ref().ok_or(HsmFault::NoZone)?;
+        let pin = pin_in(&self.key, block, pan).ok_or(HsmFault::BadPinBlock)?;
+        Ok(zone.encrypt(encode(&pin, pan)))
+    }
+}
