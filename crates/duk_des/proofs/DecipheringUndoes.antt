@@ -13,12 +13,12 @@ use Rattle.duk_des.proofs.LiteralLists.{is_spelled}
 use Rattle.duk_des.proofs.BitsOfXor.{length-xor_bits}
 
 -- two halves of 32 bits
-record IsHalves (halves : Halves) : Type 0 where
+pub record IsHalves (halves : Halves) : Type 0 where
   left_is : length halves.left ≡ 32
   right_is : length halves.right ≡ 32
 
 -- the halves exchanged
-abbrev exchanged : Halves → Halves
+abbrev pub exchanged : Halves → Halves
 exchanged halves = record { left = halves.right; right = halves.left }
 
 xor-cancels : (a b : Bool) → xor (xor a b) b ≡ a
@@ -78,10 +78,10 @@ final-initial : (bits : List Bool) → length bits ≡ 64 → permute final_plac
 final-initial bits h = sym (is_spelled false 64 bits h)
 
 -- the two halves of 64 bits, and the last permutation of both, exchanged
-abbrev split : List Bool → Halves
+abbrev pub split : List Bool → Halves
 split bits = record { left = take 32 bits; right = drop 32 bits }
 
-abbrev finished : Halves → List Bool
+abbrev pub finished : Halves → List Bool
 finished halves = permute final_places (halves.right ++ halves.left)
 
 split-joined : (halves : Halves) → IsHalves halves → split (halves.right ++ halves.left) ≡ exchanged halves
@@ -103,6 +103,28 @@ des_computation-reverse keys block h =
     ∙ ap finished (rounds-reverse keys start start_is)
     ∙ ap (permute final_places) (take-append-drop 32 (permute initial_places block))
     ∙ final-initial block h
+
+-- the permutations between two computations undo one another
+pub next_computation : (keys : List (List Bool)) (halves : Halves) → IsHalves halves → des_computation keys (finished halves) ≡ finished (rounds keys (exchanged halves))
+unfolding des_computation
+next_computation keys halves h =
+    ap (λ bits. finished (rounds keys (split bits)))
+    (initial-final (halves.right ++ halves.left) (length-append halves.right halves.left ∙ omega (arith, h.left_is, h.right_is)))
+    ∙ ap (λ found. finished (rounds keys found)) (split-joined halves h)
+
+-- three computations, one after the other, from the halves of the initial permutation
+pub three_computations : (first second third : List (List Bool)) (block : List Bool)
+    → des_computation third (des_computation second (des_computation first block))
+    ≡ finished (rounds third (exchanged (rounds second (exchanged (rounds first (split (permute initial_places block)))))))
+unfolding des_computation
+three_computations first second third block =
+    let start : Halves = split (permute initial_places block) in
+    let one : Halves = rounds first start in
+    let one_is : IsHalves one = IsHalves-rounds first start (record { left_is = refl; right_is = refl }) in
+    let two : Halves = rounds second (exchanged one) in
+    let two_is : IsHalves two = IsHalves-rounds second (exchanged one) (record { left_is = one_is.right_is; right_is = one_is.left_is }) in
+    ap (des_computation third) (next_computation second one one_is)
+    ∙ next_computation third two two_is
 
 pub decipher-encipher : (key block : List Bool) → length block ≡ 64 → decipher key (encipher key block) ≡ block
 unfolding encipher decipher

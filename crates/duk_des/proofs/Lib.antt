@@ -17,3 +17,4 @@ pub mod BlocksOfWords
 pub mod PermutationsByExchanges
 pub mod LinearSchedule
 pub mod DecipheringUndoes
+pub mod ThreePasses

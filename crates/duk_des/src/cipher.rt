@@ -6,7 +6,10 @@ ghost use Rattle.duk_des.specs.Bytes.{xor_bytes};
 ghost use Rattle.duk_des.specs.Des.{encipher, decipher, encrypted, decrypted};
 
 use crate::bytes::xor_bytes;
-use crate::words::{RoundKey, crypt_block, crypt_both, reverse_keys, round_keys, xor_keys};
+use crate::words::{
+    RoundKey, crypt_block, crypt_block_backwards, crypt_both, crypt_thrice, crypt_thrice_backwards,
+    round_keys, xor_keys,
+};
 use std::marker::Model;
 
 /// DES under one key of 8 bytes, whose sixteen round keys are made once. It has neither `Debug` nor
@@ -68,7 +71,7 @@ impl Des {
         ensures bits { bits_of_bytes result
             ≡ decipher (bits_of_bytes self.now) (bits_of_bytes block) }
     {
-        crypt_block(&reverse_keys(&self.keys), &block)
+        crypt_block_backwards(&self.keys, &block)
     }
 }
 
@@ -84,6 +87,26 @@ pub fn encrypt_both(
     ensures second { result.1 ≡ encrypted second.now second_block }
 {
     crypt_both(&first.keys, &first_block, &second.keys, &second_block)
+}
+
+/// Enciphers a block of 8 bytes under the first key, deciphers it under the second and enciphers it
+/// under the third: the forward cipher operation of TDES (NIST SP 800-67 section 3). It answers what
+/// the three calls do, in less time.
+pub fn triple_encrypt(first: &Des, second: &Des, third: &Des, block: [u8; 8]) -> [u8; 8]
+    ensures { result
+        ≡ encrypted third.now (decrypted second.now (encrypted first.now block)) }
+{
+    crypt_thrice(&first.keys, &second.keys, &third.keys, &block)
+}
+
+/// Deciphers a block of 8 bytes under the first key, enciphers it under the second and deciphers it
+/// under the third: with the keys in reverse order the inverse cipher operation of TDES (NIST SP
+/// 800-67 section 3).
+pub fn triple_decrypt(first: &Des, second: &Des, third: &Des, block: [u8; 8]) -> [u8; 8]
+    ensures { result
+        ≡ decrypted third.now (encrypted second.now (decrypted first.now block)) }
+{
+    crypt_thrice_backwards(&first.keys, &second.keys, &third.keys, &block)
 }
 
 /// Enciphers a block of 8 bytes under a key of 8 bytes (NIST SP 800-67 section 2).

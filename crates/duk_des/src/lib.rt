@@ -15,5 +15,5 @@ mod schedule;
 mod words;
 
 pub use bytes::xor_bytes;
-pub use cipher::{Des, decrypt_block, encrypt_block, encrypt_both};
+pub use cipher::{Des, decrypt_block, encrypt_block, encrypt_both, triple_decrypt, triple_encrypt};
 pub use words::entry;

@@ -6,7 +6,7 @@ ghost use Rattle.duk_tdes.specs.Tdes.{IsTdesLength, third_key, tdes_encrypted, t
 
 use crate::bytes::array_of;
 use crate::key::{Key, KeyBytes};
-use duk_des::Des;
+use duk_des::{Des, triple_decrypt, triple_encrypt};
 use std::marker::Model;
 
 /// TDES under one key of `N` bytes, 16 or 24: DES under each of its single keys, whose round keys
@@ -57,9 +57,7 @@ impl<const N: usize> Tdes<N> {
     pub fn encrypt(&self, block: [u8; 8]) -> [u8; 8]
         ensures { result ≡ tdes_encrypted self.now block }
     {
-        let block = self.first.encrypt(block);
-        let block = self.second.decrypt(block);
-        self.third().encrypt(block)
+        triple_encrypt(&self.first, &self.second, self.third(), block)
     }
 
     /// Deciphers a block: the one that `encrypt` enciphers to this one.
@@ -67,9 +65,7 @@ impl<const N: usize> Tdes<N> {
     pub fn decrypt(&self, block: [u8; 8]) -> [u8; 8]
         ensures { result ≡ tdes_decrypted self.now block }
     {
-        let block = self.third().decrypt(block);
-        let block = self.second.encrypt(block);
-        self.first.decrypt(block)
+        triple_decrypt(self.third(), &self.second, &self.first, block)
     }
 
     /// DES under the third single key.
