@@ -1,6 +1,6 @@
 -- Rounds on words.
-use Rattle.std.proofs.Common.{◌≡◌, ℕ, ◌+◌, ◌<◌, List, [], ◌∷◌, ◌++◌, length, map, drop, get_or, reverse, refl, sym, ap, ◌∙◌, arith}
-use Rattle.std.proofs.lemmas.List.{length-map, get_or-map, map-append, reverse-append}
+use Rattle.std.proofs.Common.{◌≡◌, ℕ, ◌+◌, ◌-◌, ◌<◌, List, [], ◌∷◌, ◌++◌, length, map, drop, get_or, reverse, refl, sym, ap, ◌∙◌, arith}
+use Rattle.std.proofs.lemmas.List.{length-map, get_or-map, get_or-reverse, length-reverse, map-append, reverse-append}
 use Rattle.duk_des.specs.Bits.{xor_bits}
 use Rattle.duk_des.specs.Des.{Halves, cipher_function, rounds}
 use Rattle.duk_des.specs.Words.{word_bits, key_bits}
@@ -26,10 +26,24 @@ one_word_round keys i left right next h within e =
 pub no_word_round : (keys : List RoundKey) (halves : Halves) → length keys ≡ 16 → halves ≡ rounds (drop 16 (map key_bits keys)) halves
 no_word_round keys halves h = sym (no_round (map key_bits keys) 16 halves (omega (arith, h, length-map keys key_bits)))
 
-pub map-reverse : (keys : List RoundKey) → map key_bits (reverse keys) ≡ reverse (map key_bits keys)
+map-reverse : (keys : List RoundKey) → map key_bits (reverse keys) ≡ reverse (map key_bits keys)
 map-reverse [] = refl
 map-reverse (key ∷ keys) =
     ap (map key_bits) (reverse-append (key ∷ []) keys)
     ∙ map-append key_bits (reverse keys) (key ∷ [])
     ∙ ap (λ all. all ++ (key_bits key ∷ [])) (map-reverse keys)
     ∙ sym (reverse-append (key_bits key ∷ []) (map key_bits keys))
+
+-- the same with the keys in reverse order
+pub one_word_round_back : (keys : List RoundKey) (i left right next : ℕ) → length keys ≡ 16 → i < 16
+    → word_bits next ≡ xor_bits (word_bits left) (cipher_function (word_bits right) (key_bits (get_or keys (15 - i) no_key)))
+    → rounds (drop (i + 1) (reverse (map key_bits keys))) (halves_of right next) ≡ rounds (drop i (reverse (map key_bits keys))) (halves_of left right)
+one_word_round_back keys i left right next h within e =
+    let last : length keys - 1 - i ≡ 15 - i = omega (arith, h) in
+    let key : get_or keys (15 - i) no_key ≡ get_or (reverse keys) i no_key = ap (λ n. get_or keys n no_key) (sym last) ∙ sym (get_or-reverse keys i no_key (omega (arith, h))) in
+    ap (λ all. rounds (drop (i + 1) all) (halves_of right next)) (sym (map-reverse keys))
+    ∙ one_word_round (reverse keys) i left right next (length-reverse keys ∙ h) within (e ∙ ap (λ k. xor_bits (word_bits left) (cipher_function (word_bits right) (key_bits k))) key)
+    ∙ ap (λ all. rounds (drop i all) (halves_of left right)) (map-reverse keys)
+
+pub no_word_round_back : (keys : List RoundKey) (halves : Halves) → length keys ≡ 16 → halves ≡ rounds (drop 16 (reverse (map key_bits keys))) halves
+no_word_round_back keys halves h = no_word_round (reverse keys) halves (length-reverse keys ∙ h) ∙ ap (λ all. rounds (drop 16 all) halves) (map-reverse keys)

@@ -6,7 +6,7 @@ ghost use Rattle.duk_des.specs.Bytes.{xor_bytes};
 ghost use Rattle.duk_des.specs.Des.{encipher, decipher, encrypted, decrypted};
 
 use crate::bytes::xor_bytes;
-use crate::words::{RoundKey, crypt_block, crypt_both, reverse_keys, round_keys, xor_keys};
+use crate::words::{RoundKey, crypt_block, crypt_block_back, crypt_both, round_keys, xor_keys};
 use std::marker::Model;
 
 /// DES under one key of 8 bytes, whose sixteen round keys are made once. It has neither `Debug` nor
@@ -68,7 +68,7 @@ impl Des {
         ensures bits { bits_of_bytes result
             ≡ decipher (bits_of_bytes self.now) (bits_of_bytes block) }
     {
-        crypt_block(&reverse_keys(&self.keys), &block)
+        crypt_block_back(&self.keys, &block)
     }
 }
 

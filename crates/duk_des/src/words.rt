@@ -1,6 +1,6 @@
 //! DES in words of 32 bits.
 
-ghost use Rattle.std.specs.Prelude.{◌≡◌, map};
+ghost use Rattle.std.specs.Prelude.{◌≡◌, map, reverse};
 ghost use Rattle.duk_des.specs.Bits.{xor_bits, bits_of_bytes, bytes_of_bits};
 ghost use Rattle.duk_des.specs.Des.{cipher_function, rounds, des_computation};
 ghost use Rattle.duk_des.specs.Words.{word_bits, key_bits};
@@ -13,7 +13,7 @@ mod round_keys;
 pub use entries::entry;
 use entries::group_of;
 use permutations::{final_permutation, initial_permutation};
-pub(crate) use round_keys::{RoundKey, reverse_keys, round_keys, xor_keys};
+pub(crate) use round_keys::{RoundKey, round_keys, xor_keys};
 
 /// A round for each of the keys with these indexes: L' = R, and R' = L xor f(R, K).
 macro_rules! rounds {
@@ -48,6 +48,17 @@ pub(crate) fn crypt_block(keys: &[RoundKey; 16], block: &[u8; 8]) -> [u8; 8]
 {
     let (left, right) = initial_permutation(block);
     let (left, right) = rounds(left, right, keys);
+    final_permutation(right, left)
+}
+
+/// The same with the round keys in reverse order.
+pub(crate) fn crypt_block_back(keys: &[RoundKey; 16], block: &[u8; 8]) -> [u8; 8]
+    ensures { result
+        ≡ bytes_of_bits 8
+        (des_computation (reverse (map key_bits keys.now)) (bits_of_bytes block.now)) }
+{
+    let (left, right) = initial_permutation(block);
+    let (left, right) = rounds_back(left, right, keys);
     final_permutation(right, left)
 }
 
@@ -86,6 +97,21 @@ fn rounds(left: u32, right: u32, keys: &[RoundKey; 16]) -> (u32, u32)
     let mut left = left;
     let mut right = right;
     rounds!(left right keys: 0 1 2 3 4 5 6 7 8 9 10 11 12 13 14 15);
+    (left, right)
+}
+
+/// Sixteen rounds on the halves L and R, with the round keys in reverse order.
+fn rounds_back(left: u32, right: u32, keys: &[RoundKey; 16]) -> (u32, u32)
+    ensures left { word_bits result.0
+        ≡ (rounds (reverse (map key_bits keys.now))
+        (record { left = word_bits left; right = word_bits right })).left }
+    ensures right { word_bits result.1
+        ≡ (rounds (reverse (map key_bits keys.now))
+        (record { left = word_bits left; right = word_bits right })).right }
+{
+    let mut left = left;
+    let mut right = right;
+    rounds!(left right keys: 15 14 13 12 11 10 9 8 7 6 5 4 3 2 1 0);
     (left, right)
 }
 

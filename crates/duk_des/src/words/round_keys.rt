@@ -1,6 +1,6 @@
 //! The key schedule in halves of 28 bits (NIST SP 800-67 appendix A).
 
-ghost use Rattle.std.specs.Prelude.{◌≡◌, ◌+◌, ◌≤◌, ◌<◌, ◌^◌, ◌++◌, map, reverse};
+ghost use Rattle.std.specs.Prelude.{◌≡◌, ◌+◌, ◌≤◌, ◌<◌, ◌^◌, ◌++◌, map};
 ghost use Rattle.duk_des.specs.Bits.{permute, xor_bits, bits_of_bytes};
 ghost use Rattle.duk_des.specs.Des.{rotate, round_keys, xor_keys};
 ghost use Rattle.duk_des.specs.Tables.{left_key_places, right_key_places, round_key_places};
@@ -42,15 +42,6 @@ pub fn round_keys(key: &[u8; 8]) -> [RoundKey; 16]
 {
     let (mut c, mut d) = choose_halves(key);
     schedule!(c d: 1 1 2 2 2 2 2 2 1 2 2 2 2 2 2 1)
-}
-
-/// The round keys in reverse order.
-pub fn reverse_keys(keys: &[RoundKey; 16]) -> [RoundKey; 16]
-    ensures { map key_bits result ≡ reverse (map key_bits keys.now) }
-{
-    let mut keys = *keys;
-    keys.reverse();
-    keys
 }
 
 /// Each round key, xored with the mask's at its place.

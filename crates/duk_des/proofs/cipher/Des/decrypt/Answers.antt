@@ -9,6 +9,5 @@ pub returns : goal.returns
 unfolding decipher decrypted
 returns c =
     rw (← c.self.view_is)
-    (let keys = c.reverse_keys.ensures ∙ ap reverse c.self.invariant in
-    let bytes = c.crypt_block.ensures ∙ ap (λ keys. bytes_of_bits 8 (des_computation keys (bits_of_bytes c.args.block))) keys in
+    (let bytes = c.crypt_block_back.ensures ∙ ap (λ keys. bytes_of_bits 8 (des_computation (reverse keys) (bits_of_bytes c.args.block))) c.self.invariant in
     record { bytes = bytes; bits = ap bits_of_bytes bytes ∙ bits_of_bytes-bytes_of_bits 8 _ (length-des_computation _ _) })
