@@ -1,6 +1,6 @@
 //! The registers of a terminal, from one number to the next.
 
-ghost use Rattle.std.specs.Prelude.{◌≡◌, ◌↔◌, ℕ, List, Some, None, IsErr, OnOk, IfOk, IfErr, IsSome, IfSome, if◌then◌else◌, ◌==◌};
+ghost use Rattle.std.specs.Prelude.{◌≡◌, ◌↔◌, ℕ, List, Some, None, IsErr, OnOk, IfOk, IfErr, IsNone, IsSome, IfSome, if◌then◌else◌, ◌==◌};
 ghost use Rattle.duk_tree.specs.Derivation.{transaction_key_of};
 ghost use Rattle.duk_tree.specs.Next.{spent_counter};
 ghost use Rattle.duk_tree.specs.Path.{IsUsable};
@@ -84,19 +84,39 @@ impl Registers {
             (λ taken. (taken.0 ≡ transaction_key_of initial self.iksn self.counter)
             × StandsFor initial taken.2) }
     {
+        let mut left = self;
+        match left.use_next() {
+            Some((key, ksn)) => Ok((key, ksn, left)),
+            None => Err(left),
+        }
+    }
+
+    /// Uses the next number as `take` does, in place. None: the terminal is spent, and nothing
+    /// changes.
+    pub fn use_next(&mut self) -> Option<(Key<16>, Ksn)>
+        ensures spent { IsNone result ↔ (self.old.counter ≡ spent_counter) }
+        ensures usable { IfSome result (λ taken. IsUsable self.old.counter) }
+        ensures unchanged { IsNone result → self.new ≡ self.old }
+        ensures serial { IfSome result
+            (λ taken. taken.1 ≡ record { iksn = self.old.iksn; counter = self.old.counter }) }
+        ensures taken { IfSome result (λ taken. IsTaken self.old taken.0 self.new) }
+        ensures stands { (initial : List ℕ) → StandsFor initial self.old
+            → IfSome result
+            (λ taken. (taken.0 ≡ transaction_key_of initial self.old.iksn self.old.counter)
+            × StandsFor initial self.new) }
+    {
         duk_tree::laws::bits();
         laws::transactions();
-        if self.counter == SPENT {
-            return Err(self);
+        let counter = self.counter;
+        if counter == SPENT {
+            return None;
         }
-        let mut left = self;
-        let (iksn, counter) = (left.iksn, left.counter);
         let place = counter.trailing_zeros() as usize;
-        let key = left.registers[place];
-        left.registers[place] = no_key();
-        fill_below(&mut left.registers, &key, iksn, counter);
-        left.counter = next_usable(counter).unwrap_or(SPENT);
-        Ok((key, iksn.with_counter(counter), left))
+        let key = self.registers[place];
+        self.registers[place] = no_key();
+        fill_below(&mut self.registers, &key, self.iksn, counter);
+        self.counter = next_usable(counter).unwrap_or(SPENT);
+        Some((key, self.iksn.with_counter(counter)))
     }
 
     /// The image that a terminal stores: version 1, the initial key serial number in 10 bytes, the
