@@ -95,6 +95,7 @@ impl Registers {
     /// changes.
     pub fn use_next(&mut self) -> Option<(Key<16>, Ksn)>
         ensures spent { IsNone result ↔ (self.old.counter ≡ spent_counter) }
+        ensures set { IsRegisterSet self.old }
         ensures usable { IfSome result (λ taken. IsUsable self.old.counter) }
         ensures unchanged { IsNone result → self.new ≡ self.old }
         ensures serial { IfSome result
