@@ -155,7 +155,7 @@ fn commands_into_a_full_pipe(rt: HostRuntime) {
 fn walk_into(alloc: Global, room: usize, full: Full) -> Ended {
     let mut output = Pipe::new(alloc, room, 1000, full);
     let mut fault = Vec::new(alloc);
-    let status = walk_command(BDK_TEXT, IKSN, "200", None, false, &mut output, &mut fault);
+    let status = walk_command(BDK_TEXT, IKSN, "700", None, false, &mut output, &mut fault);
     Ended {
         status,
         output,
@@ -174,10 +174,10 @@ fn lines(alloc: Global, count: &str) -> Vec<u8> {
 
 #[test]
 fn walk_into_a_full_pipe(rt: HostRuntime) {
-    let whole = lines(rt.alloc(), "200");
-    assert_eq!(rt; whole.len(), 10_800);
+    let whole = lines(rt.alloc(), "700");
+    assert_eq!(rt; whole.len(), 37_800);
     for full in [Full::Fails, Full::TakesNone] {
-        for room in [0, 1, 53, 4000, 4096, 10_799, 10_800] {
+        for room in [0, 1, 53, 32_723, 32_724, 37_799, 37_800] {
             assert!(rt; walk_into(rt.alloc(), room, full).has_written(whole.as_slice()));
         }
     }
