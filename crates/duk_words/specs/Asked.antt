@@ -1,58 +1,99 @@
--- What the words ask for that `clap` found behind a command: this project's own, over the matches of
--- the crate `clap`.
-use Rattle.std.specs.Prelude.{◌≡◌, ◌∷◌, [], ⊤, ℕ, List, Bool, Option, Some, None, IsSome, true, false, codes}
+-- What the words of the command line ask for: this project's own, over the matches of the crate
+-- `clap`.
+use Rattle.std.specs.Prelude.{◌≡◌, ◌≢◌, ◌⊎◌, ⊤, List, Bool, Option, Some, None, IsSomeAnd, map}
+use Rattle.std.specs.Prelude.{true, false, not, codes, String, string_bytes}
+use Rattle.std.specs.List.{list_any}
 use Rattle.std.specs.Option.{option_map}
-use Rattle.clap.specs.Words.{first_value, found_of, one_text, subcommand_name_of}
-use Rattle.clap.specs.declared.parser.matches.ArgMatches.{ArgMatches}
+use Rattle.clap.specs.Words.{IsAmong, Row, Text, fault_of, first_of, one_of, subcommand_of}
+use Rattle.clap.specs.declared.error.kind.ErrorKind.{ErrorKind}
+use Rattle.clap.specs.declared.error.kind.ErrorKind.TheVariants.{DisplayHelp, DisplayVersion}
+use Rattle.clap.specs.declared.error.kind.ErrorKind.TheVariants.{MissingSubcommand, OutOfMemory}
+use Rattle.duk_words.specs.CommandLine.{command_line}
+use Rattle.duk_words.specs.declared.request.NoRequest.{NoRequest}
+use Rattle.duk_words.specs.declared.request.NoRequest.TheVariants as answer
 use Rattle.duk_words.specs.declared.request.Request.{Request}
 use Rattle.duk_words.specs.declared.request.Request.TheVariants as request
 
--- the word that was found under a name
-abbrev pub word_of : ArgMatches → List ℕ → Option (List ℕ)
-word_of found name = first_value (found_of found) name
-
--- each of these names has a word that was found under it
-abbrev pub HasWords : ArgMatches → List (List ℕ) → Type 0
-HasWords found [] = ⊤
-HasWords found (name ∷ names) = IsSome (word_of found name) × HasWords found names
+-- the bytes of each word
+abbrev pub texts_of : {A : Type 0} → List (String A) → List Text
+texts_of words = map string_bytes words
 
 -- whether a flag was found
-abbrev pub IsFlag : ArgMatches → List ℕ → Bool → Type 0
-IsFlag found name there =
-    (one_text (found_of found) name ≡ None → there ≡ false)
-    × (one_text (found_of found) name ≡ Some (codes "true") → there ≡ true)
-    × (one_text (found_of found) name ≡ Some (codes "false") → there ≡ false)
+abbrev pub IsFlag : List Row → Text → Bool → Type 0
+IsFlag rows name there =
+    (one_of name rows ≡ None → there ≡ false)
+    × (one_of name rows ≡ Some (codes "true") → there ≡ true)
+    × (one_of name rows ≡ Some (codes "false") → there ≡ false)
 
--- behind the command of this name these words were found, and they are those of the request
-abbrev pub AsksFor : List ℕ → ArgMatches → Request → Type 0
-AsksFor command found (request.Derive bdk ksn) =
-    (command ≡ codes "derive") × (word_of found (codes "BDK") ≡ Some bdk.now)
-    × (word_of found (codes "KSN") ≡ Some ksn.now)
-AsksFor command found (request.Walk bdk iksn count skip alone) =
-    (command ≡ codes "walk") × (word_of found (codes "BDK") ≡ Some bdk.now)
-    × (word_of found (codes "IKSN") ≡ Some iksn.now)
-    × (word_of found (codes "COUNT") ≡ Some count.now)
-    × (word_of found (codes "skip") ≡ option_map (λ word. word.now) skip)
-    × IsFlag found (codes "ksn") alone
-AsksFor command found (request.Pin pin pan key) =
-    (command ≡ codes "pin") × (word_of found (codes "PIN") ≡ Some pin.now)
-    × (word_of found (codes "PAN") ≡ Some pan.now)
-    × (word_of found (codes "key") ≡ option_map (λ word. word.now) key)
-AsksFor command found (request.Wrap kbpk fields key pad) =
-    (command ≡ codes "wrap") × (word_of found (codes "KBPK") ≡ Some kbpk.now)
-    × (word_of found (codes "FIELDS") ≡ Some fields.now)
-    × (word_of found (codes "KEY") ≡ Some key.now)
-    × (word_of found (codes "PAD") ≡ Some pad.now)
-AsksFor command found (request.Unwrap kbpk block) =
-    (command ≡ codes "unwrap") × (word_of found (codes "KBPK") ≡ Some kbpk.now)
-    × (word_of found (codes "BLOCK") ≡ Some block.now)
-AsksFor command found (request.Run config script) =
-    (command ≡ codes "run") × (word_of found (codes "CONFIG") ≡ Some config.now)
-    × (word_of found (codes "SCRIPT") ≡ Some script.now)
+-- behind the command of this name the words of the request were found, each under its own name
+abbrev pub AsksFor : Text → List Row → Request → Type 0
+AsksFor command rows (request.Derive bdk ksn) =
+    (command ≡ codes "derive") × (first_of (codes "BDK") rows ≡ Some bdk.now)
+    × (first_of (codes "KSN") rows ≡ Some ksn.now)
+AsksFor command rows (request.Walk bdk iksn count skip alone) =
+    (command ≡ codes "walk") × (first_of (codes "BDK") rows ≡ Some bdk.now)
+    × (first_of (codes "IKSN") rows ≡ Some iksn.now)
+    × (first_of (codes "COUNT") rows ≡ Some count.now)
+    × (first_of (codes "skip") rows ≡ option_map (λ word. word.now) skip)
+    × IsFlag rows (codes "ksn") alone
+AsksFor command rows (request.Pin pin pan key) =
+    (command ≡ codes "pin") × (first_of (codes "PIN") rows ≡ Some pin.now)
+    × (first_of (codes "PAN") rows ≡ Some pan.now)
+    × (first_of (codes "key") rows ≡ option_map (λ word. word.now) key)
+AsksFor command rows (request.Wrap kbpk fields key pad) =
+    (command ≡ codes "wrap") × (first_of (codes "KBPK") rows ≡ Some kbpk.now)
+    × (first_of (codes "FIELDS") rows ≡ Some fields.now)
+    × (first_of (codes "KEY") rows ≡ Some key.now)
+    × (first_of (codes "PAD") rows ≡ Some pad.now)
+AsksFor command rows (request.Unwrap kbpk block) =
+    (command ≡ codes "unwrap") × (first_of (codes "KBPK") rows ≡ Some kbpk.now)
+    × (first_of (codes "BLOCK") rows ≡ Some block.now)
+AsksFor command rows (request.Run config script) =
+    (command ≡ codes "run") × (first_of (codes "CONFIG") rows ≡ Some config.now)
+    × (first_of (codes "SCRIPT") rows ≡ Some script.now)
 
--- what was found behind the command that was used asks for this
-pub record AsksBehind (matches : ArgMatches) (request : Request) : Type 0 where
-  pub command : List ℕ
-  pub found : ArgMatches
-  pub used : subcommand_name_of matches ≡ Some command
-  pub asks : AsksFor command found request
+-- a command was used, and what was found behind it asks for this
+abbrev pub AsksBehind : Option (Text × List Row) → Request → Type 0
+AsksBehind used request = IsSomeAnd used (λ behind. AsksFor behind.0 behind.1 request)
+
+-- the words, the first of which is the program's name, ask for this
+abbrev pub Asks : List Text → Request → Type 0
+Asks words = AsksBehind (subcommand_of command_line words)
+
+-- an error that shows help, or a version, and refuses nothing
+abbrev pub is_shown : ErrorKind → Bool
+is_shown DisplayHelp = true
+is_shown DisplayVersion = true
+is_shown kind = false
+
+-- nothing is asked for by the words
+abbrev pub AskForNothing : List Text → Type 0
+AskForNothing words = (request : Request) → ¬ Asks words request
+
+-- the words ask for help
+abbrev pub AskForHelp : List Text → Type 0
+AskForHelp words = list_any is_shown (fault_of command_line words) ≡ true
+
+-- the words have a fault, or ask for nothing
+abbrev pub AreRefused : List Text → Type 0
+AreRefused words =
+    (list_any (λ kind. not (is_shown kind)) (fault_of command_line words) ≡ true)
+    ⊎ AskForNothing words
+
+-- why this stands in place of a request; memory may be refused at any time
+abbrev pub StandsFor : List Text → NoRequest → Type 0
+StandsFor words (answer.Help text) = AskForHelp words
+StandsFor words (answer.Refused text) = AreRefused words
+StandsFor words answer.NoMemory = ⊤
+
+-- the kinds of error by which no request is found in the words
+abbrev pub MayFailBy : List Text → ErrorKind → Type 0
+MayFailBy words kind = (kind ≡ OutOfMemory)
+    ⊎ (IsAmong kind (fault_of command_line words)
+    ⊎ ((kind ≡ MissingSubcommand) × AskForNothing words))
+
+-- what an error of this kind is told as
+abbrev pub IsToldAs : ErrorKind → NoRequest → Type 0
+IsToldAs kind (answer.Help text) = is_shown kind ≡ true
+IsToldAs kind (answer.Refused text) = (is_shown kind ≡ false) × (kind ≢ OutOfMemory)
+IsToldAs kind answer.NoMemory = ⊤

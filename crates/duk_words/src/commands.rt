@@ -1,10 +1,19 @@
 //! The commands and their words, as `clap` reads them.
 
+ghost use Rattle.std.specs.Prelude.{◌≡◌, ◌∷◌, [], IfOk, codes};
+ghost use Rattle.clap.specs.Words.{app_of};
+ghost use Rattle.duk_words.specs.CommandLine.{IsArgument, IsCommand, command, command_line};
+ghost use Rattle.duk_words.specs.CommandLine.{derive_command, flag_rule, option_rule, pin_command};
+ghost use Rattle.duk_words.specs.CommandLine.{program_of, run_command, unwrap_command};
+ghost use Rattle.duk_words.specs.CommandLine.{walk_command, word_rule, wrap_command};
+
 use clap::{Arg, ArgAction, Command};
 use std::alloc::{AllocError, Global};
 
 /// The program's commands.
-pub fn program<'a>(alloc: Global) -> Result<Command<'a>, AllocError> {
+pub fn program<'a>(alloc: Global) -> Result<Command<'a>, AllocError>
+    ensures { IfOk result (λ made. app_of made ≡ command_line) }
+{
     key_commands(alloc)?
         .subcommand(wrap_words(alloc)?)?
         .subcommand(unwrap_words(alloc)?)?
@@ -12,7 +21,10 @@ pub fn program<'a>(alloc: Global) -> Result<Command<'a>, AllocError> {
 }
 
 /// The commands over keys and PINs.
-fn key_commands<'a>(alloc: Global) -> Result<Command<'a>, AllocError> {
+fn key_commands<'a>(alloc: Global) -> Result<Command<'a>, AllocError>
+    ensures { IfOk result (λ made.
+        app_of made ≡ program_of (derive_command ∷ walk_command ∷ pin_command ∷ [])) }
+{
     Command::new(alloc, "dukpt")
         .about("A payment host, its HSM and its PIN terminals, keyed by TDES DUKPT")
         .subcommand_required(true)
@@ -21,14 +33,18 @@ fn key_commands<'a>(alloc: Global) -> Result<Command<'a>, AllocError> {
         .subcommand(pin_words(alloc)?)
 }
 
-fn derive_words<'a>(alloc: Global) -> Result<Command<'a>, AllocError> {
+fn derive_words<'a>(alloc: Global) -> Result<Command<'a>, AllocError>
+    ensures { IfOk result (IsCommand derive_command) }
+{
     Command::new(alloc, "derive")
         .about("Prints the initial key, the transaction key and the PIN key of a key serial number")
         .arg(bdk_word(alloc))?
         .arg(word(alloc, "KSN", "The key serial number, 20 hexadecimal digits"))
 }
 
-fn walk_words<'a>(alloc: Global) -> Result<Command<'a>, AllocError> {
+fn walk_words<'a>(alloc: Global) -> Result<Command<'a>, AllocError>
+    ensures { IfOk result (IsCommand walk_command) }
+{
     let skip = "Skips K numbers before printing";
     counted_words(alloc)?
         .arg(value(alloc, "skip", "K", skip))?
@@ -36,7 +52,10 @@ fn walk_words<'a>(alloc: Global) -> Result<Command<'a>, AllocError> {
 }
 
 /// The words of a walk that have to be there.
-fn counted_words<'a>(alloc: Global) -> Result<Command<'a>, AllocError> {
+fn counted_words<'a>(alloc: Global) -> Result<Command<'a>, AllocError>
+    ensures { IfOk result (IsCommand (command (codes "walk")
+        (word_rule (codes "BDK") ∷ word_rule (codes "IKSN") ∷ word_rule (codes "COUNT") ∷ []))) }
+{
     Command::new(alloc, "walk")
         .about("Walks a terminal through its numbers and prints the key of each")
         .arg(bdk_word(alloc))?
@@ -48,7 +67,9 @@ fn counted_words<'a>(alloc: Global) -> Result<Command<'a>, AllocError> {
         .arg(word(alloc, "COUNT", "How many numbers to print, at most 1048576"))
 }
 
-fn pin_words<'a>(alloc: Global) -> Result<Command<'a>, AllocError> {
+fn pin_words<'a>(alloc: Global) -> Result<Command<'a>, AllocError>
+    ensures { IfOk result (IsCommand pin_command) }
+{
     Command::new(alloc, "pin")
         .about("Prints the PIN block of a PIN and a PAN, and the block enciphered")
         .arg(word(alloc, "PIN", "The PIN, 4 to 12 digits"))?
@@ -65,7 +86,9 @@ fn pin_words<'a>(alloc: Global) -> Result<Command<'a>, AllocError> {
         ))
 }
 
-fn wrap_words<'a>(alloc: Global) -> Result<Command<'a>, AllocError> {
+fn wrap_words<'a>(alloc: Global) -> Result<Command<'a>, AllocError>
+    ensures { IfOk result (IsCommand wrap_command) }
+{
     Command::new(alloc, "wrap")
         .about("Prints the key block of a key")
         .arg(kbpk_word(alloc))?
@@ -82,14 +105,18 @@ fn wrap_words<'a>(alloc: Global) -> Result<Command<'a>, AllocError> {
         ))
 }
 
-fn unwrap_words<'a>(alloc: Global) -> Result<Command<'a>, AllocError> {
+fn unwrap_words<'a>(alloc: Global) -> Result<Command<'a>, AllocError>
+    ensures { IfOk result (IsCommand unwrap_command) }
+{
     Command::new(alloc, "unwrap")
         .about("Prints the header fields and the key of a key block")
         .arg(kbpk_word(alloc))?
         .arg(word(alloc, "BLOCK", "The key block"))
 }
 
-fn run_words<'a>(alloc: Global) -> Result<Command<'a>, AllocError> {
+fn run_words<'a>(alloc: Global) -> Result<Command<'a>, AllocError>
+    ensures { IfOk result (IsCommand run_command) }
+{
     Command::new(alloc, "run")
         .about("Runs a script of events, and prints what comes of each")
         .arg(word(alloc, "CONFIG", "The file of the configuration, in TOML"))?
@@ -100,7 +127,9 @@ fn run_words<'a>(alloc: Global) -> Result<Command<'a>, AllocError> {
         ))
 }
 
-fn bdk_word<'a>(alloc: Global) -> Arg<'a> {
+fn bdk_word<'a>(alloc: Global) -> Arg<'a>
+    ensures { IsArgument (word_rule (codes "BDK")) result }
+{
     word(
         alloc,
         "BDK",
@@ -108,7 +137,9 @@ fn bdk_word<'a>(alloc: Global) -> Arg<'a> {
     )
 }
 
-fn kbpk_word<'a>(alloc: Global) -> Arg<'a> {
+fn kbpk_word<'a>(alloc: Global) -> Arg<'a>
+    ensures { IsArgument (word_rule (codes "KBPK")) result }
+{
     word(
         alloc,
         "KBPK",
@@ -117,12 +148,16 @@ fn kbpk_word<'a>(alloc: Global) -> Arg<'a> {
 }
 
 /// A word that has to be there.
-fn word<'a>(alloc: Global, name: &'a str, help: &'a str) -> Arg<'a> {
+fn word<'a>(alloc: Global, name: &'a str, help: &'a str) -> Arg<'a>
+    ensures { IsArgument (word_rule name.entry.now) result }
+{
     Arg::new(alloc, name).required(true).help(help)
 }
 
 /// An option that has a value.
-fn value<'a>(alloc: Global, name: &'a str, value: &'a str, help: &'a str) -> Arg<'a> {
+fn value<'a>(alloc: Global, name: &'a str, value: &'a str, help: &'a str) -> Arg<'a>
+    ensures { IsArgument (option_rule name.entry.now) result }
+{
     Arg::new(alloc, name)
         .long(name)
         .value_name(value)
@@ -130,7 +165,9 @@ fn value<'a>(alloc: Global, name: &'a str, value: &'a str, help: &'a str) -> Arg
 }
 
 /// An option that is there or not.
-fn flag<'a>(alloc: Global, name: &'a str, help: &'a str) -> Arg<'a> {
+fn flag<'a>(alloc: Global, name: &'a str, help: &'a str) -> Arg<'a>
+    ensures { IsArgument (flag_rule name.entry.now) result }
+{
     Arg::new(alloc, name)
         .long(name)
         .action(ArgAction::SetTrue)

@@ -1,7 +1,11 @@
 //! What the words of the command line ask for.
 
-ghost use Rattle.std.specs.Prelude.{◌∷◌, [], IfSome, IsSome, codes};
-ghost use Rattle.duk_words.specs.Asked.{AsksBehind, AsksFor, HasWords};
+ghost use Rattle.std.specs.Prelude.{◌≡◌, [], IfErr, IfOk, IfSome, IsSome, codes};
+ghost use Rattle.clap.specs.Values.{kind_of};
+ghost use Rattle.clap.specs.Words.{fault_of, found_of, rows_of, subcommand_rows_of};
+ghost use Rattle.duk_words.specs.Asked.{Asks, AsksBehind, AsksFor, IsToldAs, MayFailBy};
+ghost use Rattle.duk_words.specs.Asked.{StandsFor, texts_of};
+ghost use Rattle.duk_words.specs.CommandLine.{command_line};
 
 use crate::commands::program;
 use clap::error::ErrorKind;
@@ -78,8 +82,13 @@ pub enum NoRequest {
     NoMemory,
 }
 
-/// The request that the words make; the first word is the program's name.
-pub fn read_request<'a>(alloc: Global, words: &'a [String]) -> Result<Request<'a>, NoRequest> {
+/// The request that the words make, the first of which is the program's name: that of the command
+/// that they use, with the words behind it. `clap` finds them by the program's command line.
+pub fn read_request<'a>(alloc: Global, words: &'a [String]) -> Result<Request<'a>, NoRequest>
+    ensures asks { IfOk result (Asks (texts_of words.now)) }
+    ensures taken { IfOk result (λ _. fault_of command_line (texts_of words.now) ≡ []) }
+    ensures instead { IfErr result (StandsFor (texts_of words.now)) }
+{
     match match_words(alloc, words) {
         Ok(request) => Ok(request),
         Err(error) => Err(no_request(alloc, &error)),
@@ -87,7 +96,11 @@ pub fn read_request<'a>(alloc: Global, words: &'a [String]) -> Result<Request<'a
 }
 
 /// The request that `clap` finds in the words, or its error.
-fn match_words<'a>(alloc: Global, words: &'a [String]) -> Result<Request<'a>, Error> {
+fn match_words<'a>(alloc: Global, words: &'a [String]) -> Result<Request<'a>, Error>
+    ensures asks { IfOk result (Asks (texts_of words.now)) }
+    ensures taken { IfOk result (λ _. fault_of command_line (texts_of words.now) ≡ []) }
+    ensures fails { IfErr result (λ error. MayFailBy (texts_of words.now) (kind_of error)) }
+{
     let mut program = program(alloc)?;
     let matches = program.try_get_matches_from_mut(words)?;
     match request_of(&matches) {
@@ -96,9 +109,11 @@ fn match_words<'a>(alloc: Global, words: &'a [String]) -> Result<Request<'a>, Er
     }
 }
 
-/// What was found behind the command that was used asks for.
+/// The request that what was found behind the command asks for that was used.
 fn request_of<'a>(matches: &ArgMatches<'a>) -> Option<Request<'a>>
-    ensures { IfSome result (AsksBehind matches.now) }
+    ensures asks { IfSome result (AsksBehind (subcommand_rows_of matches.now)) }
+    ensures all { (request : Request) → AsksBehind (subcommand_rows_of matches.now) request
+        → IsSome result }
 {
     match matches.subcommand()? {
         ("derive", found) => derive_request(found),
@@ -111,20 +126,22 @@ fn request_of<'a>(matches: &ArgMatches<'a>) -> Option<Request<'a>>
     }
 }
 
+#[tactic(auto, using(crate::proofs::FoundRows::by_rows))]
 fn derive_request<'a>(found: &ArgMatches<'a>) -> Option<Request<'a>>
-    ensures asks { IfSome result (AsksFor (codes "derive") found.now) }
-    ensures there { HasWords found.now (codes "BDK" ∷ codes "KSN" ∷ []) → IsSome result }
+    ensures asks { IfSome result (AsksFor (codes "derive") (rows_of (found_of found.now))) }
+    ensures all { (request : Request)
+        → AsksFor (codes "derive") (rows_of (found_of found.now)) request → IsSome result }
 {
     let bdk = found.get_str("BDK")?;
     let ksn = found.get_str("KSN")?;
     Some(Request::Derive { bdk, ksn })
 }
 
+#[tactic(auto, using(crate::proofs::FoundRows::by_rows))]
 fn walk_request<'a>(found: &ArgMatches<'a>) -> Option<Request<'a>>
-    ensures asks { IfSome result (AsksFor (codes "walk") found.now) }
-    ensures there { HasWords found.now
-        (codes "BDK" ∷ codes "IKSN" ∷ codes "COUNT" ∷ [])
-        → IsSome result }
+    ensures asks { IfSome result (AsksFor (codes "walk") (rows_of (found_of found.now))) }
+    ensures all { (request : Request)
+        → AsksFor (codes "walk") (rows_of (found_of found.now)) request → IsSome result }
 {
     let bdk = found.get_str("BDK")?;
     let iksn = found.get_str("IKSN")?;
@@ -138,9 +155,11 @@ fn walk_request<'a>(found: &ArgMatches<'a>) -> Option<Request<'a>>
     })
 }
 
+#[tactic(auto, using(crate::proofs::FoundRows::by_rows))]
 fn pin_request<'a>(found: &ArgMatches<'a>) -> Option<Request<'a>>
-    ensures asks { IfSome result (AsksFor (codes "pin") found.now) }
-    ensures there { HasWords found.now (codes "PIN" ∷ codes "PAN" ∷ []) → IsSome result }
+    ensures asks { IfSome result (AsksFor (codes "pin") (rows_of (found_of found.now))) }
+    ensures all { (request : Request)
+        → AsksFor (codes "pin") (rows_of (found_of found.now)) request → IsSome result }
 {
     let pin = found.get_str("PIN")?;
     let pan = found.get_str("PAN")?;
@@ -151,11 +170,11 @@ fn pin_request<'a>(found: &ArgMatches<'a>) -> Option<Request<'a>>
     })
 }
 
+#[tactic(auto, using(crate::proofs::FoundRows::by_rows))]
 fn wrap_request<'a>(found: &ArgMatches<'a>) -> Option<Request<'a>>
-    ensures asks { IfSome result (AsksFor (codes "wrap") found.now) }
-    ensures there { HasWords found.now
-        (codes "KBPK" ∷ codes "FIELDS" ∷ codes "KEY" ∷ codes "PAD" ∷ [])
-        → IsSome result }
+    ensures asks { IfSome result (AsksFor (codes "wrap") (rows_of (found_of found.now))) }
+    ensures all { (request : Request)
+        → AsksFor (codes "wrap") (rows_of (found_of found.now)) request → IsSome result }
 {
     let kbpk = found.get_str("KBPK")?;
     let fields = found.get_str("FIELDS")?;
@@ -169,18 +188,22 @@ fn wrap_request<'a>(found: &ArgMatches<'a>) -> Option<Request<'a>>
     })
 }
 
+#[tactic(auto, using(crate::proofs::FoundRows::by_rows))]
 fn unwrap_request<'a>(found: &ArgMatches<'a>) -> Option<Request<'a>>
-    ensures asks { IfSome result (AsksFor (codes "unwrap") found.now) }
-    ensures there { HasWords found.now (codes "KBPK" ∷ codes "BLOCK" ∷ []) → IsSome result }
+    ensures asks { IfSome result (AsksFor (codes "unwrap") (rows_of (found_of found.now))) }
+    ensures all { (request : Request)
+        → AsksFor (codes "unwrap") (rows_of (found_of found.now)) request → IsSome result }
 {
     let kbpk = found.get_str("KBPK")?;
     let block = found.get_str("BLOCK")?;
     Some(Request::Unwrap { kbpk, block })
 }
 
+#[tactic(auto, using(crate::proofs::FoundRows::by_rows))]
 fn run_request<'a>(found: &ArgMatches<'a>) -> Option<Request<'a>>
-    ensures asks { IfSome result (AsksFor (codes "run") found.now) }
-    ensures there { HasWords found.now (codes "CONFIG" ∷ codes "SCRIPT" ∷ []) → IsSome result }
+    ensures asks { IfSome result (AsksFor (codes "run") (rows_of (found_of found.now))) }
+    ensures all { (request : Request)
+        → AsksFor (codes "run") (rows_of (found_of found.now)) request → IsSome result }
 {
     let config = found.get_str("CONFIG")?;
     let script = found.get_str("SCRIPT")?;
@@ -188,7 +211,9 @@ fn run_request<'a>(found: &ArgMatches<'a>) -> Option<Request<'a>>
 }
 
 /// What `clap` tells with an error: that memory was refused, or a text for the user.
-fn no_request(alloc: Global, error: &Error) -> NoRequest {
+fn no_request(alloc: Global, error: &Error) -> NoRequest
+    ensures { IsToldAs (kind_of error.now) result }
+{
     if error.kind() == ErrorKind::OutOfMemory {
         return NoRequest::NoMemory;
     }

@@ -1,0 +1,72 @@
+-- The program's command line: this project's own, as a command of the crate `clap`.
+use Rattle.std.specs.Prelude.{◌≡◌, ◌∷◌, [], List, Some, false, true, codes}
+use Rattle.clap.specs.Words.{App, Rule, Shape, Text, new_rule, rule_of, shape_of}
+use Rattle.clap.specs.Simple.{new_shape}
+use Rattle.clap.specs.declared.builder.action.ArgAction.TheVariants.{SetTrue}
+use Rattle.clap.specs.declared.builder.arg.Arg.{Arg}
+use Rattle.clap.specs.declared.builder.command.Command.{Command}
+use Rattle.clap.specs.declared.builder.command.Command.TheViews.{out-Command as fields_of}
+
+-- NAME: a word that has to be there
+abbrev pub word_rule : Text → Rule
+word_rule name = record (new_rule name) { required = true }
+
+-- [--name VALUE]: an option that has a value
+abbrev pub option_rule : Text → Rule
+option_rule name = record (new_rule name) { long = Some name; value_names = 1 }
+
+-- [--name]: an option that is there or not
+abbrev pub flag_rule : Text → Rule
+flag_rule name = record (new_rule name) { long = Some name; action = Some SetTrue }
+
+-- a command of this name, and what stands behind it
+abbrev pub command : Text → List Rule → Shape
+command name rules = record (new_shape name) { rules = rules }
+
+-- derive BDK KSN
+abbrev pub derive_command : Shape
+derive_command = command (codes "derive") (word_rule (codes "BDK") ∷ word_rule (codes "KSN") ∷ [])
+
+-- walk BDK IKSN COUNT [--skip K] [--ksn]
+abbrev pub walk_command : Shape
+walk_command = command (codes "walk") (word_rule (codes "BDK") ∷ word_rule (codes "IKSN")
+    ∷ word_rule (codes "COUNT") ∷ option_rule (codes "skip") ∷ flag_rule (codes "ksn") ∷ [])
+
+-- pin PIN PAN [--key KEY]
+abbrev pub pin_command : Shape
+pin_command = command (codes "pin")
+    (word_rule (codes "PIN") ∷ word_rule (codes "PAN") ∷ option_rule (codes "key") ∷ [])
+
+-- wrap KBPK FIELDS KEY PAD
+abbrev pub wrap_command : Shape
+wrap_command = command (codes "wrap") (word_rule (codes "KBPK") ∷ word_rule (codes "FIELDS")
+    ∷ word_rule (codes "KEY") ∷ word_rule (codes "PAD") ∷ [])
+
+-- unwrap KBPK BLOCK
+abbrev pub unwrap_command : Shape
+unwrap_command = command (codes "unwrap")
+    (word_rule (codes "KBPK") ∷ word_rule (codes "BLOCK") ∷ [])
+
+-- run CONFIG SCRIPT
+abbrev pub run_command : Shape
+run_command = command (codes "run") (word_rule (codes "CONFIG") ∷ word_rule (codes "SCRIPT") ∷ [])
+
+-- the program, that some of these commands have been given
+abbrev pub program_of : List Shape → App
+program_of commands = record {
+  top = record (new_shape (codes "dukpt")) { is_leaf = false; subcommand_required = true };
+  subs = commands;
+}
+
+-- dukpt, and one of its six commands
+abbrev pub command_line : App
+command_line = program_of (derive_command ∷ walk_command ∷ pin_command ∷ wrap_command
+    ∷ unwrap_command ∷ run_command ∷ [])
+
+-- an argument that has this rule, of its own command alone
+abbrev pub IsArgument : Rule → Arg → Type 0
+IsArgument rule argument = (rule_of argument ≡ rule) × (argument.global ≡ false)
+
+-- a command of this shape, each of whose arguments is its own alone
+abbrev pub IsCommand : Shape → Command → Type 0
+IsCommand shape made = (shape_of made ≡ shape) × ((fields_of made).has_globals ≡ false)
