@@ -45,7 +45,7 @@ impl Des {
     }
 
     /// DES under this key, xored with a mask. Its round keys are those of the key, xored with those
-    /// of the mask, so a mask that is known when the program is built costs no key schedule.
+    /// of the mask, which are constants where the mask is one and this stands in its caller's code.
     #[inline(always)]
     pub fn under_mask(&self, mask: &[u8; 8]) -> Self
         ensures { result ≡ xor_bytes self.now mask.now }
