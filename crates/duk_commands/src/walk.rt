@@ -112,10 +112,7 @@ fn pass_numbers(mut registers: Registers, skip: u32) -> Option<Registers>
     ensures spent { IfNone result (IsSpentWithin registers skip) }
 {
     for _passed in 0..skip {
-        match registers.take() {
-            Ok((_, _, left)) => registers = left,
-            Err(_) => return None,
-        }
+        registers.use_next()?;
     }
     Some(registers)
 }
@@ -136,16 +133,11 @@ fn write_numbers<W: Sink>(
     let mut lines = Buffer::new();
     for _printed in 0..count {
         make_room(&mut lines, LONGEST_LINE, output)?;
-        match registers.take() {
-            Ok(taken) => {
-                push_number(&mut lines, taken.1, &taken.0, alone);
-                registers = taken.2;
-            }
-            Err(_) => {
-                push_spent(&mut lines);
-                return write_out(&mut lines, output);
-            }
-        }
+        let Some(taken) = registers.use_next() else {
+            push_spent(&mut lines);
+            return write_out(&mut lines, output);
+        };
+        push_number(&mut lines, taken.1, &taken.0, alone);
     }
     write_out(&mut lines, output)
 }

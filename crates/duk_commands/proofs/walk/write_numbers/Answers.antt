@@ -19,27 +19,27 @@ pub loop-printed-preserved : goal.loop-printed-preserved
 loop-printed-preserved g c =
     let loop = c.loop-printed.invariant in
     let drains = c.in_ok-make_room.ensures.written in
-    let taken = c.in-Ok.ensures.taken in
+    let taken = c.in-Some.ensures.taken in
     let counter = c.loop-printed.registers.counter in
     record {
       same_iksn = taken.same_iksn ∙ loop.same_iksn;
-      stands = λ initial stood. (c.in-Ok.ensures.stands initial (loop.stands initial stood)).1;
+      stands = λ initial stood. (c.in-Some.ensures.stands initial (loop.stands initial stood)).1;
       written = loop.written ++ drains.front;
       was_written = c.writes.ensures.then _ _ _ loop.written drains.front loop.was_written drains.written;
       lines = λ initial more rest stands printed.
           let line = number_line initial c.args.registers.iksn c.args.alone in
-          let key = (c.in-Ok.ensures.stands initial (loop.stands initial stands)).0 ∙ ap (λ n. transaction_key_of initial n counter) loop.same_iksn in
-          let is_line = line_of_number _ c.args.registers.iksn counter c.in-Ok.taken.1 c.in-Ok.taken.0 _ c.args.alone loop.same_iksn c.in-Ok.ensures.serial key in
+          let key = (c.in-Some.ensures.stands initial (loop.stands initial stands)).0 ∙ ap (λ n. transaction_key_of initial n counter) loop.same_iksn in
+          let is_line = line_of_number _ c.args.registers.iksn counter c.in-Some.taken.1 c.in-Some.taken.0 _ c.args.alone loop.same_iksn c.in-Some.ensures.serial key in
           let pushed = c.push_number.ensures.line ∙ ap (λ l. c.make_room.new.buffer.items ++ l) is_line in
           let next : c.loop-printed._printed + suc more ≡ c.loop-printed._printed + 1 + more = omega arith in
-          let here = loop.lines initial (suc more) (line counter ++ rest) stands (inr (c.in-Ok.taken.2.counter, rest, c.in-Ok.ensures.usable, taken.next_counter, printed, refl)) in
+          let here = loop.lines initial (suc more) (line counter ++ rest) stands (inr (c.use_next.new.self.counter, rest, c.in-Some.ensures.usable, taken.next_counter, printed, refl)) in
           subst (λ t. IsPrinted line c.args.registers.counter (c.loop-printed._printed + 1 + more) t)
           (text_more loop.written c.loop-printed.lines.items drains.front c.make_room.new.buffer.items (line counter) rest c.push_number.new.lines.items drains.split pushed)
           (subst (λ n. IsPrinted line c.args.registers.counter n (loop.written ++ c.loop-printed.lines.items ++ (line counter ++ rest))) next here);
     }
 
-pub returns-in-Err-clause-written : goal.returns-in-Err-clause-written
-returns-in-Err-clause-written g c initial stands =
+pub returns-in_default-clause-written : goal.returns-in_default-clause-written
+returns-in_default-clause-written g c initial stands =
     let loop = c.loop-printed.invariant in
     let drains = c.in_ok-make_room.ensures.written in
     let line = number_line initial c.args.registers.iksn c.args.alone in
@@ -55,8 +55,8 @@ returns-in-Err-clause-written g c initial stands =
     c.write_out.ensures.written
     (λ written. (text, whole, c.writes.ensures.then _ _ _ (loop.written ++ drains.front) c.push_spent.new.lines.items before written))
 
-pub returns-in-Err-clause-cut : goal.returns-in-Err-clause-cut
-returns-in-Err-clause-cut g c initial stands =
+pub returns-in_default-clause-cut : goal.returns-in_default-clause-cut
+returns-in_default-clause-cut g c initial stands =
     let loop = c.loop-printed.invariant in
     let drains = c.in_ok-make_room.ensures.written in
     let line = number_line initial c.args.registers.iksn c.args.alone in
