@@ -1,2 +1,5 @@
-mod FoundRows
 mod Failures
+mod FoundRows
+pub mod PlainWords
+pub mod TopLevel
+pub mod WrittenRequests
