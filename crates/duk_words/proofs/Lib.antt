@@ -1,5 +1,6 @@
 mod Failures
 mod FoundRows
+mod OneRequest
 pub mod PlainWords
 pub mod TopLevel
 pub mod WrittenRequests

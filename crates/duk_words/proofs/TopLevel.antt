@@ -1,16 +1,18 @@
 -- The command that is entered, and what its own words leave to show.
-use Rattle.std.proofs.Common.{◌≡◌, ◌∷◌, ◌∙◌, [], Bool, List, Option, Some, ap, false, find, fold, is_some, map, refl, subst, sym, true}
+use Rattle.std.proofs.Common.{◌≡◌, ◌∷◌, ◌∙◌, [], Bool, List, Option, Some, ap, false, find, fold, is_some, map, refl, subst, sym, true, codes}
 use Rattle.std.specs.Prelude.{option_map}
 use Rattle.std.specs.Option.{option_map_or}
 use Rattle.clap.specs.Faults.{check_fault, defaults_fault, entered_fault, fault_of, level_fault, settle_fault, turn_fault, walk_fault}
 use Rattle.clap.specs.Kinds.{Kinds, or_else}
-use Rattle.clap.specs.Simple.{App, Shape, built, entered, label_of, names_of, rows_at}
+use Rattle.clap.specs.Simple.{App, Shape, built, entered, label_of, names_of, rows_at, subcommand_of}
 use Rattle.clap.specs.Walk.{Held, Names, Row, Text, Walk, answers_to, finished, nothing_held, settled, walk, walk_from, walked}
 use Rattle.clap.proofs.FaultLemmas.{stopped_fault}
 use Rattle.clap.proofs.WalkLemmas.{walk_stopped}
 use Rattle.duk_words.specs.Asked.{Asks, AsksFor, AsksBehind}
 use Rattle.duk_words.specs.CommandLine.{command_line}
 use Rattle.duk_words.specs.declared.request.Request.{Request}
+use Rattle.duk_words.specs.Written.{words_of}
+use Rattle.duk_words.proofs.OneRequest.{HasFlag, one_request}
 use Rattle.duk_words.proofs.PlainWords.{Goes, Marked, after, all_faults, all_walked, faults_after}
 
 abbrev pub top : App
@@ -92,6 +94,7 @@ pub record IsRead (leaf : Shape) (words : List Marked) (request : Request) : Typ
   pub quiet : faults_after leaf start words ≡ []
   pub ends : end_fault leaf false (end_of leaf words) ≡ []
   pub asks : AsksFor leaf.name (finished leaf.rules (end_of leaf words)) request
+  pub flagged : HasFlag (finished leaf.rules (end_of leaf words)) (codes "ksn")
 
 are_taken : (program name : Text) (leaf : Shape) → Enters name leaf → (words : List Marked)
     → (request : Request) → IsRead leaf words request
@@ -111,24 +114,32 @@ are_taken program name leaf enters words request is =
     (below_is name leaf enters (texts_in words)
     ∙ leaf_is_quiet leaf words is.goes is.quiet is.ends) top_end
 
-are_asked : (program name : Text) (leaf : Shape) → Enters name leaf → (words : List Marked)
-    → (request : Request) → IsRead leaf words request
-    → Asks (program ∷ name ∷ texts_in words) request
-are_asked program name leaf enters words request is =
-    subst (λ (used : Option (Text × List Row)). AsksBehind used request)
-    (sym (ap (λ (w : Walk). entered top w.stopped) (top_walk name leaf enters (texts_in words))
+used_is : (program name : Text) (leaf : Shape) → Enters name leaf → (words : List Marked)
+    → Goes leaf.rules start words → subcommand_of command_line (program ∷ name ∷ texts_in words)
+    ≡ Some (leaf.name, finished leaf.rules (end_of leaf words))
+used_is program name leaf enters words goes =
+    ap (λ (w : Walk). entered top w.stopped) (top_walk name leaf enters (texts_in words))
     ∙ entered_is name leaf enters (texts_in words)
     ∙ ap (λ (w : Walk). Some (leaf.name, finished leaf.rules w.held))
-    (all_walked leaf.rules start words is.goes))) is.asks
+    (all_walked leaf.rules start words goes)
 
--- the words have no fault, and ask for this
-abbrev pub Make : List Text → Request → Type 0
-Make words request = (fault_of command_line words ≡ []) × Asks words request
+-- the words have no fault, and ask for this and nothing else
+pub record Make (words : List Text) (request : Request) : Type 0 where
+  pub taken : fault_of command_line words ≡ []
+  pub asks : Asks words request
+  pub only : (other : Request) → Asks words other → words_of other ≡ words_of request
 
 pub make : (program name : Text) (leaf : Shape) → Enters name leaf → (words : List Marked)
     → (request : Request) → IsRead leaf words request
     → Make (program ∷ name ∷ texts_in words) request
-make program name leaf enters words request is = (
-  are_taken program name leaf enters words request is,
-  are_asked program name leaf enters words request is,
-)
+make program name leaf enters words request is =
+    let used = used_is program name leaf enters words is.goes in
+    record {
+      taken = are_taken program name leaf enters words request is;
+      asks = subst (λ (found : Option (Text × List Row)). AsksBehind found request) (sym used)
+          is.asks;
+      only = λ other asked. one_request leaf.name (finished leaf.rules (end_of leaf words))
+          other request is.flagged
+          (subst (λ (found : Option (Text × List Row)). AsksBehind found other) used asked)
+          is.asks;
+    }

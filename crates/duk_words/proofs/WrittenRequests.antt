@@ -1,5 +1,5 @@
 -- The words of each request make it.
-use Rattle.std.proofs.Common.{◌≡◌, ◌∷◌, ◌∙◌, [], Bool, List, None, Option, Some, ap, arith, codes, false, find, if◌then◌else◌, refl, sym, true, ℕ}
+use Rattle.std.proofs.Common.{◌≡◌, ◌∷◌, ◌∙◌, [], Bool, List, None, Option, Some, ap, arith, codes, false, find, if◌then◌else◌, refl, sym, true, ℕ, inl, inr}
 use Rattle.std.specs.Prelude.{unwrap_or}
 use Rattle.std.specs.Borrow.{Bor}
 use Rattle.clap.specs.Simple.{Shape, label_of}
@@ -80,6 +80,7 @@ reads_derive bdk ksn p0 p1 = record {
   quiet = refl;
   ends = refl;
   asks = (refl, refl, refl);
+  flagged = inl refl;
 }
 
 reads_wrap : (kbpk fields key pad : Bor Text) → IsPlainWord kbpk.now → IsPlainWord fields.now → IsPlainWord key.now → IsPlainWord pad.now
@@ -91,6 +92,7 @@ reads_wrap kbpk fields key pad p0 p1 p2 p3 = record {
   quiet = refl;
   ends = refl;
   asks = (refl, refl, refl, refl, refl);
+  flagged = inl refl;
 }
 
 reads_unwrap : (kbpk block : Bor Text) → IsPlainWord kbpk.now → IsPlainWord block.now
@@ -102,6 +104,7 @@ reads_unwrap kbpk block p0 p1 = record {
   quiet = refl;
   ends = refl;
   asks = (refl, refl, refl);
+  flagged = inl refl;
 }
 
 reads_run : (config script : Bor Text) → IsPlainWord config.now → IsPlainWord script.now
@@ -113,6 +116,7 @@ reads_run config script p0 p1 = record {
   quiet = refl;
   ends = refl;
   asks = (refl, refl, refl);
+  flagged = inl refl;
 }
 
 reads_pin : (pin pan : Bor Text) → IsPlainWord pin.now → IsPlainWord pan.now
@@ -124,6 +128,7 @@ reads_pin pin pan p0 p1 = record {
   quiet = refl;
   ends = refl;
   asks = (refl, refl, refl, refl);
+  flagged = inl refl;
 }
 
 reads_pin_under_key : (pin pan key : Bor Text) → IsPlainWord pin.now → IsPlainWord pan.now → IsPlainWord key.now
@@ -135,6 +140,7 @@ reads_pin_under_key pin pan key p0 p1 p2 = record {
   quiet = refl;
   ends = refl;
   asks = (refl, refl, refl, refl);
+  flagged = inl refl;
 }
 
 reads_walk : (bdk iksn count : Bor Text) → IsPlainWord bdk.now → IsPlainWord iksn.now → IsPlainWord count.now
@@ -154,6 +160,7 @@ reads_walk bdk iksn count p0 p1 p2 = record {
     is_flag (finished (leaf_of (codes "walk")).rules (end_of (leaf_of (codes "walk")) (free bdk ∷ free iksn ∷ free count ∷ [])))
         (codes "ksn") false refl,
   );
+  flagged = inr (inr refl);
 }
 
 reads_walk_alone : (bdk iksn count : Bor Text) → IsPlainWord bdk.now → IsPlainWord iksn.now → IsPlainWord count.now
@@ -173,6 +180,7 @@ reads_walk_alone bdk iksn count p0 p1 p2 = record {
     is_flag (finished (leaf_of (codes "walk")).rules (end_of (leaf_of (codes "walk")) (free bdk ∷ free iksn ∷ free count ∷ fixed (codes "--ksn") ∷ [])))
         (codes "ksn") true refl,
   );
+  flagged = inr (inl refl);
 }
 
 reads_walk_skipping : (bdk iksn count skip : Bor Text) → IsPlainWord bdk.now → IsPlainWord iksn.now → IsPlainWord count.now → IsPlainWord skip.now
@@ -192,6 +200,7 @@ reads_walk_skipping bdk iksn count skip p0 p1 p2 p3 = record {
     is_flag (finished (leaf_of (codes "walk")).rules (end_of (leaf_of (codes "walk")) (free bdk ∷ free iksn ∷ free count ∷ fixed (codes "--skip") ∷ free skip ∷ [])))
         (codes "ksn") false refl,
   );
+  flagged = inr (inr refl);
 }
 
 reads_walk_skipping_alone : (bdk iksn count skip : Bor Text) → IsPlainWord bdk.now → IsPlainWord iksn.now → IsPlainWord count.now → IsPlainWord skip.now
@@ -211,6 +220,7 @@ reads_walk_skipping_alone bdk iksn count skip p0 p1 p2 p3 = record {
     is_flag (finished (leaf_of (codes "walk")).rules (end_of (leaf_of (codes "walk")) (free bdk ∷ free iksn ∷ free count ∷ fixed (codes "--skip") ∷ free skip ∷ fixed (codes "--ksn") ∷ [])))
         (codes "ksn") true refl,
   );
+  flagged = inr (inl refl);
 }
 
 -- a request that is written behind the program's name is made
