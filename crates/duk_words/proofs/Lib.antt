@@ -1,2 +1,6 @@
-mod FoundRows
 mod Failures
+mod FoundRows
+mod OneRequest
+pub mod PlainWords
+pub mod TopLevel
+pub mod WrittenRequests

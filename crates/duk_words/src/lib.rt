@@ -2,6 +2,7 @@
 #![tactic(auto)]
 
 mod commands;
+pub mod laws;
 mod request;
 
 pub use request::{NoRequest, Request, read_request};
