@@ -109,7 +109,7 @@ fn match_words<'a>(alloc: Global, words: &'a [String]) -> Result<Request<'a>, Er
     }
 }
 
-/// The request that what was found behind the command asks for that was used.
+/// The request of the command that was used, over what was found behind it.
 fn request_of<'a>(matches: &ArgMatches<'a>) -> Option<Request<'a>>
     ensures asks { IfSome result (AsksBehind (subcommand_rows_of matches.now)) }
     ensures all { (request : Request) → AsksBehind (subcommand_rows_of matches.now) request
