@@ -1,5 +1,8 @@
 -- What is left to do when the words are dealt with (this project's own).
-use Rattle.std.specs.Prelude.{◌≡◌, ◌⊎◌, ℕ}
+use Rattle.std.specs.Prelude.{◌≡◌, ◌⊎◌, ℕ, List}
+use Rattle.duk_words.specs.Asked.{AreRefused, Asks}
+use Rattle.duk_words.specs.declared.request.Request.{Request}
+use Rattle.duk_words.specs.declared.request.Request.TheVariants as request
 use Rattle.duk_program.specs.declared.dispatch.Todo.{Todo}
 use Rattle.duk_program.specs.declared.dispatch.Todo.TheVariants.{Exit, Run}
 
@@ -21,3 +24,13 @@ EndsWith (Run config script) wanted = ⊥
 abbrev pub IsToRun : Todo → Type 0
 IsToRun (Exit status) = ⊥
 IsToRun (Run config script) = Unit {0}
+
+-- a script is left to run only where the request is that of these two paths
+abbrev pub RunsRequest : Request → Todo → Type 0
+RunsRequest asked (Exit status) = Unit {0}
+RunsRequest asked (Run config script) = asked ≡ request.Run config script
+
+-- a script is left to run only where the words ask for it, with these two paths
+abbrev pub RunsAsked : List (List ℕ) → Todo → Type 0
+RunsAsked words (Exit status) = Unit {0}
+RunsAsked words (Run config script) = Asks words (request.Run config script)

@@ -5,7 +5,8 @@ ghost use Rattle.std.specs.Io.KnownBytes.{Keeps};
 ghost use Rattle.duk_commands.specs.Fault.{line_telling, IsFaultTold};
 ghost use Rattle.duk_commands.specs.declared.fault.Fault.{Fault};
 ghost use Rattle.duk_io.specs.Sink.{IsUntouched, IsTried};
-ghost use Rattle.duk_program.specs.Status.{EndsWith, IsLeftToDo, IsStatus, IsToRun};
+ghost use Rattle.duk_program.specs.Status.{EndsWith, IsLeftToDo, IsStatus, IsToRun, RunsAsked, RunsRequest};
+ghost use Rattle.duk_words.specs.Asked.{texts_of};
 
 use duk_commands::{
     Fault, derive_command, pin_command, tell, unwrap_command, walk_command, wrap_command,
@@ -46,6 +47,7 @@ pub fn command<'a, W: Sink, F: Sink>(
     ensures fault { EndsWith result 1 → IsFaultTold (F.known fault.old) (F.known fault.new) }
     ensures refused { EndsWith result 2
         → Keeps (W.known output.old).contents (W.known output.new).contents }
+    ensures asked { RunsAsked (texts_of words.now) result }
     ensures quiet { IsToRun result → IsUntouched (W.known output.old) (W.known output.new) }
     ensures silent { IsToRun result → IsUntouched (F.known fault.old) (F.known fault.new) }
 {
@@ -68,6 +70,7 @@ fn answer_words<'a, W: Sink, F: Sink>(
     ensures fault { EndsWith result 1 → IsFaultTold (F.known fault.old) (F.known fault.new) }
     ensures refused { EndsWith result 2
         → Keeps (W.known output.old).contents (W.known output.new).contents }
+    ensures asked { RunsAsked (texts_of words.now) result }
     ensures quiet { IsToRun result → IsUntouched (W.known output.old) (W.known output.new) }
     ensures silent { IsToRun result → IsUntouched (F.known fault.old) (F.known fault.new) }
 {
@@ -83,6 +86,7 @@ fn do_request<'a, W: Sink, F: Sink>(request: Request<'a>, output: &mut W, fault:
     ensures no_fault { EndsWith result 0 → IsUntouched (F.known fault.old) (F.known fault.new) }
     ensures fault { EndsWith result 1 → IsFaultTold (F.known fault.old) (F.known fault.new) }
     ensures not_refused { ¬ EndsWith result 2 }
+    ensures asked { RunsRequest request.entry result }
     ensures quiet { IsToRun result → IsUntouched (W.known output.old) (W.known output.new) }
     ensures silent { IsToRun result → IsUntouched (F.known fault.old) (F.known fault.new) }
 {

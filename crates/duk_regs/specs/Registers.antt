@@ -34,6 +34,11 @@ abbrev pub LeavesEmpty : ℕ → List (List ℕ) → Type 0
 LeavesEmpty counter registers = (place : ℕ) → place < 21 → IsEmptyAt counter place
     → register_at registers place ≡ empty_register
 
+-- each of the 21 registers has sixteen bytes
+abbrev pub HaveSixteenBytes : List (List ℕ) → Type 0
+HaveSixteenBytes registers =
+    (place : ℕ) → place < 21 → length (register_at registers place) ≡ 16
+
 -- what holds of each terminal
 pub record IsRegisterSet (set : RegisterSet) : Type 0 where
   pub iksn_is : IsIksn set.iksn

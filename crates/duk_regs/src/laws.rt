@@ -5,7 +5,7 @@ ghost use Rattle.duk_tdes.specs.Key.{IsKey};
 ghost use Rattle.duk_tree.specs.Path.{IsUsable};
 ghost use Rattle.duk_tree.specs.Derivation.{step_of, transaction_key_of};
 ghost use Rattle.duk_tree.specs.Serial.{low_bytes};
-ghost use Rattle.duk_regs.specs.Registers.{RegisterSet, IsRegisterSet, StandsFor, IsTaken, HoldsNode, register_at, empty_register};
+ghost use Rattle.duk_regs.specs.Registers.{HaveSixteenBytes, RegisterSet, IsRegisterSet, StandsFor, IsTaken, HoldsNode, register_at, empty_register};
 ghost use Rattle.duk_regs.specs.Image.{image_bytes, set_in, IsImage};
 
 /// Registers with the keys of the powers of two stand for the initial key at the first number.
@@ -65,7 +65,7 @@ pub fn uniqueness()
 pub fn sixteen_bytes()
     ensures { (initial : List ℕ) (set : RegisterSet) → IsKey 16 initial → IsRegisterSet set
         → StandsFor initial set
-        → (place : ℕ) → place < 21 → length (register_at set.registers place) ≡ 16 }
+        → HaveSixteenBytes set.registers }
 {
     duk_tree::laws::keys();
     duk_tree::laws::bits();
@@ -75,10 +75,10 @@ pub fn sixteen_bytes()
 /// What a terminal keeps is found again in its image.
 pub fn images()
     ensures read { (set : RegisterSet) → IsRegisterSet set
-        → ((place : ℕ) → place < 21 → length (register_at set.registers place) ≡ 16)
+        → HaveSixteenBytes set.registers
         → set_in (image_bytes set) ≡ set }
     ensures is_image { (set : RegisterSet) → IsRegisterSet set
-        → ((place : ℕ) → place < 21 → length (register_at set.registers place) ≡ 16)
+        → HaveSixteenBytes set.registers
         → IsImage (image_bytes set) }
 {
     duk_tree::laws::serials();

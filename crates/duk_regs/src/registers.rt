@@ -4,7 +4,7 @@ ghost use Rattle.std.specs.Prelude.{◌≡◌, ◌↔◌, ℕ, List, Some, None,
 ghost use Rattle.duk_tree.specs.Derivation.{transaction_key_of};
 ghost use Rattle.duk_tree.specs.Next.{spent_counter};
 ghost use Rattle.duk_tree.specs.Path.{IsUsable};
-ghost use Rattle.duk_regs.specs.Registers.{IsRegisterSet, StandsFor, IsTaken};
+ghost use Rattle.duk_regs.specs.Registers.{HaveSixteenBytes, IsRegisterSet, StandsFor, IsTaken};
 ghost use Rattle.duk_regs.specs.Image.{image_bytes, set_in, IsImage};
 
 use crate::frontier::{PLACES, SPENT, fill_below, first_registers, no_key};
@@ -128,6 +128,7 @@ impl Registers {
         ensures is_image { IsImage result }
         ensures read { set_in result ≡ self.now }
         ensures set { IsRegisterSet self.now }
+        ensures sixteen { HaveSixteenBytes self.now.registers }
     {
         duk_tree::laws::bits();
         laws::images();

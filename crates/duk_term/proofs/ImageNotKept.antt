@@ -1,6 +1,6 @@
 -- What a restart would find where an image was not kept.
 use Rattle.std.proofs.Common.{◌≡◌, ◌⊎◌, ℕ, List, Some, inl, inr, sym, subst, refl}
-use Rattle.duk_regs.specs.Registers.{RegisterSet}
+use Rattle.duk_regs.specs.Registers.{HaveSixteenBytes, RegisterSet}
 use Rattle.duk_store.specs.Cell.{CellMeaning, Kept, PutFailed}
 use Rattle.duk_store.specs.StoreState.{StoreState}
 use Rattle.duk_store.specs.declared.fault.StoreFault.{StoreFault}
@@ -26,8 +26,8 @@ held cell set kept holds honest found = let finds = holds.finds honest in subst 
 -- no request goes out where the image of the registers that are left was not kept
 pub begin_stopped :
     {C : Type 0} (meaning : CellMeaning C) (old mid new : TerminalOf C) (set left : RegisterSet) (key : List ℕ) (why : TermFault) → Agrees (meaning.state_of old.cell) old.state
-    → TakesFrom old.state set key left → mid.cell ≡ old.cell → IsImageNotKept meaning (body_bytes left) mid new why → BeginRefused meaning old new why
-begin_stopped meaning old mid new set left key (fault.Store why) agrees takes cell not =
+    → TakesFrom old.state set key left → mid.cell ≡ old.cell → HaveSixteenBytes left.registers → IsImageNotKept meaning (body_bytes left) mid new why → BeginRefused meaning old new why
+begin_stopped meaning old mid new set left key (fault.Store why) agrees takes cell left_are not =
     let holds : CellHoldsRegisters (meaning.state_of old.cell) set = subst (Agrees (meaning.state_of old.cell)) takes.had agrees in
     let failed : PutFailed meaning old.cell new.cell (body_bytes left) why = subst (λ cell. PutFailed meaning cell new.cell (body_bytes left) why) cell not.1 in
     record {
@@ -35,6 +35,7 @@ begin_stopped meaning old mid new set left key (fault.Store why) agrees takes ce
       key = key;
       left = left;
       takes = takes;
+      left_are = left_are;
       stops = record {
         stopped = not.0;
         not_kept = failed;
@@ -44,4 +45,4 @@ begin_stopped meaning old mid new set left key (fault.Store why) agrees takes ce
         ];
       };
     }
-begin_stopped meaning old mid new set left key _ agrees takes cell not = absurd not
+begin_stopped meaning old mid new set left key _ agrees takes cell left_are not = absurd not

@@ -4,7 +4,7 @@ use Rattle.std.specs.Prelude.{◌≡◌, ◌<◌, ◌^◌, ℕ, List, Option, So
 use Rattle.duk_frame.specs.Payment.{payment_request}
 use Rattle.duk_pin.specs.Pan.{IsPan}
 use Rattle.duk_pin.specs.Pin.{IsPin}
-use Rattle.duk_regs.specs.Registers.{IsRegisterSet, IsTaken, RegisterSet}
+use Rattle.duk_regs.specs.Registers.{HaveSixteenBytes, IsRegisterSet, IsTaken, RegisterSet}
 use Rattle.duk_store.specs.Cell.{CellMeaning, IsPut}
 use Rattle.duk_store.specs.declared.fault.StoreFault.{StoreFault}
 use Rattle.duk_tree.specs.Derivation.{response_key_of}
@@ -52,6 +52,7 @@ pub record IsBegun
   pub key : List ℕ
   pub left : RegisterSet
   pub takes : TakesFrom old.state set key left
+  pub left_are : HaveSixteenBytes left.registers
   pub purchase_is : ArePurchaseFields purchase
   pub frame_is : frame
       ≡ payment_request key (serial_of set) purchase.pan purchase.pin purchase.amount
@@ -67,6 +68,7 @@ pub record BeginStopped
   pub key : List ℕ
   pub left : RegisterSet
   pub takes : TakesFrom old.state set key left
+  pub left_are : HaveSixteenBytes left.registers
   pub stops : StopsBetween meaning (HasRegistersIn set) left old new why
 
 -- a state whose registers have no number left

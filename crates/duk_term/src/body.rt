@@ -1,7 +1,7 @@
 //! The bytes that a terminal keeps in its cell.
 
 ghost use Rattle.std.specs.Prelude.{◌≡◌, ◌↔◌, ◌++◌, IsTrue, IsSome, IfSome, length, replicate};
-ghost use Rattle.duk_regs.specs.Registers.{IsRegisterSet};
+ghost use Rattle.duk_regs.specs.Registers.{HaveSixteenBytes, IsRegisterSet};
 ghost use Rattle.duk_term.specs.Body.{IsTerminalBody, body_bytes, set_of_body};
 
 use duk_regs::{IMAGE_LENGTH, Registers};
@@ -11,6 +11,7 @@ use duk_store::{BODY_LENGTH, Body};
 pub(crate) fn body_of(registers: &Registers) -> Body
     ensures body { result ≡ body_bytes registers.now }
     ensures set { IsRegisterSet registers.now }
+    ensures sixteen { HaveSixteenBytes registers.now.registers }
 {
     let mut body = [0; BODY_LENGTH];
     body[..IMAGE_LENGTH].copy_from_slice(&registers.image());

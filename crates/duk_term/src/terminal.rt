@@ -4,7 +4,7 @@ ghost use Rattle.std.specs.Prelude.{◌≡◌, ℕ, IfOk, IfErr};
 ghost use Rattle.duk_store.specs.StoreState.{StaysButCalm};
 ghost use Rattle.duk_tdes.specs.Tdes.{IsTdesLength};
 ghost use Rattle.duk_term.specs.Begin.{BeginRefused, IsBegun};
-ghost use Rattle.duk_regs.specs.Registers.{IsRegisterSet};
+ghost use Rattle.duk_regs.specs.Registers.{HaveSixteenBytes, IsRegisterSet};
 ghost use Rattle.duk_term.specs.Body.{body_bytes};
 ghost use Rattle.duk_store.specs.Cell.{IsPut};
 ghost use Rattle.duk_term.specs.Load.{IsTerminalLoaded, LoadRefused, loading_of};
@@ -147,6 +147,7 @@ impl<C: Cell> Terminal<C> {
         ensures state { IfOk result (λ _. self.new.state ≡ state.Loaded registers pending) }
         ensures after_put { IfOk result (λ _. C.meaning.after_put self.new.cell) }
         ensures set { IsRegisterSet registers }
+        ensures sixteen { HaveSixteenBytes registers.registers }
         ensures refused { IfErr result
             (IsImageNotKept C.meaning (body_bytes registers) self.old self.new) }
     {

@@ -1,6 +1,6 @@
 -- What the words of the command line ask for: this project's own, over the matches of the crate
 -- `clap`.
-use Rattle.std.specs.Prelude.{◌≡◌, ◌≢◌, ◌⊎◌, ⊤, List, Bool, Option, Some, None, IsSomeAnd, map}
+use Rattle.std.specs.Prelude.{◌≡◌, ◌≢◌, ◌⊎◌, ⊤, List, Bool, Option, Some, None, IsSomeAnd, [], map}
 use Rattle.std.specs.Prelude.{true, false, not, codes, String, string_bytes}
 use Rattle.std.specs.List.{list_any}
 use Rattle.std.specs.Option.{option_map}
@@ -78,7 +78,7 @@ AskForHelp words = list_any is_shown (fault_of command_line words) ≡ true
 abbrev pub AreRefused : List Text → Type 0
 AreRefused words =
     (list_any (λ kind. not (is_shown kind)) (fault_of command_line words) ≡ true)
-    ⊎ AskForNothing words
+    ⊎ ((fault_of command_line words ≡ []) × AskForNothing words)
 
 -- why this stands in place of a request; memory may be refused at any time
 abbrev pub StandsFor : List Text → NoRequest → Type 0
@@ -90,7 +90,7 @@ StandsFor words answer.NoMemory = ⊤
 abbrev pub MayFailBy : List Text → ErrorKind → Type 0
 MayFailBy words kind = (kind ≡ OutOfMemory)
     ⊎ (IsAmong kind (fault_of command_line words)
-    ⊎ ((kind ≡ MissingSubcommand) × AskForNothing words))
+    ⊎ ((kind ≡ MissingSubcommand) × ((fault_of command_line words ≡ []) × AskForNothing words)))
 
 -- what an error of this kind is told as
 abbrev pub IsToldAs : ErrorKind → NoRequest → Type 0

@@ -9,7 +9,7 @@ laws_of g c = record {
     fits = c.bits.ensures.usable;
     set = c.transactions.ensures.set;
     stands = c.transactions.ensures.stands;
-    again = c.found_again.ensures;
+    again = c.found_again.ensures.of_key;
   };
   reading = c.one_reading.ensures.request;
   request = c.requests.ensures.request;
