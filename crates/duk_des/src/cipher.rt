@@ -90,8 +90,8 @@ pub fn encrypt_both(
 }
 
 /// Enciphers a block of 8 bytes under the first key, deciphers it under the second and enciphers it
-/// under the third: the forward cipher operation of TDES (NIST SP 800-67 section 3). It answers what
-/// the three calls do, in less time.
+/// under the third: the forward cipher operation of TDES (NIST SP 800-67 section 3). It answers
+/// what the three calls do, in less time.
 pub fn triple_encrypt(first: &Des, second: &Des, third: &Des, block: [u8; 8]) -> [u8; 8]
     ensures { result
         ≡ encrypted third.now (decrypted second.now (encrypted first.now block)) }

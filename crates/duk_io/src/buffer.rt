@@ -14,8 +14,8 @@ pub const BUFFER_ROOM: usize = 32_768;
 /// Text on its way to a writer.
 pub type Buffer = ArrayVec<u8, BUFFER_ROOM>;
 
-/// Makes room in the buffer for so many bytes, at most 32,768: where there is none, what it holds is
-/// written.
+/// Makes room in the buffer for so many bytes, at most 32,768: where there is none, what it holds
+/// is written.
 pub fn make_room<S: Sink>(
     buffer: &mut Buffer,
     count: usize,

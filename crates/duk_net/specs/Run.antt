@@ -20,8 +20,8 @@ Run m old (event ∷ events) [] new = ⊥
 
 -- an event that was refused memory leaves the world as it was; of the host's restart it may leave
 -- the host stopped
-abbrev pub IsRefusedMemory : {C L I : Type 0} → Meanings C L I → WorldOf C L I → Event → WorldOf C L I
-    → Type 0
+abbrev pub IsRefusedMemory : {C L I : Type 0} → Meanings C L I → WorldOf C L I → Event
+    → WorldOf C L I → Type 0
 IsRefusedMemory m old event.RestartHost new = (new ≡ old) ⊎ IsHostLeft m old new
 IsRefusedMemory m old _ new = new ≡ old
 
