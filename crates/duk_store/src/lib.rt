@@ -4,17 +4,43 @@
 //! A store is made stopped and brought up by a restart. What a restart may find is part of its
 //! meaning: after a write that was acknowledged the new value alone, after one that failed the old
 //! or the new. Every store tells its failures by a count, so that no fault is told without cause.
+//!
+//! A store stands in memory or on a disk. What a disk is to do, and what a stop may leave of it, is
+//! part of the meaning of the trait `Disk`.
 #![tactic(auto)]
 
 mod cell;
 mod device;
+mod disk;
+mod disk_device;
+mod disk_log;
 mod fault;
+mod file_disk;
+pub mod laws;
 mod log;
+mod medium;
+mod medium_disk;
 mod memory_cell;
+mod memory_disk;
 mod memory_log;
+mod record;
+mod records;
+mod recovery;
+mod replacement;
+mod slot;
+mod slot_cell;
+mod slots;
 
 pub use cell::{BODY_LENGTH, Body, Cell};
+pub use disk::Disk;
+pub use disk_log::DiskLog;
 pub use fault::StoreFault;
+pub use file_disk::FileDisk;
 pub use log::UsedLog;
+pub use medium::Medium;
+pub use medium_disk::MediumDisk;
 pub use memory_cell::MemCell;
+pub use memory_disk::{Filling, MemDisk};
 pub use memory_log::MemLog;
+pub use slot::CELL_DISK_SIZE;
+pub use slot_cell::SlotCell;

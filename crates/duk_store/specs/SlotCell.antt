@@ -1,0 +1,205 @@
+-- A cell on a disk: this project's own.
+use Rattle.std.specs.Prelude.{◌≡◌, ◌≢◌, ◌⊎◌, ◌↔◌, ◌<◌, ◌+◌, ◌-◌, ◌^◌, ℕ, Bool, true, false, List, Some, None, replicate}
+use Rattle.duk_store.specs.Cell.{CellMeaning, Kept}
+use Rattle.duk_store.specs.Disk.{DiskMeaning, DiskState, HasFailed, KeepsDisk, LeavesChanged, LeavesReads}
+use Rattle.duk_store.specs.Slots.{HoldsAlone, IsEmpty, IsOpen, Keeps, cell_disk_size, gate_of, other_than, sequence_of, slot_at}
+use Rattle.duk_store.specs.StoreState.{FindsOnly, StoreState}
+use Rattle.duk_store.specs.declared.fault.StoreFault.{StoreFault}
+use Rattle.duk_store.specs.declared.fault.StoreFault.TheVariants.{Damaged, Device}
+use Rattle.duk_store.specs.declared.slot.Place.{Place}
+use Rattle.duk_store.specs.declared.slot.Place.TheVariants.{First}
+use Rattle.duk_store.specs.declared.slot.SlotState.{SlotState}
+use Rattle.duk_store.specs.declared.slot.SlotState.TheVariants.{Empty, Holds, Stopped}
+
+-- a cell on a disk: the disk, and what the cell knows of it
+pub record SlotCellOf (D : Type 0) : Type 0 where
+  pub disk : D
+  pub state : SlotState
+
+-- a cell as it is made: it is stopped
+abbrev pub new_slot_cell : {D : Type 0} → D → SlotCellOf D
+new_slot_cell disk = record { disk = disk; state = Stopped }
+
+-- whether it runs
+abbrev pub is_running : SlotState → Bool
+is_running Stopped = false
+is_running _ = true
+
+-- a restart may find this: some bytes that a stop could leave keep it
+abbrev pub MayFind : DiskState → Kept → Type 0
+MayFind disk kept = (bytes : List ℕ) × disk.may_leave bytes × Keeps bytes kept
+
+-- it runs with a body kept
+pub record RunsWithBody (disk : DiskState) (state : SlotState) : Type 0 where
+  pub runs : is_running state ≡ true
+  pub body : List ℕ
+  pub kept : MayFind disk (Some body)
+
+-- the disk has the size of a cell's, and all bytes that a stop could leave keep something
+pub record IsSoundDisk (disk : DiskState) : Type 0 where
+  pub size : disk.size ≡ cell_disk_size
+  pub each_keeps : (bytes : List ℕ) → disk.may_leave bytes → (kept : Kept) × Keeps bytes kept
+
+-- the state of a cell, by that of its disk
+abbrev pub slot_cell_state : DiskState → SlotState → StoreState Kept
+slot_cell_state disk state = record {
+  honest = disk.honest;
+  sound = IsSoundDisk disk;
+  calm = disk.calm;
+  running = is_running state;
+  found = MayFind disk;
+  failures = disk.failures;
+}
+
+-- a disk of which a stop leaves 1,024 zero bytes, whether or not a device step is to fail
+pub record IsZeroDisk (disk : DiskState) : Type 0 where
+  pub size : disk.size ≡ cell_disk_size
+  pub zeros : (bytes : List ℕ) → disk.may_leave bytes ↔ (bytes ≡ replicate cell_disk_size 0)
+
+-- a new disk
+pub record IsBlankDisk (disk : DiskState) : Type 0 where
+  pub honest : disk.honest
+  pub calm : disk.calm
+  pub zero : IsZeroDisk disk
+
+-- a sound store with nothing kept
+pub record KeepsNothing (store : StoreState Kept) : Type 0 where
+  pub sound : store.sound
+  pub finds : FindsOnly store None
+
+-- a stop leaves one image of the disk, which holds one body alone
+pub record LeavesOneBody (disk : DiskState) (body : List ℕ) : Type 0 where
+  pub image : List ℕ
+  pub leaves : (bytes : List ℕ) → disk.may_leave bytes ↔ (bytes ≡ image)
+  pub place : Place
+  pub sequence : ℕ
+  pub alone : HoldsAlone place sequence body image
+
+-- the body that a restart would find alone stands alone on the disk
+abbrev pub StandsAlone : DiskState → Type 0
+StandsAlone disk =
+    disk.honest → (body : List ℕ)
+    × ((kept : Kept) → MayFind disk kept ↔ (kept ≡ Some body)) × LeavesOneBody disk body
+
+-- a cell of the last sequence takes no further body
+abbrev pub IsWorn : SlotState → Type 0
+IsWorn (Holds place sequence) = sequence ≡ 2 ^ 64 - 1
+IsWorn _ = ⊥
+
+-- what cells on the disks of one kind mean
+abbrev pub slot_cell_meaning : {D : Type 0} → DiskMeaning D → CellMeaning (SlotCellOf D)
+slot_cell_meaning meaning = record {
+  state_of = λ cell. slot_cell_state (meaning.state_of cell.disk) cell.state;
+  worn = λ cell. IsWorn cell.state;
+  disarmed = λ cell. (meaning.state_of cell.disk).disarmed;
+  arms = λ old steps new. meaning.arms old.disk steps new.disk × (new.state ≡ old.state);
+  after_put = λ cell. StandsAlone (meaning.state_of cell.disk);
+}
+
+-- the disk has one image, and the cell holds nothing, or one body alone of this sequence
+abbrev pub HoldsNothing : DiskState → Type 0
+HoldsNothing disk = LeavesReads disk × IsEmpty disk.reads
+
+abbrev pub HoldsOne : Place → ℕ → DiskState → Type 0
+HoldsOne place sequence disk =
+    LeavesReads disk × ((body : List ℕ) × HoldsAlone place sequence body disk.reads)
+
+-- what a cell knows of its disk is so
+abbrev pub Knows : DiskState → SlotState → Type 0
+Knows disk Stopped = Unit {0}
+Knows disk Empty = (disk.size ≡ cell_disk_size) × (disk.honest → HoldsNothing disk)
+Knows disk (Holds place sequence) =
+    (disk.size ≡ cell_disk_size) × (disk.honest → HoldsOne place sequence disk)
+
+-- what a restart may do to the bytes of its disk: they keep what they kept, and the gate of a slot
+-- that reads closed stays
+pub record IsRestored (before after : List ℕ) : Type 0 where
+  pub keeps : (kept : Kept) → Keeps before kept ↔ Keeps after kept
+  pub gates : (place : Place) → ¬ IsOpen (slot_at place before)
+      → gate_of (slot_at place after) ≡ gate_of (slot_at place before)
+
+-- a cell is brought up: it found what it keeps, and knows its disk
+pub record IsBroughtUp (old new : DiskState) (state : SlotState) (kept : Kept) : Type 0 where
+  pub nature : KeepsDisk old new
+  pub no_failure : new.failures ≡ old.failures
+  pub disarmed : new.disarmed
+  pub runs : is_running state ≡ true
+  pub knows : Knows new state
+  pub found : old.honest → MayFind old kept
+  pub keeps : old.honest → LeavesReads new × Keeps new.reads kept
+
+-- what a stop leaves of a disk on which both slots are open and none is newer, or which has another
+-- size
+abbrev pub IsDamagedDisk : DiskState → Type 0
+IsDamagedDisk disk = (disk.size ≢ cell_disk_size)
+    ⊎ ((bytes : List ℕ) × disk.may_leave bytes × ((kept : Kept) → ¬ Keeps bytes kept))
+
+pub record FoundDamage (old new : DiskState) : Type 0 where
+  pub no_failure : new.failures ≡ old.failures
+  pub damage : old.honest → IsDamagedDisk old
+
+-- why a cell is not brought up
+abbrev pub IsRecoveryFault : DiskState → DiskState → StoreFault → Type 0
+IsRecoveryFault old new Device = HasFailed old new Device
+IsRecoveryFault old new Damaged = FoundDamage old new
+IsRecoveryFault old new _ = ⊥
+
+pub record RecoveryFailed (old new : DiskState) (fault : StoreFault) : Type 0 where
+  pub nature : KeepsDisk old new
+  pub disarmed : new.disarmed
+  pub cause : IsRecoveryFault old new fault
+
+-- the disk has one image, on which this slot may be filled with this sequence: it is closed, and
+-- the other one is of smaller sequence
+pub record IsReadyFor (place : Place) (sequence : ℕ) (disk : DiskState) : Type 0 where
+  pub leaves : LeavesReads disk
+  pub closed : ¬ IsOpen (slot_at place disk.reads)
+  pub older : sequence_of (slot_at (other_than place) disk.reads) < sequence
+
+-- a body is put in the place of what was kept
+pub record IsReplaced (place : Place) (sequence : ℕ) (body : List ℕ) (old new : DiskState)
+    : Type 0 where
+  pub nature : KeepsDisk old new
+  pub no_failure : new.failures ≡ old.failures
+  pub holds : old.honest → LeavesReads new × HoldsAlone place sequence body new.reads
+
+-- bytes keep what they kept, or the new body
+abbrev pub KeepsOldOrNew : List ℕ → List ℕ → List ℕ → Type 0
+KeepsOldOrNew body before after =
+    ((kept : Kept) → Keeps before kept → Keeps after kept) ⊎ Keeps after (Some body)
+
+-- a device step failed in that
+pub record ReplaceFailed (body : List ℕ) (old new : DiskState) (fault : StoreFault) : Type 0 where
+  pub nature : KeepsDisk old new
+  pub failed : HasFailed old new fault
+  pub changed : LeavesChanged (KeepsOldOrNew body) old new
+
+-- what a cell knows once a body is put in the place of what it kept
+pub record IsCellReplaced
+    {D : Type 0} (meaning : DiskMeaning D) (place : Place) (sequence : ℕ) (body : List ℕ)
+    (old new : SlotCellOf D) : Type 0 where
+  pub disk : IsReplaced place sequence body (meaning.state_of old.disk) (meaning.state_of new.disk)
+  pub state : new.state ≡ Holds place sequence
+
+-- the slot that a put fills, and its sequence: the first one, and 1, where nothing is kept; else
+-- the slot that does not count, and one more
+abbrev pub IsNextOf : SlotState → Place → ℕ → Type 0
+IsNextOf Stopped place sequence = ⊥
+IsNextOf Empty place sequence = (place ≡ First) × (sequence ≡ 1)
+IsNextOf (Holds full last) place sequence =
+    (place ≡ other_than full) × (sequence ≡ last + 1)
+
+-- a body is put in the next slot, with the next sequence
+pub record IsPutNext
+    {D : Type 0} (meaning : DiskMeaning D) (body : List ℕ) (old new : SlotCellOf D) : Type 0 where
+  pub place : Place
+  pub sequence : ℕ
+  pub is_next : IsNextOf old.state place sequence
+  pub replaced : IsCellReplaced meaning place sequence body old new
+
+-- once a device step failed in that
+pub record CellReplaceFailed
+    {D : Type 0} (meaning : DiskMeaning D) (body : List ℕ) (old new : SlotCellOf D)
+    (fault : StoreFault) : Type 0 where
+  pub disk : ReplaceFailed body (meaning.state_of old.disk) (meaning.state_of new.disk) fault
+  pub state : new.state ≡ Stopped

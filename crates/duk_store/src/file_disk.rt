@@ -1,0 +1,71 @@
+//! A disk over a file.
+
+ghost use Rattle.std.specs.Prelude.{◌≡◌, IfErr, IfOk};
+ghost use Rattle.duk_store.specs.DiskDevice.{new_disk_device};
+ghost use Rattle.duk_store.specs.Medium.{untold};
+
+use crate::fault::StoreFault;
+use crate::medium::Medium;
+use crate::medium_disk::MediumDisk;
+use std::fs::{File, OpenOptions};
+use std::io;
+use std::os::unix::fs::FileExt;
+use std::rt::Files;
+
+/// No contract says what a real file holds, so these three bodies rest on being read: each makes
+/// one call on the open file, which loops until the whole range is read or written.
+impl Medium for File {
+    ghost state = { λ _. untold };
+
+    ghost reads_may_stay = { λ _ honest. honest };
+
+    ghost leaves_its_size = { λ _ honest bytes could. absurd honest };
+
+    fn read_range(&mut self, at: u64, bytes: &mut [u8]) -> io::Result<()> {
+        self.read_exact_at(bytes, at)
+    }
+
+    fn write_range(&mut self, at: u64, bytes: &[u8]) -> io::Result<()> {
+        self.write_all_at(bytes, at)
+    }
+
+    fn sync_writes(&mut self) -> io::Result<()> {
+        self.sync_data()
+    }
+}
+
+/// A disk over a file, which is open and locked as long as the disk lives. Its restart goes on with
+/// the open file.
+///
+/// That the file is a disk is a premise: the operating system and the hardware have to keep to the
+/// model. Besides, the opening and the three bodies of `Medium` for `File` rest on being read; all
+/// else is proved of a disk over any medium.
+pub type FileDisk = MediumDisk<File>;
+
+impl MediumDisk<File> {
+    /// A disk over the file under a path, of the size that the file has now. The file is opened for
+    /// reading and writing and never made.
+    ///
+    /// The file is locked against every other open of it that asks for the lock, until the disk is
+    /// dropped or its process ends.
+    ///
+    /// Refused with `Device` where it cannot be opened or locked, for whatever cause, and at once
+    /// where another open of it holds the lock.
+    pub fn new<R: Files<File = File>>(rt: &R, path: &str) -> Result<FileDisk, StoreFault>
+        ensures disk { IfOk result (λ disk. disk.device ≡ new_disk_device) }
+        ensures refused { IfErr result (λ fault. fault ≡ StoreFault.Device) }
+    {
+        match open_locked(rt, path) {
+            Ok((file, size)) => Ok(MediumDisk::over(file, size)),
+            Err(_) => Err(StoreFault::Device),
+        }
+    }
+}
+
+/// An open file that this process alone has locked, and its size. This rests on being read.
+fn open_locked<R: Files<File = File>>(rt: &R, path: &str) -> io::Result<(File, u64)> {
+    let file = OpenOptions::new().read(true).write(true).open(rt, path)?;
+    file.try_lock()?;
+    let size = file.metadata()?.len();
+    Ok((file, size))
+}

@@ -1,0 +1,67 @@
+//! A cell on a disk, brought up.
+
+ghost use Rattle.std.specs.Prelude.{◌≡◌, IfErr, IfOk, OnOk};
+ghost use Rattle.duk_store.specs.Disk.{LeavesChanged};
+ghost use Rattle.duk_store.specs.Slots.{cell_disk_size};
+ghost use Rattle.duk_store.specs.SlotCell.{IsBroughtUp, IsRestored, RecoveryFailed};
+ghost use Rattle.duk_store.specs.SlotSteps.{ChangesAt, IsCleared, IsPartlyCleared, IsPartlyWipedBoth, IsStepDone, IsStepFailed, IsWipedBoth, KnowsGate};
+
+use crate::cell::Body;
+use crate::disk::Disk;
+use crate::fault::StoreFault;
+use crate::slot::{Place, SlotState};
+use crate::slots::{empty, find, wipe};
+
+/// Brings a disk up as that of a cell: finds the slot that counts, and leaves nothing in the other
+/// one, or in both where none counts. Tells what is known of the disk then, and what it keeps. The
+/// gate of a slot that reads closed is never written, since a write that is torn could open it.
+///
+/// Refused with `Device` where a device step failed, and with `Damaged` where the disk has another
+/// size than two slots, or both are open and their sequences are equal.
+pub fn recover<D: Disk>(disk: &mut D) -> Result<(SlotState, Option<Body>), StoreFault>
+    ensures found { IfOk result (λ found. IsBroughtUp (D.meaning.state_of disk.old)
+        (D.meaning.state_of disk.new) found.0 found.1) }
+    ensures failed { IfErr result
+        (RecoveryFailed (D.meaning.state_of disk.old) (D.meaning.state_of disk.new)) }
+    ensures restored { LeavesChanged IsRestored (D.meaning.state_of disk.old)
+        (D.meaning.state_of disk.new) }
+{
+    let slots = find(disk)?;
+    let Some(place) = slots.current()? else {
+        wipe_both(disk)?;
+        return Ok((SlotState::Empty, None));
+    };
+    clear(disk, place.other(), slots.at(place.other()).is_open)?;
+    let slot = slots.at(place);
+    let sequence = slot.sequence;
+    Ok((SlotState::Holds { place, sequence }, Some(slot.body)))
+}
+
+/// Clears a slot that does not count: empties it if it is open, and wipes it alone if it is closed.
+fn clear<D: Disk>(disk: &mut D, place: Place, is_open: bool) -> Result<(), StoreFault>
+    requires size { (D.meaning.state_of disk.old).size ≡ cell_disk_size }
+    requires gate { (D.meaning.state_of disk.old).honest
+        → KnowsGate place is_open (D.meaning.state_of disk.old) }
+    ensures cleared { OnOk result (IsStepDone (ChangesAt place IsCleared)
+        (D.meaning.state_of disk.old) (D.meaning.state_of disk.new)) }
+    ensures failed { IfErr result (IsStepFailed (ChangesAt place IsPartlyCleared)
+        (D.meaning.state_of disk.old) (D.meaning.state_of disk.new)) }
+{
+    if is_open {
+        empty(disk, place)
+    } else {
+        wipe(disk, place)
+    }
+}
+
+/// Wipes both slots, the first one first.
+fn wipe_both<D: Disk>(disk: &mut D) -> Result<(), StoreFault>
+    requires { (D.meaning.state_of disk.old).size ≡ cell_disk_size }
+    ensures wiped { OnOk result (IsStepDone IsWipedBoth
+        (D.meaning.state_of disk.old) (D.meaning.state_of disk.new)) }
+    ensures failed { IfErr result (IsStepFailed IsPartlyWipedBoth
+        (D.meaning.state_of disk.old) (D.meaning.state_of disk.new)) }
+{
+    wipe(disk, Place::First)?;
+    wipe(disk, Place::Second)
+}
