@@ -27,9 +27,11 @@ abbrev pub values_at : ℕ → ℕ → List ℕ → Members → Option (List Dat
 values_at least most name document =
     option_and_then (counted least most) (values_or_none (get_member name document))
 
--- whether stores of this name are disks: so far there are stores in memory alone
+-- whether stores of this name are disks, or memory
 abbrev pub disk_of_text : List ℕ → Option Bool
-disk_of_text text = if bytes_eq text (codes "memory") then Some false else None
+disk_of_text text =
+    if bytes_eq text (codes "disk") then Some true
+    else (if bytes_eq text (codes "memory") then Some false else None)
 
 -- whether the stores are disks: where nothing is said of them they are not
 abbrev pub disk_of : Option Data → Option Bool

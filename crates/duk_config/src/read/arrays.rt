@@ -62,5 +62,11 @@ pub(crate) fn disk_in(table: &Table) -> Option<bool>
 fn disk_of(text: &str) -> Option<bool>
     ensures { result ≡ disk_of_text text.now }
 {
-    if text == "memory" { Some(false) } else { None }
+    if text == "disk" {
+        Some(true)
+    } else if text == "memory" {
+        Some(false)
+    } else {
+        None
+    }
 }
