@@ -1,12 +1,11 @@
 -- The first world over stores in memory, and the restarts of its ends.
-use Rattle.std.proofs.Common.{◌≡◌, ◌+◌, ◌≤◌, [], ℕ, zero, suc, List, Some, length, replicate, inl, refl, sym, subst, arith}
-use Rattle.std.specs.List.{All, slice_get}
-use Rattle.std.proofs.lemmas.List.{length-replicate}
-use Rattle.std.proofs.lemmas.List.Elements.{All-nil, All-cons, All-push, All-replicate}
+use Rattle.std.proofs.Common.{◌≡◌, ◌+◌, ◌≤◌, [], ℕ, zero, suc, List, length, inl, refl, sym, ap, subst, ◌∙◌, arith}
+use Rattle.std.specs.List.{All}
+use Rattle.std.proofs.lemmas.List.Elements.{All-nil, All-cons, All-push, All-weaker, All-get_or}
+use Rattle.std.proofs.lemmas.Option.{get_or_from_slice_get, slice_get_within}
 use Rattle.duk_config.specs.Settings.{Settings}
 use Rattle.duk_net.specs.Calm.{FailsOnceArmed, HasSoundCell, HasSoundStores, IsBroughtUp, IsCalmAt, IsRestart, TellsNoDamage}
-use Rattle.duk_net.specs.First.{IsNewTerminal}
-use Rattle.duk_net.specs.InMemory.{MemoryWorld, in_memory, new_terminal}
+use Rattle.duk_net.specs.First.{IsNewHost, IsNewTerminal}
 use Rattle.duk_net.specs.Reached.{CallLeads, Reached}
 use Rattle.duk_net.specs.Run.{IsRun, Run}
 use Rattle.duk_net.specs.World.{IsAt, Meanings, WorldOf}
@@ -15,35 +14,37 @@ use Rattle.duk_net.specs.declared.event.End.TheVariants as ends
 use Rattle.duk_net.specs.declared.event.Event.{Event}
 use Rattle.duk_net.specs.declared.event.Event.TheVariants.{RestartHost, RestartTerm}
 use Rattle.duk_net.specs.declared.outcome.Outcome.{Outcome}
-use Rattle.duk_script.specs.Opening.{IsOpened, StartsCalm, new_world_of, opening}
+use Rattle.duk_store.specs.Cell.{CellMeaning}
+use Rattle.duk_term.specs.Terminal.{TerminalOf}
+use Rattle.duk_script.specs.Opening.{HasNewCell, IsOpened, StartsCalm, new_host_of, new_world_of, opening, with_cells}
 use Rattle.duk_script.specs.Play.{ArePlayedIn}
 
--- each of equal things is that one
-each_same : {A : Type 0} (count number : ℕ) (thing found : A) → IsAt (replicate count thing) number found → found ≡ thing
-each_same count number thing found at = same count at.place at.thing_is
-  where
-    same : (count place : ℕ) → slice_get (replicate count thing) place ≡ Some found → found ≡ thing
-    same zero place is = cc
-    same (suc count) zero is = cc
-    same (suc count) (suc place) is = same count place is
+-- terminals over new cells are newly made
+pub new_terminals : {C : Type 0} (cells : CellMeaning C) (terminals : List (TerminalOf C)) → All (HasNewCell cells) terminals → All (IsNewTerminal (with_cells cells)) terminals
+new_terminals cells terminals cells_new = All-weaker (HasNewCell cells) (IsNewTerminal (with_cells cells))
+    (λ terminal is. record { stopped = is.stopped; cell = record { honest = is.cell.honest; finds = is.cell.finds } }) terminals cells_new
 
--- a new cell in memory is unused, sound and calm
-calm_at : (lmk : List ℕ) (config : Settings) (end : End) → IsCalmAt in_memory (new_world_of lmk config) end
-calm_at lmk config ends.Host = refl
-calm_at lmk config (ends.Term t) = λ terminal at. rw (each_same config.terminals t new_terminal terminal at) refl
+module _ {C : Type 0} (cells : CellMeaning C) (config : Settings) (terminals : List (TerminalOf C)) (cells_new : All (HasNewCell cells) terminals) where
+  -- a log in memory is made honest, sound and calm, and keeps nothing
+  pub new_host : IsNewHost (with_cells cells) (new_host_of config)
+  new_host = record { stopped = refl; log = record { honest = tt; finds = λ other. ((λ is. is), (λ is. is)) } }
 
-pub starts_calm : (lmk : List ℕ) (config : Settings) → StartsCalm in_memory (new_world_of lmk config)
-starts_calm lmk config = record {
-  is_first = record {
-    host = record { stopped = refl; log = record { honest = tt; finds = λ other. ((λ is. is), (λ is. is)) } };
-    terminals = All-replicate (IsNewTerminal in_memory) config.terminals new_terminal (record { stopped = refl; cell = record { honest = tt; finds = λ other. ((λ is. is), (λ is. is)) } });
-    no_requests = refl;
-    no_answers = refl;
-    no_owners = refl;
-  };
-  sound = record { log = tt; cells = All-replicate (HasSoundCell in_memory) config.terminals new_terminal tt };
-  calm = calm_at lmk config;
-}
+  -- the terminal of a number has a new cell
+  one_of : (t : ℕ) (terminal : TerminalOf C) → IsAt terminals t terminal → HasNewCell cells terminal
+  one_of t terminal at = subst (HasNewCell cells) (get_or_from_slice_get terminals at.place terminal terminal at.thing_is)
+      (All-get_or (HasNewCell cells) terminals at.place terminal (slice_get_within terminals at.place terminal at.thing_is) cells_new)
+
+  -- new stores are calm
+  calm_at : (end : End) → IsCalmAt (with_cells cells) (new_world_of config terminals) end
+  calm_at ends.Host = refl
+  calm_at (ends.Term t) = λ terminal at. (one_of t terminal at).cell.calm
+
+  pub starts_calm : StartsCalm (with_cells cells) (new_world_of config terminals)
+  starts_calm = record {
+    is_first = record { host = new_host; terminals = new_terminals cells terminals cells_new; no_requests = refl; no_answers = refl; no_owners = refl };
+    sound = record { log = tt; cells = All-weaker (HasNewCell cells) (HasSoundCell (with_cells cells)) (λ terminal is. is.cell.sound) terminals cells_new };
+    calm = calm_at;
+  }
 
 -- the opening restarts ends that are there
 restarts_are : {C L I : Type 0} (first : WorldOf C L I) (count : ℕ) → count ≤ length first.terminals → All (IsRestart first) (opening count)
@@ -51,35 +52,30 @@ restarts_are first zero fits = All-cons (IsRestart first) RestartHost [] tt (All
 restarts_are first (suc count) fits =
     All-push (IsRestart first) (opening count) (RestartTerm (count + 1)) (restarts_are first count (omega (arith, fits))) (record { place = count; number_is = refl; within = omega (arith, fits) })
 
--- as many terminals as the configuration says
-pub terminals_are : (lmk : List ℕ) (config : Settings) → length (new_world_of lmk config).terminals ≡ config.terminals
-terminals_are lmk config = length-replicate config.terminals new_terminal
-
 -- what the restarts of the ends that are there do in a world that was reached, with sound and calm stores
-abbrev pub BringUp : Type 0
-BringUp = (old new : MemoryWorld) (events : List Event) (outcomes : List Outcome) → Reached in_memory old → HasSoundStores in_memory old → ((end : End) → IsCalmAt in_memory old end)
-    → All (IsRestart old) events → Run in_memory old events outcomes new → All IsBroughtUp outcomes
+abbrev pub BringUp : {C L I : Type 0} → Meanings C L I → Type 0
+BringUp {C} {L} {I} m = (old new : WorldOf C L I) (events : List Event) (outcomes : List Outcome) → Reached m old → HasSoundStores m old → ((end : End) → IsCalmAt m old end)
+    → All (IsRestart old) events → Run m old events outcomes new → All IsBroughtUp outcomes
 
 -- all ends of a first world with calm stores are brought up
-brings_up : (first opened : MemoryWorld) (outcomes : List Outcome) → BringUp → StartsCalm in_memory first → Run in_memory first (opening (length first.terminals)) outcomes opened
-    → IsOpened in_memory first opened
-brings_up first opened outcomes up starts run =
+pub brings_up : {C L I : Type 0} (m : Meanings C L I) (first opened : WorldOf C L I) (outcomes : List Outcome) → BringUp m → StartsCalm m first
+    → Run m first (opening (length first.terminals)) outcomes opened → IsOpened m first opened
+brings_up m first opened outcomes up starts run =
     let there = restarts_are first (length first.terminals) (omega arith) in
-    let reached : Reached in_memory first = (0, starts.is_first) in
+    let reached : Reached m first = (0, starts.is_first) in
     record {
       outcomes = outcomes;
       restarted = run;
       brought_up = up first opened (opening (length first.terminals)) outcomes reached starts.sound starts.calm there run;
     }
 
-pub brought_up : (lmk : List ℕ) (config : Settings) (first opened : MemoryWorld) (events : List Event) (before after : List Outcome) → BringUp
-    → first ≡ new_world_of lmk config → events ≡ opening config.terminals → IsRun in_memory first events before after opened
-    → IsOpened in_memory (new_world_of lmk config) opened
-brought_up lmk config first opened events before after up first_is events_are run =
-    let restarted : Run in_memory (new_world_of lmk config) (opening (length (new_world_of lmk config).terminals)) run.outcomes opened =
-    subst (λ count. Run in_memory (new_world_of lmk config) (opening count) run.outcomes opened) (sym (terminals_are lmk config))
-    (subst (λ events. Run in_memory (new_world_of lmk config) events run.outcomes opened) events_are (subst (λ first. Run in_memory first events run.outcomes opened) first_is run.run)) in
-    brings_up (new_world_of lmk config) opened run.outcomes up (starts_calm lmk config) restarted
+-- and so are those of a world that was made over new stores
+pub brought_up : {C L I : Type 0} (m : Meanings C L I) (made first opened : WorldOf C L I) (count : ℕ) (events : List Event) (before after : List Outcome) → BringUp m
+    → StartsCalm m first → made ≡ first → length first.terminals ≡ count → events ≡ opening count → IsRun m made events before after opened
+    → IsOpened m first opened
+brought_up m made first opened count events before after up starts made_is counted events_are run =
+    brings_up m first opened run.outcomes up starts
+    (subst (λ list. Run m first list run.outcomes opened) (events_are ∙ ap opening (sym counted)) (subst (λ world. Run m world events run.outcomes opened) made_is run.run))
 
 -- what the laws of worlds say of calls, and of restarts of ends that are there
 pub record CallLaws {C L I : Type 0} (m : Meanings C L I) : Type 0 where

@@ -1,23 +1,24 @@
 -- What a script does, from what its parts do.
-use Rattle.std.proofs.Common.{◌≡◌, ◌⊎◌, ◌++◌, [], ℕ, List, Result, Ok, Err, OnOk, IfErr, take, inl, inr, sym, ap, subst, ◌∙◌}
-use Rattle.duk_tdes.specs.KeyBytes.{bytes_of}
+use Rattle.std.proofs.Common.{◌≡◌, ◌⊎◌, ◌++◌, [], ℕ, true, false, List, Result, Ok, Err, OnOk, IfErr, take, inl, inr, sym, ap, subst, ◌∙◌}
+use Rattle.duk_config.specs.Settings.{Settings}
+use Rattle.duk_config.specs.declared.fault.ScriptFault.{ScriptFault}
+use Rattle.duk_config.specs.declared.fault.ScriptFault.TheVariants as fault
+use Rattle.duk_io.specs.Known.{Known}
+use Rattle.duk_io.specs.Sink.{IsCut, IsUntouched}
+use Rattle.duk_net.specs.InMemory.{MemoryWorld, in_memory}
 use Rattle.duk_net.specs.Run.{IsRun, Run, RunRefused}
+use Rattle.duk_net.specs.World.{Meanings, WorldOf}
 use Rattle.duk_net.specs.declared.event.Event.{Event}
 use Rattle.duk_net.specs.declared.outcome.Outcome.{Outcome}
 use Rattle.duk_net.specs.declared.runs.NetFault.{NetFault}
 use Rattle.duk_net.specs.declared.runs.NetFault.TheVariants as net
+use Rattle.duk_script.specs.OnDisk.{DiskWorld, on_disk}
+use Rattle.duk_script.specs.Opening.{IsOpened, StartsCalm}
 use Rattle.duk_script.specs.OutcomeText.{lines_of}
+use Rattle.duk_script.specs.Play.{ArePlayed, ArePlayedIn, ArePlayedInPart, ArePlayedOn, HaveOutcomes, IsPlayed, IsPlayedUpTo, PlayRefused, Playing, new_disk_world, new_memory_world}
 use Rattle.duk_script.specs.Script.{IsNoScript}
-use Rattle.duk_net.specs.InMemory.{MemoryWorld, in_memory}
-use Rattle.duk_script.specs.Opening.{IsOpened, StartsCalm, new_world_of}
-use Rattle.duk_script.specs.Play.{ArePlayed, ArePlayedInPart, PlayRefused}
 use Rattle.duk_script.specs.Session.{AreEventsRead, IsQuietSession, IsScriptRefused, Session}
-use Rattle.duk_config.specs.Settings.{Settings}
-use Rattle.duk_io.specs.Known.{Known}
-use Rattle.duk_io.specs.Sink.{IsCut}
 use Rattle.duk_script.specs.WholeText.{IsReadWhole, ReadRefused}
-use Rattle.duk_config.specs.declared.fault.ScriptFault.{ScriptFault}
-use Rattle.duk_config.specs.declared.fault.ScriptFault.TheVariants as fault
 
 pub on_ok : {A E : Type 0} (P Q : Type 0) → (P → Q) → (result : Result A E) → OnOk result P → OnOk result Q
 on_ok P Q follows (Ok x) holds = follows holds
@@ -31,45 +32,73 @@ if_err P Q follows (Err e) holds = follows e holds
 gained_none : (before after outcomes : List Outcome) → before ≡ [] → after ≡ before ++ outcomes → outcomes ≡ after
 gained_none before after outcomes none gained = sym (gained ∙ ap (λ list. list ++ outcomes) none)
 
--- a world of a configuration whose ends were brought up
-pub record IsReady (config : Settings) (world : MemoryWorld) : Type 0 where
-  pub starts : StartsCalm in_memory (new_world_of (bytes_of config.lmk) config)
-  pub opened : IsOpened in_memory (new_world_of (bytes_of config.lmk) config) world
-
-pub ready : (config : Settings) (lmk : List ℕ) (world : MemoryWorld) → lmk ≡ bytes_of config.lmk → StartsCalm in_memory (new_world_of lmk config) → IsOpened in_memory (new_world_of lmk config) world
-    → IsReady config world
-ready config lmk world is starts opened = record {
-  starts = subst (λ lmk. StartsCalm in_memory (new_world_of lmk config)) is starts;
-  opened = subst (λ lmk. IsOpened in_memory (new_world_of lmk config) world) is opened;
-}
-
--- a run from a world whose ends were brought up
-pub played : (config : Settings) (start last : MemoryWorld) (events : List Event) (before after : List Outcome) → IsReady config start → before ≡ []
-    → IsRun in_memory start events before after last → ArePlayed config events after
-played config start last events before after ready none run = record {
-  start = start;
-  last = last;
-  starts = ready.starts;
-  opened = ready.opened;
-  run = subst (λ outcomes. Run in_memory start events outcomes last) (gained_none before after run.outcomes none run.gained) run.run;
-}
+-- a run of events in a world
+pub run_done : {C L I : Type 0} (m : Meanings C L I) (start last : WorldOf C L I) (events : List Event) (before after : List Outcome) → before ≡ []
+    → IsRun m start events before after last → HaveOutcomes m start events after
+run_done m start last events before after none run =
+    (last, subst (λ outcomes. Run m start events outcomes last) (gained_none before after run.outcomes none run.gained) run.run)
 
 -- a run that was refused memory did the first events
-pub played_up_to : (config : Settings) (start new : MemoryWorld) (events : List Event) (before after : List Outcome) (why : NetFault) → IsReady config start → before ≡ []
-    → RunRefused in_memory start events before after new why → ArePlayedInPart config events after
-played_up_to config start new events before after (net.NoMemory done) ready none part = record {
+pub run_up_to : {C L I : Type 0} (m : Meanings C L I) (start new : WorldOf C L I) (events : List Event) (before after : List Outcome) (why : NetFault) → before ≡ []
+    → RunRefused m start events before after new why → ArePlayedInPart (HaveOutcomes m start) events after
+run_up_to m start new events before after (net.NoMemory done) none part = record {
   done = done;
   refused = part.refused;
   next = part.next;
-  played = played config start part.mid (take done events) before after ready none part.done_part;
+  played = run_done m start part.mid (take done events) before after none part.done_part;
 }
 
 -- the writing of outcomes is cut off
-pub cut_off : (config : Settings) (events : List Event) (old new : Known) (outcomes : List Outcome) (why : ScriptFault)
-    → (ArePlayed config events outcomes ⊎ ArePlayedInPart config events outcomes)
-    → (why ≡ fault.WriteFailed) × IsCut old new (lines_of outcomes) → PlayRefused config events old new why
-cut_off config events old new outcomes why played cut =
-    subst (λ why. PlayRefused config events old new why) (sym cut.0) (record { outcomes = outcomes; played = played; cut = cut.1 })
+pub cut_off : (may_have : Playing) (events : List Event) (old new : Known) (outcomes : List Outcome) (why : ScriptFault)
+    → (may_have events outcomes ⊎ ArePlayedInPart may_have events outcomes)
+    → (why ≡ fault.WriteFailed) × IsCut old new (lines_of outcomes) → PlayRefused may_have events old new why
+cut_off may_have events old new outcomes why played cut =
+    subst (λ why. PlayRefused may_have events old new why) (sym cut.0) (record { outcomes = outcomes; played = played; cut = cut.1 })
+
+-- what is done where events may have some outcomes is done where they may have those and more
+module _ (fewer more : Playing) (follows : (events : List Event) (outcomes : List Outcome) → fewer events outcomes → more events outcomes) where
+  pub played_too : (events : List Event) (old new : Known) → IsPlayed fewer events old new → IsPlayed more events old new
+  played_too events old new (outcomes, have, written) = (outcomes, follows events outcomes have, written)
+
+  part_too : (events : List Event) (outcomes : List Outcome) → ArePlayedInPart fewer events outcomes → ArePlayedInPart more events outcomes
+  part_too events outcomes part = record { done = part.done; refused = part.refused; next = part.next; played = follows (take part.done events) outcomes part.played }
+
+  all_or_part_too : (events : List Event) (outcomes : List Outcome) → fewer events outcomes ⊎ ArePlayedInPart fewer events outcomes
+      → more events outcomes ⊎ ArePlayedInPart more events outcomes
+  all_or_part_too events outcomes (inl all) = inl (follows events outcomes all)
+  all_or_part_too events outcomes (inr part) = inr (part_too events outcomes part)
+
+  up_to_too : (events : List Event) (old new : Known) → IsUntouched old new ⊎ IsPlayedUpTo fewer events old new → IsUntouched old new ⊎ IsPlayedUpTo more events old new
+  up_to_too events old new (inl quiet) = inl quiet
+  up_to_too events old new (inr part) = inr (record { outcomes = part.outcomes; played = part_too events part.outcomes part.played; written = part.written })
+
+  pub refused_too : (events : List Event) (old new : Known) (why : ScriptFault) → PlayRefused fewer events old new why → PlayRefused more events old new why
+  refused_too events old new fault.ConfigTooLong cause = absurd cause
+  refused_too events old new fault.NotToml cause = absurd cause
+  refused_too events old new (fault.UnknownKey name) cause = absurd cause
+  refused_too events old new (fault.BadKey key) cause = absurd cause
+  refused_too events old new (fault.BadEntry key place) cause = absurd cause
+  refused_too events old new fault.CannotRead cause = absurd cause
+  refused_too events old new fault.TooLong cause = absurd cause
+  refused_too events old new (fault.NotAnEvent line) cause = absurd cause
+  refused_too events old new fault.WriteFailed cause = record { outcomes = cause.outcomes; played = all_or_part_too events cause.outcomes cause.played; cut = cause.cut }
+  refused_too events old new fault.NoMemory cause = up_to_too events old new cause
+
+-- events that are done in a world whose ends were brought up are played
+pub played_from : {C L I : Type 0} (m : Meanings C L I) (first start : WorldOf C L I) → StartsCalm m first → IsOpened m first start
+    → (events : List Event) (outcomes : List Outcome) → HaveOutcomes m start events outcomes → ArePlayedIn m first events outcomes
+played_from m first start starts opened events outcomes (last, run) = record { start = start; last = last; starts = starts; opened = opened; run = run }
+
+-- so are those that are done over the stores that a configuration names
+pub played_on_disk : (config : Settings) (start : DiskWorld) → config.disk ≡ true → StartsCalm on_disk (new_disk_world config) → IsOpened on_disk (new_disk_world config) start
+    → (events : List Event) (outcomes : List Outcome) → HaveOutcomes on_disk start events outcomes → ArePlayed config events outcomes
+played_on_disk config start named starts opened events outcomes have =
+    subst (λ disk. ArePlayedOn disk config events outcomes) (sym named) (played_from on_disk (new_disk_world config) start starts opened events outcomes have)
+
+pub played_in_memory : (config : Settings) (start : MemoryWorld) → config.disk ≡ false → StartsCalm in_memory (new_memory_world config) → IsOpened in_memory (new_memory_world config) start
+    → (events : List Event) (outcomes : List Outcome) → HaveOutcomes in_memory start events outcomes → ArePlayed config events outcomes
+played_in_memory config start named starts opened events outcomes have =
+    subst (λ disk. ArePlayedOn disk config events outcomes) (sym named) (played_from in_memory (new_memory_world config) start starts opened events outcomes have)
 
 -- the script is not read
 pub unread : (config : Settings) (s : Session) (why : ScriptFault) → ReadRefused s.reader_before s.reader_after why → IsQuietSession s → IsScriptRefused config s why
@@ -94,7 +123,7 @@ not_a_script config s text why text_is (inr bad) quiet = subst (λ why. IsScript
 
 -- what stops the playing stops the script
 pub stopped : (config : Settings) (s : Session) (events : List Event) (why : ScriptFault) → AreEventsRead s events
-    → PlayRefused config events s.writer_before s.writer_after why → IsScriptRefused config s why
+    → PlayRefused (ArePlayed config) events s.writer_before s.writer_after why → IsScriptRefused config s why
 stopped config s events fault.ConfigTooLong read cause = absurd cause
 stopped config s events fault.NotToml read cause = absurd cause
 stopped config s events (fault.UnknownKey name) read cause = absurd cause

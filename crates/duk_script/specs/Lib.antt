@@ -4,6 +4,7 @@ pub mod FaultText
 pub mod OutcomeText
 pub mod FaultLine
 pub mod WholeText
+pub mod OnDisk
 pub mod Opening
 pub mod Play
 pub mod Session

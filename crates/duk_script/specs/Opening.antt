@@ -1,34 +1,47 @@
 -- The first world of a script, and its ends brought up: this project's own.
-use Rattle.std.specs.Prelude.{◌+◌, ◌++◌, ◌∷◌, zero, suc, ℕ, List, [], None, All, length, replicate}
+use Rattle.std.specs.Prelude.{◌≡◌, ◌+◌, ◌++◌, ◌∷◌, zero, suc, ℕ, List, [], None, All, length}
 use Rattle.duk_config.specs.Opened.{keys_for}
 use Rattle.duk_config.specs.Settings.{Settings}
 use Rattle.duk_host.specs.Host.{HostOf}
-use Rattle.duk_host.specs.Table.{CardTable}
+use Rattle.duk_host.specs.Table.{CardTable, table_decision}
 use Rattle.duk_net.specs.Calm.{HasSoundStores, IsBroughtUp, IsCalmAt}
 use Rattle.duk_net.specs.First.{IsFirst, first_world}
-use Rattle.duk_net.specs.InMemory.{MemoryWorld, new_terminal}
 use Rattle.duk_net.specs.Run.{Run}
-use Rattle.duk_net.specs.World.{Meanings, WorldOf}
+use Rattle.duk_net.specs.World.{Meanings, WorldOf, meanings_of}
 use Rattle.duk_net.specs.declared.event.End.{End}
 use Rattle.duk_net.specs.declared.event.Event.{Event}
 use Rattle.duk_net.specs.declared.event.Event.TheVariants.{RestartHost, RestartTerm}
 use Rattle.duk_net.specs.declared.outcome.Outcome.{Outcome}
-use Rattle.duk_store.specs.MemoryLog.{MemoryLog, new_log}
+use Rattle.duk_store.specs.Cell.{CellMeaning}
+use Rattle.duk_store.specs.MemoryLog.{MemoryLog, memory_log_meaning, new_log}
+use Rattle.duk_store.specs.StoreState.{IsNew}
 use Rattle.duk_tdes.specs.KeyBytes.{bytes_of}
+use Rattle.duk_term.specs.Terminal.{TerminalOf}
+use Rattle.duk_term.specs.declared.state.State.TheVariants.{Stopped}
 
--- the host of a configuration over stores in memory, as it is made
-abbrev pub new_host_of : List ℕ → Settings → HostOf MemoryLog CardTable
-new_host_of lmk config = record {
-  keys = keys_for lmk config;
+-- the host of a configuration over a log in memory, as it is made
+abbrev pub new_host_of : Settings → HostOf MemoryLog CardTable
+new_host_of config = record {
+  keys = keys_for (bytes_of config.lmk) config;
   issuer = record { zone = bytes_of config.zone; cards = config.cards };
   log = new_log config.log;
   state = None;
 }
 
--- the world of a configuration over stores in memory, as it is made
-abbrev pub new_world_of : List ℕ → Settings → MemoryWorld
-new_world_of lmk config =
-    first_world (new_host_of lmk config) config.loading (replicate config.terminals new_terminal)
+-- the world of a configuration with these terminals, as it is made
+abbrev pub new_world_of : {C : Type 0} → Settings → List (TerminalOf C)
+    → WorldOf C MemoryLog CardTable
+new_world_of config terminals = first_world (new_host_of config) config.loading terminals
+
+-- what the stores and the issuer of such a world mean, by what its terminals' cells mean
+abbrev pub with_cells : {C : Type 0} → CellMeaning C → Meanings C MemoryLog CardTable
+with_cells cells = meanings_of cells memory_log_meaning table_decision
+
+-- a stopped terminal over a cell as it is made, which is honest, sound and calm and keeps nothing
+pub record HasNewCell {C : Type 0} (meaning : CellMeaning C) (terminal : TerminalOf C)
+    : Type 0 where
+  pub stopped : terminal.state ≡ Stopped
+  pub cell : IsNew (meaning.state_of terminal.cell) None
 
 -- the restarts of the host and of so many terminals
 abbrev pub opening : ℕ → List Event

@@ -7,7 +7,7 @@ use Rattle.duk_config.specs.declared.fault.ScriptFault.TheVariants as fault
 use Rattle.duk_io.specs.Known.{Known}
 use Rattle.duk_io.specs.Sink.{IsUntouched}
 use Rattle.duk_net.specs.declared.event.Event.{Event}
-use Rattle.duk_script.specs.Play.{IsPlayed, PlayRefused}
+use Rattle.duk_script.specs.Play.{ArePlayed, IsPlayed, PlayRefused}
 use Rattle.duk_script.specs.Script.{IsNoScript, IsScript}
 use Rattle.duk_script.specs.WholeText.{IsReadWhole, ReadRefused}
 
@@ -40,7 +40,7 @@ pub record AreEventsRead (s : Session) (events : List Event) : Type 0 where
 pub record IsScriptDone (config : Settings) (s : Session) : Type 0 where
   pub events : List Event
   pub read : AreEventsRead s events
-  pub played : IsPlayed config events s.writer_before s.writer_after
+  pub played : IsPlayed (ArePlayed config) events s.writer_before s.writer_after
 
 -- the script cannot be read, and nothing is written
 pub record IsUnread (s : Session) (why : ScriptFault) : Type 0 where
@@ -58,7 +58,7 @@ pub record IsNotAScript (s : Session) (line : ℕ) : Type 0 where
 pub record IsPlayStopped (config : Settings) (s : Session) (why : ScriptFault) : Type 0 where
   pub events : List Event
   pub read : AreEventsRead s events
-  pub cause : PlayRefused config events s.writer_before s.writer_after why
+  pub cause : PlayRefused (ArePlayed config) events s.writer_before s.writer_after why
 
 -- why a script is not read and played to its end under a configuration
 abbrev pub IsScriptRefused : Settings → Session → ScriptFault → Type 0

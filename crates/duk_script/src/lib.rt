@@ -11,6 +11,7 @@ mod outcome_lines;
 mod outcome_text;
 mod script;
 mod session;
+mod terminals;
 mod whole_text;
 mod words;
 

@@ -2,24 +2,27 @@
 
 ghost use Rattle.std.specs.Prelude.{◌≡◌, ◌⊎◌, OnOk, IfErr};
 ghost use Rattle.duk_io.specs.Sink.{IsCut, IsWritten};
+ghost use Rattle.duk_net.specs.World.{meanings_of};
 ghost use Rattle.duk_script.specs.OutcomeText.{lines_of};
-ghost use Rattle.duk_script.specs.Play.{IsPlayed, PlayRefused};
+ghost use Rattle.duk_script.specs.Play.{ArePlayed, HaveOutcomes, IsPlayed, PlayRefused};
 ghost use Rattle.duk_script.specs.Session.{IsRunDone, IsRunRefused, IsScriptDone, IsScriptRefused, session};
 ghost use Rattle.duk_tdes.specs.KeyBytes.{bytes_of};
 ghost use Rattle.duk_tdes.specs.Tdes.{IsTdesLength};
 
-use crate::opening::open_world;
+use crate::opening::{open_in_memory, open_on_disk};
 use crate::outcome_lines::write_lines;
 use crate::script::parse_script;
 use crate::whole_text::read_text;
 use duk_config::{Config, ScriptFault, read_config};
+use duk_host::Issuer;
 use duk_io::{Sink, Source};
-use duk_net::{Event, Outcome, run};
+use duk_net::{Event, Outcome, World, run};
+use duk_store::{Cell, UsedLog};
 use duk_tdes::{Key, KeyBytes};
 use std::alloc::Global;
 
-/// Runs a script under the configuration with these bytes, over stores in memory, and writes a line
-/// for what comes of each event.
+/// Runs a script under the configuration with these bytes, over the stores that it names, and
+/// writes a line for what comes of each event.
 ///
 /// The configuration is tested before anything of the script is read, and the whole script is read
 /// and parsed before the first event. Refused with the first of these: what `read_config` refuses,
@@ -42,8 +45,9 @@ pub fn run_script<R: Source, W: Sink>(
     play_script(alloc, config, reader, writer)
 }
 
-/// Plays a script under a configuration, over stores in memory, and writes a line for what comes of
-/// each event. Every end is restarted first, without a line.
+/// Plays a script under a configuration, over stores that are newly made: terminals' cells on disks
+/// in memory or in memory itself, as the configuration says, and a log in memory. Writes a line for
+/// what comes of each event. Every end is restarted first, without a line.
 ///
 /// Refused with the first of these: `CannotRead`, where a read of the script failed; `TooLong`,
 /// above 1,048,576 bytes; `NotAnEvent`, of its first bad line; and then nothing is written. After
@@ -78,9 +82,9 @@ fn play<W: Sink>(
 ) -> Result<(), ScriptFault>
     requires { lmk.now ≡ config.lmk }
     ensures done { OnOk result
-        (IsPlayed config events.now (W.known writer.old) (W.known writer.new)) }
+        (IsPlayed (ArePlayed config) events.now (W.known writer.old) (W.known writer.new)) }
     ensures refused { IfErr result
-        (PlayRefused config events.now (W.known writer.old) (W.known writer.new)) }
+        (PlayRefused (ArePlayed config) events.now (W.known writer.old) (W.known writer.new)) }
 {
     match lmk {
         KeyBytes::Double(lmk) => play_under(alloc, lmk, config, events, writer),
@@ -99,13 +103,35 @@ fn play_under<const N: usize, W: Sink>(
     requires length { IsTdesLength N }
     requires lmk { lmk.now ≡ bytes_of config.lmk }
     ensures done { OnOk result
-        (IsPlayed config events.now (W.known writer.old) (W.known writer.new)) }
+        (IsPlayed (ArePlayed config) events.now (W.known writer.old) (W.known writer.new)) }
     ensures refused { IfErr result
-        (PlayRefused config events.now (W.known writer.old) (W.known writer.new)) }
+        (PlayRefused (ArePlayed config) events.now (W.known writer.old) (W.known writer.new)) }
 {
-    let mut world = open_world(alloc, lmk, config)?;
+    if config.disk {
+        let mut world = open_on_disk(alloc, lmk, config)?;
+        play_in(alloc, &mut world, events, writer)
+    } else {
+        let mut world = open_in_memory(alloc, lmk, config)?;
+        play_in(alloc, &mut world, events, writer)
+    }
+}
+
+/// Plays events in a world, and writes what comes of them.
+fn play_in<const N: usize, C: Cell, L: UsedLog, I: Issuer, W: Sink>(
+    alloc: Global,
+    world: &mut World<N, C, L, I>,
+    events: &[Event],
+    writer: &mut W,
+) -> Result<(), ScriptFault>
+    ensures done { OnOk result (IsPlayed
+        (HaveOutcomes (meanings_of C.meaning L.meaning I.decides) world.old)
+        events.now (W.known writer.old) (W.known writer.new)) }
+    ensures refused { IfErr result (PlayRefused
+        (HaveOutcomes (meanings_of C.meaning L.meaning I.decides) world.old)
+        events.now (W.known writer.old) (W.known writer.new)) }
+{
     let mut outcomes = Vec::new(alloc);
-    match run(&mut world, events, &mut outcomes) {
+    match run(world, events, &mut outcomes) {
         Ok(()) => write_lines(writer, outcomes.as_slice()),
         Err(_) => Err(write_done(writer, outcomes.as_slice())),
     }

@@ -1,31 +1,27 @@
-use Rattle.std.proofs.Common.{inl, inr, subst}
-use Rattle.duk_script.specs.OutcomeText.{lines_of}
-use Rattle.duk_io.specs.Sink.{IsCut}
-use Rattle.duk_script.proofs.PlayedScripts.{cut_off, if_err, on_ok, played, played_up_to, ready}
+use Rattle.std.proofs.Common.{◌∙◌, ap, sym}
+use Rattle.duk_script.proofs.PlayedScripts.{if_err, on_ok, played_in_memory, played_on_disk, played_too, refused_too}
 use Rattle.duk_script.proofs.session.play_under.Goals as goal
 
-pub returns-in-Ok-clause-done : goal.returns-in-Ok-clause-done
-returns-in-Ok-clause-done g c =
-    let world = ready c.args.config c.args.lmk.now c.in_ok-world.world c.requires.lmk c.in_ok-world.ensures.starts c.in_ok-world.ensures.opened in
-    let all = played c.args.config c.in_ok-world.world c.run.new.world c.args.events.now c.new-outcomes.result.items c.run.new.out.items world c.new-outcomes.ensures.items c.in-Ok.ensures.run in
-    on_ok _ _ (λ written. (c.run.new.out.items, all, rw (← c.as_slice.ensures.value) written)) c.write_lines.result c.write_lines.ensures.written
+pub returns-in_ok-world-clause-done : goal.returns-in_ok-world-clause-done
+returns-in_ok-world-clause-done g c =
+    let named = sym (ap (λ config. config.disk) c.config.view_is) ∙ c.if-config.true in
+    let follows = played_on_disk c.args.config c.in_ok-world.world named c.in_ok-world.ensures.starts c.in_ok-world.ensures.opened in
+    on_ok _ _ (played_too _ _ follows _ _ _) c.play_in.result c.play_in.ensures.done
 
-pub returns-in-Ok-clause-refused : goal.returns-in-Ok-clause-refused
-returns-in-Ok-clause-refused g c =
-    let world = ready c.args.config c.args.lmk.now c.in_ok-world.world c.requires.lmk c.in_ok-world.ensures.starts c.in_ok-world.ensures.opened in
-    let known = g.W.Sink.known in
-    let all = played c.args.config c.in_ok-world.world c.run.new.world c.args.events.now c.new-outcomes.result.items c.run.new.out.items world c.new-outcomes.ensures.items c.in-Ok.ensures.run in
-    if_err _ _ (λ why cut. cut_off c.args.config c.args.events.now (known c.args.writer.now) (known c.write_lines.new.writer) c.run.new.out.items why (inl all)
-    (cut.0, subst (λ outcomes. IsCut (known c.args.writer.now) (known c.write_lines.new.writer) (lines_of outcomes)) c.as_slice.ensures.value cut.1)) c.write_lines.result c.write_lines.ensures.cut
+pub returns-in_ok-world-clause-refused : goal.returns-in_ok-world-clause-refused
+returns-in_ok-world-clause-refused g c =
+    let named = sym (ap (λ config. config.disk) c.config.view_is) ∙ c.if-config.true in
+    let follows = played_on_disk c.args.config c.in_ok-world.world named c.in_ok-world.ensures.starts c.in_ok-world.ensures.opened in
+    if_err _ _ (refused_too _ _ follows _ _ _) c.play_in.result c.play_in.ensures.refused
 
-pub returns-clause-refused : goal.returns-clause-refused
-returns-clause-refused g c =
-    let world = ready c.args.config c.args.lmk.now c.in_ok-world.world c.requires.lmk c.in_ok-world.ensures.starts c.in_ok-world.ensures.opened in
-    let known = g.W.Sink.known in
-    let lines = c.as_slice-in-Err.ensures.value in
-    let part = played_up_to c.args.config c.in_ok-world.world c.run.new.world c.args.events.now c.new-outcomes.result.items c.run.new.out.items c.in-Err.field-0 world c.new-outcomes.ensures.items c.in-Err.ensures.refused in
-    elim c.write_done.ensures [
-      | inl whole ↦ rw whole.0 (inr (record { outcomes = c.run.new.out.items; played = part; written = rw (← lines) whole.1 }))
-      | inr cut ↦ cut_off c.args.config c.args.events.now (known c.args.writer.now) (known c.write_done.new.writer) c.run.new.out.items _ (inr part)
-          (cut.0, subst (λ outcomes. IsCut (known c.args.writer.now) (known c.write_done.new.writer) (lines_of outcomes)) lines cut.1)
-    ]
+pub returns-in_ok-world-2-clause-done : goal.returns-in_ok-world-2-clause-done
+returns-in_ok-world-2-clause-done g c =
+    let named = sym (ap (λ config. config.disk) c.config.view_is) ∙ c.if-config.false in
+    let follows = played_in_memory c.args.config c.in_ok-world-2.world named c.in_ok-world-2.ensures.starts c.in_ok-world-2.ensures.opened in
+    on_ok _ _ (played_too _ _ follows _ _ _) c.play_in-else-config.result c.play_in-else-config.ensures.done
+
+pub returns-in_ok-world-2-clause-refused : goal.returns-in_ok-world-2-clause-refused
+returns-in_ok-world-2-clause-refused g c =
+    let named = sym (ap (λ config. config.disk) c.config.view_is) ∙ c.if-config.false in
+    let follows = played_in_memory c.args.config c.in_ok-world-2.world named c.in_ok-world-2.ensures.starts c.in_ok-world-2.ensures.opened in
+    if_err _ _ (refused_too _ _ follows _ _ _) c.play_in-else-config.result c.play_in-else-config.ensures.refused
