@@ -2,3 +2,4 @@ pub mod PlacesOfFrames
 pub mod PlacesOfRequests
 pub mod PlacesOfAnswers
 pub mod OneReading
+pub mod Streams

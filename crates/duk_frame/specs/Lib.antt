@@ -3,3 +3,5 @@ pub mod Code
 pub mod Request
 pub mod Answer
 pub mod Payment
+pub mod Stream
+pub mod Feeder

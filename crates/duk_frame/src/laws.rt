@@ -1,10 +1,11 @@
 //! Laws of frames, each the contract of a function that does nothing.
 
-ghost use Rattle.std.specs.Prelude.{◌≡◌, ◌<◌, ◌≤◌, ◌^◌, List, ℕ, length};
+ghost use Rattle.std.specs.Prelude.{◌≡◌, ◌<◌, ◌≤◌, ◌^◌, ◌++◌, List, ℕ, length};
 ghost use Rattle.duk_frame.specs.Answer.{IsAnswer, IsReply, reply_text};
 ghost use Rattle.duk_frame.specs.Frame.{mac_text_of};
 ghost use Rattle.duk_frame.specs.Payment.{payment_reply, payment_request, reply_mac, request_of};
 ghost use Rattle.duk_frame.specs.Request.{IsRequest, request_text};
+ghost use Rattle.duk_frame.specs.Stream.{BeginsWith, IsFrame, IsPart, Splits};
 ghost use Rattle.duk_pin.specs.Pan.{IsPan};
 ghost use Rattle.duk_tree.specs.Serial.{IsSerial, Serial};
 
@@ -46,4 +47,20 @@ pub fn mac_texts()
     ensures reply { (bytes : List ℕ) (ksn : Serial) (code : Code) (mac : List ℕ)
         → IsReply bytes ksn code mac
         → (10 ≤ length bytes) × (mac_text_of bytes ≡ reply_text ksn code) }
+{}
+
+/// The bytes of a stream are split into frames and a rest, and in one way alone; the frames that
+/// they begin with are the first of these; and no bytes at the front of a part of a frame are one.
+pub fn streams()
+    ensures split { (bytes : List ℕ) → (frames : List (List ℕ)) × (rest : List ℕ)
+        × Splits bytes frames rest }
+    ensures one_way { (bytes : List ℕ) (frames : List (List ℕ)) (rest : List ℕ)
+        → (others : List (List ℕ)) (last : List ℕ)
+        → Splits bytes frames rest → Splits bytes others last
+        → (frames ≡ others) × (rest ≡ last) }
+    ensures first { (bytes : List ℕ) (frames : List (List ℕ)) (rest : List ℕ)
+        → (all : List (List ℕ)) (last : List ℕ)
+        → BeginsWith bytes frames rest → Splits bytes all last
+        → (others : List (List ℕ)) × (all ≡ frames ++ others) × Splits rest others last }
+    ensures not_yet { (frame more : List ℕ) → IsPart (frame ++ more) → ¬ IsFrame frame }
 {}
