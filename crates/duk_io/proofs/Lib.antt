@@ -1,2 +1,3 @@
 mod HexText
 mod WritesInTurn
+mod ReadsInTurn

@@ -47,7 +47,7 @@ tried_later a b c text quiet (inr (count, cut)) = inr (
   },
 )
 
-stayed_refl : (a : Option ℕ) → Stayed a a
+pub stayed_refl : (a : Option ℕ) → Stayed a a
 stayed_refl None = tt
 stayed_refl (Some n) = refl
 

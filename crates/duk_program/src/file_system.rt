@@ -67,6 +67,8 @@ pub(crate) struct HeldBytes<'a> {
 impl Source for HeldBytes<'_> {
     ghost known = { λ reader. held_bytes reader.left.now };
 
+    ghost reads = { λ _. None };
+
     fn get(&mut self, buffer: &mut [u8]) -> io::Result<usize> {
         Read::read(&mut self.left, buffer)
     }
