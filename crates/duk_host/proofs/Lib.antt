@@ -5,3 +5,8 @@ mod AcceptedIsAnswered
 mod RestartReadsAll
 mod RefusalsAreRead
 mod OneAnswer
+mod ServedInTurn
+mod ReadAndServed
+mod JudgedInTurn
+mod LifetimeOfRuns
+mod RunsOfServices

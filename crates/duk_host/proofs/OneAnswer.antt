@@ -11,7 +11,7 @@ use Rattle.duk_store.specs.Log.{Numbers}
 use Rattle.duk_tdes.specs.Tdes.{tdes_encrypted}
 use Rattle.duk_tree.specs.Derivation.{derived_key_of}
 use Rattle.duk_tree.specs.Serial.{Serial, prefix_of, serial_bytes}
-use Rattle.duk_host.specs.Judgement.{Decision, IsAcceptable, IsAccepted, IsAnswerTo, IsCodeOf, IsReasonAgainst, IsRefusedRequest, IsReplyTo, basis_with, refusal_frame}
+use Rattle.duk_host.specs.Judgement.{Decision, IsAcceptable, IsAccepted, IsAnswerTo, IsCodeOf, IsReasonAgainst, IsRefusalFor, IsRefusedRequest, IsReplyTo, basis_with, refusal_frame}
 use Rattle.duk_host.specs.declared.reason.Reason.{Reason}
 use Rattle.duk_host.specs.declared.reason.Reason.TheVariants as reason
 
@@ -88,7 +88,7 @@ one_verdict keys used room decides request None (Some reason.LogFull) one two = 
 one_verdict keys used room decides request None None one two = refl
 
 -- under one PAN a block is that of at most one PIN
-abbrev OnePin : Type 0
+abbrev pub OnePin : Type 0
 OnePin = (pin other pan block : List ℕ) → IsPinBlock pin pan block → IsPinBlock other pan block → pin ≡ other
 
 -- a PIN block is translated into at most one
@@ -122,7 +122,7 @@ one_reply keys decides request frame other one_pin one two =
     one.reply.frame_is ∙ ap (λ key. payment_reply key ksn one.code) key ∙ ap (λ code. payment_reply two.reply.key ksn code) code ∙ sym two.reply.frame_is
 
 -- bytes are at most one request
-abbrev OneRequest : Type 0
+abbrev pub OneRequest : Type 0
 OneRequest = (bytes : List ℕ) (request other : Request) → IsRequest bytes request → IsRequest bytes other → request ≡ other
 
 some_reason : (why other : Reason) → Some why ≡ Some other → why ≡ other
@@ -159,3 +159,8 @@ module _ (keys : HsmKeys) (used : Numbers) (room : ℕ) (decides : Decision) (on
   one_answer bytes frame other (inr (request, one)) (inl (inl two)) = absurd (two.no_request request one.is_request)
   one_answer bytes frame other (inr (request, one)) (inl (inr two)) = absurd (not_both bytes other frame request two one)
   one_answer bytes frame other (inr (request, one)) (inr (again, two)) = one_acceptance bytes frame other request again one two
+
+  -- bytes that are refused are not accepted too
+  pub not_accepted_too : (bytes frame other : List ℕ) (request : Request) → IsRefusalFor (basis_with keys used room decides) bytes frame → IsAccepted (basis_with keys used room decides) bytes request other → ⊥
+  not_accepted_too bytes frame other request (inl malformed) accepted = malformed.no_request request accepted.is_request
+  not_accepted_too bytes frame other request (inr refused) accepted = not_both bytes frame other request refused accepted

@@ -1,5 +1,5 @@
 -- Lists of used numbers, and one more at their end.
-use Rattle.std.proofs.Common.{◌≡◌, ◌≢◌, ℕ, zero, suc, ◌<◌, [], ◌∷◌, ◌++◌, Contains, length, get_or, inl, inr, refl, sym, subst, arith}
+use Rattle.std.proofs.Common.{◌≡◌, ◌≢◌, ◌↔◌, ℕ, zero, suc, ◌<◌, [], ◌∷◌, ◌++◌, Contains, length, get_or, inl, inr, refl, sym, subst, arith}
 use Rattle.std.proofs.lemmas.List.Elements.{All-append, All-cons, All-nil, Contains-append_cases, Contains-append_left, Contains-append_right}
 use Rattle.std.proofs.lemmas.List.Quantifiers.{all_pairs_push}
 use Rattle.duk_store.specs.Log.{LogMeaning, Numbers, IsAppended}
@@ -7,7 +7,7 @@ use Rattle.duk_tree.specs.Path.{IsUsable}
 use Rattle.duk_tree.specs.Serial.{Serial}
 use Rattle.duk_host.specs.Host.{LogHolds}
 use Rattle.duk_host.specs.Reading.{IsTakenIn}
-use Rattle.duk_host.specs.Used.{Lists}
+use Rattle.duk_host.specs.Used.{IsOneMore, IsUsed, Lists}
 
 one_contains : (ksn other : Serial) → Contains (ksn ∷ []) other → ksn ≡ other
 one_contains ksn other (zero, within, is) = is
@@ -22,6 +22,20 @@ contains_at (number ∷ numbers) zero d ksn within is = (0, omega arith, is)
 contains_at (number ∷ numbers) (suc k) d ksn within is =
     let rest = contains_at numbers k d ksn (omega (arith, within)) is in (suc rest.0, omega (arith, rest.1), rest.2)
 
+-- the list with a number at its end has the used numbers with it
+pub contains_more : (numbers used more : Numbers) (ksn : Serial) → ((other : Serial) → Contains numbers other ↔ IsUsed used other) → IsOneMore used ksn more
+    → (other : Serial) → Contains (numbers ++ ksn ∷ []) other ↔ IsUsed more other
+contains_more numbers used more ksn members one_more other = (
+  λ contains. elim (Contains-append_cases numbers (ksn ∷ []) other contains) [
+    | inl before ↦ (one_more other).1 (inl ((members other).0 before))
+    | inr last ↦ (one_more other).1 (inr (sym (one_contains ksn other last)))
+  ],
+  λ is_used. elim ((one_more other).0 is_used) [
+    | inl was ↦ Contains-append_left numbers (ksn ∷ []) other ((members other).1 was)
+    | inr same ↦ Contains-append_right numbers (ksn ∷ []) other (subst (λ number. Contains (ksn ∷ []) number) (sym same) (the_one ksn))
+  ],
+)
+
 -- the used ones are those of the list with the number that was taken in
 pub lists_more : (numbers : Numbers) (used : Numbers) (ksn : Serial) (more : Numbers) → Lists numbers used → IsTakenIn used ksn more → Lists (numbers ++ ksn ∷ []) more
 lists_more numbers used ksn more lists taken = record {
@@ -31,16 +45,7 @@ lists_more numbers used ksn more lists taken = record {
     once = all_pairs_push (λ earlier later. earlier ≢ later) numbers ksn lists.usable.once
         (λ k d within same. taken.fresh ((lists.members ksn).0 (contains_at numbers k d ksn within same)));
   };
-  members = λ other. (
-    λ contains. elim (Contains-append_cases numbers (ksn ∷ []) other contains) [
-      | inl before ↦ (taken.one_more other).1 (inl ((lists.members other).0 before))
-      | inr last ↦ (taken.one_more other).1 (inr (sym (one_contains ksn other last)))
-    ],
-    λ is_used. elim ((taken.one_more other).0 is_used) [
-      | inl was ↦ Contains-append_left numbers (ksn ∷ []) other ((lists.members other).1 was)
-      | inr same ↦ Contains-append_right numbers (ksn ∷ []) other (subst (λ number. Contains (ksn ∷ []) number) (sym same) (the_one ksn))
-    ],
-  );
+  members = contains_more numbers used more ksn lists.members taken.one_more;
 }
 
 -- a log with one number more holds the used numbers with it

@@ -6,3 +6,6 @@ pub mod Host
 pub mod Reading
 pub mod Restart
 pub mod Handle
+pub mod Serve
+pub mod Served
+pub mod Lifetime

@@ -1,12 +1,22 @@
 //! Laws of hosts, each the contract of a function that does nothing.
 
-ghost use Rattle.std.specs.Prelude.{◌≡◌, ℕ, List};
+ghost use Rattle.std.specs.Prelude.{◌≡◌, ◌-◌, ◌⊎◌, ℕ, List, All, AllPairs};
 ghost use Rattle.duk_hsm.specs.Keys.{HsmKeys};
 ghost use Rattle.duk_store.specs.Log.{Numbers};
 ghost use Rattle.duk_frame.specs.Answer.{IsRefusal, IsReply};
 ghost use Rattle.duk_frame.specs.Payment.{reply_mac};
+ghost use Rattle.duk_frame.specs.Stream.{BeginsTooLong, IsPart};
 ghost use Rattle.duk_frame.specs.declared.request.Request.{Request};
+ghost use Rattle.duk_host.specs.Host.{HostOf, host_meaning_of};
+ghost use Rattle.duk_host.specs.Lifetime.{AcceptOtherNumbers, IsLifetime, IsServiceRun, IsUnderOwnKey, all_answers};
+ghost use Rattle.duk_host.specs.Restart.{IsHostRestarted};
+ghost use Rattle.duk_host.specs.Serve.{IsReadUp, IsServed, Serves, Service, ServiceFailed, Supply};
+ghost use Rattle.duk_host.specs.Served.{AreJudged, IsServedStream, JudgesBy, WroteAllOf, WroteFirstOf};
+ghost use Rattle.duk_host.specs.declared.fault.HostFault.{HostFault};
 ghost use Rattle.duk_host.specs.Judgement.{Decision, IsAccepted, IsAnswerTo, IsMalformed, IsRefusedRequest, JudgementBasis, basis_with, no_serial, reason_number};
+
+use crate::issuer::Issuer;
+use duk_store::UsedLog;
 
 /// By one set of keys, used numbers, room and issuer, bytes have at most one answer.
 pub fn one_answer()
@@ -39,3 +49,93 @@ pub fn replies()
 {
     duk_frame::laws::payments();
 }
+
+/// The frames of a stream have one list of answers, and leave one list of used numbers.
+pub fn one_service()
+    ensures { (basis after other : JudgementBasis) (bytes : List ℕ)
+        → (answers others : List (List ℕ))
+        → IsServedStream basis bytes answers after → IsServedStream basis bytes others other
+        → (answers ≡ others) × (after ≡ other) }
+{
+    duk_frame::laws::one_reading();
+    duk_frame::laws::streams();
+    duk_pin::laws::one_pin();
+}
+
+/// What a host answers to frames in turn is their judgement, each with the list of used numbers
+/// after the earlier ones, and its used numbers are then those of the list after the last. A host
+/// that was restarted judges by the list that its log found.
+pub fn services<L: UsedLog, I: Issuer>()
+    ensures judged { (old new : HostOf L I) (basis : JudgementBasis)
+        → (frames answers : List (List ℕ))
+        → JudgesBy (host_meaning_of L.meaning I.decides) old basis
+        → Serves (host_meaning_of L.meaning I.decides) old frames answers new
+        → (after : JudgementBasis) × AreJudged basis frames answers after
+        × JudgesBy (host_meaning_of L.meaning I.decides) new after }
+    ensures restarted { (old new : HostOf L I) (found : ℕ)
+        → (restarted : IsHostRestarted L.meaning old new found)
+        → (L.meaning.state_of old.log).honest
+        → JudgesBy (host_meaning_of L.meaning I.decides) new
+        (basis_with new.keys restarted.numbers
+        (L.meaning.capacity new.log - L.meaning.count new.log) (I.decides new.issuer)) }
+{}
+
+/// What a service writes by the list of used numbers and the bytes that it read: all answers to
+/// their frames, where it served these up to a part of one or a length above 62; and else the first
+/// of them, as many as it served frames.
+pub fn served_streams<L: UsedLog, I: Issuer>()
+    ensures all { (old new : Service L I) (basis : JudgementBasis) (bytes rest : List ℕ)
+        → (count : ℕ)
+        → JudgesBy (host_meaning_of L.meaning I.decides) old.host basis
+        → IsServed (host_meaning_of L.meaning I.decides) old new bytes rest count
+        → IsPart rest ⊎ BeginsTooLong rest
+        → WroteAllOf (host_meaning_of L.meaning I.decides) basis old new bytes }
+    ensures first { (old new : Service L I) (basis after : JudgementBasis)
+        → (bytes rest : List ℕ) (count : ℕ) (answers : List (List ℕ))
+        → JudgesBy (host_meaning_of L.meaning I.decides) old.host basis
+        → IsServed (host_meaning_of L.meaning I.decides) old new bytes rest count
+        → IsServedStream basis bytes answers after
+        → WroteFirstOf old new answers count }
+{
+    duk_frame::laws::one_reading();
+    duk_frame::laws::streams();
+    duk_pin::laws::one_pin();
+}
+
+/// All that a service accepts over its whole life, in as many runs as it takes: no two of its
+/// accepted replies, of one run or of two, are to one number, and each is made under the key of its
+/// number.
+pub fn lifetimes<L: UsedLog, I: Issuer>()
+    ensures once { (keys : HsmKeys) (decides : Decision) (first : L)
+        → (runs : List (List (List ℕ)))
+        → IsLifetime (host_meaning_of L.meaning I.decides) keys decides
+        (L.meaning.state_of first).found runs
+        → AllPairs AcceptOtherNumbers (all_answers runs) }
+    ensures own_key { (keys : HsmKeys) (decides : Decision) (first : L)
+        → (runs : List (List (List ℕ)))
+        → IsLifetime (host_meaning_of L.meaning I.decides) keys decides
+        (L.meaning.state_of first).found runs
+        → All (IsUnderOwnKey keys decides) (all_answers runs) }
+{
+    duk_frame::laws::one_reading();
+    refusals();
+    replies();
+    services::<L, I>();
+}
+
+/// What `serve` does behind a restart is a run of a service, however it ends: at the end of its
+/// input, or with any fault.
+pub fn service_runs<L: UsedLog, I: Issuer>()
+    ensures ended { (made : HostOf L I) (old new : Service L I) (input left : Supply)
+        → (rest : List ℕ) (found count : ℕ)
+        → IsHostRestarted L.meaning made old.host found
+        → IsReadUp (host_meaning_of L.meaning I.decides) old new input left rest count
+        → (answers : List (List ℕ))
+        × IsServiceRun (host_meaning_of L.meaning I.decides) made answers new.host }
+    ensures failed { (made : HostOf L I) (old new : Service L I) (input left : Supply)
+        → (found : ℕ) (why : HostFault)
+        → IsHostRestarted L.meaning made old.host found
+        → ServiceFailed (host_meaning_of L.meaning I.decides) old new input left why
+        → (answers : List (List ℕ))
+        × IsServiceRun (host_meaning_of L.meaning I.decides) made answers new.host }
+{}

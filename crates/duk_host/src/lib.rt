@@ -17,6 +17,7 @@ mod reading;
 mod reason;
 mod reply;
 mod running;
+mod service;
 mod table;
 mod used;
 
@@ -24,4 +25,5 @@ pub use answered::Answered;
 pub use fault::HostFault;
 pub use host::Host;
 pub use issuer::Issuer;
+pub use service::serve;
 pub use table::{Card, TableIssuer};

@@ -1,0 +1,266 @@
+-- Frames that are judged one after the other.
+use Rattle.std.proofs.Common.{◌≡◌, ◌↔◌, ℕ, ◌-◌, ◌⊎◌, List, [], ◌∷◌, ◌++◌, Some, length, inl, inr, refl, sym, ap, subst, ◌∙◌, arith}
+use Rattle.duk_frame.specs.Stream.{BeginsTooLong, BeginsWith, IsPart, Splits}
+use Rattle.duk_frame.specs.declared.request.Request.{Request}
+use Rattle.duk_store.specs.Log.{Numbers}
+use Rattle.duk_tree.specs.Serial.{Serial}
+use Rattle.duk_host.specs.Handle.{AnswersRefusal, AnswersReply, IsNumberKept}
+use Rattle.duk_host.specs.Host.{HostMeaning, HostOf, basis_of}
+use Rattle.duk_host.specs.Judgement.{IsAccepted, IsReasonAgainst, IsRefusalFor, JudgementBasis, basis_with}
+use Rattle.duk_host.specs.Restart.{IsHostRestarted}
+use Rattle.duk_host.specs.Serve.{IsServed, Serves, Service}
+use Rattle.duk_host.specs.Served.{AreJudged, IsAcceptedOn, IsRefusedOn, IsServedStream, JudgesBy, WroteAllOf, WroteFirstOf, with_used}
+use Rattle.duk_host.specs.Used.{IsUsed}
+use Rattle.duk_host.specs.declared.reason.Reason.{Reason}
+use Rattle.duk_host.specs.declared.reason.Reason.TheVariants as reason
+use Rattle.duk_host.specs.declared.running.Running.{Running}
+use Rattle.duk_host.proofs.OneAnswer.{OnePin, OneRequest, not_accepted_too, one_answer}
+use Rattle.duk_host.proofs.OneNumberMore.{contains_more}
+
+-- ---- one judgement
+
+-- a frame is judged in one way
+one_step :
+    (basis mid other : JudgementBasis) (frame answer again : List ℕ) → OneRequest → OnePin
+    → IsRefusedOn basis frame answer mid ⊎ IsAcceptedOn basis frame answer mid → IsRefusedOn basis frame again other ⊎ IsAcceptedOn basis frame again other
+    → (answer ≡ again) × (mid ≡ other)
+one_step basis mid other frame answer again one_request one_pin (inl one) (inl two) =
+    (one_answer basis.keys basis.used basis.room basis.decides one_request one_pin frame answer again (inl one.refused) (inl two.refused), one.same ∙ sym two.same)
+one_step basis mid other frame answer again one_request one_pin (inl one) (inr two) =
+    absurd (not_accepted_too basis.keys basis.used basis.room basis.decides one_request one_pin frame answer again two.request one.refused two.accepted)
+one_step basis mid other frame answer again one_request one_pin (inr one) (inl two) =
+    absurd (not_accepted_too basis.keys basis.used basis.room basis.decides one_request one_pin frame again answer one.request two.refused one.accepted)
+one_step basis mid other frame answer again one_request one_pin (inr one) (inr two) =
+    let same : one.request ≡ two.request = one_request frame one.request two.request one.accepted.is_request two.accepted.is_request in (
+      one_answer basis.keys basis.used basis.room basis.decides one_request one_pin frame answer again (inr (one.request, one.accepted)) (inr (two.request, two.accepted)),
+      one.used ∙ ap (λ request. with_used basis request.ksn) same ∙ sym two.used,
+    )
+
+-- frames are judged in one way
+one_judgement :
+    OneRequest → OnePin → (basis after other : JudgementBasis) (frames answers others : List (List ℕ))
+    → AreJudged basis frames answers after → AreJudged basis frames others other → (answers ≡ others) × (after ≡ other)
+one_judgement one_request one_pin basis after other [] [] [] one two = (refl, one ∙ sym two)
+one_judgement one_request one_pin basis after other [] [] (again ∷ others) one two = absurd two
+one_judgement one_request one_pin basis after other [] (answer ∷ answers) others one two = absurd one
+one_judgement one_request one_pin basis after other (frame ∷ frames) [] others one two = absurd one
+one_judgement one_request one_pin basis after other (frame ∷ frames) (answer ∷ answers) [] one two = absurd two
+one_judgement one_request one_pin basis after other (frame ∷ frames) (answer ∷ answers) (again ∷ others) one two =
+    let step = one_step basis one.0 two.0 frame answer again one_request one_pin one.1 two.1 in
+    let rest = one_judgement one_request one_pin two.0 after other frames answers others (subst (λ mid. AreJudged mid frames answers after) step.1 one.2) two.2 in
+    (ap (λ answer. answer ∷ answers) step.0 ∙ ap (λ answers. again ∷ answers) rest.0, rest.1)
+
+-- ---- a host judges by its list
+
+-- two lists have the same numbers
+abbrev SameNumbers : Numbers → Numbers → Type 0
+SameNumbers used other = (ksn : Serial) → IsUsed used ksn ↔ IsUsed other ksn
+
+-- reasons are the same by lists with the same numbers
+same_reason :
+    (basis other : JudgementBasis) (request : Request) (why : Reason)
+    → basis.keys ≡ other.keys → basis.room ≡ other.room → SameNumbers basis.used other.used
+    → IsReasonAgainst basis request why → IsReasonAgainst other request why
+same_reason basis other request reason.Malformed keys room same against = absurd against
+same_reason basis other request reason.UnknownKeySet keys room same against = rw keys at against
+same_reason basis other request reason.BadCounter keys room same against = rw keys at against
+same_reason basis other request reason.BadMac keys room same against = rw keys at against
+same_reason basis other request reason.Used keys room same against = record {
+  authentic = rw keys at against.authentic;
+  used = (same request.ksn).0 against.used;
+}
+same_reason basis other request reason.LogFull keys room same against = record {
+  authentic = rw keys at against.authentic;
+  fresh = λ is_used. against.fresh ((same request.ksn).1 is_used);
+  full = sym room ∙ against.full;
+}
+
+same_refusal :
+    (basis other : JudgementBasis) (bytes frame : List ℕ)
+    → basis.keys ≡ other.keys → basis.room ≡ other.room → SameNumbers basis.used other.used
+    → IsRefusalFor basis bytes frame → IsRefusalFor other bytes frame
+same_refusal basis other bytes frame keys room same (inl malformed) = inl malformed
+same_refusal basis other bytes frame keys room same (inr refused) = inr (record {
+  request = refused.request;
+  reason = refused.reason;
+  is_request = refused.is_request;
+  refuses = same_reason basis other refused.request refused.reason keys room same refused.refuses;
+  frame_is = refused.frame_is;
+})
+
+same_acceptance :
+    (basis other : JudgementBasis) (bytes : List ℕ) (request : Request) (frame : List ℕ)
+    → basis.keys ≡ other.keys → basis.room ≡ other.room → basis.decides ≡ other.decides → SameNumbers basis.used other.used
+    → IsAccepted basis bytes request frame → IsAccepted other bytes request frame
+same_acceptance basis other bytes request frame keys room decides same accepted = record {
+  is_request = accepted.is_request;
+  acceptable = record {
+    authentic = rw keys at accepted.acceptable.authentic;
+    fresh = λ is_used. accepted.acceptable.fresh ((same request.ksn).1 is_used);
+    room = rw room at accepted.acceptable.room;
+  };
+  reply = rw (keys, decides) at accepted.reply;
+}
+
+same_running : (one two : Running) (state : _) → state ≡ Some one → state ≡ Some two → one ≡ two
+same_running one two state is same = cc
+
+-- the used numbers of a host are those of the list by which it judges
+same_numbers :
+    {L I : Type 0} (meaning : HostMeaning L I) (host : HostOf L I) (basis : JudgementBasis) (running : Running)
+    → JudgesBy meaning host basis → host.state ≡ Some running → SameNumbers running.used basis.used
+same_numbers meaning host basis running judges runs =
+    let is : judges.running ≡ running = same_running judges.running running host.state judges.runs runs in
+    let flipped : SameNumbers judges.running.used basis.used = λ ksn. (λ is_used. (judges.used ksn).1 is_used, λ is_used. (judges.used ksn).0 is_used) in
+    subst (λ running. SameNumbers running.used basis.used) is flipped
+
+-- a refusal is that of the list
+judged_refusal :
+    {L I : Type 0} (meaning : HostMeaning L I) (old new : HostOf L I) (basis : JudgementBasis) (frame answer : List ℕ)
+    → JudgesBy meaning old basis → AnswersRefusal meaning frame old new answer → IsRefusedOn basis frame answer basis × JudgesBy meaning new basis
+judged_refusal meaning old new basis frame answer judges answers =
+    let same = same_numbers meaning old basis answers.running judges answers.was_running in (
+      record {
+        refused = same_refusal (basis_of meaning old answers.running) basis frame answer (sym judges.keys) (sym judges.room) same answers.refused;
+        same = refl;
+      },
+      subst (λ host. JudgesBy meaning host basis) (sym answers.same) judges,
+    )
+
+-- a host that kept a number judges by the list with it
+judges_more :
+    {L I : Type 0} (meaning : HostMeaning L I) (old new : HostOf L I) (basis : JudgementBasis) (ksn : Serial)
+    → JudgesBy meaning old basis → IsNumberKept meaning old new ksn → JudgesBy meaning new (with_used basis ksn)
+judges_more meaning old new basis ksn judges kept =
+    let was : judges.running ≡ kept.before = same_running judges.running kept.before old.state judges.runs kept.was_running in
+    let members : SameNumbers basis.used kept.before.used = subst (λ running. SameNumbers basis.used running.used) was judges.used in
+    record {
+      running = kept.after;
+      runs = kept.runs;
+      keys = judges.keys ∙ sym kept.ends.keys;
+      decides = judges.decides ∙ ap meaning.decides (sym kept.ends.issuer);
+      room = omega (arith, judges.room, kept.counted, kept.capacity);
+      used = contains_more basis.used kept.before.used kept.after.used ksn members kept.one_more;
+      finds = λ honest.
+          let was_honest = kept.appended.nature.honest.1 honest in
+          kept.appended.finds was_honest basis.used (judges.finds was_honest);
+    }
+
+-- an accepted reply is that of the list
+judged_reply :
+    {L I : Type 0} (meaning : HostMeaning L I) (old new : HostOf L I) (basis : JudgementBasis) (frame answer : List ℕ)
+    → JudgesBy meaning old basis → (answers : AnswersReply meaning frame old new answer)
+    → IsAcceptedOn basis frame answer (with_used basis answers.request.ksn) × JudgesBy meaning new (with_used basis answers.request.ksn)
+judged_reply meaning old new basis frame answer judges answers =
+    let same = same_numbers meaning old basis answers.running judges answers.was_running in (
+      record {
+        request = answers.request;
+        accepted = same_acceptance (basis_of meaning old answers.running) basis frame answers.request answer (sym judges.keys) (sym judges.room) (sym judges.decides) same answers.accepted;
+        used = refl;
+      },
+      judges_more meaning old new basis answers.request.ksn judges answers.kept,
+    )
+
+-- what a host answers to frames in turn is their judgement by the list
+pub judged :
+    {L I : Type 0} (meaning : HostMeaning L I) (old new : HostOf L I) (basis : JudgementBasis) (frames answers : List (List ℕ))
+    → JudgesBy meaning old basis → Serves meaning old frames answers new
+    → (after : JudgementBasis) × AreJudged basis frames answers after × JudgesBy meaning new after
+judged meaning old new basis [] [] judges serves = (basis, refl, subst (λ host. JudgesBy meaning host basis) (sym serves) judges)
+judged meaning old new basis [] (answer ∷ answers) judges serves = absurd serves
+judged meaning old new basis (frame ∷ frames) [] judges serves = absurd serves
+judged meaning old new basis (frame ∷ frames) (answer ∷ answers) judges serves = elim serves.1 [
+  | inl refusal ↦
+      let step = judged_refusal meaning old serves.0 basis frame answer judges refusal in
+      let rest = judged meaning serves.0 new basis frames answers step.1 serves.2 in
+      (rest.0, (basis, inl step.0, rest.1), rest.2)
+  | inr reply ↦
+      let step = judged_reply meaning old serves.0 basis frame answer judges reply in
+      let rest = judged meaning serves.0 new (with_used basis reply.request.ksn) frames answers step.1 serves.2 in
+      (rest.0, (with_used basis reply.request.ksn, inr step.0, rest.1), rest.2)
+]
+
+-- a restarted host judges by the list that its log found
+pub restarted_judges :
+    {L I : Type 0} (meaning : HostMeaning L I) (old new : HostOf L I) (found : ℕ)
+    → (restarted : IsHostRestarted meaning.log old new found) → (meaning.log.state_of old.log).honest
+    → JudgesBy meaning new (basis_with new.keys restarted.numbers (meaning.log.capacity new.log - meaning.log.count new.log) (meaning.decides new.issuer))
+restarted_judges meaning old new found restarted honest = record {
+  running = restarted.running;
+  runs = restarted.runs;
+  keys = refl;
+  decides = refl;
+  room = refl;
+  used = (restarted.lists honest).members;
+  finds = λ _. restarted.log.settles.finds honest;
+}
+
+-- ---- streams
+
+-- bytes are split in one way
+abbrev pub OneSplitting : Type 0
+OneSplitting = (bytes : List ℕ) (frames : List (List ℕ)) (rest : List ℕ) (others : List (List ℕ)) (last : List ℕ)
+    → Splits bytes frames rest → Splits bytes others last → (frames ≡ others) × (rest ≡ last)
+
+-- the frames that bytes begin with are the first of those that they are split into
+abbrev pub FirstFrames : Type 0
+FirstFrames = (bytes : List ℕ) (frames : List (List ℕ)) (rest : List ℕ) (all : List (List ℕ)) (last : List ℕ)
+    → BeginsWith bytes frames rest → Splits bytes all last → (others : List (List ℕ)) × (all ≡ frames ++ others) × Splits rest others last
+
+-- a stream has one list of answers
+pub one_service :
+    OneRequest → OnePin → OneSplitting → (basis after other : JudgementBasis) (bytes : List ℕ) (answers others : List (List ℕ))
+    → IsServedStream basis bytes answers after → IsServedStream basis bytes others other → (answers ≡ others) × (after ≡ other)
+one_service one_request one_pin one_splitting basis after other bytes answers others one two =
+    let same = one_splitting bytes one.frames one.rest two.frames two.rest one.splits two.splits in
+    one_judgement one_request one_pin basis after other two.frames answers others (subst (λ frames. AreJudged basis frames answers after) same.0 one.judged) two.judged
+
+-- as many answers as there are frames
+answers_counted : {L I : Type 0} (meaning : HostMeaning L I) (old new : HostOf L I) (frames answers : List (List ℕ)) → Serves meaning old frames answers new → length answers ≡ length frames
+answers_counted meaning old new [] [] serves = refl
+answers_counted meaning old new [] (answer ∷ answers) serves = absurd serves
+answers_counted meaning old new (frame ∷ frames) [] serves = absurd serves
+answers_counted meaning old new (frame ∷ frames) (answer ∷ answers) serves = omega (arith, answers_counted meaning serves.0 new frames answers serves.2)
+
+-- the first frames have the first answers
+first_answers :
+    OneRequest → OnePin → (basis mid after : JudgementBasis) (frames others answers all : List (List ℕ))
+    → AreJudged basis frames answers mid → AreJudged basis (frames ++ others) all after → (more : List (List ℕ)) × (all ≡ answers ++ more)
+first_answers one_request one_pin basis mid after [] others [] all one two = (all, refl)
+first_answers one_request one_pin basis mid after [] others (answer ∷ answers) all one two = absurd one
+first_answers one_request one_pin basis mid after (frame ∷ frames) others [] all one two = absurd one
+first_answers one_request one_pin basis mid after (frame ∷ frames) others (answer ∷ answers) [] one two = absurd two
+first_answers one_request one_pin basis mid after (frame ∷ frames) others (answer ∷ answers) (again ∷ all) one two =
+    let step = one_step basis one.0 two.0 frame answer again one_request one_pin one.1 two.1 in
+    let rest = first_answers one_request one_pin two.0 mid after frames others answers all (subst (λ basis. AreJudged basis frames answers mid) step.1 one.2) two.2 in
+    (rest.0, ap (λ answer. answer ∷ all) (sym step.0) ∙ ap (λ all. answer ∷ all) rest.1)
+
+-- all frames of a stream are served
+pub wrote_all :
+    {L I : Type 0} (meaning : HostMeaning L I) (old new : Service L I) (basis : JudgementBasis) (bytes rest : List ℕ) (count : ℕ)
+    → JudgesBy meaning old.host basis → IsServed meaning old new bytes rest count → IsPart rest ⊎ BeginsTooLong rest → WroteAllOf meaning basis old new bytes
+wrote_all meaning old new basis bytes rest count judges served ends =
+    let found = judged meaning old.host new.host basis served.frames served.answers judges served.serves in
+    record {
+      answers = served.answers;
+      after = found.0;
+      served = record { frames = served.frames; rest = rest; splits = record { begins = served.begins; ends = ends }; judged = found.1 };
+      written = served.written;
+      judges = found.2;
+    }
+
+-- the first frames of a stream are served
+pub wrote_first :
+    {L I : Type 0} (meaning : HostMeaning L I) → OneRequest → OnePin → FirstFrames → (old new : Service L I) (basis after : JudgementBasis) (bytes rest : List ℕ) (count : ℕ) (answers : List (List ℕ))
+    → JudgesBy meaning old.host basis → IsServed meaning old new bytes rest count → IsServedStream basis bytes answers after → WroteFirstOf old new answers count
+wrote_first meaning one_request one_pin first_frames old new basis after bytes rest count answers judges served all =
+    let found = judged meaning old.host new.host basis served.frames served.answers judges served.serves in
+    let more = first_frames bytes served.frames rest all.frames all.rest served.begins all.splits in
+    let first = first_answers one_request one_pin basis found.0 after served.frames more.0 served.answers answers found.1 (subst (λ frames. AreJudged basis frames answers after) more.1 all.judged) in
+    record {
+      first = served.answers;
+      others = first.0;
+      counted = answers_counted meaning old.host new.host served.frames served.answers served.serves ∙ served.counted;
+      all_are = first.1;
+      written = served.written;
+    }

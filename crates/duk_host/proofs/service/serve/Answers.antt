@@ -1,0 +1,48 @@
+use Rattle.std.proofs.Common.{◌≤◌, length, take, refl, arith, length-take}
+use Rattle.std.proofs.lemmas.Result.{err_from_is_err_and}
+use Rattle.duk_host.specs.Host.{host_meaning_of}
+use Rattle.duk_host.specs.Serve.{service, supply}
+use Rattle.duk_host.proofs.ReadAndServed.{ReadLaws, next_piece, piece_failed, start_serving}
+use Rattle.duk_host.proofs.ServedInTurn.{WriteLaws}
+use Rattle.duk_host.proofs.service.serve.Goals as goal
+
+pub loop-init : goal.loop-init
+loop-init g c =
+    let meaning = host_meaning_of g.L.UsedLog.meaning g.I.Issuer.decides in
+    let writes : WriteLaws = record { none = c.writes.ensures.none; next = c.writes.ensures.then } in
+    let reads : ReadLaws = record { none = c.reads.ensures.none; next = c.reads.ensures.then; broken = c.reads.ensures.broken_later; no_reads = c.reads.ensures.no_reads; more_reads = c.reads.ensures.more_reads } in
+    let now = service c.args.host.now (g.W.Sink.known c.args.writer.now) in
+    let input = supply (g.R.Source.known c.args.reader.now) (g.R.Source.reads c.args.reader.now) in
+    rw c.new-feeder.ensures (record { few = omega arith; goes_on = refl; serving = start_serving meaning writes reads now input })
+
+pub returns-in_err-frames-clause-refused : goal.returns-in_err-frames-clause-refused
+returns-in_err-frames-clause-refused g c =
+    let meaning = host_meaning_of g.L.UsedLog.meaning g.I.Issuer.decides in
+    let writes : WriteLaws = record { none = c.writes.ensures.none; next = c.writes.ensures.then } in
+    let reads : ReadLaws = record { none = c.reads.ensures.none; next = c.reads.ensures.then; broken = c.reads.ensures.broken_later; no_reads = c.reads.ensures.no_reads; more_reads = c.reads.ensures.more_reads } in
+    let known = g.W.Sink.known in
+    let refused =
+    piece_failed meaning writes reads (service c.args.host.now (known c.args.writer.now)) (service c.loop.host (known c.loop.writer)) (service c.serve_piece.new.host (known c.serve_piece.new.writer))
+    (supply (g.R.Source.known c.args.reader.now) (g.R.Source.reads c.args.reader.now)) (supply (g.R.Source.known c.loop.reader) (g.R.Source.reads c.loop.reader)) (supply (g.R.Source.known c.get.new.self) (g.R.Source.reads c.get.new.self))
+    c.loop.feeder.rest (take c.in-Ok.count c.get.new.buffer) c.loop.frames c.loop.counter _ c.loop.invariant.serving
+    (record { given = c.in-Ok.ensures.bytes.0; unfailed = c.in-Ok.ensures.counted }) c.in_err-frames.ensures.refused in
+    let p = err_from_is_err_and c.from_residual.result c.from_residual.ensures.1 in
+    rw (p.1, p.2) refused
+
+pub loop-preserved : goal.loop-preserved
+loop-preserved g c =
+    let meaning = host_meaning_of g.L.UsedLog.meaning g.I.Issuer.decides in
+    let writes : WriteLaws = record { none = c.writes.ensures.none; next = c.writes.ensures.then } in
+    let reads : ReadLaws = record { none = c.reads.ensures.none; next = c.reads.ensures.then; broken = c.reads.ensures.broken_later; no_reads = c.reads.ensures.no_reads; more_reads = c.reads.ensures.more_reads } in
+    let known = g.W.Sink.known in
+    let room : length c.get.new.buffer ≤ 4096 = omega (arith, c.get.ensures.room) in
+    let short : length (take c.in-Ok.count c.get.new.buffer) ≤ length c.get.new.buffer = omega (arith, length-take c.in-Ok.count c.get.new.buffer) in
+    record {
+      few = omega (arith, c.loop.invariant.few, c.in_ok-frames.ensures.few, short, room);
+      goes_on = c.in_ok-frames.ensures.goes_on;
+      serving =
+          next_piece meaning writes reads (service c.args.host.now (known c.args.writer.now)) (service c.loop.host (known c.loop.writer)) (service c.serve_piece.new.host (known c.serve_piece.new.writer))
+          (supply (g.R.Source.known c.args.reader.now) (g.R.Source.reads c.args.reader.now)) (supply (g.R.Source.known c.loop.reader) (g.R.Source.reads c.loop.reader)) (supply (g.R.Source.known c.get.new.self) (g.R.Source.reads c.get.new.self))
+          c.loop.feeder.rest (take c.in-Ok.count c.get.new.buffer) c.serve_piece.new.feeder.rest c.loop.frames c.in_ok-frames.field-0 c.loop.counter c.loop.invariant.serving
+          (record { given = c.in-Ok.ensures.bytes.0; unfailed = c.in-Ok.ensures.counted }) c.get.ensures.one_read c.in_ok-frames.ensures.served c.in_ok-frames.ensures.part;
+    }

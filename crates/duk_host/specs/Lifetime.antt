@@ -1,0 +1,88 @@
+-- A service over its whole life, in as many runs as it takes: this project's own.
+use Rattle.std.specs.Prelude.{◌≡◌, ◌⊎◌, ◌++◌, ℕ, List, [], ◌∷◌}
+use Rattle.duk_frame.specs.Answer.{IsReply}
+use Rattle.duk_frame.specs.declared.code.Code.{Code}
+use Rattle.duk_frame.specs.declared.request.Request.{Request}
+use Rattle.duk_hsm.specs.Keys.{HsmKeys}
+use Rattle.duk_store.specs.Log.{Numbers}
+use Rattle.duk_store.specs.StoreState.{FindsWithin}
+use Rattle.duk_tree.specs.Serial.{Serial}
+use Rattle.duk_host.specs.Handle.{HandleRefused}
+use Rattle.duk_host.specs.Host.{HostMeaning, HostOf}
+use Rattle.duk_host.specs.Judgement.{Decision, IsReplyTo}
+use Rattle.duk_host.specs.Restart.{HostRestartRefused, IsHostRestarted}
+use Rattle.duk_host.specs.Serve.{Serves}
+use Rattle.duk_host.specs.declared.fault.HostFault.{HostFault}
+
+-- the frame is an accepted reply to the transaction of this number
+abbrev pub AcceptsNumber : Serial → List ℕ → Type 0
+AcceptsNumber ksn frame = (code : Code) × (mac : List ℕ) × IsReply frame ksn code mac
+
+-- two answers do not accept one number
+abbrev pub AcceptOtherNumbers : List ℕ → List ℕ → Type 0
+AcceptOtherNumbers one other =
+    (ksn : Serial) → AcceptsNumber ksn one → ¬ AcceptsNumber ksn other
+
+-- an answer that accepts a number is the reply to a request of that number, under the key of that
+-- number
+abbrev pub IsUnderOwnKey : HsmKeys → Decision → List ℕ → Type 0
+IsUnderOwnKey keys decides frame =
+    (ksn : Serial) → AcceptsNumber ksn frame
+    → (request : Request) × (request.ksn ≡ ksn) × IsReplyTo keys decides request frame
+
+-- a host is made for a run, with these keys and this issuer. Its log is honest, and finds nothing
+-- but what the run before may have left
+pub record IsMadeOver
+    {L I : Type 0} (meaning : HostMeaning L I) (keys : HsmKeys) (decides : Decision)
+    (left : Numbers → Type 0) (host : HostOf L I) : Type 0 where
+  pub keys_are : host.keys ≡ keys
+  pub decides_are : meaning.decides host.issuer ≡ decides
+  pub honest : (meaning.log.state_of host.log).honest
+  pub within : FindsWithin (meaning.log.state_of host.log) left
+
+-- a run ends once some frames are answered, whatever the cause, or at a frame that the host does not
+-- answer, as where a device step of its log fails
+abbrev pub EndsAt : {L I : Type 0} → HostMeaning L I → HostOf L I → HostOf L I → Type 0
+EndsAt meaning mid last =
+    (last ≡ mid)
+    ⊎ ((frame : List ℕ) × (why : HostFault) × HandleRefused meaning frame mid last why)
+
+-- the host is restarted and answers frames in turn
+pub record IsBroughtUpRun
+    {L I : Type 0} (meaning : HostMeaning L I) (made : HostOf L I) (answers : List (List ℕ))
+    (last : HostOf L I) : Type 0 where
+  pub up : HostOf L I
+  pub mid : HostOf L I
+  pub found : ℕ
+  pub frames : List (List ℕ)
+  pub restarted : IsHostRestarted meaning.log made up found
+  pub serves : Serves meaning up frames answers mid
+  pub ends : EndsAt meaning mid last
+
+-- its restart is refused, and it answers nothing
+pub record IsRefusedRun
+    {L I : Type 0} (meaning : HostMeaning L I) (made : HostOf L I) (answers : List (List ℕ))
+    (last : HostOf L I) : Type 0 where
+  pub why : HostFault
+  pub refused : HostRestartRefused meaning.log made last why
+  pub no_answers : answers ≡ []
+
+-- what a run of a service answers, and how it leaves its host
+abbrev pub IsServiceRun : {L I : Type 0} → HostMeaning L I → HostOf L I → List (List ℕ)
+    → HostOf L I → Type 0
+IsServiceRun meaning made answers last =
+    IsRefusedRun meaning made answers last ⊎ IsBroughtUpRun meaning made answers last
+
+-- the answers of all runs, in their order
+abbrev pub all_answers : List (List (List ℕ)) → List (List ℕ)
+all_answers [] = []
+all_answers (answers ∷ later) = answers ++ all_answers later
+
+-- the answers of runs, one after the other, each over what the one before may have left
+abbrev pub IsLifetime : {L I : Type 0} → HostMeaning L I → HsmKeys → Decision
+    → (Numbers → Type 0) → List (List (List ℕ)) → Type 0
+IsLifetime meaning keys decides left [] = Unit {0}
+IsLifetime {L} {I} meaning keys decides left (answers ∷ later) =
+    (made : HostOf L I) × (last : HostOf L I) × IsMadeOver meaning keys decides left made
+    × IsServiceRun meaning made answers last
+    × IsLifetime meaning keys decides (meaning.log.state_of last.log).found later

@@ -1,0 +1,84 @@
+-- The answers to frames in turn, by the judgement of each: this project's own.
+use Rattle.std.specs.Prelude.{◌≡◌, ◌↔◌, ◌-◌, ◌⊎◌, ◌++◌, ℕ, List, [], ◌∷◌, Some, length}
+use Rattle.std.specs.List.{concat}
+use Rattle.duk_frame.specs.Stream.{Splits}
+use Rattle.duk_frame.specs.declared.request.Request.{Request}
+use Rattle.duk_io.specs.Sink.{IsWritten}
+use Rattle.duk_store.specs.StoreState.{FindsOnly}
+use Rattle.duk_tree.specs.Serial.{Serial}
+use Rattle.duk_host.specs.Host.{HostMeaning, HostOf}
+use Rattle.duk_host.specs.Judgement.{IsAccepted, IsRefusalFor, JudgementBasis, basis_with}
+use Rattle.duk_host.specs.Serve.{Service}
+use Rattle.duk_host.specs.Used.{IsUsed}
+use Rattle.duk_host.specs.declared.running.Running.{Running}
+
+-- one more number is used, at the end of the list, and there is room for one less
+abbrev pub with_used : JudgementBasis → Serial → JudgementBasis
+with_used basis ksn =
+    basis_with basis.keys (basis.used ++ ksn ∷ []) (basis.room - 1) basis.decides
+
+-- bytes are refused with this frame, and no more is used
+pub record IsRefusedOn
+    (basis : JudgementBasis) (bytes frame : List ℕ) (after : JudgementBasis) : Type 0 where
+  pub refused : IsRefusalFor basis bytes frame
+  pub same : after ≡ basis
+
+-- bytes are accepted with this frame, and their number is used
+pub record IsAcceptedOn
+    (basis : JudgementBasis) (bytes frame : List ℕ) (after : JudgementBasis) : Type 0 where
+  pub request : Request
+  pub accepted : IsAccepted basis bytes request frame
+  pub used : after ≡ with_used basis request.ksn
+
+-- frames are judged in turn, each with the used numbers and the room that are left after those
+-- before it; these are the answers, and this is what is left after the last
+abbrev pub AreJudged : JudgementBasis → List (List ℕ) → List (List ℕ) → JudgementBasis → Type 0
+AreJudged basis [] [] after = after ≡ basis
+AreJudged basis (frame ∷ frames) (answer ∷ answers) after =
+    (mid : JudgementBasis)
+    × (IsRefusedOn basis frame answer mid ⊎ IsAcceptedOn basis frame answer mid)
+    × AreJudged mid frames answers after
+AreJudged basis _ _ after = ⊥
+
+-- a running host judges by this: its used numbers are those of the list, and a restart of its log
+-- would find that list and no other
+pub record JudgesBy
+    {L I : Type 0} (meaning : HostMeaning L I) (host : HostOf L I)
+    (basis : JudgementBasis) : Type 0 where
+  pub running : Running
+  pub runs : host.state ≡ Some running
+  pub keys : basis.keys ≡ host.keys
+  pub decides : basis.decides ≡ meaning.decides host.issuer
+  pub room : basis.room ≡ meaning.log.capacity host.log - meaning.log.count host.log
+  pub used : (ksn : Serial) → IsUsed basis.used ksn ↔ IsUsed running.used ksn
+  pub finds : (meaning.log.state_of host.log).honest
+      → FindsOnly (meaning.log.state_of host.log) basis.used
+
+-- the bytes of a stream are split into frames, these are the answers to them in turn, and this is
+-- what is left after the last
+pub record IsServedStream
+    (basis : JudgementBasis) (bytes : List ℕ) (answers : List (List ℕ))
+    (after : JudgementBasis) : Type 0 where
+  pub frames : List (List ℕ)
+  pub rest : List ℕ
+  pub splits : Splits bytes frames rest
+  pub judged : AreJudged basis frames answers after
+
+-- a service wrote all answers to the frames of a stream, and its host judges by what they left
+pub record WroteAllOf
+    {L I : Type 0} (meaning : HostMeaning L I) (basis : JudgementBasis) (old new : Service L I)
+    (bytes : List ℕ) : Type 0 where
+  pub answers : List (List ℕ)
+  pub after : JudgementBasis
+  pub served : IsServedStream basis bytes answers after
+  pub written : IsWritten old.writer new.writer (concat answers)
+  pub judges : JudgesBy meaning new.host after
+
+-- a service wrote the first of these answers
+pub record WroteFirstOf
+    {L I : Type 0} (old new : Service L I) (all : List (List ℕ)) (count : ℕ) : Type 0 where
+  pub first : List (List ℕ)
+  pub others : List (List ℕ)
+  pub counted : length first ≡ count
+  pub all_are : all ≡ first ++ others
+  pub written : IsWritten old.writer new.writer (concat first)
