@@ -11,11 +11,19 @@ mod commands;
 #[cfg(test)]
 mod derivation;
 #[cfg(test)]
+mod disk_cells;
+#[cfg(test)]
+mod disk_logs;
+#[cfg(test)]
 mod frames;
 #[cfg(test)]
 mod key_blocks;
 #[cfg(test)]
 mod macs;
+#[cfg(test)]
+mod medium_disks;
+#[cfg(test)]
+mod memory_disks;
 #[cfg(test)]
 mod pin_blocks;
 #[cfg(test)]
@@ -28,3 +36,5 @@ mod sample;
 mod stores;
 #[cfg(test)]
 mod triple_cipher;
+#[cfg(test)]
+mod written_slots;

@@ -64,14 +64,14 @@ fn refusal_of(host: &mut SmallHost, request: &Frame) -> Result<Option<u8>, HostF
 }
 
 /// The reply to the first number.
-fn first_reply() -> Frame {
+pub fn first_reply() -> Frame {
     let draft = write_reply(ksn(1), Code::Approved, [0; 8]);
     let mac = retail(&key(RESPONSE), mac_text(draft.as_slice()));
     write_reply(ksn(1), Code::Approved, mac)
 }
 
 /// The refusal of a sample number of this counter.
-fn refusal(counter: u16, reason: u8) -> [u8; 15] {
+pub fn refusal(counter: u16, reason: u8) -> [u8; 15] {
     let [high, low] = counter.to_be_bytes();
     [
         0, 13, 1, 3, 0xFF, 0xFF, 0x98, 0x76, 0x54, 0x32, 0x10, 0xE0, high, low, reason,

@@ -17,6 +17,8 @@ mod names;
 #[cfg(test)]
 mod network;
 #[cfg(test)]
+mod on_disks;
+#[cfg(test)]
 mod paying;
 #[cfg(test)]
 mod running;
@@ -27,4 +29,8 @@ mod scripts;
 #[cfg(test)]
 mod security_module;
 #[cfg(test)]
+mod serving;
+#[cfg(test)]
 mod stopping;
+#[cfg(test)]
+mod worlds;

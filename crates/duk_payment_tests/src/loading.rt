@@ -1,4 +1,4 @@
-//! Terminals over cells in memory: their restarts, and what is loaded into them.
+//! Terminals: their restarts, and what is loaded into them.
 
 use crate::sample::{INITIAL, LMK, LOADING, PUBLISHED, iksn, key, key_block, ksn, pan};
 use duk_block::BlockFault;
@@ -11,32 +11,42 @@ use std::test::Fail;
 
 pub type SmallTerminal = Terminal<MemCell>;
 
-/// A terminal over a new cell, which was brought up.
-fn empty() -> Result<SmallTerminal, TermFault> {
-    let mut terminal = Terminal::new(MemCell::new());
+/// A terminal over this cell, which was brought up.
+fn open<C: Cell>(cell: C) -> Result<Terminal<C>, TermFault> {
+    let mut terminal = Terminal::new(cell);
     terminal.restart()?;
     Ok(terminal)
 }
 
+/// A terminal over a new cell in memory, which was brought up.
+fn empty() -> Result<SmallTerminal, TermFault> {
+    open(MemCell::new())
+}
+
 /// Loads a terminal with the key in this block at the sample serial number.
-fn load(terminal: &mut SmallTerminal, loading: u128, block: &[u8]) -> Result<(), TermFault> {
+fn load<C: Cell>(terminal: &mut Terminal<C>, loading: u128, block: &[u8]) -> Result<(), TermFault> {
     terminal.load(&key(loading), block, iksn())
 }
 
 /// Loads a terminal with the sample initial key, in a block of this usage.
-fn load_initial(
-    terminal: &mut SmallTerminal,
+fn load_initial<C: Cell>(
+    terminal: &mut Terminal<C>,
     usage: [u8; 2],
 ) -> Result<Result<(), TermFault>, Fail> {
     let block = key_block(LOADING, usage, INITIAL)?;
     Ok(load(terminal, LOADING, block.as_slice()))
 }
 
-/// A terminal that was loaded.
-pub fn load_terminal() -> Result<SmallTerminal, Fail> {
-    let mut terminal = empty()?;
+/// A terminal over this cell that was loaded.
+pub fn load_over<C: Cell>(cell: C) -> Result<Terminal<C>, Fail> {
+    let mut terminal = open(cell)?;
     load_initial(&mut terminal, *b"B1")??;
     Ok(terminal)
+}
+
+/// A terminal over a cell in memory that was loaded.
+pub fn load_terminal() -> Result<SmallTerminal, Fail> {
+    load_over(MemCell::new())
 }
 
 /// The payment of PAN 4012345678909, PIN 1234 and amount 500.
@@ -54,7 +64,7 @@ fn number_in(request: &Frame) -> Option<Ksn> {
 }
 
 /// Begins a transaction and tells the key serial number in its request.
-pub fn begin_number(terminal: &mut SmallTerminal) -> Result<Option<Ksn>, TermFault> {
+pub fn begin_number<C: Cell>(terminal: &mut Terminal<C>) -> Result<Option<Ksn>, TermFault> {
     let Ok(purchase) = purchase() else {
         return Ok(None);
     };
@@ -127,9 +137,10 @@ fn a_published_block(rt: HostRuntime) -> Result<(), Fail> {
     Ok(())
 }
 
-/// A load whose write stops after so many steps fails, and this comes next after a restart.
-fn of_stopped_load(steps: u32, next: Next) -> Result<[bool; 2], Fail> {
-    let mut terminal = empty()?;
+/// A load over this cell whose write stops after so many steps fails, and this comes next after a
+/// restart.
+pub fn of_stopped_load<C: Cell>(cell: C, steps: u32, next: Next) -> Result<[bool; 2], Fail> {
+    let mut terminal = open(cell)?;
     terminal.arm(steps);
     let answer = load_initial(&mut terminal, *b"B1")?;
     terminal.restart()?;
@@ -142,7 +153,7 @@ fn of_stopped_load(steps: u32, next: Next) -> Result<[bool; 2], Fail> {
 #[test]
 fn stops_at_a_load(rt: HostRuntime) -> Result<(), Fail> {
     for (steps, next) in [(0, Next::Empty), (1, Next::At(ksn(1)))] {
-        assert_eq!(rt; of_stopped_load(steps, next)?, [true; 2]);
+        assert_eq!(rt; of_stopped_load(MemCell::new(), steps, next)?, [true; 2]);
     }
     Ok(())
 }

@@ -1,120 +1,21 @@
-//! A world over stores in memory, with the sample keys of ANSI X9.24-1 and a published key block.
+//! The network between terminals and a host, over stores in memory.
 
-ghost use Rattle.std.specs.Prelude.{◌≡◌, ◌∷◌, [], IfOk};
-ghost use Rattle.duk_net.specs.InMemory.{new_terminal};
-
-use crate::sample::{LOADING, iksn, issuer, key, ksn, pan, security_module};
+use crate::sample::{iksn, ksn};
+use crate::worlds::{
+    Line, SmallWorld, WorldOver, begin, load, missed_lines, misses_nothing, outcomes, sizes, world,
+};
 use duk_frame::Code;
-use duk_host::{Host, HostFault, TableIssuer};
-use duk_net::{End, Event, NetFault, Outcome, World, run};
-use duk_pin::{Pin, PinFault};
-use duk_store::{MemCell, MemLog, StoreFault};
-use duk_term::{Next, Purchase, TermFault, Terminal};
+use duk_host::HostFault;
+use duk_net::{End, Event, NetFault, Outcome, run};
+use duk_pin::PinFault;
+use duk_store::{Cell, StoreFault};
+use duk_term::{Next, TermFault};
 use duk_tree::{Iksn, Ksn};
 use std::alloc::Global;
 use std::test::Fail;
 
-pub type SmallWorld = World<16, MemCell, MemLog, TableIssuer>;
-
-/// Two terminals over new cells.
-fn terminals(alloc: Global) -> Result<Vec<Terminal<MemCell>>, Fail>
-    ensures { IfOk result (λ terminals. terminals.items ≡ new_terminal ∷ new_terminal ∷ []) }
-{
-    let mut terminals = Vec::new(alloc);
-    terminals.push(Terminal::new(MemCell::new()))?;
-    terminals.push(Terminal::new(MemCell::new()))?;
-    Ok(terminals)
-}
-
-/// A host, and two terminals.
-pub fn world(alloc: Global) -> Result<SmallWorld, Fail> {
-    let hsm = security_module()?;
-    if !hsm.has_zone() {
-        return Err("no zone key".into());
-    }
-    let host = Host::new(alloc, hsm, issuer(alloc)?, MemLog::new(alloc, 100)?);
-    Ok(World::new(alloc, host, key(LOADING), terminals(alloc)?))
-}
-
-/// A terminal is loaded at the sample serial number.
-fn load(t: u32) -> Event {
-    Event::Load { t, iksn: iksn() }
-}
-
-/// A terminal begins to pay 1.
-fn begin(t: u32) -> Result<Event, PinFault> {
-    let purchase = Purchase {
-        pan: pan()?,
-        pin: Pin::parse("1234")?,
-        amount: 1,
-    };
-    Ok(Event::Begin { t, purchase })
-}
-
-/// What comes of these events.
-fn outcomes(alloc: Global, world: &mut SmallWorld, events: &[Event]) -> Result<Vec<Outcome>, Fail> {
-    let mut out = Vec::new(alloc);
-    run(world, events, &mut out)?;
-    Ok(out)
-}
-
-/// A world whose ends were restarted and whose first terminal was loaded.
-fn load_world(alloc: Global) -> Result<SmallWorld, Fail> {
-    let mut world = world(alloc)?;
-    let events = [
-        Event::RestartHost,
-        Event::RestartTerm { t: 1 },
-        Event::RestartTerm { t: 2 },
-        load(1),
-    ];
-    outcomes(alloc, &mut world, &events)?;
-    Ok(world)
-}
-
-/// An event, and what is to come of it.
-type Line = (Event, Outcome);
-
-/// The events of a script.
-fn events_of(alloc: Global, script: &[Line]) -> Result<Vec<Event>, Fail> {
-    let mut events = Vec::new(alloc);
-    for (event, _) in script {
-        events.push(*event)?;
-    }
-    Ok(events)
-}
-
-/// The first place in a script whose outcome did not come of the event beside it, or none where
-/// they all came.
-fn missed_lines(
-    alloc: Global,
-    world: &mut SmallWorld,
-    script: &[Line],
-) -> Result<Option<usize>, Fail> {
-    let events = events_of(alloc, script)?;
-    let found = outcomes(alloc, world, events.as_slice())?;
-    if found.len() != script.len() {
-        return Err("another number of outcomes".into());
-    }
-    for (place, (_, outcome)) in script.iter().enumerate() {
-        if found.get(place) != Some(outcome) {
-            return Ok(Some(place));
-        }
-    }
-    Ok(None)
-}
-
-/// How many requests, answers, owners and terminals a world has.
-fn sizes(world: &SmallWorld) -> [usize; 4] {
-    [
-        world.requests().len(),
-        world.answers().len(),
-        world.owners().len(),
-        world.terminals().len(),
-    ]
-}
-
 /// The first restarts and the load of a terminal.
-fn of_loading() -> [Line; 3] {
+pub fn of_loading() -> [Line; 3] {
     [
         (Event::RestartHost, Outcome::HostUsed(0)),
         (
@@ -129,7 +30,7 @@ fn of_loading() -> [Line; 3] {
 }
 
 /// A payment whose request reaches the host twice.
-fn of_payment() -> Result<[Line; 5], PinFault> {
+pub fn of_payment() -> Result<[Line; 5], PinFault> {
     Ok([
         (
             begin(1)?,
@@ -173,33 +74,36 @@ fn of_payment() -> Result<[Line; 5], PinFault> {
     ])
 }
 
-/// Whether a world misses nothing of two scripts in turn.
-fn misses_nothing(
-    alloc: Global,
-    world: &mut SmallWorld,
-    first: &[Line],
-    second: &[Line],
-) -> Result<[bool; 2], Fail> {
-    let of_first = missed_lines(alloc, world, first)?;
-    let of_second = missed_lines(alloc, world, second)?;
-    Ok([of_first.is_none(), of_second.is_none()])
-}
-
 /// How many frames, owners and terminals a payment leaves behind, and whether its number is used.
-fn of_world(alloc: Global, script: &[Line]) -> Result<([bool; 2], [usize; 4], bool), Fail> {
-    let mut world = world(alloc)?;
-    let nothing = misses_nothing(alloc, &mut world, &of_loading(), script)?;
-    Ok((nothing, sizes(&world), world.host().is_used(ksn(1))))
+pub fn of_world<C: Cell>(
+    alloc: Global,
+    world: &mut WorldOver<C>,
+) -> Result<([bool; 2], [usize; 4], bool), Fail> {
+    let nothing = misses_nothing(alloc, world, &of_loading(), &of_payment()?)?;
+    Ok((nothing, sizes(world), world.host().is_used(ksn(1))))
 }
 
 #[test]
 fn a_payment(rt: HostRuntime) -> Result<(), Fail> {
-    let script = of_payment()?;
+    let mut world = world(rt.alloc())?;
     assert_eq!(rt;
-        of_world(rt.alloc(), &script)?,
+        of_world(rt.alloc(), &mut world)?,
         ([true; 2], [1, 2, 1, 2], true)
     );
     Ok(())
+}
+
+/// A world whose ends were restarted and whose first terminal was loaded.
+fn load_world(alloc: Global) -> Result<SmallWorld, Fail> {
+    let mut world = world(alloc)?;
+    let events = [
+        Event::RestartHost,
+        Event::RestartTerm { t: 1 },
+        Event::RestartTerm { t: 2 },
+        load(1),
+    ];
+    outcomes(alloc, &mut world, &events)?;
+    Ok(world)
 }
 
 /// The initial key serial number of ten zero bytes, of which there is no key set.

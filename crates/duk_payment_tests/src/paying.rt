@@ -1,12 +1,12 @@
-//! Transactions of a terminal over a cell in memory. The first key of its sequence and the
+//! Transactions of a terminal. The first key of its sequence and the
 //! enciphered PIN block are those of ANSI X9.24-1.
 
-use crate::loading::{SmallTerminal, begin_number, load_terminal, purchase};
+use crate::loading::{SmallTerminal, begin_number, load_over, load_terminal, purchase};
 use crate::sample::{RESPONSE, key, ksn};
 use duk_frame::{Code, Frame, mac_text, write_refusal, write_reply};
 use duk_mac::retail;
-use duk_store::StoreFault;
-use duk_term::{Answer, Next, TermFault};
+use duk_store::{Cell, MemCell, StoreFault};
+use duk_term::{Answer, Next, TermFault, Terminal};
 use duk_tree::Ksn;
 use std::test::Fail;
 
@@ -55,13 +55,17 @@ fn other_refusal() -> Frame {
     write_refusal([0; 10], 1)
 }
 
-/// A terminal that has begun at the first number.
-fn pending() -> Result<SmallTerminal, Fail> {
-    let mut terminal = load_terminal()?;
+/// Lets a loaded terminal begin at the first number.
+fn begin_first<C: Cell>(mut terminal: Terminal<C>) -> Result<Terminal<C>, Fail> {
     if begin_number(&mut terminal)? != Some(ksn(1)) {
         return Err("another number".into());
     }
     Ok(terminal)
+}
+
+/// A terminal over a cell in memory that has begun at the first number.
+fn pending() -> Result<SmallTerminal, Fail> {
+    begin_first(load_terminal()?)
 }
 
 /// What is told of a changed reply, of refusals, and twice of the right reply.
@@ -108,8 +112,8 @@ fn cut_answers(rt: HostRuntime) -> Result<(), Fail> {
 
 /// A begin whose write stops after so many steps fails and stops the terminal, and after a restart
 /// this number is used.
-fn of_stopped_begin(
-    terminal: &mut SmallTerminal,
+fn of_stopped_begin<C: Cell>(
+    terminal: &mut Terminal<C>,
     steps: u32,
     next: Ksn,
 ) -> Result<[bool; 5], TermFault> {
@@ -128,17 +132,18 @@ fn of_stopped_begin(
     ])
 }
 
-/// A write that stops at its first step leaves the number, at its second the one behind it.
-fn of_stopped_begins() -> Result<[[bool; 5]; 2], Fail> {
-    let mut terminal = pending()?;
-    let first = of_stopped_begin(&mut terminal, 0, ksn(2))?;
-    let second = of_stopped_begin(&mut terminal, 1, ksn(4))?;
+/// Over this cell, a write that stops after the first of these numbers of steps leaves the number,
+/// one that stops after the second the one behind it.
+pub fn of_stopped_begins<C: Cell>(cell: C, steps: [u32; 2]) -> Result<[[bool; 5]; 2], Fail> {
+    let mut terminal = begin_first(load_over(cell)?)?;
+    let first = of_stopped_begin(&mut terminal, steps[0], ksn(2))?;
+    let second = of_stopped_begin(&mut terminal, steps[1], ksn(4))?;
     Ok([first, second])
 }
 
 #[test]
 fn stops_at_a_begin(rt: HostRuntime) -> Result<(), Fail> {
-    assert_eq!(rt; of_stopped_begins()?, [[true; 5]; 2]);
+    assert_eq!(rt; of_stopped_begins(MemCell::new(), [0, 1])?, [[true; 5]; 2]);
     Ok(())
 }
 

@@ -1,7 +1,7 @@
 //! What the program tells of a run: each fault, output that is lost, and memory that is refused.
 
 use crate::configurations::BANK;
-use crate::network::{SmallWorld, world};
+use crate::worlds::{SmallWorld, world};
 use duk_net::run;
 use duk_program::{Todo, command, run_status};
 use duk_script::{ConfigKey, ScriptFault, outcome_line, parse_script, print_fault, run_script};
