@@ -2,7 +2,9 @@
 use Rattle.std.proofs.Common.{◌≡◌, ◌∷◌, ◌∙◌, ◌⊎◌, [], List, Bool, ap, arith, inl, inr, not, refl, sym, true, false}
 use Rattle.std.proofs.lemmas.Grind.{common_steps}
 use Rattle.std.specs.List.{list_any}
-use Rattle.clap.specs.Words.{IsAmong, Text, fault_of, is_simple_and_free}
+use Rattle.clap.specs.Simple.{HasMatchesOf, is_simple}
+use Rattle.clap.specs.Words.{App, IsAmong, Text, fault_of, is_simple_and_free, subcommand_of, subcommand_rows_of}
+use Rattle.clap.specs.declared.parser.matches.ArgMatches.{ArgMatches}
 use Rattle.clap.specs.declared.error.kind.ErrorKind.{ErrorKind}
 use Rattle.clap.specs.declared.error.kind.ErrorKind.TheVariants.{OutOfMemory}
 use Rattle.duk_words.specs.Asked.{IsToldAs, MayFailBy, StandsFor, is_shown}
@@ -13,6 +15,13 @@ use Rattle.duk_words.specs.declared.request.NoRequest.TheVariants as answer
 -- of this command line `clap` tells which kinds of error may come
 pub is_told_of : is_simple_and_free command_line ≡ true
 is_told_of = refl
+
+-- what is found behind the command that is used is what the words ask for
+pub command_found : (app : App) (words : List Text) (matches : ArgMatches) → app ≡ command_line
+    → HasMatchesOf app words matches
+    → subcommand_rows_of matches ≡ subcommand_of command_line words
+command_found app words matches made has =
+    (has (ap is_simple made)).1 ∙ ap (λ (a : App). subcommand_of a words) made
 
 pub may_fail : (words : List Text) (kind : ErrorKind)
     → (kind ≡ OutOfMemory) ⊎ IsAmong kind (fault_of command_line words) → MayFailBy words kind

@@ -46,6 +46,8 @@ one_request command rows (request.Derive bdk1 ksn1) (request.Unwrap kbpk2 block2
     let same : ◌≡◌ {A = Text} (codes "derive") (codes "unwrap") = sym p.0 ∙ q.0 in grind arith
 one_request command rows (request.Derive bdk1 ksn1) (request.Run config2 script2) flag p q =
     let same : ◌≡◌ {A = Text} (codes "derive") (codes "run") = sym p.0 ∙ q.0 in grind arith
+one_request command rows (request.Derive bdk1 ksn1) (request.Serve config2 log2) flag p q =
+    let same : ◌≡◌ {A = Text} (codes "derive") (codes "serve") = sym p.0 ∙ q.0 in grind arith
 one_request command rows (request.Walk bdk1 iksn1 count1 skip1 alone1) (request.Derive bdk2 ksn2) flag p q =
     let same : ◌≡◌ {A = Text} (codes "walk") (codes "derive") = sym p.0 ∙ q.0 in grind arith
 one_request command rows (request.Walk bdk1 iksn1 count1 skip1 alone1) (request.Walk bdk2 iksn2 count2 skip2 alone2) flag p q =
@@ -62,6 +64,8 @@ one_request command rows (request.Walk bdk1 iksn1 count1 skip1 alone1) (request.
     let same : ◌≡◌ {A = Text} (codes "walk") (codes "unwrap") = sym p.0 ∙ q.0 in grind arith
 one_request command rows (request.Walk bdk1 iksn1 count1 skip1 alone1) (request.Run config2 script2) flag p q =
     let same : ◌≡◌ {A = Text} (codes "walk") (codes "run") = sym p.0 ∙ q.0 in grind arith
+one_request command rows (request.Walk bdk1 iksn1 count1 skip1 alone1) (request.Serve config2 log2) flag p q =
+    let same : ◌≡◌ {A = Text} (codes "walk") (codes "serve") = sym p.0 ∙ q.0 in grind arith
 one_request command rows (request.Pin pin1 pan1 key1) (request.Derive bdk2 ksn2) flag p q =
     let same : ◌≡◌ {A = Text} (codes "pin") (codes "derive") = sym p.0 ∙ q.0 in grind arith
 one_request command rows (request.Pin pin1 pan1 key1) (request.Walk bdk2 iksn2 count2 skip2 alone2) flag p q =
@@ -76,6 +80,8 @@ one_request command rows (request.Pin pin1 pan1 key1) (request.Unwrap kbpk2 bloc
     let same : ◌≡◌ {A = Text} (codes "pin") (codes "unwrap") = sym p.0 ∙ q.0 in grind arith
 one_request command rows (request.Pin pin1 pan1 key1) (request.Run config2 script2) flag p q =
     let same : ◌≡◌ {A = Text} (codes "pin") (codes "run") = sym p.0 ∙ q.0 in grind arith
+one_request command rows (request.Pin pin1 pan1 key1) (request.Serve config2 log2) flag p q =
+    let same : ◌≡◌ {A = Text} (codes "pin") (codes "serve") = sym p.0 ∙ q.0 in grind arith
 one_request command rows (request.Wrap kbpk1 fields1 key1 pad1) (request.Derive bdk2 ksn2) flag p q =
     let same : ◌≡◌ {A = Text} (codes "wrap") (codes "derive") = sym p.0 ∙ q.0 in grind arith
 one_request command rows (request.Wrap kbpk1 fields1 key1 pad1) (request.Walk bdk2 iksn2 count2 skip2 alone2) flag p q =
@@ -90,6 +96,8 @@ one_request command rows (request.Wrap kbpk1 fields1 key1 pad1) (request.Unwrap 
     let same : ◌≡◌ {A = Text} (codes "wrap") (codes "unwrap") = sym p.0 ∙ q.0 in grind arith
 one_request command rows (request.Wrap kbpk1 fields1 key1 pad1) (request.Run config2 script2) flag p q =
     let same : ◌≡◌ {A = Text} (codes "wrap") (codes "run") = sym p.0 ∙ q.0 in grind arith
+one_request command rows (request.Wrap kbpk1 fields1 key1 pad1) (request.Serve config2 log2) flag p q =
+    let same : ◌≡◌ {A = Text} (codes "wrap") (codes "serve") = sym p.0 ∙ q.0 in grind arith
 one_request command rows (request.Unwrap kbpk1 block1) (request.Derive bdk2 ksn2) flag p q =
     let same : ◌≡◌ {A = Text} (codes "unwrap") (codes "derive") = sym p.0 ∙ q.0 in grind arith
 one_request command rows (request.Unwrap kbpk1 block1) (request.Walk bdk2 iksn2 count2 skip2 alone2) flag p q =
@@ -103,6 +111,8 @@ one_request command rows (request.Unwrap kbpk1 block1) (request.Unwrap kbpk2 blo
     (same_word _ block1.now block2.now p.2 q.2)
 one_request command rows (request.Unwrap kbpk1 block1) (request.Run config2 script2) flag p q =
     let same : ◌≡◌ {A = Text} (codes "unwrap") (codes "run") = sym p.0 ∙ q.0 in grind arith
+one_request command rows (request.Unwrap kbpk1 block1) (request.Serve config2 log2) flag p q =
+    let same : ◌≡◌ {A = Text} (codes "unwrap") (codes "serve") = sym p.0 ∙ q.0 in grind arith
 one_request command rows (request.Run config1 script1) (request.Derive bdk2 ksn2) flag p q =
     let same : ◌≡◌ {A = Text} (codes "run") (codes "derive") = sym p.0 ∙ q.0 in grind arith
 one_request command rows (request.Run config1 script1) (request.Walk bdk2 iksn2 count2 skip2 alone2) flag p q =
@@ -116,3 +126,20 @@ one_request command rows (request.Run config1 script1) (request.Unwrap kbpk2 blo
 one_request command rows (request.Run config1 script1) (request.Run config2 script2) flag p q =
     ap₂ (λ (x y : Text). codes "run" ∷ x ∷ y ∷ []) (same_word _ config1.now config2.now p.1 q.1)
     (same_word _ script1.now script2.now p.2 q.2)
+one_request command rows (request.Run config1 script1) (request.Serve config2 log2) flag p q =
+    let same : ◌≡◌ {A = Text} (codes "run") (codes "serve") = sym p.0 ∙ q.0 in grind arith
+one_request command rows (request.Serve config1 log1) (request.Derive bdk2 ksn2) flag p q =
+    let same : ◌≡◌ {A = Text} (codes "serve") (codes "derive") = sym p.0 ∙ q.0 in grind arith
+one_request command rows (request.Serve config1 log1) (request.Walk bdk2 iksn2 count2 skip2 alone2) flag p q =
+    let same : ◌≡◌ {A = Text} (codes "serve") (codes "walk") = sym p.0 ∙ q.0 in grind arith
+one_request command rows (request.Serve config1 log1) (request.Pin pin2 pan2 key2) flag p q =
+    let same : ◌≡◌ {A = Text} (codes "serve") (codes "pin") = sym p.0 ∙ q.0 in grind arith
+one_request command rows (request.Serve config1 log1) (request.Wrap kbpk2 fields2 key2 pad2) flag p q =
+    let same : ◌≡◌ {A = Text} (codes "serve") (codes "wrap") = sym p.0 ∙ q.0 in grind arith
+one_request command rows (request.Serve config1 log1) (request.Unwrap kbpk2 block2) flag p q =
+    let same : ◌≡◌ {A = Text} (codes "serve") (codes "unwrap") = sym p.0 ∙ q.0 in grind arith
+one_request command rows (request.Serve config1 log1) (request.Run config2 script2) flag p q =
+    let same : ◌≡◌ {A = Text} (codes "serve") (codes "run") = sym p.0 ∙ q.0 in grind arith
+one_request command rows (request.Serve config1 log1) (request.Serve config2 log2) flag p q =
+    ap₂ (λ (word : Text) (back : List Text). codes "serve" ∷ word ∷ back)
+    (same_word _ config1.now config2.now p.1 q.1) (same_option (codes "--log") _ log1 log2 p.2 q.2)

@@ -40,6 +40,10 @@ enters_run : Enters (codes "run") (leaf_of (codes "run"))
 unfolding clap_on_literals
 enters_run = record { met = refl; turn = refl; finds = refl }
 
+enters_serve : Enters (codes "serve") (leaf_of (codes "serve"))
+unfolding clap_on_literals
+enters_serve = record { met = refl; turn = refl; finds = refl }
+
 abbrev first_byte : Option Text → ℕ
 first_byte (Some (x ∷ rest)) = x
 first_byte _ = 0
@@ -112,6 +116,29 @@ reads_run : (config script : Bor Text) → IsPlainWord config.now → IsPlainWor
     (request.Run config script)
 unfolding clap_on_literals
 reads_run config script p0 p1 = record {
+  goes = (p0, refl, refl, (p1, refl, refl, tt));
+  quiet = refl;
+  ends = refl;
+  asks = (refl, refl, refl);
+  flagged = inl refl;
+}
+
+reads_serve : (config : Bor Text) → IsPlainWord config.now
+    → IsRead (leaf_of (codes "serve")) (free config ∷ []) (request.Serve config None)
+unfolding clap_on_literals
+reads_serve config p0 = record {
+  goes = (p0, refl, refl, tt);
+  quiet = refl;
+  ends = refl;
+  asks = (refl, refl, refl);
+  flagged = inl refl;
+}
+
+reads_serve_on_a_log : (config log : Bor Text) → IsPlainWord config.now → IsPlainWord log.now
+    → IsRead (leaf_of (codes "serve")) (free config ∷ fixed (codes "--log") ∷ free log ∷ [])
+    (request.Serve config (Some log))
+unfolding clap_on_literals
+reads_serve_on_a_log config log p0 p1 = record {
   goes = (p0, refl, refl, (p1, refl, refl, tt));
   quiet = refl;
   ends = refl;
@@ -242,6 +269,13 @@ all_made program (request.Run config script) plain =
     make program (codes "run") (leaf_of (codes "run")) enters_run
     (free config ∷ free script ∷ []) (request.Run config script)
     (reads_run config script plain.0 plain.1)
+all_made program (request.Serve config None) plain =
+    make program (codes "serve") (leaf_of (codes "serve")) enters_serve
+    (free config ∷ []) (request.Serve config None) (reads_serve config plain.0)
+all_made program (request.Serve config (Some log)) plain =
+    make program (codes "serve") (leaf_of (codes "serve")) enters_serve
+    (free config ∷ fixed (codes "--log") ∷ free log ∷ []) (request.Serve config (Some log))
+    (reads_serve_on_a_log config log plain.0 plain.1)
 all_made program (request.Pin pin pan None) plain =
     make program (codes "pin") (leaf_of (codes "pin")) enters_pin
     (free pin ∷ free pan ∷ []) (request.Pin pin pan None)

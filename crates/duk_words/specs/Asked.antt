@@ -51,6 +51,9 @@ AsksFor command rows (request.Unwrap kbpk block) =
 AsksFor command rows (request.Run config script) =
     (command ≡ codes "run") × (first_of (codes "CONFIG") rows ≡ Some config.now)
     × (first_of (codes "SCRIPT") rows ≡ Some script.now)
+AsksFor command rows (request.Serve config log) =
+    (command ≡ codes "serve") × (first_of (codes "CONFIG") rows ≡ Some config.now)
+    × (first_of (codes "log") rows ≡ option_map (λ word. word.now) log)
 
 -- a command was used, and what was found behind it asks for this
 abbrev pub AsksBehind : Option (Text × List Row) → Request → Type 0

@@ -51,6 +51,10 @@ unwrap_command = command (codes "unwrap")
 abbrev pub run_command : Shape
 run_command = command (codes "run") (word_rule (codes "CONFIG") ∷ word_rule (codes "SCRIPT") ∷ [])
 
+-- serve CONFIG [--log FILE]
+abbrev pub serve_command : Shape
+serve_command = command (codes "serve") (word_rule (codes "CONFIG") ∷ option_rule (codes "log") ∷ [])
+
 -- the program, that some of these commands have been given
 abbrev pub program_of : List Shape → App
 program_of commands = record {
@@ -58,10 +62,10 @@ program_of commands = record {
   subs = commands;
 }
 
--- dukpt, and one of its six commands
+-- dukpt, and one of its seven commands
 abbrev pub command_line : App
 command_line = program_of (derive_command ∷ walk_command ∷ pin_command ∷ wrap_command
-    ∷ unwrap_command ∷ run_command ∷ [])
+    ∷ unwrap_command ∷ run_command ∷ serve_command ∷ [])
 
 -- an argument that has this rule, of its own command alone
 abbrev pub IsArgument : Rule → Arg → Type 0

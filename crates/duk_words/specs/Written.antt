@@ -26,6 +26,8 @@ words_of (request.Wrap kbpk fields key pad) =
     codes "wrap" ∷ kbpk.now ∷ fields.now ∷ key.now ∷ pad.now ∷ []
 words_of (request.Unwrap kbpk block) = codes "unwrap" ∷ kbpk.now ∷ block.now ∷ []
 words_of (request.Run config script) = codes "run" ∷ config.now ∷ script.now ∷ []
+words_of (request.Serve config log) =
+    codes "serve" ∷ config.now ∷ option_words (codes "--log") log
 
 -- a word that begins with no hyphen (45), and so is no option
 abbrev pub IsPlainWord : Text → Type 0
@@ -43,3 +45,5 @@ IsPlain (request.Wrap kbpk fields key pad) = IsPlainWord kbpk.now × IsPlainWord
     × IsPlainWord key.now × IsPlainWord pad.now
 IsPlain (request.Unwrap kbpk block) = IsPlainWord kbpk.now × IsPlainWord block.now
 IsPlain (request.Run config script) = IsPlainWord config.now × IsPlainWord script.now
+IsPlain (request.Serve config log) =
+    IsPlainWord config.now × IfSome log (λ word. IsPlainWord word.now)

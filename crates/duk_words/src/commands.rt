@@ -4,7 +4,8 @@ ghost use Rattle.std.specs.Prelude.{◌≡◌, ◌∷◌, [], IfOk, codes};
 ghost use Rattle.clap.specs.Words.{app_of};
 ghost use Rattle.duk_words.specs.CommandLine.{IsArgument, IsCommand, command, command_line};
 ghost use Rattle.duk_words.specs.CommandLine.{derive_command, flag_rule, option_rule, pin_command};
-ghost use Rattle.duk_words.specs.CommandLine.{program_of, run_command, unwrap_command};
+ghost use Rattle.duk_words.specs.CommandLine.{program_of, run_command, serve_command};
+ghost use Rattle.duk_words.specs.CommandLine.{unwrap_command};
 ghost use Rattle.duk_words.specs.CommandLine.{walk_command, word_rule, wrap_command};
 
 use clap::{Arg, ArgAction, Command};
@@ -14,10 +15,20 @@ use std::alloc::{AllocError, Global};
 pub fn program<'a>(alloc: Global) -> Result<Command<'a>, AllocError>
     ensures { IfOk result (λ made. app_of made ≡ command_line) }
 {
+    secret_commands(alloc)?
+        .subcommand(run_words(alloc)?)?
+        .subcommand(serve_words(alloc)?)
+}
+
+/// The commands over keys, PINs and key blocks.
+fn secret_commands<'a>(alloc: Global) -> Result<Command<'a>, AllocError>
+    ensures { IfOk result (λ made.
+        app_of made ≡ program_of (derive_command ∷ walk_command ∷ pin_command
+        ∷ wrap_command ∷ unwrap_command ∷ [])) }
+{
     key_commands(alloc)?
         .subcommand(wrap_words(alloc)?)?
-        .subcommand(unwrap_words(alloc)?)?
-        .subcommand(run_words(alloc)?)
+        .subcommand(unwrap_words(alloc)?)
 }
 
 /// The commands over keys and PINs.
@@ -124,6 +135,24 @@ fn run_words<'a>(alloc: Global) -> Result<Command<'a>, AllocError>
             alloc,
             "SCRIPT",
             "The file of the script, an event on each line",
+        ))
+}
+
+fn serve_words<'a>(alloc: Global) -> Result<Command<'a>, AllocError>
+    ensures { IfOk result (IsCommand serve_command) }
+{
+    Command::new(alloc, "serve")
+        .about("Answers the request frames of standard input on standard output")
+        .arg(word(
+            alloc,
+            "CONFIG",
+            "The file of the host's configuration, in TOML",
+        ))?
+        .arg(value(
+            alloc,
+            "log",
+            "FILE",
+            "Keeps the used numbers in this file, which has to be there, and not in memory",
         ))
 }
 

@@ -69,6 +69,13 @@ pub enum Request<'a> {
         /// The path of the script.
         script: &'a str,
     },
+    /// A host that answers the frames of its input.
+    Serve {
+        /// The path of the configuration.
+        config: &'a str,
+        /// The path of the log of used numbers, or none for a log in memory.
+        log: Option<&'a str>,
+    },
 }
 
 /// What stands in place of a request.
@@ -122,6 +129,7 @@ fn request_of<'a>(matches: &ArgMatches<'a>) -> Option<Request<'a>>
         ("wrap", found) => wrap_request(found),
         ("unwrap", found) => unwrap_request(found),
         ("run", found) => run_request(found),
+        ("serve", found) => serve_request(found),
         _ => None,
     }
 }
@@ -208,6 +216,19 @@ fn run_request<'a>(found: &ArgMatches<'a>) -> Option<Request<'a>>
     let config = found.get_str("CONFIG")?;
     let script = found.get_str("SCRIPT")?;
     Some(Request::Run { config, script })
+}
+
+#[tactic(auto, using(crate::proofs::FoundRows::by_rows))]
+fn serve_request<'a>(found: &ArgMatches<'a>) -> Option<Request<'a>>
+    ensures asks { IfSome result (AsksFor (codes "serve") (rows_of (found_of found.now))) }
+    ensures all { (request : Request)
+        → AsksFor (codes "serve") (rows_of (found_of found.now)) request → IsSome result }
+{
+    let config = found.get_str("CONFIG")?;
+    Some(Request::Serve {
+        config,
+        log: found.get_str("log"),
+    })
 }
 
 /// What `clap` tells with an error: that memory was refused, or a text for the user.

@@ -1,12 +1,15 @@
-use Rattle.std.proofs.Common.{rules, inr, [], ap, ◌≡◌, ◌∙◌, sym, subst}
+use Rattle.std.proofs.Common.{arith, false, true, rules, inr, [], ap, List, Option, ◌≡◌, ◌∙◌, sym, subst}
 use Rattle.clap.specs.Values.{kind_of}
 use Rattle.clap.specs.Kinds.{HasKind}
-use Rattle.clap.specs.Words.{App, app_of, fault_of, is_simple_and_free}
-use Rattle.duk_words.specs.Asked.{AskForNothing, MayFailBy, texts_of}
+use Rattle.clap.specs.Words.{App, Row, Text, app_of, fault_of, is_simple_and_free, subcommand_of, subcommand_rows_of}
+use Rattle.duk_words.specs.Asked.{AskForNothing, AsksBehind, MayFailBy, texts_of}
 use Rattle.clap.specs.declared.error.kind.ErrorKind.TheVariants.{MissingSubcommand}
 use Rattle.duk_words.specs.CommandLine.{command_line}
-use Rattle.duk_words.proofs.Failures.{is_told_of, may_fail}
+use Rattle.duk_words.proofs.Failures.{command_found, is_told_of, may_fail}
 use Rattle.duk_words.proofs.request.match_words.Goals as goal
+
+true_is_not_false : false ≡ true → ⊥
+true_is_not_false same = grind arith
 
 pub returns-in_err-matches-clause-fails : goal.returns-in_err-matches-clause-fails
 returns-in_err-matches-clause-fails c =
@@ -19,6 +22,14 @@ returns-in_err-matches-clause-fails c =
     let fails : MayFailBy (texts_of c.args.words.now) (kind_of c.in_err-matches.field-0.0) =
     may_fail (texts_of c.args.words.now) (kind_of c.in_err-matches.field-0.0) told in
     search rules
+
+pub returns-in-Some-clause-asks : goal.returns-in-Some-clause-asks
+returns-in-Some-clause-asks c =
+    let made : app_of c.in_ok-program.program ≡ command_line = c.in_ok-program.ensures in
+    let found : subcommand_rows_of c.in_ok-matches.matches
+    ≡ subcommand_of command_line (texts_of c.args.words.now) =
+    command_found _ _ c.in_ok-matches.matches made c.in_ok-matches.ensures.ok.2 in
+    subst (λ (used : Option (Text × List Row)). AsksBehind used c.in-Some.request) found c.in-Some.ensures.asks
 
 pub returns-in-Some-clause-taken : goal.returns-in-Some-clause-taken
 returns-in-Some-clause-taken c =
@@ -33,5 +44,10 @@ returns-clause-fails c =
     sym (ap (λ (app : App). fault_of app (texts_of c.args.words.now)) made)
     ∙ c.in_ok-matches.ensures.kinds (ap is_simple_and_free made ∙ is_told_of) in
     let missing : kind_of c.in_ok-error-in-None.field-0 ≡ MissingSubcommand = search rules in
-    let asks : AskForNothing (texts_of c.args.words.now) = search rules in
+    let found : subcommand_rows_of c.in_ok-matches.matches
+    ≡ subcommand_of command_line (texts_of c.args.words.now) =
+    command_found _ _ c.in_ok-matches.matches made c.in_ok-matches.ensures.ok.2 in
+    let asks : AskForNothing (texts_of c.args.words.now) = λ request asked.
+    true_is_not_false (c.in-None.ensures.all request
+    (subst (λ (used : Option (Text × List Row)). AsksBehind used request) (sym found) asked)) in
     inr (inr (missing, (none, asks)))
