@@ -18,7 +18,7 @@ pub struct Config {
     pub terminals: u32,
     /// How many numbers the log of used numbers has room for: 1 to 100,000.
     pub log: u32,
-    /// Whether the terminals' cells are on disks, or in memory. The log is in memory.
+    /// Whether the terminals' cells and the host's log are on disks, or in memory.
     pub disk: bool,
     /// The base derivation keys, 1 to 8, each behind the first five bytes of the key serial numbers
     /// that it is for, which differ.

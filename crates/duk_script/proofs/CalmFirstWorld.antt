@@ -1,33 +1,38 @@
--- The first world over stores in memory, and the restarts of its ends.
-use Rattle.std.proofs.Common.{◌≡◌, ◌+◌, ◌≤◌, [], ℕ, zero, suc, List, length, inl, refl, sym, ap, subst, ◌∙◌, arith}
+-- The first world over new stores, and the restarts of its ends.
+use Rattle.std.proofs.Common.{◌≡◌, ◌+◌, ◌≤◌, [], ℕ, zero, suc, List, length, replicate, inl, refl, sym, ap, subst, ◌∙◌, arith}
 use Rattle.std.specs.List.{All}
+use Rattle.std.proofs.lemmas.List.{length-replicate}
 use Rattle.std.proofs.lemmas.List.Elements.{All-nil, All-cons, All-push, All-weaker, All-get_or}
 use Rattle.std.proofs.lemmas.Option.{get_or_from_slice_get, slice_get_within}
 use Rattle.duk_config.specs.Settings.{Settings}
+use Rattle.duk_host.specs.Host.{HostOf}
+use Rattle.duk_host.specs.Table.{CardTable, table_decision}
 use Rattle.duk_net.specs.Calm.{FailsOnceArmed, HasSoundCell, HasSoundStores, IsBroughtUp, IsCalmAt, IsRestart, TellsNoDamage}
-use Rattle.duk_net.specs.First.{IsNewHost, IsNewTerminal}
+use Rattle.duk_net.specs.First.{IsNewHost, IsNewTerminal, first_world}
 use Rattle.duk_net.specs.Reached.{CallLeads, Reached}
 use Rattle.duk_net.specs.Run.{IsRun, Run}
-use Rattle.duk_net.specs.World.{IsAt, Meanings, WorldOf}
+use Rattle.duk_net.specs.World.{IsAt, Meanings, WorldOf, meanings_of}
 use Rattle.duk_net.specs.declared.event.End.{End}
 use Rattle.duk_net.specs.declared.event.End.TheVariants as ends
 use Rattle.duk_net.specs.declared.event.Event.{Event}
 use Rattle.duk_net.specs.declared.event.Event.TheVariants.{RestartHost, RestartTerm}
 use Rattle.duk_net.specs.declared.outcome.Outcome.{Outcome}
 use Rattle.duk_store.specs.Cell.{CellMeaning}
+use Rattle.duk_store.specs.Log.{LogMeaning}
+use Rattle.duk_store.specs.StoreState.{IsNew}
 use Rattle.duk_term.specs.Terminal.{TerminalOf}
-use Rattle.duk_script.specs.Opening.{HasNewCell, IsOpened, StartsCalm, new_host_of, new_world_of, opening, with_cells}
+use Rattle.duk_script.specs.Opening.{HasNewCell, IsOpened, StartsCalm, new_host_of, new_world_of, opening}
 use Rattle.duk_script.specs.Play.{ArePlayedIn}
 
 -- terminals over new cells are newly made
-pub new_terminals : {C : Type 0} (cells : CellMeaning C) (terminals : List (TerminalOf C)) → All (HasNewCell cells) terminals → All (IsNewTerminal (with_cells cells)) terminals
-new_terminals cells terminals cells_new = All-weaker (HasNewCell cells) (IsNewTerminal (with_cells cells))
+pub new_terminals : {C L : Type 0} (cells : CellMeaning C) (log : LogMeaning L) (terminals : List (TerminalOf C)) → All (HasNewCell cells) terminals → All (IsNewTerminal (meanings_of cells log table_decision)) terminals
+new_terminals cells log terminals cells_new = All-weaker (HasNewCell cells) (IsNewTerminal (meanings_of cells log table_decision))
     (λ terminal is. record { stopped = is.stopped; cell = record { honest = is.cell.honest; finds = is.cell.finds } }) terminals cells_new
 
-module _ {C : Type 0} (cells : CellMeaning C) (config : Settings) (terminals : List (TerminalOf C)) (cells_new : All (HasNewCell cells) terminals) where
-  -- a log in memory is made honest, sound and calm, and keeps nothing
-  pub new_host : IsNewHost (with_cells cells) (new_host_of config)
-  new_host = record { stopped = refl; log = record { honest = tt; finds = λ other. ((λ is. is), (λ is. is)) } }
+module _ {C L : Type 0} (cells : CellMeaning C) (logs : LogMeaning L) (config : Settings) (log : L) (terminals : List (TerminalOf C)) (log_new : IsNew (logs.state_of log) []) (cells_new : All (HasNewCell cells) terminals) where
+  -- a host over a new log is newly made
+  pub new_host : IsNewHost (meanings_of cells logs table_decision) (new_host_of config log)
+  new_host = record { stopped = refl; log = record { honest = log_new.honest; finds = log_new.finds } }
 
   -- the terminal of a number has a new cell
   one_of : (t : ℕ) (terminal : TerminalOf C) → IsAt terminals t terminal → HasNewCell cells terminal
@@ -35,16 +40,31 @@ module _ {C : Type 0} (cells : CellMeaning C) (config : Settings) (terminals : L
       (All-get_or (HasNewCell cells) terminals at.place terminal (slice_get_within terminals at.place terminal at.thing_is) cells_new)
 
   -- new stores are calm
-  calm_at : (end : End) → IsCalmAt (with_cells cells) (new_world_of config terminals) end
-  calm_at ends.Host = refl
+  calm_at : (end : End) → IsCalmAt (meanings_of cells logs table_decision) (new_world_of config log terminals) end
+  calm_at ends.Host = log_new.calm
   calm_at (ends.Term t) = λ terminal at. (one_of t terminal at).cell.calm
 
-  pub starts_calm : StartsCalm (with_cells cells) (new_world_of config terminals)
+  pub starts_calm : StartsCalm (meanings_of cells logs table_decision) (new_world_of config log terminals)
   starts_calm = record {
-    is_first = record { host = new_host; terminals = new_terminals cells terminals cells_new; no_requests = refl; no_answers = refl; no_owners = refl };
-    sound = record { log = tt; cells = All-weaker (HasNewCell cells) (HasSoundCell (with_cells cells)) (λ terminal is. is.cell.sound) terminals cells_new };
+    is_first = record { host = new_host; terminals = new_terminals cells logs terminals cells_new; no_requests = refl; no_answers = refl; no_owners = refl };
+    sound = record { log = log_new.sound; cells = All-weaker (HasNewCell cells) (HasSoundCell (meanings_of cells logs table_decision)) (λ terminal is. is.cell.sound) terminals cells_new };
     calm = calm_at;
   }
+
+  -- so does a world that is made of them
+  pub made_calm : (host : HostOf L CardTable) (loading : List ℕ) (world : WorldOf C L CardTable) → host ≡ new_host_of config log → loading ≡ config.loading
+      → world ≡ first_world host loading terminals → StartsCalm (meanings_of cells logs table_decision) world
+  made_calm host loading world host_is loading_is world_is = rw (world_is, host_is, loading_is) starts_calm
+
+  -- and one of such a log and such terminals
+  pub calm_as : (log_as : L) (terminals_as : List (TerminalOf C)) → log ≡ log_as → terminals ≡ terminals_as → StartsCalm (meanings_of cells logs table_decision) (new_world_of config log_as terminals_as)
+  calm_as log_as terminals_as log_is terminals_are = rw (← log_is, ← terminals_are) starts_calm
+
+-- how many terminals a world has that is made of so many
+pub count_made : {C L I : Type 0} (host : HostOf L I) (loading : List ℕ) (terminals : List (TerminalOf C)) (world : WorldOf C L I) (count : ℕ) (terminal : TerminalOf C)
+    → terminals ≡ replicate count terminal → world ≡ first_world host loading terminals → length world.terminals ≡ count
+count_made {C} {L} {I} host loading terminals world count terminal terminals_are world_is =
+    ap (λ (w : WorldOf C L I). length w.terminals) world_is ∙ ap (λ (list : List (TerminalOf C)). length list) terminals_are ∙ length-replicate count terminal
 
 -- the opening restarts ends that are there
 restarts_are : {C L I : Type 0} (first : WorldOf C L I) (count : ℕ) → count ≤ length first.terminals → All (IsRestart first) (opening count)
@@ -69,13 +89,11 @@ brings_up m first opened outcomes up starts run =
       brought_up = up first opened (opening (length first.terminals)) outcomes reached starts.sound starts.calm there run;
     }
 
--- and so are those of a world that was made over new stores
-pub brought_up : {C L I : Type 0} (m : Meanings C L I) (made first opened : WorldOf C L I) (count : ℕ) (events : List Event) (before after : List Outcome) → BringUp m
-    → StartsCalm m first → made ≡ first → length first.terminals ≡ count → events ≡ opening count → IsRun m made events before after opened
-    → IsOpened m first opened
-brought_up m made first opened count events before after up starts made_is counted events_are run =
-    brings_up m first opened run.outcomes up starts
-    (subst (λ list. Run m first list run.outcomes opened) (events_are ∙ ap opening (sym counted)) (subst (λ world. Run m world events run.outcomes opened) made_is run.run))
+-- and so they are by a run of so many restarts as it has ends
+pub brought_up : {C L I : Type 0} (m : Meanings C L I) (first opened : WorldOf C L I) (count : ℕ) (events : List Event) (before after : List Outcome) → BringUp m
+    → StartsCalm m first → length first.terminals ≡ count → events ≡ opening count → IsRun m first events before after opened → IsOpened m first opened
+brought_up m first opened count events before after up starts counted events_are run =
+    brings_up m first opened run.outcomes up starts (subst (λ list. Run m first list run.outcomes opened) (events_are ∙ ap opening (sym counted)) run.run)
 
 -- what the laws of worlds say of calls, and of restarts of ends that are there
 pub record CallLaws {C L I : Type 0} (m : Meanings C L I) : Type 0 where

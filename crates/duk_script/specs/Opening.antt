@@ -3,39 +3,35 @@ use Rattle.std.specs.Prelude.{◌≡◌, ◌+◌, ◌++◌, ◌∷◌, zero, suc
 use Rattle.duk_config.specs.Opened.{keys_for}
 use Rattle.duk_config.specs.Settings.{Settings}
 use Rattle.duk_host.specs.Host.{HostOf}
-use Rattle.duk_host.specs.Table.{CardTable, table_decision}
+use Rattle.duk_host.specs.Table.{CardTable}
 use Rattle.duk_net.specs.Calm.{HasSoundStores, IsBroughtUp, IsCalmAt}
 use Rattle.duk_net.specs.First.{IsFirst, first_world}
 use Rattle.duk_net.specs.Run.{Run}
-use Rattle.duk_net.specs.World.{Meanings, WorldOf, meanings_of}
+use Rattle.duk_net.specs.World.{Meanings, WorldOf}
 use Rattle.duk_net.specs.declared.event.End.{End}
 use Rattle.duk_net.specs.declared.event.Event.{Event}
 use Rattle.duk_net.specs.declared.event.Event.TheVariants.{RestartHost, RestartTerm}
 use Rattle.duk_net.specs.declared.outcome.Outcome.{Outcome}
 use Rattle.duk_store.specs.Cell.{CellMeaning}
-use Rattle.duk_store.specs.MemoryLog.{MemoryLog, memory_log_meaning, new_log}
 use Rattle.duk_store.specs.StoreState.{IsNew}
 use Rattle.duk_tdes.specs.KeyBytes.{bytes_of}
 use Rattle.duk_term.specs.Terminal.{TerminalOf}
 use Rattle.duk_term.specs.declared.state.State.TheVariants.{Stopped}
 
--- the host of a configuration over a log in memory, as it is made
-abbrev pub new_host_of : Settings → HostOf MemoryLog CardTable
-new_host_of config = record {
+-- the host of a configuration over this log, as it is made
+abbrev pub new_host_of : {L : Type 0} → Settings → L → HostOf L CardTable
+new_host_of config log = record {
   keys = keys_for (bytes_of config.lmk) config;
   issuer = record { zone = bytes_of config.zone; cards = config.cards };
-  log = new_log config.log;
+  log = log;
   state = None;
 }
 
--- the world of a configuration with these terminals, as it is made
-abbrev pub new_world_of : {C : Type 0} → Settings → List (TerminalOf C)
-    → WorldOf C MemoryLog CardTable
-new_world_of config terminals = first_world (new_host_of config) config.loading terminals
-
--- what the stores and the issuer of such a world mean, by what its terminals' cells mean
-abbrev pub with_cells : {C : Type 0} → CellMeaning C → Meanings C MemoryLog CardTable
-with_cells cells = meanings_of cells memory_log_meaning table_decision
+-- the world of a configuration with this log and these terminals, as it is made
+abbrev pub new_world_of : {C L : Type 0} → Settings → L → List (TerminalOf C)
+    → WorldOf C L CardTable
+new_world_of config log terminals =
+    first_world (new_host_of config log) config.loading terminals
 
 -- a stopped terminal over a cell as it is made, which is honest, sound and calm and keeps nothing
 pub record HasNewCell {C : Type 0} (meaning : CellMeaning C) (terminal : TerminalOf C)

@@ -10,9 +10,10 @@ use Rattle.duk_net.specs.Run.{Run}
 use Rattle.duk_net.specs.World.{Meanings, WorldOf}
 use Rattle.duk_net.specs.declared.event.Event.{Event}
 use Rattle.duk_net.specs.declared.outcome.Outcome.{Outcome}
-use Rattle.duk_script.specs.OnDisk.{DiskWorld, new_disk_terminal, on_disk}
+use Rattle.duk_script.specs.OnDisk.{DiskWorld, new_disk_terminal, new_log_on_disk, on_disk}
 use Rattle.duk_script.specs.Opening.{IsOpened, StartsCalm, new_world_of}
 use Rattle.duk_script.specs.OutcomeText.{lines_of}
+use Rattle.duk_store.specs.MemoryLog.{new_log}
 
 -- events have these outcomes in a first world, once its ends were brought up. Its stores were
 -- honest, sound and calm
@@ -33,11 +34,13 @@ HaveOutcomes {C} {L} {I} m start events outcomes =
 
 -- the world of a configuration over stores in memory, as it is made
 abbrev pub new_memory_world : Settings → MemoryWorld
-new_memory_world config = new_world_of config (replicate config.terminals new_terminal)
+new_memory_world config =
+    new_world_of config (new_log config.log) (replicate config.terminals new_terminal)
 
--- the world of a configuration whose terminals have their cells on disks, as it is made
+-- the world of a configuration over stores on disks, as it is made
 abbrev pub new_disk_world : Settings → DiskWorld
-new_disk_world config = new_world_of config (replicate config.terminals new_disk_terminal)
+new_disk_world config = new_world_of config (new_log_on_disk config.log)
+    (replicate config.terminals new_disk_terminal)
 
 -- the events of a script have these outcomes in the world of a configuration: over disks, or over
 -- stores in memory

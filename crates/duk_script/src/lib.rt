@@ -6,6 +6,7 @@ mod fault_line;
 mod fault_name;
 pub mod laws;
 mod line;
+mod logs;
 mod opening;
 mod outcome_lines;
 mod outcome_text;

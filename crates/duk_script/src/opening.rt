@@ -1,28 +1,28 @@
 //! The world of a configuration, its ends brought up.
 
-ghost use Rattle.std.specs.Prelude.{◌≡◌, All, IfOk, IfErr, length};
-ghost use Rattle.duk_net.specs.First.{IsNewTerminal};
+ghost use Rattle.std.specs.Prelude.{◌≡◌, IfOk, IfErr, OnOk, length};
 ghost use Rattle.duk_net.specs.InMemory.{in_memory};
+ghost use Rattle.duk_net.specs.World.{meanings_of};
 ghost use Rattle.duk_script.specs.OnDisk.{on_disk};
-ghost use Rattle.duk_script.specs.Opening.{HasNewCell, IsOpened, StartsCalm, new_world_of, opening, with_cells};
+ghost use Rattle.duk_script.specs.Opening.{IsOpened, StartsCalm, new_host_of, opening};
 ghost use Rattle.duk_script.specs.Play.{new_disk_world, new_memory_world};
 ghost use Rattle.duk_tdes.specs.KeyBytes.{bytes_of};
 ghost use Rattle.duk_tdes.specs.Tdes.{IsTdesLength};
 
+use crate::logs::{LogOnDisk, disk_log, memory_log};
 use crate::terminals::{DiskCell, disk_terminals, memory_terminals};
 use duk_config::{Config, ScriptFault, open_hsm};
-use duk_host::{Host, TableIssuer};
+use duk_host::{Host, Issuer, TableIssuer};
 use duk_net::{Event, World, run};
-use duk_store::{Cell, MemCell, MemLog};
+use duk_store::{Cell, MemCell, MemLog, UsedLog};
 use duk_tdes::Key;
-use duk_term::Terminal;
 use std::alloc::Global;
 
 /// A world over stores in memory, whose host asks a table of cards.
 pub(crate) type MemoryWorld<const N: usize> = World<N, MemCell, MemLog, TableIssuer>;
 
-/// A world whose terminals have their cells on disks, and whose host asks a table of cards.
-pub(crate) type DiskWorld<const N: usize> = World<N, DiskCell, MemLog, TableIssuer>;
+/// A world over stores on disks in memory, whose host asks a table of cards.
+pub(crate) type DiskWorld<const N: usize> = World<N, DiskCell, LogOnDisk, TableIssuer>;
 
 /// The world of a configuration over stores in memory, with its ends brought up. Refused with
 /// `NoMemory`.
@@ -37,12 +37,17 @@ pub(crate) fn open_in_memory<const N: usize>(
     ensures opened { IfOk result (IsOpened in_memory (new_memory_world config)) }
     ensures refused { IfErr result (λ why. why ≡ ScriptFault.NoMemory) }
 {
-    let terminals = memory_terminals(alloc, config.terminals)?;
-    open_world(alloc, lmk, config, terminals)
+    let (count, loading) = (config.terminals, config.loading);
+    let terminals = memory_terminals(alloc, count)?;
+    let log = memory_log(alloc, config.log)?;
+    let host = new_host(alloc, lmk, config, log);
+    let mut world = World::new(alloc, host, loading, terminals);
+    bring_up(alloc, &mut world, count)?;
+    Ok(world)
 }
 
-/// The world of a configuration whose terminals have their cells on disks, with its ends brought
-/// up. Refused with `NoMemory`.
+/// The world of a configuration over stores on disks in memory, with its ends brought up. Refused
+/// with `NoMemory`.
 pub(crate) fn open_on_disk<const N: usize>(
     alloc: Global,
     lmk: &Key<N>,
@@ -54,35 +59,48 @@ pub(crate) fn open_on_disk<const N: usize>(
     ensures opened { IfOk result (IsOpened on_disk (new_disk_world config)) }
     ensures refused { IfErr result (λ why. why ≡ ScriptFault.NoMemory) }
 {
-    let terminals = disk_terminals(alloc, config.terminals)?;
-    open_world(alloc, lmk, config, terminals)
+    let (count, loading) = (config.terminals, config.loading);
+    let terminals = disk_terminals(alloc, count)?;
+    let log = disk_log(alloc, config.log)?;
+    let host = new_host(alloc, lmk, config, log);
+    let mut world = World::new(alloc, host, loading, terminals);
+    bring_up(alloc, &mut world, count)?;
+    Ok(world)
 }
 
-/// The world of a configuration with these new terminals, its ends brought up. Refused with
-/// `NoMemory`.
-#[tactic(auto, using(crate::proofs::CalmFirstWorld::new_terminals))]
-fn open_world<const N: usize, C: Cell>(
+/// The host of a configuration over this log, as it is made.
+fn new_host<const N: usize, L: UsedLog>(
     alloc: Global,
     lmk: &Key<N>,
     config: Config,
-    terminals: Vec<Terminal<C>>,
-) -> Result<World<N, C, MemLog, TableIssuer>, ScriptFault>
+    log: L,
+) -> Host<N, L, TableIssuer>
     requires length { IsTdesLength N }
     requires lmk { lmk.now ≡ bytes_of config.lmk }
-    requires terminals { All (HasNewCell C.meaning) terminals.items }
-    requires count { length terminals.items ≡ config.terminals }
-    ensures starts { IfOk result
-        (λ _. StartsCalm (with_cells C.meaning) (new_world_of config terminals.items)) }
-    ensures opened { IfOk result
-        (IsOpened (with_cells C.meaning) (new_world_of config terminals.items)) }
+    ensures { result ≡ new_host_of config log }
+{
+    let hsm = open_hsm(lmk, &config).unwrap();
+    let issuer = TableIssuer::new(config.zone, config.cards);
+    Host::new(alloc, hsm, issuer, log)
+}
+
+/// Brings the host and all terminals of a new world up. Refused with `NoMemory`.
+fn bring_up<const N: usize, C: Cell, L: UsedLog, I: Issuer>(
+    alloc: Global,
+    world: &mut World<N, C, L, I>,
+    terminals: u32,
+) -> Result<(), ScriptFault>
+    requires starts { StartsCalm (meanings_of C.meaning L.meaning I.decides) world.old }
+    requires count { length world.old.terminals ≡ terminals }
+    ensures opened { OnOk result
+        (IsOpened (meanings_of C.meaning L.meaning I.decides) world.old world.new) }
     ensures refused { IfErr result (λ why. why ≡ ScriptFault.NoMemory) }
 {
-    let events = restarts(alloc, config.terminals)?;
-    let mut world = new_world(alloc, lmk, config, terminals)?;
-    duk_net::laws::calm_restarts::<C, MemLog, TableIssuer>();
+    let events = restarts(alloc, terminals)?;
+    duk_net::laws::calm_restarts::<C, L, I>();
     let mut outcomes = Vec::new(alloc);
-    match run(&mut world, events.as_slice(), &mut outcomes) {
-        Ok(()) => Ok(world),
+    match run(world, events.as_slice(), &mut outcomes) {
+        Ok(()) => Ok(()),
         Err(_) => Err(ScriptFault::NoMemory),
     }
 }
@@ -98,27 +116,4 @@ fn restarts(alloc: Global, terminals: u32) -> Result<Vec<Event>, ScriptFault>
         events.push(Event::RestartTerm { t: t + 1 })?;
     }
     Ok(events)
-}
-
-/// The world of a configuration with these new terminals, as it is made. Refused with `NoMemory`.
-fn new_world<const N: usize, C: Cell>(
-    alloc: Global,
-    lmk: &Key<N>,
-    config: Config,
-    terminals: Vec<Terminal<C>>,
-) -> Result<World<N, C, MemLog, TableIssuer>, ScriptFault>
-    requires length { IsTdesLength N }
-    requires lmk { lmk.now ≡ bytes_of config.lmk }
-    requires terminals { All (IsNewTerminal (with_cells C.meaning)) terminals.items }
-    ensures made { IfOk result (λ world. world ≡ new_world_of config terminals.items) }
-    ensures refused { IfErr result (λ why. why ≡ ScriptFault.NoMemory) }
-{
-    let hsm = open_hsm(lmk, &config).unwrap();
-    let Ok(log) = MemLog::new(alloc, config.log as usize) else {
-        return Err(ScriptFault::NoMemory);
-    };
-    let loading = config.loading;
-    let issuer = TableIssuer::new(config.zone, config.cards);
-    let host = Host::new(alloc, hsm, issuer, log);
-    Ok(World::new(alloc, host, loading, terminals))
 }

@@ -45,9 +45,9 @@ pub fn run_script<R: Source, W: Sink>(
     play_script(alloc, config, reader, writer)
 }
 
-/// Plays a script under a configuration, over stores that are newly made: terminals' cells on disks
-/// in memory or in memory itself, as the configuration says, and a log in memory. Writes a line for
-/// what comes of each event. Every end is restarted first, without a line.
+/// Plays a script under a configuration, over stores that are newly made: on disks in memory, or in
+/// memory itself, as the configuration says. Writes a line for what comes of each event. Every end
+/// is restarted first, without a line.
 ///
 /// Refused with the first of these: `CannotRead`, where a read of the script failed; `TooLong`,
 /// above 1,048,576 bytes; `NotAnEvent`, of its first bad line; and then nothing is written. After

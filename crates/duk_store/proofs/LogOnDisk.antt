@@ -1,12 +1,14 @@
 -- The meaning of a log on a disk, from what its disk may leave.
-use Rattle.std.proofs.Common.{◌≡◌, ◌≢◌, ◌⊎◌, ◌↔◌, inl, inr, ℕ, zero, suc, ◌+◌, ◌*◌, ◌<◌, ◌≤◌, List, [], ◌∷◌, ◌++◌, Some, None, length, take, drop, replicate, refl, sym, ◌∙◌, ap, subst, arith, length-append}
+use Rattle.std.proofs.Common.{◌≡◌, ◌≢◌, ◌⊎◌, ◌↔◌, inl, inr, ℕ, zero, suc, ◌+◌, ◌*◌, ◌<◌, ◌≤◌, List, [], ◌∷◌, ◌++◌, false, Some, None, length, get_or, take, drop, replicate, refl, sym, ◌∙◌, ap, subst, arith, length-append}
 use Rattle.std.proofs.lemmas.Bool.{cases_eq, cases_lt}
+use Rattle.std.proofs.lemmas.Grind.{same_number_lists}
 use Rattle.std.proofs.lemmas.List.{drop_at, get_or-drop, get_or-replicate, get_or-take, get_or_past, length-replicate, take_at}
 use Rattle.std.specs.List.{slice_get}
 use Rattle.duk_tree.specs.Serial.{IsSerial, Serial, serial_bytes, serial_of_bytes}
 use Rattle.duk_store.specs.Disk.{DiskMeaning, DiskState, KeepsDisk, LeavesItsSize, LeavesWithin, ReadsMayStay}
 use Rattle.duk_store.specs.DiskLog.{ChangesRecord, CountFailed, DiskLogOf, IsBlankLogDisk, IsDamagedLog, IsLogOpen, IsLogUp, IsRecordRead, IsRecordTorn, IsRecordWritten, IsSoundLogDisk, KnowsCount, LogUpFailed, MayFindNumbers, disk_log_meaning, disk_log_state, is_log_running}
 use Rattle.duk_store.specs.Log.{AppendFailed, IsAppended, IsReadAt, LogRestarted, Numbers, OldOrAppended}
+use Rattle.duk_store.specs.MemoryDisk.{memory_disk_state, new_disk}
 use Rattle.duk_store.specs.Records.{HasNumber, IsLog, IsLogSize, KeepsNumbers, number_bytes, number_in, numbers_in, record_at}
 use Rattle.duk_store.specs.Restart.{RestartFailed}
 use Rattle.duk_store.specs.Slots.{IsOpen, behind_gate, gate_of}
@@ -97,6 +99,27 @@ new_log_is disk blank = record {
   stopped = refl;
   finds = finds_list disk (replicate disk.size 0) 0 blank.zeros (zeros_are_log disk.size);
 }
+
+-- a new disk in memory, of so many records, is blank
+pub new_records_are_blank : (records : ℕ) → 1 ≤ records → IsBlankLogDisk (memory_disk_state (new_disk (16 * records)))
+new_records_are_blank records some =
+    let size : length (replicate (16 * records) 0) ≡ 16 * records = length-replicate (16 * records) 0 in
+    record {
+      honest = record {
+        synced_length = refl;
+        wanted_length = refl;
+        unsynced_length = length-replicate (16 * records) false ∙ sym size;
+        reads_synced = λ place none. refl;
+        wanted_synced = λ place none. refl;
+      };
+      calm = record { not_armed = refl; no_single_failure = refl };
+      size = (records, some, size);
+      zeros = λ bytes. (
+        (λ could. same_number_lists bytes (replicate (length (replicate (16 * records) 0)) 0) (could.same_length ∙ sym (length-replicate (length (replicate (16 * records) 0)) 0))
+            (λ place less. could.as_synced place (get_or-replicate (16 * records) place false false (omega (arith, less, could.same_length, size))) ∙ ap (λ (count : ℕ). get_or (replicate count 0) place 0) (sym size))),
+        (λ is. record { same_length = ap length is ∙ length-replicate (length (replicate (16 * records) 0)) 0; as_synced = λ place none. ap (λ (l : List ℕ). get_or l place 0) (is ∙ ap (λ (count : ℕ). replicate count 0) size) }),
+      );
+    }
 
 -- a log is brought up
 pub counted_up : (old mid new : DiskState) (why : StoreFault) → IsLogOpen old mid → CountFailed mid new why → LogUpFailed old new why

@@ -42,5 +42,6 @@ pub use medium_disk::MediumDisk;
 pub use memory_cell::MemCell;
 pub use memory_disk::{Filling, MemDisk};
 pub use memory_log::MemLog;
+pub use record::RECORD_LENGTH;
 pub use slot::CELL_DISK_SIZE;
 pub use slot_cell::SlotCell;
