@@ -1,2 +1,3 @@
 mod FaultIsTold
+mod Results
 mod WrittenStaysWritten

@@ -1,5 +1,10 @@
+pub mod Configured
 pub mod Files
+pub mod HostSize
+pub mod LogFiles
 pub mod Run
 pub mod RunFiles
+pub mod Serve
+pub mod ServeFiles
 pub mod Status
 pub mod Told

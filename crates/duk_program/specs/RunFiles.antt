@@ -1,12 +1,12 @@
 -- What `run` answers over files (this project's own, over the sessions of a script). Where files
 -- make nothing known, what they hold may be any bytes.
-use Rattle.std.specs.Prelude.{◌⊎◌, ℕ, List, codes}
-use Rattle.duk_config.specs.ConfigFile.{IsConfigFault, IsConfigFile, longest_file}
+use Rattle.std.specs.Prelude.{◌⊎◌, ℕ, List}
+use Rattle.duk_config.specs.ConfigFile.{longest_file}
 use Rattle.duk_config.specs.Settings.{Settings}
-use Rattle.duk_config.specs.declared.fault.ScriptFault.{ScriptFault}
 use Rattle.duk_config.specs.declared.fault.ScriptFault.TheVariants as fault
 use Rattle.duk_io.specs.Known.{Known}
 use Rattle.duk_io.specs.Sink.{IsTried, IsUntouched}
+use Rattle.duk_program.specs.Configured.{IsConfigFaultTold, IsConfigured}
 use Rattle.duk_program.specs.Files.{FileKnown, IsFileUnread, IsHeld, held_bytes}
 use Rattle.duk_program.specs.declared.file_system.FileFault.{FileFault}
 use Rattle.duk_program.specs.declared.file_system.FileFault.TheVariants as file
@@ -34,12 +34,6 @@ file_run config_held script_held output_before output_after fault_before fault_a
   fault_after = fault_after;
 }
 
--- the configuration's file states this configuration
-pub record IsConfigured (r : FileRun) (config : Settings) : Type 0 where
-  pub bytes : List ℕ
-  pub held : IsHeld r.config_held bytes
-  pub states : IsConfigFile bytes config
-
 -- the session of a script's bytes, of which these are left in the end
 abbrev pub session_of : FileRun → List ℕ → List ℕ → Session
 session_of r script left =
@@ -49,17 +43,11 @@ session_of r script left =
 -- nothing was told as a fault
 pub record HasRunFiles (r : FileRun) : Type 0 where
   pub config : Settings
-  pub configured : IsConfigured r config
+  pub configured : IsConfigured r.config_held config
   pub script : List ℕ
   pub script_held : IsHeld r.script_held script
   pub left : List ℕ
   pub run : HasRun (IsScriptDone config) (session_of r script left) r.fault_before r.fault_after
-
--- the line where the file of a configuration is not read
-abbrev pub config_line : FileFault → List ℕ
-config_line file.CannotRead = codes "config: cannot read\n"
-config_line file.TooLong = fault_line fault.ConfigTooLong
-config_line file.NoMemory = fault_line fault.NoMemory
 
 -- the line where the file of a script is not read
 abbrev pub script_line : FileFault → List ℕ
@@ -72,24 +60,15 @@ pub record TellsOnlyFault (r : FileRun) (line : List ℕ) : Type 0 where
   pub quiet : IsUntouched r.output_before r.output_after
   pub told : IsTried r.fault_before r.fault_after line
 
--- the configuration's file is not read
-pub record HasUnreadConfig (r : FileRun) : Type 0 where
-  pub why : FileFault
-  pub cause : IsFileUnread r.config_held longest_file why
-  pub told : TellsOnlyFault r (config_line why)
-
--- the configuration's file is read, and refused
-pub record HasBadConfig (r : FileRun) : Type 0 where
-  pub bytes : List ℕ
-  pub held : IsHeld r.config_held bytes
-  pub why : ScriptFault
-  pub cause : IsConfigFault bytes why
-  pub told : TellsOnlyFault r (fault_line why)
+-- the configuration's file states none, and that is told
+pub record HasNoConfig (r : FileRun) : Type 0 where
+  pub quiet : IsUntouched r.output_before r.output_after
+  pub tells : IsConfigFaultTold r.config_held r.fault_before r.fault_after
 
 -- there is a configuration, and the script's file is not read
 pub record HasUnreadScript (r : FileRun) : Type 0 where
   pub config : Settings
-  pub configured : IsConfigured r config
+  pub configured : IsConfigured r.config_held config
   pub why : FileFault
   pub cause : IsFileUnread r.script_held longest_file why
   pub told : TellsOnlyFault r (script_line why)
@@ -98,7 +77,7 @@ pub record HasUnreadScript (r : FileRun) : Type 0 where
 -- not be handed on
 pub record HasFailedRun (r : FileRun) : Type 0 where
   pub config : Settings
-  pub configured : IsConfigured r config
+  pub configured : IsConfigured r.config_held config
   pub script : List ℕ
   pub script_held : IsHeld r.script_held script
   pub left : List ℕ
@@ -107,4 +86,4 @@ pub record HasFailedRun (r : FileRun) : Type 0 where
 
 -- status 1: the first of these
 abbrev pub HasToldFault : FileRun → Type 0
-HasToldFault r = HasUnreadConfig r ⊎ HasBadConfig r ⊎ HasUnreadScript r ⊎ HasFailedRun r
+HasToldFault r = HasNoConfig r ⊎ HasUnreadScript r ⊎ HasFailedRun r

@@ -1,36 +1,41 @@
 -- What is left to do when the words are dealt with (this project's own).
 use Rattle.std.specs.Prelude.{◌≡◌, ◌⊎◌, ℕ, List}
-use Rattle.duk_words.specs.Asked.{AreRefused, Asks}
+use Rattle.duk_words.specs.Asked.{Asks}
 use Rattle.duk_words.specs.declared.request.Request.{Request}
 use Rattle.duk_words.specs.declared.request.Request.TheVariants as request
 use Rattle.duk_program.specs.declared.dispatch.Todo.{Todo}
-use Rattle.duk_program.specs.declared.dispatch.Todo.TheVariants.{Exit, Run}
+use Rattle.duk_program.specs.declared.dispatch.Todo.TheVariants.{Exit, Run, Serve}
 
 -- 0 where all is done, 1 behind the line of a fault, 2 where the words were refused
 abbrev pub IsStatus : ℕ → Type 0
 IsStatus status = (status ≡ 0) ⊎ (status ≡ 1) ⊎ (status ≡ 2)
 
--- nothing is left but to end with a status, or else a script to run
+-- nothing is left but to end with a status, or else a script to run, or frames to serve
 abbrev pub IsLeftToDo : Todo → Type 0
 IsLeftToDo (Exit status) = IsStatus status
 IsLeftToDo (Run config script) = Unit {0}
+IsLeftToDo (Serve config log) = Unit {0}
 
 -- nothing is left but to end with this status
 abbrev pub EndsWith : Todo → ℕ → Type 0
 EndsWith (Exit status) wanted = status ≡ wanted
 EndsWith (Run config script) wanted = ⊥
+EndsWith (Serve config log) wanted = ⊥
 
--- a script is left to run
+-- a script is left to run, or frames are left to serve
 abbrev pub IsToRun : Todo → Type 0
 IsToRun (Exit status) = ⊥
 IsToRun (Run config script) = Unit {0}
+IsToRun (Serve config log) = Unit {0}
 
--- a script is left to run only where the request is that of these two paths
+-- a script is left to run, or frames to serve, only where the request is that of these paths
 abbrev pub RunsRequest : Request → Todo → Type 0
 RunsRequest asked (Exit status) = Unit {0}
 RunsRequest asked (Run config script) = asked ≡ request.Run config script
+RunsRequest asked (Serve config log) = asked ≡ request.Serve config log
 
--- a script is left to run only where the words ask for it, with these two paths
+-- a script is left to run, or frames to serve, only where the words ask for it, with these paths
 abbrev pub RunsAsked : List (List ℕ) → Todo → Type 0
 RunsAsked words (Exit status) = Unit {0}
 RunsAsked words (Run config script) = Asks words (request.Run config script)
+RunsAsked words (Serve config log) = Asks words (request.Serve config log)

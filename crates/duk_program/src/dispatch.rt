@@ -28,6 +28,13 @@ pub enum Todo<'a> {
         /// The path of the script.
         script: &'a str,
     },
+    /// To serve the frames of the input under a configuration. Nothing is written yet.
+    Serve {
+        /// The path of the configuration.
+        config: &'a str,
+        /// The path of the log of used numbers, or none for a log in memory.
+        log: Option<&'a str>,
+    },
 }
 
 /// Does what the words ask, the first of which is the program's name. What they ask of files is
@@ -108,6 +115,7 @@ fn do_request<'a, W: Sink, F: Sink>(request: Request<'a>, output: &mut W, fault:
         } => Todo::Exit(wrap_command(kbpk, fields, key, pad, output, fault)),
         Request::Unwrap { kbpk, block } => Todo::Exit(unwrap_command(kbpk, block, output, fault)),
         Request::Run { config, script } => Todo::Run { config, script },
+        Request::Serve { config, log } => Todo::Serve { config, log },
     }
 }
 

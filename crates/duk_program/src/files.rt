@@ -2,12 +2,13 @@
 
 ghost use Rattle.std.specs.Prelude.{◌≡◌, ◌⊎◌};
 ghost use Rattle.duk_io.specs.Sink.{IsTried};
-ghost use Rattle.duk_program.specs.RunFiles.{HasRunFiles, HasToldFault, config_line, file_run, script_line};
+ghost use Rattle.duk_program.specs.RunFiles.{HasRunFiles, HasToldFault, file_run, script_line};
 
+use crate::configuration::read_configuration;
 use crate::file_system::{FileFault, FileSystem, HeldBytes};
 use crate::run::{play_status, refuse};
-use duk_io::{Sink, write_text};
-use duk_script::{LONGEST_FILE, ScriptFault, read_config};
+use duk_io::Sink;
+use duk_script::{LONGEST_FILE, ScriptFault};
 use std::alloc::Global;
 
 /// Runs the script of one file under the configuration of another, and gives the status: 0, or 1
@@ -35,13 +36,9 @@ pub(crate) fn run_files<S: FileSystem, W: Sink, F: Sink>(
         (W.known output.old) (W.known output.new) (F.known fault.old) (F.known fault.new)) }
 {
     duk_io::laws::writes();
-    let config = match files.read_file(alloc, config, LONGEST_FILE) {
+    let config = match read_configuration(alloc, files, config, fault) {
         Ok(config) => config,
-        Err(why) => return refuse_config(why, fault),
-    };
-    let config = match read_config(alloc, config.as_slice()) {
-        Ok(config) => config,
-        Err(why) => return refuse(&why, fault),
+        Err(status) => return status,
     };
     let script = match files.read_file(alloc, script, LONGEST_FILE) {
         Ok(script) => script,
@@ -51,28 +48,6 @@ pub(crate) fn run_files<S: FileSystem, W: Sink, F: Sink>(
         left: script.as_slice(),
     };
     play_status(alloc, config, &mut script, output, fault)
-}
-
-/// Tells why the file of a configuration is not read, and gives the status 1.
-fn refuse_config<F: Sink>(why: FileFault, fault: &mut F) -> u8
-    ensures status { result ≡ 1 }
-    ensures line { IsTried (F.known fault.old) (F.known fault.new) (config_line why) }
-{
-    match why {
-        FileFault::CannotRead => refuse_unread(fault),
-        FileFault::TooLong => refuse(&ScriptFault::ConfigTooLong, fault),
-        FileFault::NoMemory => refuse(&ScriptFault::NoMemory, fault),
-    }
-}
-
-/// Tells that the file of a configuration cannot be read, and gives the status 1.
-fn refuse_unread<F: Sink>(fault: &mut F) -> u8
-    ensures status { result ≡ 1 }
-    ensures line { IsTried (F.known fault.old) (F.known fault.new)
-        (config_line FileFault.CannotRead) }
-{
-    let _ = write_text(fault, b"config: cannot read\n");
-    1
 }
 
 /// Tells why the file of a script is not read, and gives the status 1.

@@ -9,18 +9,21 @@ ghost use Rattle.duk_program.specs.Told.{IsLineTold};
 use crate::dispatch::{Todo, command};
 use crate::file_system::FileSystem;
 use crate::files::run_files;
-use duk_io::Sink;
+use crate::log_files::LogFiles;
+use crate::serve_files::serve_files;
+use duk_io::{Sink, Source};
 use std::alloc::Global;
 
 /// Does what the words ask, the first of which is the program's name, and gives the status: 0 where
 /// all is done, 1 behind the line of a fault, 2 where the words were refused.
 ///
-/// What a command prints goes to `output`, and so does help that was asked for; the line of a fault
-/// and the text that refuses the words go to `fault`.
-pub fn run_words<S: FileSystem, W: Sink, F: Sink>(
+/// `serve` takes its frames from `input`. What a command prints goes to `output`, and so does help
+/// that was asked for; the line of a fault and the text that refuses the words go to `fault`.
+pub fn run_words<S: FileSystem + LogFiles, R: Source, W: Sink, F: Sink>(
     alloc: Global,
     files: &S,
     words: &[String],
+    input: &mut R,
     output: &mut W,
     fault: &mut F,
 ) -> u8
@@ -34,5 +37,8 @@ pub fn run_words<S: FileSystem, W: Sink, F: Sink>(
     match command(alloc, words, output, fault) {
         Todo::Exit(status) => status,
         Todo::Run { config, script } => run_files(alloc, files, config, script, output, fault),
+        Todo::Serve { config, log } => {
+            serve_files(alloc, files, config, log, input, output, fault)
+        }
     }
 }

@@ -1,0 +1,15 @@
+use Rattle.std.proofs.Common.{inr, refl}
+use Rattle.duk_program.proofs.configuration.read_configuration.Goals as goal
+
+pub returns-clause-told : goal.returns-clause-told
+returns-clause-told g c = record {
+  line = _;
+  refused = inr (record {
+    bytes = _;
+    bytes_are = c.in-Ok.ensures.read.bytes_are;
+    why = _;
+    cause = rw c.as_slice.ensures.value at c.in-Err-read_config.ensures.refused;
+    line_is = refl;
+  });
+  line_told = c.refuse.ensures.line;
+}

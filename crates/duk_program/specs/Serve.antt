@@ -1,0 +1,143 @@
+-- What `serve` answers (this project's own, over what a host does with a stream of frames).
+use Rattle.std.specs.Prelude.{◌≡◌, ◌⊎◌, ℕ, List, [], codes}
+use Rattle.duk_host.specs.Host.{HostMeaning, HostOf, host_meaning_of}
+use Rattle.duk_host.specs.Restart.{HostRestartRefused, IsHostRestarted}
+use Rattle.duk_host.specs.Serve.{IsReadUp, ServiceFailed, Supply, service}
+use Rattle.duk_host.specs.Table.{CardTable, table_decision}
+use Rattle.duk_host.specs.declared.fault.HostFault.{HostFault}
+use Rattle.duk_host.specs.declared.fault.HostFault.TheVariants as fault
+use Rattle.duk_io.specs.Known.{Known}
+use Rattle.duk_io.specs.Sink.{IsTried, IsUntouched}
+use Rattle.duk_program.specs.Run.{IsFlushLost}
+use Rattle.duk_store.specs.Log.{LogMeaning}
+
+-- what a log and the issuer of a configuration mean
+abbrev pub over_log : {L : Type 0} → LogMeaning L → HostMeaning L CardTable
+over_log log = host_meaning_of log table_decision
+
+-- what the reader of frames and the writer of answers make known before and after
+pub record Serving : Type 0 where
+  pub input_before : Supply
+  pub input_after : Supply
+  pub output_before : Known
+  pub output_after : Known
+
+abbrev pub serving : Supply → Supply → Known → Known → Serving
+serving input_before input_after output_before output_after = record {
+  input_before = input_before;
+  input_after = input_after;
+  output_before = output_before;
+  output_after = output_after;
+}
+
+-- the writer of answers made this known when they were written
+abbrev pub answered_at : Serving → Known → Serving
+answered_at s written = serving s.input_before s.input_after s.output_before written
+
+-- a host was brought up over its log
+pub record IsUp {L I : Type 0} (meaning : HostMeaning L I) (made up : HostOf L I) : Type 0 where
+  pub found : ℕ
+  pub restarted : IsHostRestarted meaning.log made up found
+
+-- a host was brought up, and served so many frames to the end of the input
+pub record IsServedUp
+    {L I : Type 0} (meaning : HostMeaning L I) (made : HostOf L I) (s : Serving)
+    (count : ℕ) : Type 0 where
+  pub up : HostOf L I
+  pub last : HostOf L I
+  pub is_up : IsUp meaning made up
+  pub read_up : IsReadUp meaning (service up s.output_before) (service last s.output_after)
+      s.input_before s.input_after [] count
+
+-- nothing was read or written
+pub record IsIdle (s : Serving) : Type 0 where
+  pub unread : s.input_after ≡ s.input_before
+  pub quiet : s.output_after ≡ s.output_before
+
+-- a host was not brought up
+pub record IsNotUp
+    {L I : Type 0} (meaning : HostMeaning L I) (made : HostOf L I) (s : Serving)
+    (why : HostFault) : Type 0 where
+  pub idle : IsIdle s
+  pub last : HostOf L I
+  pub refused : HostRestartRefused meaning.log made last why
+
+-- a host was brought up, and stopped serving before the end of the input
+pub record IsServingStopped
+    {L I : Type 0} (meaning : HostMeaning L I) (made : HostOf L I) (s : Serving)
+    (why : HostFault) : Type 0 where
+  pub up : HostOf L I
+  pub last : HostOf L I
+  pub is_up : IsUp meaning made up
+  pub failed : ServiceFailed meaning (service up s.output_before) (service last s.output_after)
+      s.input_before s.input_after why
+
+-- why a host does not serve the input to its end: the first of these
+abbrev pub HostRefused : {L I : Type 0} → HostMeaning L I → HostOf L I → Serving → HostFault
+    → Type 0
+HostRefused meaning made s why = IsNotUp meaning made s why ⊎ IsServingStopped meaning made s why
+
+-- memory was refused before there was a host
+pub record IsNotMade (s : Serving) (why : HostFault) : Type 0 where
+  pub idle : IsIdle s
+  pub memory : why ≡ fault.NoMemory
+
+-- why the input is not served to its end by this host, or there is none
+abbrev pub ServeRefused : {L I : Type 0} → HostMeaning L I → HostOf L I → Serving → HostFault
+    → Type 0
+ServeRefused meaning made s why = IsNotMade s why ⊎ HostRefused meaning made s why
+
+-- status 0: the host served to the end of the input, and its answers were handed on
+pub record HasServed
+    {L I : Type 0} (meaning : HostMeaning L I) (made : HostOf L I) (s : Serving)
+    : Type 0 where
+  pub count : ℕ
+  pub written : Known
+  pub served : IsServedUp meaning made (answered_at s written) count
+  pub handed_on : IsUntouched written s.output_after
+
+-- the line of a fault of serving
+abbrev pub serve_line : HostFault → List ℕ
+serve_line fault.NoMemory = codes "out of memory\n"
+serve_line (fault.Store why) = codes "log: failed\n"
+serve_line fault.Stopped = codes "log: failed\n"
+serve_line fault.Read = codes "serve: read failed\n"
+serve_line fault.Write = codes "serve: write failed\n"
+serve_line fault.Truncated = codes "serve: input ends in a frame\n"
+serve_line fault.TooLong = codes "serve: frame too long\n"
+
+-- what was held back could not be handed on, and that is told
+pub record IsFlushTold (output output' told told' : Known) : Type 0 where
+  pub lost : IsFlushLost output output'
+  pub line : IsTried told told' (serve_line fault.Write)
+
+-- what was held back was handed on, and the line of a fault is told; or the first could not be, and
+-- that is told
+abbrev pub IsFaultTold : HostFault → Known → Known → Known → Known → Type 0
+IsFaultTold why output output' told told' =
+    (IsUntouched output output' × IsTried told told' (serve_line why))
+    ⊎ IsFlushTold output output' told told'
+
+-- serving was refused, and that is told behind the answers, or that they could not be handed on
+pub record HasRefused
+    {L I : Type 0} (meaning : HostMeaning L I) (made : HostOf L I) (s : Serving)
+    (told told' : Known) : Type 0 where
+  pub why : HostFault
+  pub written : Known
+  pub refused : ServeRefused meaning made (answered_at s written) why
+  pub tells : IsFaultTold why written s.output_after told told'
+
+-- the input was served to its end, and then the answers could not be handed on, and that is told
+pub record HasLostAnswers
+    {L I : Type 0} (meaning : HostMeaning L I) (made : HostOf L I) (s : Serving)
+    (told told' : Known) : Type 0 where
+  pub count : ℕ
+  pub written : Known
+  pub served : IsServedUp meaning made (answered_at s written) count
+  pub tells : IsFlushTold written s.output_after told told'
+
+-- status 1
+abbrev pub HasNotServed : {L I : Type 0} → HostMeaning L I → HostOf L I → Serving → Known → Known
+    → Type 0
+HasNotServed meaning made s told told' =
+    HasRefused meaning made s told told' ⊎ HasLostAnswers meaning made s told told'

@@ -1,0 +1,61 @@
+//! The configuration of a file.
+
+ghost use Rattle.std.specs.Prelude.{◌≡◌, IfErr, IfOk, OnErr, OnOk};
+ghost use Rattle.duk_io.specs.Sink.{IsTried};
+ghost use Rattle.duk_program.specs.Configured.{IsConfigFaultTold, IsConfigured, config_line};
+
+use crate::file_system::{FileFault, FileSystem};
+use crate::run::refuse;
+use duk_io::{Sink, write_text};
+use duk_script::{Config, LONGEST_FILE, ScriptFault, read_config};
+use std::alloc::Global;
+
+/// The configuration that the file under a path states. Where it states none, the line of the fault
+/// is told, and the status is given, which is 1.
+///
+/// The faults, in this order: `config: cannot read` and `config: too long`, then those of the
+/// configuration. A file cannot be read where it cannot be opened or a read fails, so a folder
+/// cannot. Where the cause is want of memory, `out of memory` stands in place of any.
+pub(crate) fn read_configuration<S: FileSystem, F: Sink>(
+    alloc: Global,
+    files: &S,
+    path: &str,
+    fault: &mut F,
+) -> Result<Config, u8>
+    ensures configured { IfOk result (IsConfigured (S.held files.now path.now)) }
+    ensures silent { OnOk result (F.known fault.new ≡ F.known fault.old) }
+    ensures status { IfErr result (λ status. status ≡ 1) }
+    ensures told { OnErr result (IsConfigFaultTold (S.held files.now path.now)
+        (F.known fault.old) (F.known fault.new)) }
+{
+    let bytes = match files.read_file(alloc, path, LONGEST_FILE) {
+        Ok(bytes) => bytes,
+        Err(why) => return Err(refuse_config(why, fault)),
+    };
+    match read_config(alloc, bytes.as_slice()) {
+        Ok(config) => Ok(config),
+        Err(why) => Err(refuse(&why, fault)),
+    }
+}
+
+/// Tells why the file of a configuration is not read, and gives the status 1.
+fn refuse_config<F: Sink>(why: FileFault, fault: &mut F) -> u8
+    ensures status { result ≡ 1 }
+    ensures line { IsTried (F.known fault.old) (F.known fault.new) (config_line why) }
+{
+    match why {
+        FileFault::CannotRead => refuse_unread(fault),
+        FileFault::TooLong => refuse(&ScriptFault::ConfigTooLong, fault),
+        FileFault::NoMemory => refuse(&ScriptFault::NoMemory, fault),
+    }
+}
+
+/// Tells that the file of a configuration cannot be read, and gives the status 1.
+fn refuse_unread<F: Sink>(fault: &mut F) -> u8
+    ensures status { result ≡ 1 }
+    ensures line { IsTried (F.known fault.old) (F.known fault.new)
+        (config_line FileFault.CannotRead) }
+{
+    let _ = write_text(fault, b"config: cannot read\n");
+    1
+}

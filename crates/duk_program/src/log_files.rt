@@ -1,0 +1,33 @@
+//! Files that keep logs, as the program sees them.
+
+ghost use Rattle.std.specs.Prelude.{ℕ, List, None, IfOk, OnErr};
+ghost use Rattle.duk_program.specs.LogFiles.{DiskKnown, IsDisk, IsNoDisk};
+
+use duk_store::{FileDisk, StoreFault};
+use std::fs::File;
+use std::rt::Files;
+
+/// Files each of which may be opened as a disk, to keep a log. They may make known, for contracts to
+/// say, which disk that is.
+///
+/// The files of every runtime are such, and make nothing known: no contract says what a real file
+/// holds.
+pub trait LogFiles {
+    /// What there is under a path, where the files make it known: a disk, or none that can be
+    /// opened.
+    ghost disks: { Self → List ℕ → DiskKnown };
+
+    /// The disk over the file under a path, which is never made, of the size that it has. Refused
+    /// with `Device` where it cannot be opened, or is locked.
+    fn open_disk(&self, path: &str) -> Result<FileDisk, StoreFault>
+        ensures opened { IfOk result (IsDisk (disks self.now path.now)) }
+        ensures refused { OnErr result (IsNoDisk (disks self.now path.now)) };
+}
+
+impl<R: Files<File = File>> LogFiles for R {
+    ghost disks = { λ _ _. None };
+
+    fn open_disk(&self, path: &str) -> Result<FileDisk, StoreFault> {
+        FileDisk::new(self, path)
+    }
+}

@@ -1,0 +1,126 @@
+//! The files of `serve`.
+
+ghost use Rattle.std.specs.Prelude.{◌≡◌, ◌⊎◌};
+ghost use Rattle.std.specs.Option.{option_map};
+ghost use Rattle.duk_host.specs.Serve.{supply};
+ghost use Rattle.duk_io.specs.Sink.{IsTried, IsUntouched};
+ghost use Rattle.duk_program.specs.Serve.{HasNotServed, HasServed, over_log, serving};
+ghost use Rattle.duk_program.specs.ServeFiles.{HasNotServedFiles, HasServedFiles, IsServedOnDisk, IsUnservedOnDisk, file_service, unopened_line};
+ghost use Rattle.duk_script.specs.Opening.{new_host_of};
+ghost use Rattle.duk_store.specs.MemoryLog.{memory_log_meaning, new_log};
+
+use crate::configuration::read_configuration;
+use crate::file_system::FileSystem;
+use crate::log_files::LogFiles;
+use crate::serve::{refuse_host, serve_with};
+use duk_host::HostFault;
+use duk_io::{Sink, Source, write_text};
+use duk_script::Config;
+use duk_store::{DiskLog, MemLog};
+use std::alloc::Global;
+
+/// Serves the frames of `input` under the configuration of one file, over a log in another or in
+/// memory, and gives the status: 0, or 1 with a line on `fault`.
+///
+/// The faults, in this order: those of the configuration's file; `log: cannot open`; those of
+/// serving, as `serve_with` tells them. Where the cause is want of memory, `out of memory` stands in
+/// place of any.
+pub(crate) fn serve_files<S: FileSystem + LogFiles, R: Source, W: Sink, F: Sink>(
+    alloc: Global,
+    files: &S,
+    config: &str,
+    log: Option<&str>,
+    input: &mut R,
+    output: &mut W,
+    fault: &mut F,
+) -> u8
+    ensures status { (result ≡ 0) ⊎ (result ≡ 1) }
+    ensures done { result ≡ 0 → HasServedFiles
+        (file_service (S.held files.now config.now) (option_map (λ path. S.disks files.now path.now) log.entry)
+        (serving (supply (R.known input.old) (R.reads input.old))
+        (supply (R.known input.new) (R.reads input.new))
+        (W.known output.old) (W.known output.new))
+        (F.known fault.old) (F.known fault.new)) }
+    ensures told { result ≡ 1 → HasNotServedFiles
+        (file_service (S.held files.now config.now) (option_map (λ path. S.disks files.now path.now) log.entry)
+        (serving (supply (R.known input.old) (R.reads input.old))
+        (supply (R.known input.new) (R.reads input.new))
+        (W.known output.old) (W.known output.new))
+        (F.known fault.old) (F.known fault.new)) }
+{
+    let config = match read_configuration(alloc, files, config, fault) {
+        Ok(config) => config,
+        Err(status) => return status,
+    };
+    match log {
+        None => serve_in_memory(alloc, &config, input, output, fault),
+        Some(path) => serve_on_file(alloc, files, &config, path, input, output, fault),
+    }
+}
+
+/// Serves over a log in memory, which has the room that the configuration says.
+fn serve_in_memory<R: Source, W: Sink, F: Sink>(
+    alloc: Global,
+    config: &Config,
+    input: &mut R,
+    output: &mut W,
+    fault: &mut F,
+) -> u8
+    ensures status { (result ≡ 0) ⊎ (result ≡ 1) }
+    ensures done { result ≡ 0 → HasServed (over_log memory_log_meaning)
+        (new_host_of config.now (new_log config.now.log))
+        (serving (supply (R.known input.old) (R.reads input.old))
+        (supply (R.known input.new) (R.reads input.new))
+        (W.known output.old) (W.known output.new)) }
+    ensures no_fault { result ≡ 0 → IsUntouched (F.known fault.old) (F.known fault.new) }
+    ensures not_done { result ≡ 1 → HasNotServed (over_log memory_log_meaning)
+        (new_host_of config.now (new_log config.now.log))
+        (serving (supply (R.known input.old) (R.reads input.old))
+        (supply (R.known input.new) (R.reads input.new))
+        (W.known output.old) (W.known output.new))
+        (F.known fault.old) (F.known fault.new) }
+{
+    duk_io::laws::writes();
+    match MemLog::new(alloc, config.log as usize) {
+        Ok(log) => serve_with(alloc, config, log, input, output, fault),
+        Err(_) => refuse_host(HostFault::NoMemory, fault),
+    }
+}
+
+/// Serves over a log in the file under a path. What the configuration says of the log's room is not
+/// used.
+fn serve_on_file<S: LogFiles, R: Source, W: Sink, F: Sink>(
+    alloc: Global,
+    files: &S,
+    config: &Config,
+    path: &str,
+    input: &mut R,
+    output: &mut W,
+    fault: &mut F,
+) -> u8
+    ensures status { (result ≡ 0) ⊎ (result ≡ 1) }
+    ensures done { result ≡ 0 → IsServedOnDisk (S.disks files.now path.now)
+        config.now (serving (supply (R.known input.old) (R.reads input.old))
+        (supply (R.known input.new) (R.reads input.new))
+        (W.known output.old) (W.known output.new)) }
+    ensures no_fault { result ≡ 0 → IsUntouched (F.known fault.old) (F.known fault.new) }
+    ensures not_done { result ≡ 1 → IsUnservedOnDisk (S.disks files.now path.now)
+        config.now (serving (supply (R.known input.old) (R.reads input.old))
+        (supply (R.known input.new) (R.reads input.new))
+        (W.known output.old) (W.known output.new))
+        (F.known fault.old) (F.known fault.new) }
+{
+    match files.open_disk(path) {
+        Ok(disk) => serve_with(alloc, config, DiskLog::new(disk), input, output, fault),
+        Err(_) => refuse_log(fault),
+    }
+}
+
+/// Tells that the file of a log cannot be opened, and gives the status 1.
+fn refuse_log<F: Sink>(fault: &mut F) -> u8
+    ensures status { result ≡ 1 }
+    ensures line { IsTried (F.known fault.old) (F.known fault.new) unopened_line }
+{
+    let _ = write_text(fault, b"log: cannot open\n");
+    1
+}
