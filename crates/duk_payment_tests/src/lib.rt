@@ -29,6 +29,8 @@ mod scripts;
 #[cfg(test)]
 mod security_module;
 #[cfg(test)]
+mod service_lines;
+#[cfg(test)]
 mod serving;
 #[cfg(test)]
 mod stopping;
