@@ -8,9 +8,9 @@ use Rattle.duk_store.specs.MemoryDisk.{memory_disk_state, new_disk}
 use Rattle.duk_store.specs.Cell.{IsPut, Kept, OldOrNew, PutFailed}
 use Rattle.duk_store.specs.Disk.{DiskMeaning, DiskState, KeepsDisk, LeavesChanged, LeavesReads, ReadsMayStay, StaysButArmed}
 use Rattle.duk_store.specs.Restart.{RestartFailed, Restarted}
-use Rattle.duk_store.specs.SlotCell.{CellReplaceFailed, IsBlankDisk, IsZeroDisk, KeepsNothing, RunsWithBody, IsBroughtUp, IsCellReplaced, IsDamagedDisk, IsNextOf, IsPutNext, IsReadyFor, IsReplaced, IsRestored, IsSoundDisk, IsWorn, Knows, MayFind, RecoveryFailed, ReplaceFailed, SlotCellOf, StandsAlone, is_running, slot_cell_meaning, slot_cell_state}
+use Rattle.duk_store.specs.SlotCell.{CellReplaceFailed, IsBlankDisk, IsZeroDisk, LeavesOneBody, RunsWithBody, IsBroughtUp, IsCellReplaced, IsDamagedDisk, IsNextOf, IsPutNext, IsReadyFor, IsReplaced, IsRestored, IsSoundDisk, IsWorn, Knows, MayFind, RecoveryFailed, ReplaceFailed, SlotCellOf, StandsAlone, is_running, slot_cell_meaning, slot_cell_state}
 use Rattle.duk_store.specs.Slots.{HoldsAlone, IsEmpty, IsOpen, Keeps, cell_disk_size, other_than, sequence_of, slot_at}
-use Rattle.duk_store.specs.StoreState.{FindsSome, FindsWithin, IsNew, StaysButCalm}
+use Rattle.duk_store.specs.StoreState.{FindsSome, FindsWithin, IsNew, KeepsNothing, StaysButCalm}
 use Rattle.duk_store.specs.declared.fault.StoreFault.{StoreFault}
 use Rattle.duk_store.specs.declared.fault.StoreFault.TheVariants as fault
 use Rattle.duk_store.specs.declared.slot.Place.{Place}
@@ -34,7 +34,7 @@ zeros_keep : Keeps (replicate 1024 0) None
 zeros_keep First is_open = omega (arith, is_open)
 zeros_keep Second is_open = omega (arith, is_open)
 
-pub zero_cell_is : (disk : DiskState) → IsZeroDisk disk → KeepsNothing (slot_cell_state disk state.Stopped)
+pub zero_cell_is : (disk : DiskState) → IsZeroDisk disk → KeepsNothing (slot_cell_state disk state.Stopped) None
 zero_cell_is disk zero = record {
   sound = sound_alone disk (replicate 1024 0) None zero.size zero.zeros zeros_keep;
   finds = finds_only disk (replicate 1024 0) None zero.zeros zeros_keep;
@@ -142,10 +142,9 @@ module _ {D : Type 0} (meaning : DiskMeaning D) (old new : SlotCellOf D) (body :
     };
   }
 
-  pub stands_alone : (place : Place) (sequence : ℕ) → IsReplaced place sequence body before after → StandsAlone after
+  pub stands_alone : (place : Place) (sequence : ℕ) → IsReplaced place sequence body before after → StandsAlone after body
   stands_alone place sequence done honest =
       let holds = done.holds (done.nature.honest.1 honest) in (
-        body,
         finds_only after after.reads (Some body) holds.0 (alone_keeps place sequence body after.reads holds.1),
         record { image = after.reads; leaves = holds.0; place = place; sequence = sequence; alone = holds.1 },
       )
@@ -253,7 +252,7 @@ module _ {D : Type 0} (meaning : DiskMeaning D) (old new : SlotCellOf D) (body :
       on_ok_weaker result (λ done. is_put meaning old new body runs not_worn size standing place sequence done.disk (ap is_running done.state)) done
 
   alone_by : (place : Place) (sequence : ℕ) → is_running old.state ≡ true → ¬ IsWorn old.state → (meaning.state_of old.disk).size ≡ cell_disk_size → ((meaning.state_of old.disk).honest → Standing (meaning.state_of old.disk))
-      → OnOk result (IsCellReplaced meaning place sequence body old new) → IfOk result (λ _. StandsAlone (meaning.state_of new.disk))
+      → OnOk result (IsCellReplaced meaning place sequence body old new) → IfOk result (λ _. StandsAlone (meaning.state_of new.disk) body)
   alone_by place sequence runs not_worn size standing done =
       on_ok_weaker result (λ done. stands_alone meaning old new body runs not_worn size standing place sequence done.disk) done
 
@@ -276,7 +275,7 @@ module _ {D : Type 0} (meaning : DiskMeaning D) (old new : SlotCellOf D) (body :
     pub empty_put : OnOk result (IsCellReplaced meaning First 1 body old new) → IfOk result (λ _. IsPut (slot_cell_meaning meaning) old new body)
     empty_put done = put_by First 1 runs_empty fresh knows_empty.0 (empty_stands _ knows_empty) done
 
-    pub empty_alone : OnOk result (IsCellReplaced meaning First 1 body old new) → IfOk result (λ _. StandsAlone (meaning.state_of new.disk))
+    pub empty_alone : OnOk result (IsCellReplaced meaning First 1 body old new) → IfOk result (λ _. StandsAlone (meaning.state_of new.disk) body)
     empty_alone done = alone_by First 1 runs_empty fresh knows_empty.0 (empty_stands _ knows_empty) done
 
     pub empty_put_failed : ReadsMayStay (meaning.state_of new.disk) → IfErr result (CellReplaceFailed meaning body old new) → IfErr result (PutFailed (slot_cell_meaning meaning) old new body)
@@ -300,7 +299,7 @@ module _ {D : Type 0} (meaning : DiskMeaning D) (old new : SlotCellOf D) (body :
     pub body_put : (target : Place) (next : ℕ) → OnOk result (IsCellReplaced meaning target next body old new) → IfOk result (λ _. IsPut (slot_cell_meaning meaning) old new body)
     body_put target next done = put_by target next runs_body not_last knows_body.0 (body_stands _ place sequence knows_body) done
 
-    pub body_alone : (target : Place) (next : ℕ) → OnOk result (IsCellReplaced meaning target next body old new) → IfOk result (λ _. StandsAlone (meaning.state_of new.disk))
+    pub body_alone : (target : Place) (next : ℕ) → OnOk result (IsCellReplaced meaning target next body old new) → IfOk result (λ _. StandsAlone (meaning.state_of new.disk) body)
     body_alone target next done = alone_by target next runs_body not_last knows_body.0 (body_stands _ place sequence knows_body) done
 
     pub body_put_failed : ReadsMayStay (meaning.state_of new.disk) → IfErr result (CellReplaceFailed meaning body old new) → IfErr result (PutFailed (slot_cell_meaning meaning) old new body)
@@ -310,21 +309,22 @@ module _ {D : Type 0} (meaning : DiskMeaning D) (old new : SlotCellOf D) (body :
     body_next target target_is done =
         on_ok_weaker result (λ done. record { place = target; sequence = sequence + 1; is_next = subst (λ s. IsNextOf s target (sequence + 1)) (sym is) (target_is, refl); replaced = done }) done
 
--- a running cell with a body stands alone on its disk
-pub runs_alone : (disk : DiskState) (was : SlotState) → Knows disk was → RunsWithBody disk was → StandsAlone disk
-runs_alone disk state.Stopped knows runs h = absurd (false≢true runs.runs)
-runs_alone disk state.Empty knows runs h =
+-- the body of a running cell stands alone on its disk
+pub runs_alone : (disk : DiskState) (was : SlotState) → Knows disk was → (body : List ℕ) → RunsWithBody disk was body → StandsAlone disk body
+runs_alone disk state.Stopped knows body runs h = absurd (false≢true runs.runs)
+runs_alone disk state.Empty knows body runs h =
     let holds = knows.1 h in
     let found = runs.kept in
     let is : found.0 ≡ disk.reads = (holds.0 found.0).0 found.1 in
     absurd ((holds.1 found.2.0).closed (subst (λ bytes. IsOpen (slot_at found.2.0 bytes)) is found.2.1.is_open))
-runs_alone disk (state.Holds place sequence) knows runs h =
+runs_alone disk (state.Holds place sequence) knows body runs h =
     let holds = knows.1 h in
-    let body = holds.1.0 in (
-      body,
-      finds_only disk disk.reads (Some body) holds.0 (alone_keeps place sequence body disk.reads holds.1.1),
-      record { image = disk.reads; leaves = holds.0; place = place; sequence = sequence; alone = holds.1.1 },
-    )
+    let kept = holds.1.0 in
+    let finds = finds_only disk disk.reads (Some kept) holds.0 (alone_keeps place sequence kept disk.reads holds.1.1) in
+    let same = (finds (Some body)).0 runs.kept in
+    let is : kept ≡ body = cc in
+    subst (λ body. ((other : Kept) → MayFind disk other ↔ (other ≡ Some body)) × LeavesOneBody disk body) is
+    (finds, record { image = disk.reads; leaves = holds.0; place = place; sequence = sequence; alone = holds.1.1 })
 
 -- a new disk in memory is blank
 pub new_disk_is_blank : IsBlankDisk (memory_disk_state (new_disk 1024))

@@ -6,14 +6,14 @@ use Rattle.std.proofs.lemmas.List.{drop_at, get_or-drop, get_or-replicate, get_o
 use Rattle.std.specs.List.{slice_get}
 use Rattle.duk_tree.specs.Serial.{IsSerial, Serial, serial_bytes, serial_of_bytes}
 use Rattle.duk_store.specs.Disk.{DiskMeaning, DiskState, KeepsDisk, LeavesItsSize, LeavesWithin, ReadsMayStay}
-use Rattle.duk_store.specs.DiskLog.{ChangesRecord, CountFailed, DiskLogOf, IsBlankLogDisk, IsDamagedLog, IsLogOpen, IsLogUp, IsRecordRead, IsRecordTorn, IsRecordWritten, IsSoundLogDisk, KnowsCount, LogUpFailed, MayFindNumbers, disk_log_meaning, disk_log_state, is_log_running}
+use Rattle.duk_store.specs.DiskLog.{ChangesRecord, CountFailed, DiskLogOf, IsBlankLogDisk, IsDamagedLog, IsLogOpen, IsLogUp, IsRecordRead, IsRecordTorn, IsRecordWritten, IsSoundLogDisk, IsZeroLogDisk, KnowsCount, LogUpFailed, MayFindNumbers, disk_log_meaning, disk_log_state, is_log_running}
 use Rattle.duk_store.specs.Log.{AppendFailed, IsAppended, IsReadAt, LogRestarted, Numbers, OldOrAppended}
 use Rattle.duk_store.specs.MemoryDisk.{memory_disk_state, new_disk}
 use Rattle.duk_store.specs.Records.{HasNumber, IsLog, IsLogSize, KeepsNumbers, number_bytes, number_in, numbers_in, record_at}
 use Rattle.duk_store.specs.Restart.{RestartFailed}
 use Rattle.duk_store.specs.Slots.{IsOpen, behind_gate, gate_of}
 use Rattle.duk_store.specs.SlotSteps.{IsStepDone, IsStepFailed}
-use Rattle.duk_store.specs.StoreState.{IsNew}
+use Rattle.duk_store.specs.StoreState.{IsNew, KeepsNothing}
 use Rattle.duk_store.specs.declared.fault.StoreFault.{StoreFault}
 use Rattle.duk_store.specs.declared.fault.StoreFault.TheVariants as fault
 use Rattle.duk_store.specs.declared.record.Record.{Record}
@@ -91,13 +91,19 @@ zeros_closed size place is_open = elim (cases_lt (16 * place) size) [
 zeros_are_log : (size : ℕ) → IsLog 0 (replicate size 0)
 zeros_are_log size = record { fits = omega arith; kept = λ place less. absurd (omega (arith, less)); closed = λ place past. zeros_closed size place }
 
+pub zero_log_is : (disk : DiskState) → IsZeroLogDisk disk → KeepsNothing (disk_log_state disk None) []
+zero_log_is disk left = record {
+  sound = sound_list disk (replicate disk.size 0) 0 left.size left.zeros (zeros_are_log disk.size);
+  finds = finds_list disk (replicate disk.size 0) 0 left.zeros (zeros_are_log disk.size);
+}
+
 pub new_log_is : (disk : DiskState) → IsBlankLogDisk disk → IsNew (disk_log_state disk None) []
 new_log_is disk blank = record {
   honest = blank.honest;
-  sound = sound_list disk (replicate disk.size 0) 0 blank.size blank.zeros (zeros_are_log disk.size);
+  sound = (zero_log_is disk blank.zero).sound;
   calm = blank.calm;
   stopped = refl;
-  finds = finds_list disk (replicate disk.size 0) 0 blank.zeros (zeros_are_log disk.size);
+  finds = (zero_log_is disk blank.zero).finds;
 }
 
 -- a new disk in memory, of so many records, is blank
@@ -113,12 +119,14 @@ new_records_are_blank records some =
         wanted_synced = λ place none. refl;
       };
       calm = record { not_armed = refl; no_single_failure = refl };
-      size = (records, some, size);
-      zeros = λ bytes. (
-        (λ could. same_number_lists bytes (replicate (length (replicate (16 * records) 0)) 0) (could.same_length ∙ sym (length-replicate (length (replicate (16 * records) 0)) 0))
-            (λ place less. could.as_synced place (get_or-replicate (16 * records) place false false (omega (arith, less, could.same_length, size))) ∙ ap (λ (count : ℕ). get_or (replicate count 0) place 0) (sym size))),
-        (λ is. record { same_length = ap length is ∙ length-replicate (length (replicate (16 * records) 0)) 0; as_synced = λ place none. ap (λ (l : List ℕ). get_or l place 0) (is ∙ ap (λ (count : ℕ). replicate count 0) size) }),
-      );
+      zero = record {
+        size = (records, some, size);
+        zeros = λ bytes. (
+          (λ could. same_number_lists bytes (replicate (length (replicate (16 * records) 0)) 0) (could.same_length ∙ sym (length-replicate (length (replicate (16 * records) 0)) 0))
+              (λ place less. could.as_synced place (get_or-replicate (16 * records) place false false (omega (arith, less, could.same_length, size))) ∙ ap (λ (count : ℕ). get_or (replicate count 0) place 0) (sym size))),
+          (λ is. record { same_length = ap length is ∙ length-replicate (length (replicate (16 * records) 0)) 0; as_synced = λ place none. ap (λ (l : List ℕ). get_or l place 0) (is ∙ ap (λ (count : ℕ). replicate count 0) size) }),
+        );
+      };
     }
 
 -- a log is brought up

@@ -18,8 +18,8 @@ pub record CellMeaning (C : Type 0) : Type 1 where
   pub disarmed : C → Type 0
   -- how arming with a number of steps leaves it
   pub arms : C → ℕ → C → Type 0
-  -- what holds of it, beside all this, once it has acknowledged a body
-  pub after_put : C → Type 0
+  -- what holds of it, beside all this, once it has acknowledged this body
+  pub after_put : C → List ℕ → Type 0
 
 -- a body that is kept
 pub record IsPut {C : Type 0} (meaning : CellMeaning C) (old new : C) (body : List ℕ) : Type 0 where

@@ -197,9 +197,13 @@ pub record LogUpFailed (old new : DiskState) (fault : StoreFault) : Type 0 where
   pub within : LeavesWithin old new
   pub cause : IsLogUpFault old new fault
 
--- a new disk: a stop leaves zero bytes
+-- a disk of which a stop leaves zero bytes, whether or not a device step is to fail
+pub record IsZeroLogDisk (disk : DiskState) : Type 0 where
+  pub size : IsLogSize disk.size
+  pub zeros : (bytes : List ℕ) → disk.may_leave bytes ↔ (bytes ≡ replicate disk.size 0)
+
+-- a new disk
 pub record IsBlankLogDisk (disk : DiskState) : Type 0 where
   pub honest : disk.honest
   pub calm : disk.calm
-  pub size : IsLogSize disk.size
-  pub zeros : (bytes : List ℕ) → disk.may_leave bytes ↔ (bytes ≡ replicate disk.size 0)
+  pub zero : IsZeroLogDisk disk

@@ -42,7 +42,7 @@ memory_cell_meaning = record {
   worn = λ cell. ⊥;
   disarmed = λ cell. cell.device.passes ≡ None;
   arms = λ old steps new. new ≡ armed_cell steps old;
-  after_put = λ cell. Unit {0};
+  after_put = λ cell body. Unit {0};
 }
 
 -- a write is done: both of its steps pass, and the new body is kept

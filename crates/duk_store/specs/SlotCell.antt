@@ -1,9 +1,9 @@
 -- A cell on a disk: this project's own.
-use Rattle.std.specs.Prelude.{◌≡◌, ◌≢◌, ◌⊎◌, ◌↔◌, ◌<◌, ◌+◌, ◌-◌, ◌^◌, ℕ, Bool, true, false, List, Some, None, replicate}
+use Rattle.std.specs.Prelude.{◌≡◌, ◌≢◌, ◌⊎◌, ◌↔◌, ◌<◌, ◌+◌, ◌-◌, ◌^◌, ℕ, Bool, true, false, List, Some, replicate}
 use Rattle.duk_store.specs.Cell.{CellMeaning, Kept}
 use Rattle.duk_store.specs.Disk.{DiskMeaning, DiskState, HasFailed, KeepsDisk, LeavesChanged, LeavesReads}
 use Rattle.duk_store.specs.Slots.{HoldsAlone, IsEmpty, IsOpen, Keeps, cell_disk_size, gate_of, other_than, sequence_of, slot_at}
-use Rattle.duk_store.specs.StoreState.{FindsOnly, StoreState}
+use Rattle.duk_store.specs.StoreState.{StoreState}
 use Rattle.duk_store.specs.declared.fault.StoreFault.{StoreFault}
 use Rattle.duk_store.specs.declared.fault.StoreFault.TheVariants.{Damaged, Device}
 use Rattle.duk_store.specs.declared.slot.Place.{Place}
@@ -29,10 +29,9 @@ is_running _ = true
 abbrev pub MayFind : DiskState → Kept → Type 0
 MayFind disk kept = (bytes : List ℕ) × disk.may_leave bytes × Keeps bytes kept
 
--- it runs with a body kept
-pub record RunsWithBody (disk : DiskState) (state : SlotState) : Type 0 where
+-- it runs with this body kept
+pub record RunsWithBody (disk : DiskState) (state : SlotState) (body : List ℕ) : Type 0 where
   pub runs : is_running state ≡ true
-  pub body : List ℕ
   pub kept : MayFind disk (Some body)
 
 -- the disk has the size of a cell's, and all bytes that a stop could leave keep something
@@ -62,11 +61,6 @@ pub record IsBlankDisk (disk : DiskState) : Type 0 where
   pub calm : disk.calm
   pub zero : IsZeroDisk disk
 
--- a sound store with nothing kept
-pub record KeepsNothing (store : StoreState Kept) : Type 0 where
-  pub sound : store.sound
-  pub finds : FindsOnly store None
-
 -- a stop leaves one image of the disk, which holds one body alone
 pub record LeavesOneBody (disk : DiskState) (body : List ℕ) : Type 0 where
   pub image : List ℕ
@@ -75,11 +69,10 @@ pub record LeavesOneBody (disk : DiskState) (body : List ℕ) : Type 0 where
   pub sequence : ℕ
   pub alone : HoldsAlone place sequence body image
 
--- the body that a restart would find alone stands alone on the disk
-abbrev pub StandsAlone : DiskState → Type 0
-StandsAlone disk =
-    disk.honest → (body : List ℕ)
-    × ((kept : Kept) → MayFind disk kept ↔ (kept ≡ Some body)) × LeavesOneBody disk body
+-- this body stands alone on an honest disk, and a restart would find it alone
+abbrev pub StandsAlone : DiskState → List ℕ → Type 0
+StandsAlone disk body =
+    disk.honest → ((kept : Kept) → MayFind disk kept ↔ (kept ≡ Some body)) × LeavesOneBody disk body
 
 -- a cell of the last sequence takes no further body
 abbrev pub IsWorn : SlotState → Type 0
@@ -93,7 +86,7 @@ slot_cell_meaning meaning = record {
   worn = λ cell. IsWorn cell.state;
   disarmed = λ cell. (meaning.state_of cell.disk).disarmed;
   arms = λ old steps new. meaning.arms old.disk steps new.disk × (new.state ≡ old.state);
-  after_put = λ cell. StandsAlone (meaning.state_of cell.disk);
+  after_put = λ cell body. StandsAlone (meaning.state_of cell.disk) body;
 }
 
 -- the disk has one image, and the cell holds nothing, or one body alone of this sequence

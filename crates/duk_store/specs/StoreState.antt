@@ -36,6 +36,11 @@ pub record IsNew {V : Type 0} (store : StoreState V) (value : V) : Type 0 where
   pub stopped : store.running ≡ false
   pub finds : FindsOnly store value
 
+-- a sound store with nothing kept: a restart would find this, which stands for nothing
+pub record KeepsNothing {V : Type 0} (store : StoreState V) (nothing : V) : Type 0 where
+  pub sound : store.sound
+  pub finds : FindsOnly store nothing
+
 -- what no call changes: honesty stays, and so does the soundness of an honest store; calm ends by
 -- arming alone
 pub record KeepsNature {V : Type 0} (old new : StoreState V) : Type 0 where

@@ -37,7 +37,7 @@ pub trait Cell: Drop {
     /// the cell.
     fn put(&mut self, body: &Body) -> Result<(), StoreFault>
         ensures kept { IfOk result (λ _. IsPut meaning self.old self.new body.now) }
-        ensures after_put { IfOk result (λ _. meaning.after_put self.new) }
+        ensures after_put { IfOk result (λ _. meaning.after_put self.new body.now) }
         ensures failed { IfErr result (PutFailed meaning self.old self.new body.now) };
 
     /// Lets the next `steps` device steps pass and each later one fail, until a restart.

@@ -1,10 +1,10 @@
 //! A log of used numbers on a disk.
 
 ghost use Rattle.std.specs.Prelude.{◌≡◌, ◌+◌, ◌<◌, [], true, IfErr, IfOk};
-ghost use Rattle.duk_store.specs.DiskLog.{IsBlankLogDisk, IsLogUp, LogUpFailed, disk_log_meaning, disk_log_state, new_disk_log};
+ghost use Rattle.duk_store.specs.DiskLog.{IsBlankLogDisk, IsLogUp, IsZeroLogDisk, LogUpFailed, disk_log_meaning, disk_log_state, new_disk_log};
 ghost use Rattle.duk_store.specs.Log.{AppendFailed, IsAppended, IsReadAt, LogRestarted, ReadFailed};
 ghost use Rattle.duk_store.specs.Restart.{RestartFailed};
-ghost use Rattle.duk_store.specs.StoreState.{IsNew};
+ghost use Rattle.duk_store.specs.StoreState.{IsNew, KeepsNothing};
 
 use crate::disk::Disk;
 use crate::fault::StoreFault;
@@ -43,8 +43,17 @@ impl<D: Disk> DiskLog<D> {
         ensures log { result ≡ new_disk_log disk }
         ensures new { IsBlankLogDisk (D.meaning.state_of disk)
             → IsNew ((disk_log_meaning D.meaning).state_of result) [] }
+        ensures empty { IsZeroLogDisk (D.meaning.state_of disk)
+            → KeepsNothing ((disk_log_meaning D.meaning).state_of result) [] }
     {
         DiskLog { disk, kept: None }
+    }
+
+    /// The disk, as it stands.
+    pub fn into_disk(self) -> D
+        ensures { result ≡ self.disk }
+    {
+        self.disk
     }
 }
 

@@ -56,7 +56,8 @@ impl Cell for MemCell {
 
     fn put(&mut self, body: &Body) -> Result<(), StoreFault>
         ensures kept { IfOk result (λ _. IsPut memory_cell_meaning self.old self.new body.now) }
-        ensures after_put { IfOk result (λ _. memory_cell_meaning.after_put self.new) }
+        ensures after_put { IfOk result
+            (λ _. memory_cell_meaning.after_put self.new body.now) }
         ensures failed { IfErr result (PutFailed memory_cell_meaning self.old self.new body.now) }
         ensures done { IfOk result (λ _. IsMemoryPut self.old self.new body.now) }
         ensures not_done { IfErr result (MemoryPutFailed self.old self.new body.now) }

@@ -1,12 +1,12 @@
 //! A cell on a disk.
 
-ghost use Rattle.std.specs.Prelude.{◌≡◌, IfErr, IfOk, None, OnOk};
+ghost use Rattle.std.specs.Prelude.{◌≡◌, ℕ, List, IfErr, IfOk, None, OnOk};
 ghost use Rattle.duk_store.specs.Cell.{IsPut, PutFailed};
 ghost use Rattle.duk_store.specs.Disk.{LeavesChanged, StaysArmed};
 ghost use Rattle.duk_store.specs.Restart.{RestartFailed, Restarted};
-ghost use Rattle.duk_store.specs.SlotCell.{CellReplaceFailed, IsBlankDisk, IsCellReplaced, IsPutNext, IsReadyFor, IsRestored, IsZeroDisk, KeepsNothing, RunsWithBody, StandsAlone, new_slot_cell, slot_cell_meaning};
+ghost use Rattle.duk_store.specs.SlotCell.{CellReplaceFailed, IsBlankDisk, IsCellReplaced, IsPutNext, IsReadyFor, IsRestored, IsZeroDisk, RunsWithBody, StandsAlone, new_slot_cell, slot_cell_meaning};
 ghost use Rattle.duk_store.specs.Slots.{cell_disk_size};
-ghost use Rattle.duk_store.specs.StoreState.{IsNew, StaysButCalm};
+ghost use Rattle.duk_store.specs.StoreState.{IsNew, KeepsNothing, StaysButCalm};
 
 use crate::cell::{Body, Cell};
 use crate::disk::Disk;
@@ -46,7 +46,7 @@ impl<D: Disk> SlotCell<D> {
         ensures new { IsBlankDisk (D.meaning.state_of disk)
             → IsNew ((slot_cell_meaning D.meaning).state_of result) None }
         ensures empty { IsZeroDisk (D.meaning.state_of disk)
-            → KeepsNothing ((slot_cell_meaning D.meaning).state_of result) }
+            → KeepsNothing ((slot_cell_meaning D.meaning).state_of result) None }
     {
         SlotCell {
             disk,
@@ -58,10 +58,18 @@ impl<D: Disk> SlotCell<D> {
     /// and has that body, and the other is closed, with zeros behind its gate. This says so, and
     /// does nothing.
     pub fn one_body(&self)
-        ensures { RunsWithBody (D.meaning.state_of self.now.disk) self.now.state
-            → StandsAlone (D.meaning.state_of self.now.disk) }
+        ensures { (body : List ℕ)
+            → RunsWithBody (D.meaning.state_of self.now.disk) self.now.state body
+            → StandsAlone (D.meaning.state_of self.now.disk) body }
     {
         let _state = &self.state;
+    }
+
+    /// The disk, as it stands.
+    pub fn into_disk(self) -> D
+        ensures { result ≡ self.disk }
+    {
+        self.disk
     }
 
     /// Puts a body into a slot, and leaves nothing in the other one.
@@ -104,7 +112,8 @@ impl<D: Disk> Cell for SlotCell<D> {
     fn put(&mut self, body: &Body) -> Result<(), StoreFault>
         ensures kept { IfOk result
             (λ _. IsPut (slot_cell_meaning D.meaning) self.old self.new body.now) }
-        ensures after_put { IfOk result (λ _. StandsAlone (D.meaning.state_of self.new.disk)) }
+        ensures after_put { IfOk result
+            (λ _. StandsAlone (D.meaning.state_of self.new.disk) body.now) }
         ensures next { OnOk result (IsPutNext D.meaning body.now self.old self.new) }
         ensures failed { IfErr result
             (PutFailed (slot_cell_meaning D.meaning) self.old self.new body.now) }

@@ -1,5 +1,5 @@
 -- What a restart would find where an image was not kept.
-use Rattle.std.proofs.Common.{◌≡◌, ◌⊎◌, ℕ, List, Some, inl, inr, sym, subst, refl}
+use Rattle.std.proofs.Common.{◌≡◌, ◌⊎◌, ℕ, List, Some, inl, inr, sym, subst}
 use Rattle.duk_regs.specs.Registers.{HaveSixteenBytes, RegisterSet}
 use Rattle.duk_store.specs.Cell.{CellMeaning, Kept, PutFailed}
 use Rattle.duk_store.specs.StoreState.{StoreState}

@@ -55,6 +55,13 @@ next_of (Loaded set pending) =
 abbrev pub HasRegisters : State → Type 0
 HasRegisters state = (set : RegisterSet) × (pending : _) × (state ≡ Loaded set pending)
 
+-- the cell promises, of the body of the terminal's registers, what it promises of each body that it
+-- has acknowledged
+abbrev pub PromisesBody : {C : Type 0} → CellMeaning C → TerminalOf C → Type 0
+PromisesBody meaning terminal =
+    (set : RegisterSet) × (pending : _) × (terminal.state ≡ Loaded set pending)
+    × meaning.after_put terminal.cell (body_bytes set)
+
 -- the image of these registers was not kept: the terminal is stopped, and a restart would find such
 -- a thing as the cell held before, or that image
 pub record StopsBetween

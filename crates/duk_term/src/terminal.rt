@@ -10,7 +10,7 @@ ghost use Rattle.duk_store.specs.Cell.{IsPut};
 ghost use Rattle.duk_term.specs.Load.{IsTerminalLoaded, LoadRefused, loading_of};
 ghost use Rattle.duk_term.specs.Reply.{IsTold, ReplyRefused, after_answer};
 ghost use Rattle.duk_term.specs.Restart.{IsTerminalRestarted, TerminalRestartRefused};
-ghost use Rattle.duk_term.specs.Terminal.{IsImageNotKept, next_of};
+ghost use Rattle.duk_term.specs.Terminal.{IsImageNotKept, PromisesBody, next_of};
 ghost use Rattle.duk_term.specs.declared.state.State.TheVariants as state;
 
 use crate::answer::{Answer, Next};
@@ -52,6 +52,13 @@ impl<C: Cell> Terminal<C> {
             cell,
             state: State::Stopped,
         }
+    }
+
+    /// The cell, as it stands.
+    pub fn into_cell(self) -> C
+        ensures { result ≡ self.cell }
+    {
+        self.cell
     }
 
     /// Brings cell and terminal up, with the registers whose image the cell keeps, if it keeps one.
@@ -103,7 +110,7 @@ impl<C: Cell> Terminal<C> {
         requires { IsTdesLength M }
         ensures loaded { IfOk result (λ _.
             IsTerminalLoaded C.meaning (loading_of loading.now block.now iksn) self.old self.new) }
-        ensures after_put { IfOk result (λ _. C.meaning.after_put self.new.cell) }
+        ensures after_put { IfOk result (λ _. PromisesBody C.meaning self.new) }
         ensures refused { IfErr result
             (LoadRefused C.meaning (loading_of loading.now block.now iksn) self.old self.new) }
     {
@@ -125,7 +132,7 @@ impl<C: Cell> Terminal<C> {
     pub fn begin(&mut self, purchase: &Purchase) -> Result<Frame, TermFault>
         ensures begun { IfOk result
             (λ frame. IsBegun C.meaning purchase.now self.old self.new frame.items) }
-        ensures after_put { IfOk result (λ _. C.meaning.after_put self.new.cell) }
+        ensures after_put { IfOk result (λ _. PromisesBody C.meaning self.new) }
         ensures refused { IfErr result (BeginRefused C.meaning self.old self.new) }
     {
         let (key, ksn, left) = self.state.take_number()?;
@@ -145,7 +152,8 @@ impl<C: Cell> Terminal<C> {
         ensures kept { IfOk result
             (λ _. IsPut C.meaning self.old.cell self.new.cell (body_bytes registers)) }
         ensures state { IfOk result (λ _. self.new.state ≡ state.Loaded registers pending) }
-        ensures after_put { IfOk result (λ _. C.meaning.after_put self.new.cell) }
+        ensures after_put { IfOk result
+            (λ _. C.meaning.after_put self.new.cell (body_bytes registers)) }
         ensures set { IsRegisterSet registers }
         ensures sixteen { HaveSixteenBytes registers.registers }
         ensures refused { IfErr result
