@@ -1,0 +1,80 @@
+//! A configuration, a stopped host of it, and frames of the sample sequence of ANSI X9.24-1. The
+//! MACs were computed with an independent implementation.
+
+use crate::answer::NotReady;
+use duk_host::{Host, TableIssuer};
+use duk_hsm::Hsm;
+use duk_script::{open_hsm, read_config};
+use duk_store::{MemLog, UsedLog};
+use duk_tdes::Key;
+use duk_tree::Ksn;
+use std::alloc::Global;
+
+/// Two terminals, a log for a hundred numbers, one base derivation key and one card.
+pub const BANK: &str = "lmk = 'DD7515F2BFC17F85CE48F3CA25CB21F6'
+loading = '4CF15134A2850DD58A3D10BA80570D38'
+zone = '3F419E1CB7079442AA37474C2EFBF8B8'
+terminals = 2
+log = 100
+[[bdk]]
+prefix = 'FFFF987654'
+key = '0123456789ABCDEFFEDCBA9876543210'
+[[card]]
+pan = '4012345678909'
+pin = '1234'
+limit = 10000
+";
+
+const LMK: u128 = 0xDD7515F2_BFC17F85_CE48F3CA_25CB21F6;
+
+/// The key under which terminals are loaded.
+pub const LOADING: u128 = 0x4CF15134_A2850DD5_8A3D10BA_80570D38;
+
+/// Requests of the first and the second number, and their replies.
+pub const FIRST: &[u8; 48] =
+    b"\x00\x2E\x01\x01\xFF\xFF\x98\x76\x54\x32\x10\xE0\x00\x01\x0D4012345678909\x00\x00\x00\x01\x1B\x9C\x18\x45\xEB\x99\x3A\x7A\xA0\x56\x19\x89\x6B\x68\x3F\x13";
+
+pub const SECOND: &[u8; 48] =
+    b"\x00\x2E\x01\x01\xFF\xFF\x98\x76\x54\x32\x10\xE0\x00\x02\x0D4012345678909\x00\x00\x00\x01\x10\xA0\x1C\x8D\x02\xC6\x91\x07\x3E\xB1\xB1\x12\x3F\x0A\xBE\x82";
+
+pub const FIRST_REPLY: &[u8; 24] =
+    b"\x00\x16\x01\x02\xFF\xFF\x98\x76\x54\x32\x10\xE0\x00\x0100\x59\x1B\x50\xE0\xCA\x98\xFE\x70";
+
+pub const SECOND_REPLY: &[u8; 24] =
+    b"\x00\x16\x01\x02\xFF\xFF\x98\x76\x54\x32\x10\xE0\x00\x0200\xEC\x70\xAA\x0A\x71\xE6\xC9\xDE";
+
+/// The sample number of this counter.
+pub fn number(counter: u16) -> Ksn {
+    let [high, low] = counter.to_be_bytes();
+    Ksn::from_bytes([0xFF, 0xFF, 0x98, 0x76, 0x54, 0x32, 0x10, 0xE0, high, low])
+}
+
+/// The security module and the issuer of the configuration.
+pub fn module_and_issuer(alloc: Global) -> Result<(Hsm<16>, TableIssuer), NotReady> {
+    let config = read_config(alloc, BANK.as_bytes())?;
+    let Ok(hsm) = open_hsm(&Key::<16>::new(LMK.to_be_bytes()), &config) else {
+        return Err(NotReady);
+    };
+    Ok((hsm, TableIssuer::new(config.zone, config.cards)))
+}
+
+/// A stopped host over a log.
+pub fn host_over(alloc: Global, log: MemLog) -> Result<Host<16, MemLog, TableIssuer>, NotReady> {
+    let (hsm, issuer) = module_and_issuer(alloc)?;
+    if !hsm.has_zone() {
+        return Err(NotReady);
+    }
+    Ok(Host::new(alloc, hsm, issuer, log))
+}
+
+/// A log that was brought up and keeps the numbers from this counter on, below that one.
+pub fn log_of(alloc: Global, from: u16, to: u16) -> Result<MemLog, NotReady> {
+    let mut log = MemLog::new(alloc, 100)?;
+    log.restart()?;
+    for counter in from..to {
+        if log.room() > 0 {
+            log.append(number(counter))?;
+        }
+    }
+    Ok(log)
+}
