@@ -1,24 +1,28 @@
 //! A host that is brought up, asked, and serves.
 
-use crate::answer::{Answer, Tried};
-use crate::sample::{FIRST, FIRST_REPLY, SECOND, SECOND_REPLY, host_over, log_of, number};
-use duk_host::{Host, HostFault, TableIssuer, serve};
-use duk_store::MemLog;
-use std::alloc::Global;
-
-type MemoryHost = Host<16, MemLog, TableIssuer>;
+use crate::refused::answer::{Answer, Tried};
+use crate::refused::sample::{BANK, FIRST, FIRST_REPLY, SECOND, SECOND_REPLY, log_of, number};
+use crate::trouble::{Trouble, demand};
+use crate::worlds::{MemoryHost, memory_host};
+use duk_host::{HostFault, serve};
+use std::alloc::{AllocError, Global};
 
 /// Which numbers, from the first on, the host that the calls are tried on uses before them.
 const USED: (u16, u16) = (10, 40);
 
 /// Whether a host uses the numbers that it was made with.
 fn uses_its_own(host: &MemoryHost) -> bool {
-    (USED.0..USED.1).all(|counter| host.is_used(number(counter)))
+    for counter in USED.0..USED.1 {
+        if !host.is_used(number(counter)) {
+            return false;
+        }
+    }
+    true
 }
 
 /// A restart that is refused memory stops the host, and a second one finds all numbers.
 pub fn try_restart(alloc: Global) -> Tried {
-    let mut host = host_over(alloc, log_of(alloc, USED.0, USED.1)?)?;
+    let mut host = memory_host(alloc, BANK, log_of(alloc, USED.0, USED.1)?)?;
     match host.restart() {
         Ok(used) => Ok(Answer::Whole.where_holds(used == 30, "another number of numbers")),
         Err(HostFault::NoMemory) => Ok(after_refused_restart(&mut host)),
@@ -35,9 +39,9 @@ fn after_refused_restart(host: &mut MemoryHost) -> Answer {
 }
 
 /// A host that was brought up and uses no number, so that its first one wants memory.
-fn running_host(alloc: Global) -> Result<MemoryHost, crate::answer::NotReady> {
-    let mut host = host_over(alloc, log_of(alloc, 0, 0)?)?;
-    host.restart()?;
+fn running_host(alloc: Global) -> Result<MemoryHost, Trouble> {
+    let mut host = memory_host(alloc, BANK, log_of(alloc, 0, 0)?)?;
+    demand(host.restart() == Ok(0), "a new log keeps something")?;
     Ok(host)
 }
 
@@ -70,7 +74,7 @@ fn after_refused_request(host: &mut MemoryHost) -> Answer {
 }
 
 /// Two requests, and the answers to them.
-fn input(alloc: Global) -> Result<(Vec<u8>, Vec<u8>), std::alloc::AllocError> {
+fn input(alloc: Global) -> Result<(Vec<u8>, Vec<u8>), AllocError> {
     let mut frames = Vec::from_slice(alloc, FIRST)?;
     frames.extend_from_slice(SECOND)?;
     let mut answers = Vec::from_slice(alloc, FIRST_REPLY)?;
@@ -78,8 +82,8 @@ fn input(alloc: Global) -> Result<(Vec<u8>, Vec<u8>), std::alloc::AllocError> {
     Ok((frames, answers))
 }
 
-/// A service that is refused memory has written the answers before, and goes on with the frame that
-/// it was refused at.
+/// A service that is refused memory has written the answers before, goes on with the frame that it
+/// was refused at, and keeps each number once.
 pub fn try_serve(alloc: Global) -> Tried {
     let (frames, answers) = input(alloc)?;
     let mut host = running_host(alloc)?;
@@ -89,22 +93,31 @@ pub fn try_serve(alloc: Global) -> Tried {
             let all = count == 2 && written.as_slice() == answers.as_slice();
             Ok(Answer::Whole.where_holds(all, "other answers"))
         }
-        Err(HostFault::NoMemory) => {
-            let done = written.len() / 24;
-            let rest = frames.as_slice().get(48 * done..).unwrap_or(&[]);
-            let before = answers.as_slice().starts_with(written.as_slice());
-            let used = [host.is_used(number(1)), host.is_used(number(2))];
-            let again = serve(&mut host, &mut &*rest, &mut written).is_ok();
-            Ok(
-                Answer::Refused
-                    .where_holds(before && written.len() % 24 == 0, "other answers before")
-                    .where_holds(used == [done > 0, false], "other numbers are used")
-                    .where_holds(
-                        again && written.as_slice() == answers.as_slice(),
-                        "it does not go on",
-                    ),
-            )
-        }
+        Err(HostFault::NoMemory) => Ok(after_refused_service(
+            &mut host,
+            frames.as_slice(),
+            answers.as_slice(),
+            &mut written,
+        )),
         Err(_) => Ok(Answer::Wrong("another fault")),
     }
+}
+
+fn after_refused_service(
+    host: &mut MemoryHost,
+    frames: &[u8],
+    answers: &[u8],
+    written: &mut Vec<u8>,
+) -> Answer {
+    let done = written.len() / 24;
+    let before = answers.starts_with(written.as_slice()) && written.len() % 24 == 0;
+    let used = [host.is_used(number(1)), host.is_used(number(2))];
+    let mut rest = frames.get(48 * done..).unwrap_or(&[]);
+    let again = serve(host, &mut rest, written).is_ok() && written.as_slice() == answers;
+    let kept = host.restart() == Ok(2);
+    Answer::Refused
+        .where_holds(before, "other answers before")
+        .where_holds(used == [done > 0, false], "other numbers are used")
+        .where_holds(again, "it does not go on")
+        .where_holds(kept, "the log keeps something else")
 }

@@ -1,9 +1,6 @@
 //! What came of a call.
 
-use duk_host::HostFault;
-use duk_script::ScriptFault;
-use duk_store::StoreFault;
-use std::alloc::{AllocError, AllocFailed};
+use crate::trouble::Trouble;
 
 /// What came of a call to which memory was refused, or not.
 #[derive(Clone, Copy)]
@@ -35,39 +32,5 @@ impl Answer {
     }
 }
 
-/// What a call needs could not be made.
-#[derive(Drop)]
-pub struct NotReady;
-
 /// What came of a call, if what it needs could be made.
-pub type Tried = Result<Answer, NotReady>;
-
-impl From<AllocError> for NotReady {
-    fn from(_: AllocError) -> NotReady {
-        NotReady
-    }
-}
-
-impl<T: Drop> From<AllocFailed<T>> for NotReady {
-    fn from(_: AllocFailed<T>) -> NotReady {
-        NotReady
-    }
-}
-
-impl From<ScriptFault> for NotReady {
-    fn from(_: ScriptFault) -> NotReady {
-        NotReady
-    }
-}
-
-impl From<StoreFault> for NotReady {
-    fn from(_: StoreFault) -> NotReady {
-        NotReady
-    }
-}
-
-impl From<HostFault> for NotReady {
-    fn from(_: HostFault) -> NotReady {
-        NotReady
-    }
-}
+pub type Tried = Result<Answer, Trouble>;

@@ -1,45 +1,23 @@
 //! A world and its events.
 
-ghost use Rattle.std.specs.Prelude.{◌≡◌, ◌∷◌, [], IfOk};
-ghost use Rattle.duk_net.specs.InMemory.{new_terminal};
-
-use crate::answer::{Answer, NotReady, Tried};
-use crate::files::{LINES, SCRIPT};
-use crate::sample::{LOADING, module_and_issuer};
-use duk_host::{Host, TableIssuer};
-use duk_net::{Event, NetFault, Outcome, World, run};
+use crate::bank::as_trouble;
+use crate::refused::answer::{Answer, Tried};
+use crate::refused::files::{LINES, SCRIPT};
+use crate::refused::sample::BANK;
+use crate::trouble::{Trouble, demand};
+use crate::worlds::{MemoryWorld, memory_world};
+use duk_net::{Event, NetFault, Outcome, run};
 use duk_script::{outcome_line, parse_script};
-use duk_store::{MemCell, MemLog};
-use duk_tdes::Key;
-use duk_term::Terminal;
 use std::alloc::Global;
 
-type MemoryWorld = World<16, MemCell, MemLog, TableIssuer>;
-
-/// A terminal over a new cell.
-fn terminals(alloc: Global) -> Result<Vec<Terminal<MemCell>>, NotReady>
-    ensures { IfOk result (λ terminals. terminals.items ≡ new_terminal ∷ []) }
-{
-    let mut terminals = Vec::new(alloc);
-    terminals.push(Terminal::new(MemCell::new()))?;
-    Ok(terminals)
-}
-
-/// A world whose ends were brought up.
-fn running_world(alloc: Global) -> Result<MemoryWorld, NotReady> {
-    let (hsm, issuer) = module_and_issuer(alloc)?;
-    if !hsm.has_zone() {
-        return Err(NotReady);
-    }
-    let host = Host::new(alloc, hsm, issuer, MemLog::new(alloc, 100)?);
-    let loading = Key::new(LOADING.to_be_bytes());
-    let mut world = World::new(alloc, host, loading, terminals(alloc)?);
+/// A world whose host and first terminal were brought up.
+fn running_world(alloc: Global) -> Result<MemoryWorld, Trouble> {
+    let mut world = memory_world(alloc, BANK)?;
     let mut outcomes = Vec::new(alloc);
     let restarts = [Event::RestartHost, Event::RestartTerm { t: 1 }];
-    match run(&mut world, &restarts, &mut outcomes) {
-        Ok(()) => Ok(world),
-        Err(_) => Err(NotReady),
-    }
+    let told = run(&mut world, &restarts, &mut outcomes);
+    demand(told.is_ok(), "a world does not come up")?;
+    Ok(world)
 }
 
 /// Whether outcomes have the first lines of the script, and how many of them.
@@ -57,7 +35,7 @@ fn have_first_lines(outcomes: &[Outcome]) -> bool {
 /// A run that is refused memory has done the events before, and a second one from there does the
 /// others, with the outcomes that were wanting.
 pub fn try_run(alloc: Global) -> Tried {
-    let events = parse_script(alloc, SCRIPT.as_bytes())?;
+    let events = parse_script(alloc, SCRIPT.as_bytes()).map_err(as_trouble)?;
     let mut world = running_world(alloc)?;
     let mut outcomes = Vec::new(alloc);
     match run(&mut world, events.as_slice(), &mut outcomes) {

@@ -1,20 +1,15 @@
-//! A configuration, a stopped host of it, and frames of the sample sequence of ANSI X9.24-1. The
-//! MACs were computed with an independent implementation.
+//! A configuration, a log, and frames of the sample sequence of ANSI X9.24-1. The MACs were computed
+//! with an independent implementation.
 
-use crate::answer::NotReady;
-use duk_host::{Host, TableIssuer};
-use duk_hsm::Hsm;
-use duk_script::{open_hsm, read_config};
-use duk_store::{MemLog, UsedLog};
-use duk_tdes::Key;
+use duk_store::{MemLog, StoreFault, UsedLog};
 use duk_tree::Ksn;
 use std::alloc::Global;
 
-/// Two terminals, a log for a hundred numbers, one base derivation key and one card.
+/// Three terminals, a log for a hundred numbers, one base derivation key and one card.
 pub const BANK: &str = "lmk = 'DD7515F2BFC17F85CE48F3CA25CB21F6'
 loading = '4CF15134A2850DD58A3D10BA80570D38'
 zone = '3F419E1CB7079442AA37474C2EFBF8B8'
-terminals = 2
+terminals = 3
 log = 100
 [[bdk]]
 prefix = 'FFFF987654'
@@ -24,11 +19,6 @@ pan = '4012345678909'
 pin = '1234'
 limit = 10000
 ";
-
-const LMK: u128 = 0xDD7515F2_BFC17F85_CE48F3CA_25CB21F6;
-
-/// The key under which terminals are loaded.
-pub const LOADING: u128 = 0x4CF15134_A2850DD5_8A3D10BA_80570D38;
 
 /// Requests of the first and the second number, and their replies.
 pub const FIRST: &[u8; 48] =
@@ -49,26 +39,8 @@ pub fn number(counter: u16) -> Ksn {
     Ksn::from_bytes([0xFF, 0xFF, 0x98, 0x76, 0x54, 0x32, 0x10, 0xE0, high, low])
 }
 
-/// The security module and the issuer of the configuration.
-pub fn module_and_issuer(alloc: Global) -> Result<(Hsm<16>, TableIssuer), NotReady> {
-    let config = read_config(alloc, BANK.as_bytes())?;
-    let Ok(hsm) = open_hsm(&Key::<16>::new(LMK.to_be_bytes()), &config) else {
-        return Err(NotReady);
-    };
-    Ok((hsm, TableIssuer::new(config.zone, config.cards)))
-}
-
-/// A stopped host over a log.
-pub fn host_over(alloc: Global, log: MemLog) -> Result<Host<16, MemLog, TableIssuer>, NotReady> {
-    let (hsm, issuer) = module_and_issuer(alloc)?;
-    if !hsm.has_zone() {
-        return Err(NotReady);
-    }
-    Ok(Host::new(alloc, hsm, issuer, log))
-}
-
 /// A log that was brought up and keeps the numbers from this counter on, below that one.
-pub fn log_of(alloc: Global, from: u16, to: u16) -> Result<MemLog, NotReady> {
+pub fn log_of(alloc: Global, from: u16, to: u16) -> Result<MemLog, StoreFault> {
     let mut log = MemLog::new(alloc, 100)?;
     log.restart()?;
     for counter in from..to {

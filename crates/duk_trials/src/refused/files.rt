@@ -1,7 +1,7 @@
 //! Configurations and scripts.
 
-use crate::answer::{Answer, Tried};
-use crate::sample::BANK;
+use crate::refused::answer::{Answer, Tried};
+use crate::refused::sample::BANK;
 use duk_script::{ScriptFault, parse_script, read_config, run_script};
 use std::alloc::Global;
 
@@ -42,7 +42,7 @@ answer 5 accepted FFFF9876543210E00003 55
 
 pub fn try_read_config(alloc: Global) -> Tried {
     match read_config(alloc, BANK.as_bytes()) {
-        Ok(config) => Ok(Answer::Whole.where_holds(config.terminals == 2, "another configuration")),
+        Ok(config) => Ok(Answer::Whole.where_holds(config.terminals == 3, "another configuration")),
         Err(ScriptFault::NoMemory) => Ok(Answer::Refused),
         Err(_) => Ok(Answer::Wrong("another fault")),
     }

@@ -1,6 +1,6 @@
 //! The program's words.
 
-use crate::answer::{Answer, Tried};
+use crate::refused::answer::{Answer, Tried};
 use duk_program::{Todo, command};
 use std::alloc::{AllocError, Global};
 

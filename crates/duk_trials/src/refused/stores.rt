@@ -1,6 +1,6 @@
 //! Stores in memory.
 
-use crate::answer::{Answer, Tried};
+use crate::refused::answer::{Answer, Tried};
 use duk_store::{MemDisk, MemLog, StoreFault};
 use std::alloc::Global;
 

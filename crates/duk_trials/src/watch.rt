@@ -1,0 +1,433 @@
+//! The laws of the headline, tried on what came of events: no two requests have one number, the
+//! host accepts each number once and under the terminal's own key, a terminal completes with the
+//! host's reply alone, and no terminal goes back to a used number.
+
+use crate::bank::Bank;
+use crate::dukpt::{
+    Payment, Serial, counter_of, iksn_of, is_usable, key_of, pin_block, refusal_frame, reply_frame,
+    request_frame,
+};
+use crate::played::Played;
+use crate::standard::DoubleKey;
+use crate::steps::Step;
+use crate::trouble::{Trouble, demand};
+use duk_frame::{Code, Frame};
+use duk_host::HostFault;
+use duk_net::Outcome;
+use duk_term::{Next, TermFault};
+use duk_tree::Ksn;
+use std::alloc::Global;
+
+/// A request that was sent.
+#[derive(Clone, Copy)]
+struct Sent {
+    t: u32,
+    serial: Serial,
+    payment: Payment,
+    key: DoubleKey,
+}
+
+/// A request that was accepted.
+#[derive(Clone, Copy)]
+struct Accepted {
+    serial: Serial,
+    code: &'static str,
+}
+
+/// What came of the events so far.
+#[derive(Drop)]
+pub struct Watch<'a> {
+    alloc: Global,
+    bank: &'a Bank,
+    sent: Vec<Sent>,
+    accepted: Vec<Accepted>,
+    /// Numbers whose append failed, which the log may keep.
+    doubtful: Vec<Serial>,
+    done: Vec<Serial>,
+    pending: [Option<Serial>; 16],
+    owners: Vec<(Serial, u32)>,
+    /// The frames that the host should have sent.
+    answers: Vec<Vec<u8>>,
+}
+
+/// The digits of a code.
+pub fn digits_of(code: Code) -> &'static str {
+    match code {
+        Code::Approved => "00",
+        Code::NoCard => "14",
+        Code::Unreadable => "30",
+        Code::OverLimit => "51",
+        Code::WrongPin => "55",
+    }
+}
+
+impl<'a> Watch<'a> {
+    /// Nothing came yet.
+    pub fn new(alloc: Global, bank: &'a Bank) -> Self {
+        Watch {
+            alloc,
+            bank,
+            sent: Vec::new(alloc),
+            accepted: Vec::new(alloc),
+            doubtful: Vec::new(alloc),
+            done: Vec::new(alloc),
+            pending: [None; 16],
+            owners: Vec::new(alloc),
+            answers: Vec::new(alloc),
+        }
+    }
+
+    /// What came of one event more.
+    pub fn see(&mut self, step: &Step, outcome: &Outcome) -> Result<(), Trouble> {
+        match *step {
+            Step::Load { t, iksn } => self.see_load(t, &iksn, outcome),
+            Step::Begin { t, payment } => self.see_begin(t, &payment, outcome),
+            Step::Up { k } => self.see_up(k, outcome),
+            Step::Down { t, .. } => self.see_down(t, outcome),
+            Step::RestartTerm { t } => self.see_restart(t, outcome),
+            Step::RestartHost => self.see_host_restart(outcome),
+            Step::ArmTerm { t, .. } => demand(
+                matches!(outcome, Outcome::Armed { .. }) || self.has_no_terminal(t, outcome),
+                "a terminal is armed otherwise",
+            ),
+            Step::ArmHost { .. } => demand(
+                matches!(outcome, Outcome::Armed { .. }),
+                "the host is armed otherwise",
+            ),
+        }
+    }
+
+    /// Whether it came that there is no such terminal, and there is none.
+    fn has_no_terminal(&self, t: u32, outcome: &Outcome) -> bool {
+        *outcome == Outcome::NoSuchTerminal && (t == 0 || t > self.bank.terminals)
+    }
+
+    /// The owner of an initial key serial number.
+    fn owner_of(&self, iksn: &Serial) -> Option<u32> {
+        for owner in &self.owners {
+            if owner.0 == *iksn {
+                return Some(owner.1);
+            }
+        }
+        None
+    }
+
+    /// A terminal owns an initial key serial number from now on; no other one did.
+    fn own(&mut self, t: u32, iksn: &Serial) -> Result<(), Trouble> {
+        match self.owner_of(iksn) {
+            Some(owner) => demand(owner == t, "two terminals own one number"),
+            None => {
+                self.owners.push((*iksn, t))?;
+                Ok(())
+            }
+        }
+    }
+
+    /// What is pending at a terminal.
+    fn pending_at(&self, t: u32) -> Option<Serial> {
+        match self.pending.get(t as usize % 16) {
+            Some(pending) => *pending,
+            None => None,
+        }
+    }
+
+    fn set_pending(&mut self, t: u32, serial: Option<Serial>) {
+        if let Some(pending) = self.pending.get_mut(t as usize % 16) {
+            *pending = serial;
+        }
+    }
+
+    fn see_load(&mut self, t: u32, iksn: &Serial, outcome: &Outcome) -> Result<(), Trouble> {
+        match outcome {
+            Outcome::Loaded {
+                t: loaded,
+                iksn: of,
+            } => {
+                demand(*loaded == t && of.bytes() == *iksn, "another load is told")?;
+                self.own(t, iksn)
+            }
+            Outcome::TermFaulted {
+                fault: TermFault::Store(_),
+                ..
+            } => {
+                self.set_pending(t, None);
+                self.own(t, iksn)
+            }
+            Outcome::TermFaulted { t: refused, .. } => demand(*refused == t, "another terminal"),
+            Outcome::IksnElsewhere { .. } => demand(
+                self.owner_of(iksn).is_some() && self.owner_of(iksn) != Some(t),
+                "a number is told as owned elsewhere and is not",
+            ),
+            Outcome::NoKeySet { .. } => demand(
+                self.bank.initial_key_of(iksn).is_none(),
+                "a key set that is there is not found",
+            ),
+            other => demand(
+                self.has_no_terminal(t, other),
+                "a load comes to something else",
+            ),
+        }
+    }
+
+    fn see_begin(&mut self, t: u32, payment: &Payment, outcome: &Outcome) -> Result<(), Trouble> {
+        match outcome {
+            Outcome::Sent { t: sender, k, ksn } => {
+                demand(*sender == t, "another terminal sends")?;
+                self.see_sent(t, *k, &ksn.bytes(), payment)
+            }
+            Outcome::TermFaulted { t: refused, fault } => {
+                if let TermFault::Store(_) = fault {
+                    self.set_pending(t, None);
+                }
+                demand(*refused == t, "another terminal")
+            }
+            other => demand(
+                self.has_no_terminal(t, other),
+                "a begin comes to something else",
+            ),
+        }
+    }
+
+    /// A request with a number that is usable, that was not sent before, and that the terminal
+    /// owns.
+    fn see_sent(
+        &mut self,
+        t: u32,
+        k: u64,
+        serial: &Serial,
+        payment: &Payment,
+    ) -> Result<(), Trouble> {
+        demand(is_usable(counter_of(serial)), "an unusable number is sent")?;
+        for sent in &self.sent {
+            demand(sent.serial != *serial, "two requests have one number")?;
+        }
+        demand(
+            self.owner_of(&iksn_of(serial)) == Some(t),
+            "a terminal sends a number that it does not own",
+        )?;
+        let Some(initial) = self.bank.initial_key_of(serial) else {
+            return Err(Trouble::Violation("a number of no key set is sent"));
+        };
+        self.sent.push(Sent {
+            t,
+            serial: *serial,
+            payment: *payment,
+            key: key_of(initial, serial),
+        })?;
+        self.set_pending(t, Some(*serial));
+        demand(
+            k == self.sent.len() as u64,
+            "a request is counted otherwise",
+        )
+    }
+
+    /// The request of a number.
+    fn request(&self, k: u32) -> Option<Sent> {
+        self.sent.get(k.checked_sub(1)? as usize).copied()
+    }
+
+    fn see_up(&mut self, k: u32, outcome: &Outcome) -> Result<(), Trouble> {
+        let Some(sent) = self.request(k) else {
+            return demand(
+                *outcome == Outcome::NoSuchFrame,
+                "what was not sent is delivered",
+            );
+        };
+        match outcome {
+            Outcome::Accepted { k, ksn, code } => {
+                demand(ksn.bytes() == sent.serial, "another number is accepted")?;
+                self.see_accepted(&sent, *k, digits_of(*code))
+            }
+            Outcome::Refused { k, ksn, reason } => {
+                demand(ksn.bytes() == sent.serial, "another number is refused")?;
+                self.see_refused(&sent.serial, *k, *reason)
+            }
+            Outcome::HostFaulted(HostFault::Store(_)) => {
+                self.doubtful.push(sent.serial)?;
+                Ok(())
+            }
+            Outcome::HostFaulted(HostFault::Stopped) => Ok(()),
+            _ => Err(Trouble::Violation("a request comes to something else")),
+        }
+    }
+
+    /// The code with which the host accepted a number, if it did.
+    fn code_of(&self, serial: &Serial) -> Option<&'static str> {
+        for one in &self.accepted {
+            if one.serial == *serial {
+                return Some(one.code);
+            }
+        }
+        None
+    }
+
+    /// A request that was not accepted before, with the code of its payment.
+    fn see_accepted(&mut self, sent: &Sent, k: u64, code: &'static str) -> Result<(), Trouble> {
+        demand(
+            self.code_of(&sent.serial).is_none(),
+            "a number is accepted twice",
+        )?;
+        let block = pin_block(sent.payment.pin, sent.payment.pan);
+        let expected = self
+            .bank
+            .code_for(sent.payment.pan, block, sent.payment.amount);
+        demand(code == expected, "a payment has another code")?;
+        self.accepted.push(Accepted {
+            serial: sent.serial,
+            code,
+        })?;
+        let reply = reply_frame(self.alloc, sent.key, &sent.serial, code)?;
+        self.answers.push(reply)?;
+        demand(
+            k == self.answers.len() as u64,
+            "an answer is counted otherwise",
+        )
+    }
+
+    /// A request is refused only as used or because the log is full.
+    fn see_refused(&mut self, serial: &Serial, k: u64, reason: u8) -> Result<(), Trouble> {
+        let used = self.code_of(serial).is_some() || self.doubtful.contains(serial);
+        let most = self.accepted.len().saturating_add(self.doubtful.len());
+        match reason {
+            5 => demand(used, "an unused number is refused as used")?,
+            6 => demand(
+                most >= self.bank.log as usize,
+                "a log with room is told as full",
+            )?,
+            _ => return Err(Trouble::Violation("a request that was sent is refused")),
+        }
+        self.answers
+            .push(refusal_frame(self.alloc, serial, reason)?)?;
+        demand(
+            k == self.answers.len() as u64,
+            "an answer is counted otherwise",
+        )
+    }
+
+    fn see_down(&mut self, t: u32, outcome: &Outcome) -> Result<(), Trouble> {
+        match outcome {
+            Outcome::Done { t: one, ksn, code } => {
+                demand(*one == t, "another terminal is done")?;
+                self.see_done(t, &ksn.bytes(), digits_of(*code))
+            }
+            Outcome::GotRefusal { t: one, ksn, .. } => demand(
+                *one == t && self.pending_at(t) == Some(ksn.bytes()),
+                "a refusal of what is not pending",
+            ),
+            Outcome::TermFaulted { t: refused, .. } => demand(*refused == t, "another terminal"),
+            Outcome::NoSuchFrame => Ok(()),
+            other => demand(
+                self.has_no_terminal(t, other),
+                "an answer comes to something else",
+            ),
+        }
+    }
+
+    /// A terminal is done with what was pending, which the host accepted with this code, and it is
+    /// so once.
+    fn see_done(&mut self, t: u32, serial: &Serial, code: &str) -> Result<(), Trouble> {
+        demand(
+            self.pending_at(t) == Some(*serial),
+            "a terminal is done with what is not pending",
+        )?;
+        let replied = self.code_of(serial) == Some(code);
+        demand(replied, "a terminal is done without a reply")?;
+        demand(!self.done.contains(serial), "a number is done twice")?;
+        self.done.push(*serial)?;
+        self.set_pending(t, None);
+        Ok(())
+    }
+
+    fn see_restart(&mut self, t: u32, outcome: &Outcome) -> Result<(), Trouble> {
+        self.set_pending(t, None);
+        match outcome {
+            Outcome::TermNext {
+                next: Next::At(next),
+                ..
+            } => self.see_next(t, &next.bytes()),
+            Outcome::TermNext { .. } => Ok(()),
+            Outcome::TermFaulted {
+                fault: TermFault::Store(_),
+                ..
+            } => Ok(()),
+            other => demand(
+                self.has_no_terminal(t, other),
+                "a restart comes to something else",
+            ),
+        }
+    }
+
+    /// The next number is above all that were sent, and its terminal owns it.
+    fn see_next(&self, t: u32, next: &Serial) -> Result<(), Trouble> {
+        let iksn = iksn_of(next);
+        demand(
+            self.owner_of(&iksn) == Some(t),
+            "a terminal finds what it does not own",
+        )?;
+        for sent in &self.sent {
+            let passed = iksn_of(&sent.serial) != iksn
+                || counter_of(&sent.serial) < counter_of(next);
+            demand(passed, "a terminal goes back to a used number")?;
+        }
+        Ok(())
+    }
+
+    /// As many numbers are used as were accepted, or more by those whose append failed.
+    fn see_host_restart(&self, outcome: &Outcome) -> Result<(), Trouble> {
+        let least = self.accepted.len() as u64;
+        match outcome {
+            Outcome::HostUsed(used) => demand(
+                least <= *used && *used <= least.saturating_add(self.doubtful.len() as u64),
+                "a restart finds another list",
+            ),
+            Outcome::HostFaulted(HostFault::Store(_)) => Ok(()),
+            _ => Err(Trouble::Violation("a restart of the host comes to something else")),
+        }
+    }
+
+    /// All frames of a world are those that were to be sent, each under the terminal's own key; and
+    /// where its host was just restarted, it uses each number that it accepted.
+    pub fn compare<W: Played>(&self, world: &W) -> Result<(), Trouble> {
+        demand(
+            world.requests().len() == self.sent.len(),
+            "another number of requests",
+        )?;
+        for (frame, sent) in world.requests().iter().zip(self.sent.iter()) {
+            let expected = request_frame(self.alloc, sent.key, &sent.serial, &sent.payment)?;
+            demand(
+                is_frame(frame, &expected),
+                "a request is not the terminal's own",
+            )?;
+        }
+        demand(
+            world.answers().len() == self.answers.len(),
+            "another number of answers",
+        )?;
+        for (frame, expected) in world.answers().iter().zip(self.answers.iter()) {
+            demand(is_frame(frame, expected), "an answer is not the host's own")?;
+        }
+        for next in &world.nexts(self.alloc)? {
+            if let Next::At(next) = *next {
+                let iksn = iksn_of(&next.bytes());
+                self.see_next(self.owner_of(&iksn).unwrap_or(0), &next.bytes())?;
+            }
+        }
+        Ok(())
+    }
+
+    /// The host of a world that was just brought up uses each number that it accepted.
+    pub fn compare_used<W: Played>(&self, world: &W) -> Result<(), Trouble> {
+        for one in &self.accepted {
+            demand(
+                world.is_used(Ksn::from_bytes(one.serial)),
+                "an accepted number is not used",
+            )?;
+        }
+        Ok(())
+    }
+}
+
+/// Whether a frame has these bytes.
+fn is_frame(frame: &Frame, bytes: &Vec<u8>) -> bool {
+    frame.as_slice() == bytes.as_slice()
+}
