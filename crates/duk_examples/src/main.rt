@@ -16,7 +16,7 @@ use std::{fs, io};
 const CONFIG: &str = "bank.toml";
 
 /// The examples: `NAME.script` writes what stands in `NAME.out`.
-const EXAMPLES: [&str; 3] = ["payment", "lost_reply", "power_failure"];
+const EXAMPLES: [&str; 4] = ["payment", "lost_reply", "power_failure", "second_life"];
 
 fn main(rt: HostRuntime) -> ExitCode {
     for name in EXAMPLES {

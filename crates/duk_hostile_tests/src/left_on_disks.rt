@@ -90,11 +90,12 @@ fn key_of(counter: u32) -> Key<16> {
     derive(&key(BDK), iksn().with_counter(counter % 0x20_0000))
 }
 
-/// The body of the sample terminal whose next number is the fourth: an image of version 1 that has,
-/// from the third register on, the keys of the numbers 4, 8, 16 and so on, as a host derives them.
+/// The body of the sample terminal whose next number is the fourth: an image of version 2 that has,
+/// from the third register on, the keys of the numbers 4, 8, 16 and so on, as a host derives them,
+/// and no past number.
 fn fourth_body() -> Body {
     let mut body = [0; BODY_LENGTH];
-    body[0] = 1;
+    body[0] = 2;
     body[1..11].copy_from_slice(&iksn().bytes());
     body[13] = 4;
     for place in 2..21 {

@@ -75,7 +75,7 @@ down 1 t9
 
 pub const LINES: &str = "t1 fault NotLoaded
 t1 loaded FFFF9876543210E00000
-t1 fault AlreadyLoaded
+t1 fault IksnSpent
 t2 IKSN elsewhere
 t2 no key set
 t1 sent 1 FFFF9876543210E00001

@@ -50,7 +50,7 @@ fn first_images(rt: HostRuntime) -> Result<(), Fail> {
     for (counter, first) in [(1, KEYS[0].1), (2, 0)] {
         let image = registers.image();
         let expected = [
-            1, 0xFF, 0xFF, 0x98, 0x76, 0x54, 0x32, 0x10, 0xE0, 0, 0, 0, 0, counter,
+            2, 0xFF, 0xFF, 0x98, 0x76, 0x54, 0x32, 0x10, 0xE0, 0, 0, 0, 0, counter,
         ];
         assert_eq!(rt; head(&image), expected);
         assert_eq!(rt; register(&image, 0), first);
@@ -100,7 +100,7 @@ fn key_of_ten_ones(rt: HostRuntime) -> Result<(), Fail> {
 /// The image of a spent terminal with this byte in its register 3.
 fn spent_with(byte: u8) -> [u8; IMAGE_LENGTH] {
     let mut image = [0; IMAGE_LENGTH];
-    image[0] = 1;
+    image[0] = 2;
     image[11] = 0x20;
     image[14 + 16 * 3] = byte;
     image
@@ -112,5 +112,24 @@ fn spent_registers_give_no_key(rt: HostRuntime) -> Result<(), Fail> {
     assert_eq!(rt; registers.ksn(), None);
     assert!(rt; registers.take().is_err());
     assert!(rt; Registers::from_image(&spent_with(1)).is_none());
+    Ok(())
+}
+
+/// Of registers that are loaded again: whether the number that they had is past, and the new one is
+/// not; and the count of past numbers in their image and the first of these.
+fn of_reload() -> Result<([bool; 2], u8, [u8; 10]), Fail> {
+    let old = Iksn::parse(IKSN).ok_or("an initial key serial number")?;
+    let new = Ksn::from_bytes([7, 0, 0, 0, 0, 0, 0, 0, 0, 0]).iksn();
+    let registers = load_registers()?.reload(key(INITIAL), new);
+    let registers = registers.ok().ok_or("a reload")?;
+    let image = registers.image();
+    let past = [registers.is_past(old), registers.is_past(new)];
+    Ok((past, image[350], array_of(&image[351..361])))
+}
+
+#[test]
+fn registers_that_are_loaded_again(rt: HostRuntime) -> Result<(), Fail> {
+    let first = [0xFF, 0xFF, 0x98, 0x76, 0x54, 0x32, 0x10, 0xE0, 0, 0];
+    assert_eq!(rt; of_reload()?, ([true, false], 1, first));
     Ok(())
 }

@@ -6,10 +6,10 @@ use Rattle.duk_frame.specs.Request.{IsRequest}
 use Rattle.duk_frame.specs.declared.request.Request.{Request}
 use Rattle.duk_hsm.specs.Commands.{IsIssued}
 use Rattle.duk_hsm.specs.Keys.{HsmKeys}
-use Rattle.duk_regs.specs.Registers.{IsRegisterSet, IsTaken, RegisterSet, StandsFor}
+use Rattle.duk_regs.specs.Registers.{IsRegisterSet, IsSpentIksn, IsTaken, RegisterSet, StandsFor}
 use Rattle.duk_store.specs.Cell.{CellMeaning, Kept}
 use Rattle.duk_term.specs.Begin.{IsBegun, TakesNumber}
-use Rattle.duk_term.specs.Body.{IsFoundAgain, body_bytes}
+use Rattle.duk_term.specs.Body.{IsFoundAgain, KeepsRegisters}
 use Rattle.duk_term.specs.Loading.{WrapsInitialKey}
 use Rattle.duk_term.specs.Terminal.{TerminalOf, serial_of}
 use Rattle.duk_term.specs.declared.purchase.Purchase.{Purchase}
@@ -23,7 +23,7 @@ use Rattle.duk_tree.specs.Serial.{Serial}
 use Rattle.duk_net.specs.InitialKey.{IsInitialKeyOf}
 use Rattle.duk_net.specs.UsedNumbers.{HasNumber, IsUsedNumber, NoneTwice}
 use Rattle.duk_net.specs.Owner.{owner_of}
-use Rattle.duk_net.specs.UnusedKeys.{StandsAboveUsed}
+use Rattle.duk_net.specs.UnusedKeys.{RemembersUsed, StandsAboveUsed}
 use Rattle.duk_net.specs.World.{Frame, IsAt, Meanings, WorldOf}
 use Rattle.duk_net.specs.declared.owner.Owner.{Owner}
 use Rattle.duk_net.proofs.OwnersStay.{one_owner}
@@ -41,10 +41,12 @@ books_of world = record { keys = world.host.keys; requests = world.requests; own
 abbrev pub HasSentNothing : Books → ℕ → Type 0
 HasSentNothing books t = (ksn : Serial) → IsUsedNumber books.requests ksn → owner_of books.owners ksn.iksn ≢ Some t
 
--- the terminal owns the registers' initial key serial number, and they stand above every used number
+-- the terminal owns the registers' initial key serial number, they stand above every used number, and they remember under which initial
+-- key serial numbers of its own requests were sent
 pub record SetSafe (books : Books) (t : ℕ) (set : RegisterSet) : Type 0 where
   pub owned : owner_of books.owners set.iksn ≡ Some t
   pub stands : StandsAboveUsed books.keys books.requests set
+  pub remembers : RemembersUsed books.requests books.owners t set
   pub set_is : IsRegisterSet set
   pub again : IsFoundAgain set
 
@@ -55,7 +57,7 @@ StateSafe books t (Loaded set pending) = SetSafe books t set
 
 pub record BodySafe (books : Books) (t : ℕ) (body : List ℕ) : Type 0 where
   pub set : RegisterSet
-  pub body_is : body ≡ body_bytes set
+  pub keeps : KeepsRegisters body set
   pub safe : SetSafe books t set
 
 abbrev pub KeptSafe : Books → ℕ → Kept → Type 0
@@ -86,9 +88,9 @@ state_follows old t new Stopped follows safe = tt
 state_follows old t new Empty follows safe = follows.nothing safe
 state_follows old t new (Loaded set pending) follows safe = follows.set set safe
 
-kept_follows : (old : Books) (t : ℕ) (new : Books) (kept : Kept) → Follows old t new → KeptSafe old t kept → KeptSafe new t kept
+pub kept_follows : (old : Books) (t : ℕ) (new : Books) (kept : Kept) → Follows old t new → KeptSafe old t kept → KeptSafe new t kept
 kept_follows old t new None follows safe = follows.nothing safe
-kept_follows old t new (Some body) follows safe = record { set = safe.set; body_is = safe.body_is; safe = follows.set safe.set safe.safe }
+kept_follows old t new (Some body) follows safe = record { set = safe.set; keeps = safe.keeps; safe = follows.set safe.set safe.safe }
 
 pub term_follows : {C : Type 0} (cell : CellMeaning C) (old : Books) (t : ℕ) (new : Books) (terminal : TerminalOf C) → Follows old t new → TermSafe cell old t terminal → TermSafe cell new t terminal
 term_follows cell old t new terminal follows safe = record {
@@ -100,18 +102,25 @@ term_follows cell old t new terminal follows safe = record {
 -- owners that stay, and no request more
 pub owners_follow : (old : Books) (t : ℕ) (new : Books) → new.keys ≡ old.keys → new.requests ≡ old.requests
     → ((iksn u : ℕ) → owner_of old.owners iksn ≡ Some u → owner_of new.owners iksn ≡ Some u) → AreOwned old → Follows old t new
-owners_follow old t new keys requests stays owned = record {
-  nothing = λ nothing ksn used owner.
-      let was = subst (λ list. IsUsedNumber list ksn) requests used in
-      let had = owned ksn was in
-      nothing ksn was (had.1 ∙ ap Some (one_owner new.owners ksn.iksn had.0 t (stays ksn.iksn had.0 had.1) owner));
-  set = λ set safe. record {
-    owned = stays set.iksn t safe.owned;
-    stands = subst (λ list. StandsAboveUsed new.keys list set) (sym requests) (subst (λ keys. StandsAboveUsed keys old.requests set) (sym keys) safe.stands);
-    set_is = safe.set_is;
-    again = safe.again;
-  };
-}
+owners_follow old t new keys requests stays owned =
+    -- a used number that the terminal owns now was its own before
+    let owned_before : (ksn : Serial) → IsUsedNumber old.requests ksn → owner_of new.owners ksn.iksn ≡ Some t → owner_of old.owners ksn.iksn ≡ Some t = λ ksn was owner.
+    let had = owned ksn was in
+    had.1 ∙ ap Some (one_owner new.owners ksn.iksn had.0 t (stays ksn.iksn had.0 had.1) owner) in
+    record {
+      nothing = λ nothing ksn used owner.
+          let was = subst (λ list. IsUsedNumber list ksn) requests used in
+          nothing ksn was (owned_before ksn was owner);
+      set = λ set safe. record {
+        owned = stays set.iksn t safe.owned;
+        stands = subst (λ list. StandsAboveUsed new.keys list set) (sym requests) (subst (λ keys. StandsAboveUsed keys old.requests set) (sym keys) safe.stands);
+        remembers = λ ksn used owner.
+            let was = subst (λ list. IsUsedNumber list ksn) requests used in
+            safe.remembers ksn was (owned_before ksn was owner);
+        set_is = safe.set_is;
+        again = safe.again;
+      };
+    }
 
 -- a used number of the requests and one more is one of them, or that of the new one
 pub used_before : (requests : List Frame) (frame : Frame) (ksn : Serial) → IsUsedNumber (requests ++ frame ∷ []) ksn → IsUsedNumber requests ksn ⊎ HasNumber frame ksn
@@ -163,6 +172,10 @@ pub record WorldLaws {C : Type 0} (cell : CellMeaning C) : Type 0 where
   pub request : BegunIsRequest cell
   pub own_key : IssuedIsOwnKey
 
+-- registers remember what those remembered from which a number was taken
+left_remembers : (set left : RegisterSet) (key : List ℕ) (ksn : Serial) → TakesNumber set key left → IsSpentIksn ksn.iksn set → IsSpentIksn ksn.iksn left
+left_remembers set left key ksn takes spent = rw (takes.taken.same_iksn, takes.taken.same_past) spent
+
 -- a number is taken: what is left is safe with the request of that number among the sent ones
 pub left_is_safe : (books : Books) (t : ℕ) (set left : RegisterSet) (key : List ℕ) (requests : List Frame) → RegisterLaws → SetSafe books t set → TakesNumber set key left
     → ((ksn : Serial) → IsUsedNumber requests ksn → IsUsedNumber books.requests ksn ⊎ (ksn ≡ serial_of set))
@@ -184,6 +197,10 @@ left_is_safe books t set left key requests laws safe takes used =
           | inr new ↦ subst (λ ksn. ksn.counter < left.counter) (sym new) above
         ];
       };
+      remembers = λ ksn is owner. left_remembers set left key ksn takes (elim (used ksn is) [
+        | inl before ↦ safe.remembers ksn before owner
+        | inr new ↦ inl (ap (λ ksn. ksn.iksn) new)
+      ]);
       set_is = set_is;
       again = laws.again safe.stands.initial left safe.stands.initial_is.is_key set_is stands;
     }

@@ -74,6 +74,10 @@ begin_follows books t u frame new reading number owned other = record {
         | inr is ↦ absurd (other (one_owner books.owners set.iksn u t safe.owned (ap (owner_of books.owners) (sym same ∙ ap (λ ksn. ksn.iksn) is) ∙ owned)))
       ];
     };
+    remembers = λ ksn used owner. elim (used_then books frame new ksn reading number used) [
+      | inl before ↦ safe.remembers ksn before owner
+      | inr is ↦ absurd (other (one_owner books.owners ksn.iksn u t owner (ap (λ ksn. owner_of books.owners ksn.iksn) is ∙ owned)))
+    ];
     set_is = safe.set_is;
     again = safe.again;
   };

@@ -50,7 +50,7 @@ pub record KnownStores {C L I : Type 0} (m : Meanings C L I) (world : WorldOf C 
 -- what is safe to find is a body, where it is anything
 kept_body : (books : _) (t : ℕ) (kept : Kept) → KeptSafe books t kept → IsKeptBody kept
 kept_body books t None safe = tt
-kept_body books t (Some body) safe = rw safe.body_is safe.safe.again.is_body
+kept_body books t (Some body) safe = safe.safe.again.is_body body safe.keeps
 
 -- so it is in every world that is reached
 pub reached_stores : {C L I : Type 0} (m : Meanings C L I) → WorldLaws m.cell → AnswerLaws → (world : WorldOf C L I) → Reached m world → KnownStores m world

@@ -69,7 +69,8 @@ same_subsides before after same pending waits = subst (λ terminal. IsPending te
 load_refused_subsides : {C : Type 0} (meaning : CellMeaning C) (asked : Loading) (before after : TerminalOf C) (why : TermFault)
     → LoadRefused meaning asked before after why → Subsides before after
 load_refused_subsides meaning asked before after fault.Stopped refused = same_subsides before after refused.1
-load_refused_subsides meaning asked before after fault.AlreadyLoaded refused = same_subsides before after refused.1
+load_refused_subsides meaning asked before after fault.IksnSpent refused = same_subsides before after refused.1
+load_refused_subsides meaning asked before after fault.LoadsSpent refused = same_subsides before after refused.2
 load_refused_subsides meaning asked before after (fault.Block why) refused = same_subsides before after refused.2
 load_refused_subsides meaning asked before after fault.WrongUse refused = same_subsides before after refused.2
 load_refused_subsides meaning asked before after (fault.Store why) refused = λ pending waits. absurd (stopped_waits after.state pending refused.stops.stopped waits)

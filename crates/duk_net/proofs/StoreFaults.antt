@@ -97,7 +97,8 @@ same_refuses cell before after why same none =
 -- a load that is refused
 pub load_refused : {C : Type 0} (cell : CellMeaning C) (asked : Loading) (before after : TerminalOf C) (why : TermFault) → LoadRefused cell asked before after why → RefusesTerm cell before after why
 load_refused cell asked before after fault.Stopped refused = same_refuses cell before after fault.Stopped refused.1 (λ told is. is)
-load_refused cell asked before after fault.AlreadyLoaded refused = same_refuses cell before after fault.AlreadyLoaded refused.1 (λ told is. is)
+load_refused cell asked before after fault.IksnSpent refused = same_refuses cell before after fault.IksnSpent refused.1 (λ told is. is)
+load_refused cell asked before after fault.LoadsSpent refused = same_refuses cell before after fault.LoadsSpent refused.2 (λ told is. is)
 load_refused cell asked before after (fault.Block block) refused = same_refuses cell before after (fault.Block block) refused.2 (λ told is. is)
 load_refused cell asked before after fault.WrongUse refused = same_refuses cell before after fault.WrongUse refused.2 (λ told is. is)
 load_refused cell asked before after (fault.Store why) refused = store_refuses cell before after why (put_failed cell before.cell after.cell _ why refused.stops.not_kept)
@@ -115,7 +116,8 @@ begin_refused cell before after _ refused = absurd refused
 pub reply_refused : {C : Type 0} (cell : CellMeaning C) (before after : TerminalOf C) (bytes : List ℕ) (why : TermFault) → ReplyRefused before.state bytes why → after ≡ before → RefusesTerm cell before after why
 reply_refused cell before after bytes (fault.Store why) refused same = absurd refused
 reply_refused cell before after bytes fault.NotLoaded refused same = absurd refused
-reply_refused cell before after bytes fault.AlreadyLoaded refused same = absurd refused
+reply_refused cell before after bytes fault.IksnSpent refused same = absurd refused
+reply_refused cell before after bytes fault.LoadsSpent refused same = absurd refused
 reply_refused cell before after bytes (fault.Block block) refused same = absurd refused
 reply_refused cell before after bytes fault.WrongUse refused same = absurd refused
 reply_refused cell before after bytes fault.Spent refused same = absurd refused

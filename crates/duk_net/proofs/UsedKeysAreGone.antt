@@ -2,7 +2,7 @@
 use Rattle.std.proofs.Common.{pow_pos, ◌≡◌, ◌⊎◌, ◌<◌, ◌≤◌, ◌^◌, [], ◌∷◌, ℕ, List, Some, None, length, inl, inr, sym, ap, subst, ◌∙◌, arith}
 use Rattle.duk_regs.specs.Registers.{HoldsNode, RegisterSet, StandsFor, empty_register, register_at}
 use Rattle.duk_store.specs.Cell.{Kept}
-use Rattle.duk_term.specs.Body.{IsTerminalBody, body_bytes, set_of_body}
+use Rattle.duk_term.specs.Body.{KeepsRegisters, set_of_body}
 use Rattle.duk_term.specs.declared.state.State.{State}
 use Rattle.duk_term.specs.declared.state.State.TheVariants.{Stopped, Empty, Loaded}
 use Rattle.duk_tree.specs.Frontier.{IsAncestorOrSelf, IsHeld}
@@ -22,10 +22,10 @@ state_holds books t P (Loaded set pending) follows safe = follows set safe
 kept_holds : (books : Books) (t : ℕ) (P : RegisterSet → Type 0) (kept : Kept) → ((set : RegisterSet) → SetSafe books t set → P set) → KeptSafe books t kept → HoldsOfKept P kept
 kept_holds books t P None follows safe = tt
 kept_holds books t P (Some body) follows safe =
-    let same : set_of_body body ≡ safe.set = ap set_of_body safe.body_is ∙ safe.safe.again.same in
+    let same : set_of_body body ≡ safe.set = safe.safe.again.same body safe.keeps in
     record {
-      is_body = subst (λ body. IsTerminalBody body) (sym safe.body_is) safe.safe.again.is_body;
-      keeps = safe.body_is ∙ ap body_bytes (sym same);
+      is_body = safe.safe.again.is_body body safe.keeps;
+      keeps = subst (KeepsRegisters body) (sym same) safe.keeps;
       holds = subst P (sym same) (follows safe.set safe.safe);
     }
 

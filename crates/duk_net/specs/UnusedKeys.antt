@@ -1,7 +1,7 @@
 -- What terminals hold of the tree of keys (ANSI X9.24-1:2009 annex A): this project's own.
 use Rattle.std.specs.Prelude.{◌≡◌, ◌<◌, ◌⊎◌, ℕ, List, Some, None, length}
 use Rattle.duk_hsm.specs.Keys.{HsmKeys}
-use Rattle.duk_regs.specs.Registers.{RegisterSet, StandsFor, empty_register, register_at}
+use Rattle.duk_regs.specs.Registers.{IsSpentIksn, RegisterSet, StandsFor, empty_register, register_at}
 use Rattle.duk_store.specs.Cell.{Kept}
 use Rattle.duk_term.specs.Body.{IsTerminalBody, KeepsRegisters, set_of_body}
 use Rattle.duk_term.specs.Terminal.{TerminalOf}
@@ -92,10 +92,18 @@ abbrev pub HoldsOfTerminals : {C L I : Type 0} → Meanings C L I → (ℕ → R
 HoldsOfTerminals m P terminals =
     (t : ℕ) (terminal : TerminalOf _) → IsAt terminals t terminal → HoldsOfTerminal m (P t) terminal
 
+-- a terminal's registers remember each of its initial key serial numbers under which a request was
+-- sent: it is their present one, or a past one
+abbrev pub RemembersUsed : List Frame → List Owner → ℕ → RegisterSet → Type 0
+RemembersUsed requests owners t set =
+    (ksn : Serial) → IsUsedNumber requests ksn → owner_of owners ksn.iksn ≡ Some t
+    → IsSpentIksn ksn.iksn set
+
 -- a terminal owns the initial key serial number of its registers, which stand for its own initial
--- key above every used number
+-- key above every used number, and remember those of all its used numbers
 pub record OwnsAboveUsed
     (keys : HsmKeys) (requests : List Frame) (owners : List Owner) (t : ℕ)
     (set : RegisterSet) : Type 0 where
   pub owned : owner_of owners set.iksn ≡ Some t
   pub above : StandsAboveUsed keys requests set
+  pub remembers : RemembersUsed requests owners t set

@@ -21,6 +21,8 @@ mod on_disks;
 #[cfg(test)]
 mod paying;
 #[cfg(test)]
+mod reloading;
+#[cfg(test)]
 mod running;
 #[cfg(test)]
 mod sample;

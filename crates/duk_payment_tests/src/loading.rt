@@ -105,7 +105,7 @@ fn an_empty_terminal(rt: HostRuntime) -> Result<(), Fail> {
     Ok(())
 }
 
-/// It takes no key for another use, and one initial key.
+/// It takes no key for another use, and an initial key once.
 fn of_loads() -> Result<[bool; 4], Fail> {
     let mut terminal = empty()?;
     let other = load_initial(&mut terminal, *b"P0")?;
@@ -116,7 +116,7 @@ fn of_loads() -> Result<[bool; 4], Fail> {
         other == Err(TermFault::WrongUse),
         first == Ok(()),
         next == Next::At(ksn(1)),
-        second == Err(TermFault::AlreadyLoaded),
+        second == Err(TermFault::IksnSpent),
     ])
 }
 
@@ -159,7 +159,7 @@ fn stops_at_a_load(rt: HostRuntime) -> Result<(), Fail> {
 }
 
 /// A terminal over a cell that kept this body before.
-fn open_body(body: &Body) -> Result<SmallTerminal, StoreFault> {
+pub fn open_body(body: &Body) -> Result<SmallTerminal, StoreFault> {
     let mut cell = MemCell::new();
     cell.restart()?;
     cell.put(body)?;
@@ -167,30 +167,36 @@ fn open_body(body: &Body) -> Result<SmallTerminal, StoreFault> {
 }
 
 /// The body of a spent terminal.
-fn spent_body() -> Body {
+pub fn spent_body() -> Body {
     let mut body = [0; BODY_LENGTH];
-    body[0] = 1;
+    body[0] = 2;
     body[11] = 0x20;
     body
 }
 
-/// A spent terminal begins nothing and takes no key.
-fn of_spent_terminal() -> Result<[bool; 3], Fail> {
+/// A spent terminal begins nothing until it is loaded again, under another initial key serial
+/// number than its own.
+fn of_spent_terminal() -> Result<[bool; 5], Fail> {
     let mut terminal = open_body(&spent_body())?;
     terminal.restart()?;
     let next = terminal.next();
     let begun = begin_number(&mut terminal);
-    let answer = load_initial(&mut terminal, *b"B1")?;
+    let own = Ksn::from_bytes([0; 10]).iksn();
+    let block = key_block(LOADING, *b"B1", INITIAL)?;
+    let again = terminal.load(&key(LOADING), block.as_slice(), own);
+    let other = load_initial(&mut terminal, *b"B1")?;
     Ok([
         next == Next::Spent,
         begun == Err(TermFault::Spent),
-        answer == Err(TermFault::AlreadyLoaded),
+        again == Err(TermFault::IksnSpent),
+        other == Ok(()),
+        terminal.next() == Next::At(ksn(1)),
     ])
 }
 
 #[test]
 fn a_spent_terminal(rt: HostRuntime) -> Result<(), Fail> {
-    assert_eq!(rt; of_spent_terminal()?, [true; 3]);
+    assert_eq!(rt; of_spent_terminal()?, [true; 5]);
     Ok(())
 }
 
@@ -211,7 +217,7 @@ fn of_damaged_image(place: usize) -> Result<[bool; 2], StoreFault> {
 
 #[test]
 fn damaged_images(rt: HostRuntime) -> Result<(), Fail> {
-    for place in [14 + 16 * 3, 350, 502] {
+    for place in [14 + 16 * 3, 350, 351, 431, 502] {
         assert_eq!(rt; of_damaged_image(place)?, [true; 2]);
     }
     Ok(())

@@ -15,9 +15,8 @@ fn prints<T: Display>(alloc: Global, value: &T, text: &str) -> Result<bool, Fail
     Ok(format!(in alloc; "{value}")?.as_str() == text)
 }
 
-static OF_TERMINALS: [(TermFault, &str); 11] = [
+static OF_TERMINALS: [(TermFault, &str); 12] = [
     (TermFault::NotLoaded, "NotLoaded"),
-    (TermFault::AlreadyLoaded, "AlreadyLoaded"),
     (TermFault::Block(BlockFault::Mac), "Block Mac"),
     (TermFault::WrongUse, "WrongUse"),
     (TermFault::Spent, "Spent"),
@@ -27,6 +26,8 @@ static OF_TERMINALS: [(TermFault, &str); 11] = [
     (TermFault::NotPending, "NotPending"),
     (TermFault::NotMine, "NotMine"),
     (TermFault::BadMac, "BadMac"),
+    (TermFault::IksnSpent, "IksnSpent"),
+    (TermFault::LoadsSpent, "LoadsSpent"),
 ];
 
 #[test]

@@ -255,7 +255,7 @@ fn lines_of_faults(rt: HostRuntime) {
             TermFault::Store(StoreFault::Device),
             "t2 fault Store Device\n",
         ),
-        (2, TermFault::AlreadyLoaded, "t2 fault AlreadyLoaded\n"),
+        (2, TermFault::LoadsSpent, "t2 fault LoadsSpent\n"),
     ] {
         assert!(rt; has_line(Outcome::TermFaulted { t, fault }, line), "{line}");
     }

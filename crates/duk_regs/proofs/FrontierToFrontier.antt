@@ -1,5 +1,5 @@
 -- From one frontier to the next, register by register.
-use Rattle.std.proofs.Common.{◌≡◌, ◌≢◌, ◌↔◌, ℕ, ◌+◌, ◌<◌, ◌≤◌, ◌^◌, ◌⊎◌, List, [], ◌∷◌, length, refl, sym, ap, ◌∙◌, arith, inl, inr, subst}
+use Rattle.std.proofs.Common.{◌≡◌, ◌≢◌, ◌↔◌, ℕ, ◌+◌, ◌<◌, ◌≤◌, ◌^◌, ◌⊎◌, List, [], ◌∷◌, All, AllPairs, Contains, length, refl, sym, ap, ◌∙◌, arith, inl, inr, subst}
 use Rattle.std.proofs.lemmas.Nat.{pow_pos}
 use Rattle.std.proofs.lemmas.List.{ext_get_or}
 use Rattle.std.proofs.lemmas.Bool.{cases_lt, cases_order}
@@ -7,7 +7,7 @@ use Rattle.duk_tree.specs.Path.{value_of, path_of, last_place, IsPath, IsUsable}
 use Rattle.duk_tree.specs.Next.{ComesAfter}
 use Rattle.duk_tree.specs.Frontier.{candidate_at, parent_of, IsHeld, IsChild}
 use Rattle.duk_tree.specs.Derivation.{step_of, node_key, transaction_key_of}
-use Rattle.duk_tree.specs.Serial.{low_bytes}
+use Rattle.duk_tree.specs.Serial.{IsIksn, low_bytes}
 use Rattle.duk_regs.specs.Registers.{RegisterSet, IsRegisterSet, StandsFor, HoldsNode, IsTaken, IsEmptyAt, LeavesEmpty, lowest_place, empty_register, register_at}
 
 -- what the key tree promises
@@ -129,12 +129,19 @@ taken_stands laws initial old new key is_usable taken stands =
     }
 
 pub taken_set : TreeLaws → (old new : RegisterSet) (key : List ℕ) → IsUsable old.counter → IsTaken old key new → IsRegisterSet old → IsRegisterSet new
-taken_set laws old new key is_usable taken is_set = record {
-  iksn_is = rw taken.same_iksn is_set.iksn_is;
-  counter_is = elim taken.next_counter [ inl next ↦ inl next.is_usable | inr spent ↦ inr spent.1 ];
-  are_21 = taken.same_length ∙ is_set.are_21;
-  leaves_empty = taken_empty laws old new key is_usable taken is_set.leaves_empty;
-}
+taken_set laws old new key is_usable taken is_set =
+    let past : old.past ≡ new.past = sym taken.same_past in
+    let iksn : old.iksn ≡ new.iksn = sym taken.same_iksn in
+    record {
+      iksn_is = rw taken.same_iksn is_set.iksn_is;
+      counter_is = elim taken.next_counter [ inl next ↦ inl next.is_usable | inr spent ↦ inr spent.1 ];
+      are_21 = taken.same_length ∙ is_set.are_21;
+      leaves_empty = taken_empty laws old new key is_usable taken is_set.leaves_empty;
+      past_are_iksns = subst (All IsIksn) past is_set.past_are_iksns;
+      past_are_at_most_8 = subst (λ (list : List ℕ). length list ≤ 8) past is_set.past_are_at_most_8;
+      past_are_different = subst (AllPairs (λ (one other : ℕ). one ≢ other)) past is_set.past_are_different;
+      iksn_is_not_past = subst (λ (n : ℕ). ¬ Contains new.past n) iksn (subst (λ (list : List ℕ). ¬ Contains list old.iksn) past is_set.iksn_is_not_past);
+    }
 
 -- the path of a power of two
 first_path : ((path : List ℕ) → IsPath path → path_of (value_of path) ≡ path) → (place : ℕ) → place < 21 → path_of (2 ^ place) ≡ place ∷ []
@@ -203,12 +210,13 @@ same_register candidates initial one other some iksn counter first second place 
           ∙ ap (register_at other.registers) held.1
     ]
 
-pub same_set : Candidates → (initial : List ℕ) (one other : RegisterSet) → 1 ≤ one.counter → one.iksn ≡ other.iksn → one.counter ≡ other.counter
+pub same_set : Candidates → (initial : List ℕ) (one other : RegisterSet) → 1 ≤ one.counter → one.iksn ≡ other.iksn → one.counter ≡ other.counter → one.past ≡ other.past
     → StandsFor initial one → StandsFor initial other
     → one ≡ other
-same_set candidates initial one other some iksn counter first second =
+same_set candidates initial one other some iksn counter past first second =
     let registers : one.registers ≡ other.registers =
     ext_get_or empty_register one.registers other.registers (first.are_21 ∙ sym second.are_21) (λ place within. same_register candidates initial one other some iksn counter first second place (omega (arith, first.are_21))) in
-    ap (λ (n : ℕ). record { iksn = n; counter = one.counter; registers = one.registers }) iksn
-    ∙ ap (λ (n : ℕ). record { iksn = other.iksn; counter = n; registers = one.registers }) counter
-    ∙ ap (λ (list : List (List ℕ)). record { iksn = other.iksn; counter = other.counter; registers = list }) registers
+    ap (λ (n : ℕ). record { iksn = n; counter = one.counter; registers = one.registers; past = one.past }) iksn
+    ∙ ap (λ (n : ℕ). record { iksn = other.iksn; counter = n; registers = one.registers; past = one.past }) counter
+    ∙ ap (λ (list : List (List ℕ)). record { iksn = other.iksn; counter = other.counter; registers = list; past = one.past }) registers
+    ∙ ap (λ (list : List ℕ). record { iksn = other.iksn; counter = other.counter; registers = other.registers; past = list }) past

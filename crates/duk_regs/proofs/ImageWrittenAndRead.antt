@@ -1,50 +1,34 @@
 -- The bytes of an image, written and read.
-use Rattle.std.proofs.Common.{◌≡◌, ℕ, zero, suc, ◌+◌, ◌*◌, ◌/◌, ◌%◌, ◌<◌, ◌≤◌, ◌^◌, List, [], ◌∷◌, ◌++◌, length, take, drop, set, map, get_or, refl, sym, ap, ◌∙◌, arith}
-use Rattle.std.proofs.lemmas.List.{append_assoc, append-nil, length-append, length-take, length-drop, length-take-le, take_more, take_all, take-take, drop-take, drop_all, take_at, drop_at, drop-drop, take-append-drop, get_or-drop, get_or-take, get_or_default}
-use Rattle.std.proofs.Common.{◌⊎◌, subst, inl, inr}
+use Rattle.std.proofs.Common.{◌≡◌, ◌≢◌, ◌⊎◌, ℕ, ◌+◌, ◌*◌, ◌/◌, ◌%◌, ◌<◌, ◌≤◌, ◌^◌, List, [], ◌∷◌, ◌++◌, length, take, drop, get_or, refl, sym, ap, subst, ◌∙◌, All, Contains, arith, inl, inr}
+use Rattle.std.proofs.lemmas.List.{append_assoc, append-nil, length-append, length-drop, length-take, length-take-le, take_more, take_all, drop_all, take_at, drop_at, drop-drop, take-append-drop, get_or-drop, get_or-take, get_or_default}
 use Rattle.std.proofs.lemmas.Bool.{cases_lt}
 use Rattle.std.proofs.lemmas.Slice.{take-put_mid}
-use Rattle.std.proofs.lemmas.List.FromFn.{fill_by_all}
-use Rattle.std.specs.List.{concat, range_with_len}
+use Rattle.std.proofs.lemmas.List.FromFn.{fill_by_all, length-map-range_with_len}
+use Rattle.std.specs.List.{concat}
 use Rattle.byteorder.specs.Numbers.{big_number-reads_back}
 use borrow.Rule.Slice.PartMut.{put_mid}
 use Rattle.byteorder.specs.Endian.{big_bytes, big_number}
-use Rattle.duk_tree.specs.Serial.{Serial, serial_bytes, serial_of_bytes, iksn_bytes}
-use Rattle.duk_regs.specs.Registers.{RegisterSet, LeavesEmpty, register_at, empty_register}
+use Rattle.duk_tree.specs.Serial.{IsIksn, Serial, serial_bytes, serial_of_bytes, iksn_bytes}
+use Rattle.duk_regs.specs.Registers.{HaveSixteenBytes, IsRegisterSet, RegisterSet, LeavesEmpty, register_at, empty_register}
 use Rattle.duk_tree.specs.Path.{IsUsable}
 use Rattle.duk_tree.specs.Next.{spent_counter}
-use Rattle.duk_regs.specs.Image.{image_bytes, serial_in, counter_in, registers_in, set_in, IsImage}
-
--- ---- lists
-
-take-add : (m n : ℕ) (xs : List ℕ) → take (m + n) xs ≡ take m xs ++ take n (drop m xs)
-take-add m n xs =
-    let within : m ≤ m + n = omega arith in
-    sym (take-append-drop m (take (m + n) xs))
-    ∙ ap (λ front. front ++ drop m (take (m + n) xs)) (take-take m (m + n) xs within)
-    ∙ ap (λ rest. take m xs ++ rest) (drop-take m n xs)
-
-length-put_mid : (a k : ℕ) (xs ys : List ℕ) → a + k ≤ length xs → length ys ≡ k → length (put_mid a k xs ys) ≡ length xs
-length-put_mid a k xs ys within size =
-    simp (length-append, length-drop, length-take) (omega arith)
+use Rattle.duk_regs.specs.Image.{IsImage, IsPastPart, IsPresentPart, counter_in, image_bytes, image_bytes_of_version_1, past_bytes, past_count_in, past_in, present_bytes, registers_in, serial_in, set_in}
+use Rattle.duk_regs.proofs.PiecesInARow.{concat-push, length-concat, length-put_mid, piece_found, pieces_from, take-add}
+use Rattle.duk_regs.proofs.PastWrittenAndRead.{HasPast, IsPastPart-written, length-past_bytes, length-past_of, no_past, past_found}
 
 -- ---- written
 
-concat-push : (xs : List (List ℕ)) (x : List ℕ) → concat (xs ++ x ∷ []) ≡ concat xs ++ x
-concat-push [] x = append-nil x
-concat-push (y ∷ ys) x = ap (λ rest. y ++ rest) (concat-push ys x) ∙ sym (append_assoc y (concat ys) x)
-
 -- one register more
-pub image_more : (iksn counter place : ℕ) (registers : List (List ℕ)) (default : List ℕ) → place < length registers
-    → image_bytes (record { iksn = iksn; counter = counter; registers = take (place + 1) registers })
-    ≡ image_bytes (record { iksn = iksn; counter = counter; registers = take place registers }) ++ get_or registers place default
-image_more iksn counter place registers default within =
+pub present_more : (iksn counter place : ℕ) (registers : List (List ℕ)) (default : List ℕ) → place < length registers
+    → present_bytes (record { iksn = iksn; counter = counter; registers = take (place + 1) registers; past = [] })
+    ≡ present_bytes (record { iksn = iksn; counter = counter; registers = take place registers; past = [] }) ++ get_or registers place default
+present_more iksn counter place registers default within =
     let register = get_or registers place default in
     let front = concat (take place registers) in
-    ap (λ rest. 1 ∷ (iksn_bytes iksn ++ (big_bytes 3 counter ++ concat rest))) (take_more registers place default within)
-    ∙ ap (λ rest. 1 ∷ (iksn_bytes iksn ++ (big_bytes 3 counter ++ rest))) (concat-push (take place registers) register)
-    ∙ ap (λ rest. 1 ∷ (iksn_bytes iksn ++ rest)) (sym (append_assoc (big_bytes 3 counter) front register))
-    ∙ ap (λ rest. 1 ∷ rest) (sym (append_assoc (iksn_bytes iksn) (big_bytes 3 counter ++ front) register))
+    ap (λ rest. iksn_bytes iksn ++ (big_bytes 3 counter ++ concat rest)) (take_more registers place default within)
+    ∙ ap (λ rest. iksn_bytes iksn ++ (big_bytes 3 counter ++ rest)) (concat-push (take place registers) register)
+    ∙ ap (λ rest. iksn_bytes iksn ++ rest) (sym (append_assoc (big_bytes 3 counter) front register))
+    ∙ sym (append_assoc (iksn_bytes iksn) (big_bytes 3 counter ++ front) register)
 
 pub register_length : (image bytes : List ℕ) (start size : ℕ) → length image ≡ 350 → start + size ≤ 350 → length bytes ≡ size → length (put_mid start size image bytes) ≡ 350
 register_length image bytes start size is_350 within is_size = length-put_mid start size image bytes (omega arith) is_size ∙ is_350
@@ -52,9 +36,6 @@ register_length image bytes start size is_350 within is_size = length-put_mid st
 pub register_written : (image bytes : List ℕ) (start size after : ℕ) → length image ≡ 350 → start + 16 ≤ 350 → length bytes ≡ 16 → after ≡ start + 16
     → take after (put_mid start size image bytes) ≡ take start image ++ bytes
 register_written image bytes start size after is_350 within is_16 is_after = take-put_mid start size image bytes after (omega arith) (omega arith)
-
-pub part_length : (xs : List ℕ) (start size : ℕ) → start + size ≤ length xs → length (take size (drop start xs)) ≡ size
-part_length xs start size within = length-take-le size (drop start xs) (omega (arith, length-drop start xs))
 
 -- nothing is behind the part that was written
 pub rest_gone : (start size : ℕ) (xs : List ℕ) → drop size (take size (drop start xs)) ≡ []
@@ -74,18 +55,27 @@ more_16 registers at default within is_16 are_16 place below =
 
 -- the bytes before the registers
 pub header_written : (zeros serial counter : List ℕ) → length zeros ≡ 349 → length serial ≡ 10 → length counter ≡ 3
-    → take 14 (put_mid 11 3 (put_mid 1 10 (1 ∷ zeros) serial) counter) ≡ 1 ∷ (serial ++ counter)
+    → take 14 (put_mid 11 3 (put_mid 1 10 (2 ∷ zeros) serial) counter) ≡ 2 ∷ (serial ++ counter)
 header_written zeros serial counter long ten three =
-    let first = put_mid 1 10 (1 ∷ zeros) serial in
-    take-put_mid 11 3 first counter 14 (omega arith) (omega (arith, length-put_mid 1 10 (1 ∷ zeros) serial (omega arith) ten))
-    ∙ ap (λ front. front ++ counter) (take-put_mid 1 10 (1 ∷ zeros) serial 11 (omega arith) (omega arith))
+    let first = put_mid 1 10 (2 ∷ zeros) serial in
+    take-put_mid 11 3 first counter 14 (omega arith) (omega (arith, length-put_mid 1 10 (2 ∷ zeros) serial (omega arith) ten))
+    ∙ ap (λ front. front ++ counter) (take-put_mid 1 10 (2 ∷ zeros) serial 11 (omega arith) (omega arith))
 
 pub header_length : (zeros serial counter : List ℕ) → length zeros ≡ 349 → length serial ≡ 10 → length counter ≡ 3
-    → length (put_mid 11 3 (put_mid 1 10 (1 ∷ zeros) serial) counter) ≡ 350
+    → length (put_mid 11 3 (put_mid 1 10 (2 ∷ zeros) serial) counter) ≡ 350
 header_length zeros serial counter long ten three =
-    let first = put_mid 1 10 (1 ∷ zeros) serial in
-    let first_length = length-put_mid 1 10 (1 ∷ zeros) serial (omega arith) ten in
+    let first = put_mid 1 10 (2 ∷ zeros) serial in
+    let first_length = length-put_mid 1 10 (2 ∷ zeros) serial (omega arith) ten in
     length-put_mid 11 3 first counter (omega arith) three ∙ first_length ∙ omega arith
+
+-- both parts
+pub parts_written : (zeros front back : List ℕ) → length zeros ≡ 431 → length front ≡ 350 → length back ≡ 81 → put_mid 350 81 (front ++ drop 350 zeros) back ≡ front ++ back
+parts_written zeros front back is_431 is_350 is_81 =
+    let rest = drop 350 zeros in
+    ap (λ first. first ++ (back ++ drop 81 (drop 350 (front ++ rest)))) (take_at front rest 350 is_350)
+    ∙ ap (λ last. front ++ (back ++ drop 81 last)) (drop_at front rest 350 is_350)
+    ∙ ap (λ last. front ++ (back ++ last)) (drop_all 81 rest (omega (arith, length-drop 350 zeros)))
+    ∙ ap (λ last. front ++ last) (append-nil back)
 
 -- ---- read
 
@@ -104,117 +94,215 @@ three_bytes (a ∷ (b ∷ (d ∷ []))) three fit =
     let low : (a * 65536 + (b * 256 + (d * 1 + 0))) % 256 ≡ d = omega arith in
     rw (high, middle, low) refl
 
--- registers in a row are the bytes in which they stand
-registers_from : (image : List ℕ) (count place : ℕ) → concat (map (λ (place : ℕ). take 16 (drop (14 + 16 * place) image)) (range_with_len place count)) ≡ take (16 * count) (drop (14 + 16 * place) image)
-registers_from image zero place = refl
-registers_from image (suc count) place =
-    let start = 14 + 16 * place in
-    let next : 14 + 16 * (place + 1) ≡ start + 16 = omega arith in
-    let size : 16 * suc count ≡ 16 + 16 * count = omega arith in
-    ap (λ rest. take 16 (drop start image) ++ rest) (registers_from image count (place + 1) ∙ ap (λ n. take (16 * count) (drop n image)) next ∙ ap (take (16 * count)) (sym (drop-drop 16 start image)))
-    ∙ sym (take-add 16 (16 * count) (drop start image))
-    ∙ ap (λ n. take n (drop start image)) (sym size)
-
-registers_whole : (image : List ℕ) → length image ≡ 350 → concat (registers_in image) ≡ drop 14 image
-unfolding registers_in
-registers_whole image is_350 = registers_from image 21 0 ∙ take_all 336 (drop 14 image) (omega (arith, length-drop 14 image))
-
 first_byte : (image : List ℕ) → 0 < length image → image ≡ get_or image 0 0 ∷ drop 1 image
 first_byte [] some = absurd (omega arith)
 first_byte (byte ∷ image) some = refl
 
--- an image that was read is written again as it was
-pub image_bytes-set_in : (image : List ℕ) → length image ≡ 350 → ((i : ℕ) → get_or image i 0 < 2 ^ 8) → get_or image 0 0 ≡ 1
+registers_whole : (image : List ℕ) → concat (registers_in image) ≡ take 336 (drop 14 image)
+unfolding registers_in
+registers_whole image = pieces_from 16 14 image 21 0
+
+-- what was read before the past numbers is written again as it was
+pub present_bytes-set_in : (image : List ℕ) → 350 ≤ length image → ((i : ℕ) → get_or image i 0 < 2 ^ 8)
     → serial_bytes (serial_in image) ≡ take 10 (drop 1 image) → (serial_in image).counter ≡ 0
-    → image_bytes (set_in image) ≡ image
-image_bytes-set_in image is_350 fit version serial no_counter =
+    → present_bytes (set_in image) ≡ take 349 (drop 1 image)
+present_bytes-set_in image long fit serial no_counter =
     let iksn : iksn_bytes (serial_in image).iksn ≡ take 10 (drop 1 image) = ap (λ n. serial_bytes (record { iksn = (serial_in image).iksn; counter = n })) (sym no_counter) ∙ serial in
     let counter : big_bytes 3 (counter_in image) ≡ take 3 (drop 11 image) =
     three_bytes (take 3 (drop 11 image)) (length-take-le 3 (drop 11 image) (omega (arith, length-drop 11 image))) (λ i within. subst (λ byte. byte < 2 ^ 8) (sym (get_or-take 3 (drop 11 image) i 0 within ∙ get_or-drop 11 image i 0)) (fit (11 + i))) in
-    let rest : take 3 (drop 11 image) ++ drop 14 image ≡ drop 11 image = ap (λ rest. take 3 (drop 11 image) ++ rest) (sym (drop-drop 3 11 image)) ∙ take-append-drop 3 (drop 11 image) in
-    let tail : take 10 (drop 1 image) ++ drop 11 image ≡ drop 1 image = ap (λ rest. take 10 (drop 1 image) ++ rest) (sym (drop-drop 10 1 image)) ∙ take-append-drop 10 (drop 1 image) in
-    ap (λ registers. 1 ∷ (iksn_bytes (serial_in image).iksn ++ (big_bytes 3 (counter_in image) ++ registers))) (registers_whole image is_350)
-    ∙ ap (λ counter. 1 ∷ (iksn_bytes (serial_in image).iksn ++ (counter ++ drop 14 image))) counter
-    ∙ ap (λ rest. 1 ∷ (iksn_bytes (serial_in image).iksn ++ rest)) rest
-    ∙ ap (λ serial. 1 ∷ (serial ++ drop 11 image)) iksn
-    ∙ ap (λ rest. 1 ∷ rest) tail
+    let rest : take 3 (drop 11 image) ++ take 336 (drop 14 image) ≡ take 339 (drop 11 image) = ap (λ rest. take 3 (drop 11 image) ++ take 336 rest) (sym (drop-drop 3 11 image)) ∙ sym (take-add 3 336 (drop 11 image)) in
+    let whole : take 10 (drop 1 image) ++ take 339 (drop 11 image) ≡ take 349 (drop 1 image) = ap (λ rest. take 10 (drop 1 image) ++ take 339 rest) (sym (drop-drop 10 1 image)) ∙ sym (take-add 10 339 (drop 1 image)) in
+    ap (λ registers. iksn_bytes (serial_in image).iksn ++ (big_bytes 3 (counter_in image) ++ registers)) (registers_whole image)
+    ∙ ap (λ counter. iksn_bytes (serial_in image).iksn ++ (counter ++ take 336 (drop 14 image))) counter
+    ∙ ap (λ rest. iksn_bytes (serial_in image).iksn ++ rest) rest
+    ∙ ap (λ serial. serial ++ take 339 (drop 11 image)) iksn
+    ∙ whole
+
+-- both parts, behind the version
+pub version_2_again : (image present past : List ℕ) → length image ≡ 431 → get_or image 0 0 ≡ 2 → present ≡ take 349 (drop 1 image) → past ≡ drop 350 image
+    → 2 ∷ (present ++ past) ≡ image
+version_2_again image present past is_431 version is_present is_past =
+    ap (λ front. 2 ∷ (front ++ past)) is_present
+    ∙ ap (λ rest. 2 ∷ (take 349 (drop 1 image) ++ rest)) (is_past ∙ sym (drop-drop 349 1 image))
+    ∙ ap (λ rest. 2 ∷ rest) (take-append-drop 349 (drop 1 image))
     ∙ ap (λ version. version ∷ drop 1 image) (sym version)
     ∙ sym (first_byte image (omega arith))
 
+pub version_1_again : (image present : List ℕ) → length image ≡ 350 → get_or image 0 0 ≡ 1 → present ≡ take 349 (drop 1 image) → 1 ∷ present ≡ image
+version_1_again image present is_350 version is_present =
+    ap (λ rest. 1 ∷ rest) (is_present ∙ take_all 349 (drop 1 image) (omega (arith, length-drop 1 image)))
+    ∙ ap (λ version. version ∷ drop 1 image) (sym version)
+    ∙ sym (first_byte image (omega arith))
+
+-- a known version has its length
+abbrev pub HasVersion : List ℕ → Type 0
+HasVersion image = ((length image ≡ 350) × (get_or image 0 0 ≡ 1)) ⊎ ((length image ≡ 431) × (get_or image 0 0 ≡ 2))
+
+pub length_of_version_1 : (image : List ℕ) → HasVersion image → get_or image 0 0 ≡ 1 → length image ≡ 350
+length_of_version_1 image known version = elim known [ inl one ↦ one.0 | inr two ↦ absurd (omega (arith, two.1)) ]
+
+pub length_of_version_2 : (image : List ℕ) → HasVersion image → get_or image 0 0 ≢ 1 → length image ≡ 431
+length_of_version_2 image known other = elim known [ inl one ↦ absurd (other one.1) | inr two ↦ two.0 ]
+
+-- what was read, part by part
+pub parts_read : (image : List ℕ) (iksn counter : ℕ) (registers : List (List ℕ)) (past : List ℕ)
+    → iksn ≡ (serial_in image).iksn → counter ≡ counter_in image → registers ≡ registers_in image → past ≡ past_in image
+    → record { iksn = iksn; counter = counter; registers = registers; past = past } ≡ set_in image
+parts_read image iksn counter registers past is_iksn is_counter are_registers is_past =
+    ap (λ (n : ℕ). record { iksn = n; counter = counter; registers = registers; past = past }) is_iksn
+    ∙ ap (λ (n : ℕ). record { iksn = (serial_in image).iksn; counter = n; registers = registers; past = past }) is_counter
+    ∙ ap (λ (list : List (List ℕ)). record { iksn = (serial_in image).iksn; counter = counter_in image; registers = list; past = past }) are_registers
+    ∙ ap (λ (list : List ℕ). record { iksn = (serial_in image).iksn; counter = counter_in image; registers = registers_in image; past = list }) is_past
+
+pub length-registers_in : (image : List ℕ) → length (registers_in image) ≡ 21
+unfolding registers_in
+length-registers_in image = length-map-range_with_len (λ (place : ℕ). take 16 (drop (14 + 16 * place) image)) 0 21
+
+pub set_of_version_1 : (image : List ℕ) → IsPresentPart image → IsIksn (serial_in image).iksn → length image ≡ 350 → IsRegisterSet (set_in image)
+set_of_version_1 image present is_iksn is_350 =
+    let none : length (past_in image) ≡ 0 = ap (λ (past : List ℕ). length past) (no_past image is_350) in
+    record {
+      iksn_is = is_iksn;
+      counter_is = present.counter_is;
+      are_21 = length-registers_in image;
+      leaves_empty = present.leaves_empty;
+      past_are_iksns = λ k d within. absurd (omega arith);
+      past_are_at_most_8 = omega arith;
+      past_are_different = λ i j d below within. absurd (omega arith);
+      iksn_is_not_past = λ found. absurd (omega (arith, found.1));
+    }
+
+pub set_of_version_2 : (image : List ℕ) → IsPresentPart image → IsIksn (serial_in image).iksn → IsPastPart image → All IsIksn (past_in image) → IsRegisterSet (set_in image)
+set_of_version_2 image present is_iksn part iksns = record {
+  iksn_is = is_iksn;
+  counter_is = present.counter_is;
+  are_21 = length-registers_in image;
+  leaves_empty = present.leaves_empty;
+  past_are_iksns = iksns;
+  past_are_at_most_8 = omega (arith, length-past_of image (past_count_in image), part.are_at_most_8);
+  past_are_different = part.are_different;
+  iksn_is_not_past = part.iksn_is_not_past;
+}
+
 -- ---- written and read
 
-registers_found : (registers : List (List ℕ)) (place : ℕ) (default : List ℕ) → ((k : ℕ) → k < length registers → length (get_or registers k default) ≡ 16)
-    → place < length registers
-    → take 16 (drop (16 * place) (concat registers)) ≡ get_or registers place default
-registers_found [] place default are_16 within = absurd (omega arith)
-registers_found (first ∷ registers) zero default are_16 within = take_at first (concat registers) 16 (are_16 0 (omega arith))
-registers_found (first ∷ registers) (suc place) default are_16 within =
-    let further : 16 * suc place ≡ 16 + 16 * place = omega arith in
-    ap (λ n. take 16 (drop n (first ++ concat registers))) further
-    ∙ ap (take 16) (sym (drop-drop (16 * place) 16 (first ++ concat registers)))
-    ∙ ap (λ rest. take 16 (drop (16 * place) rest)) (drop_at first (concat registers) 16 (are_16 0 (omega arith)))
-    ∙ registers_found registers place default (λ k inside. are_16 (suc k) (omega arith)) (omega arith)
-
-length-concat : (registers : List (List ℕ)) (default : List ℕ) → ((k : ℕ) → k < length registers → length (get_or registers k default) ≡ 16)
-    → length (concat registers) ≡ 16 * length registers
-length-concat [] default are_16 = refl
-length-concat (first ∷ registers) default are_16 =
-    length-append first (concat registers)
-    ∙ (omega (arith, are_16 0 (omega arith), length-concat registers default (λ k inside. are_16 (suc k) (omega arith))))
-
--- a set of registers of sixteen bytes, and its image
+-- a set of registers of sixteen bytes, and how its key serial numbers are written
 pub record IsWritable (set : RegisterSet) : Type 0 where
-  pub ten : length (iksn_bytes set.iksn) ≡ 10
-  pub found : serial_of_bytes (iksn_bytes set.iksn) ≡ record { iksn = set.iksn; counter = 0 }
+  pub ten : (iksn : ℕ) → length (iksn_bytes iksn) ≡ 10
+  pub found : (iksn : ℕ) → IsIksn iksn → serial_of_bytes (iksn_bytes iksn) ≡ record { iksn = iksn; counter = 0 }
   pub fits : set.counter < 2 ^ 24
-  pub are_21 : length set.registers ≡ 21
-  pub are_16 : (k : ℕ) → k < 21 → length (register_at set.registers k) ≡ 16
+  pub set_is : IsRegisterSet set
+  pub are_16 : HaveSixteenBytes set.registers
+
+-- what stands behind a version, and before more
+abbrev image_with : ℕ → RegisterSet → List ℕ → List ℕ
+image_with version set rest = version ∷ (present_bytes set ++ rest)
 
 sixteen : (set : RegisterSet) → IsWritable set → (k : ℕ) → k < length set.registers → length (register_at set.registers k) ≡ 16
-sixteen set writable k inside = writable.are_16 k (omega (arith, writable.are_21))
+sixteen set writable k inside = writable.are_16 k (omega (arith, writable.set_is.are_21))
 
-serial_found : (set : RegisterSet) → IsWritable set → serial_in (image_bytes set) ≡ record { iksn = set.iksn; counter = 0 }
-serial_found set writable = ap serial_of_bytes (take_at (iksn_bytes set.iksn) (big_bytes 3 set.counter ++ concat set.registers) 10 writable.ten) ∙ writable.found
+length-present_bytes : (set : RegisterSet) → IsWritable set → length (present_bytes set) ≡ 349
+length-present_bytes set writable =
+    let whole = length-append (iksn_bytes set.iksn) (big_bytes 3 set.counter ++ concat set.registers) in
+    let registers = length-concat 16 set.registers empty_register (sixteen set writable) in
+    omega (arith, whole, registers, writable.ten set.iksn, writable.set_is.are_21)
 
-behind_serial : (set : RegisterSet) → IsWritable set → drop 11 (image_bytes set) ≡ big_bytes 3 set.counter ++ concat set.registers
-behind_serial set writable = drop_at (iksn_bytes set.iksn) (big_bytes 3 set.counter ++ concat set.registers) 10 writable.ten
+present_then : (set : RegisterSet) (rest : List ℕ) → present_bytes set ++ rest ≡ iksn_bytes set.iksn ++ (big_bytes 3 set.counter ++ (concat set.registers ++ rest))
+present_then set rest = append_assoc (iksn_bytes set.iksn) (big_bytes 3 set.counter ++ concat set.registers) rest
 
-counter_found : (set : RegisterSet) → IsWritable set → counter_in (image_bytes set) ≡ set.counter
-counter_found set writable =
-    ap (λ rest. big_number 3 (take 3 rest)) (behind_serial set writable)
+serial_found : (version : ℕ) (set : RegisterSet) (rest : List ℕ) → IsWritable set → serial_in (image_with version set rest) ≡ record { iksn = set.iksn; counter = 0 }
+serial_found version set rest writable =
+    ap (λ bytes. serial_of_bytes (take 10 bytes)) (present_then set rest)
+    ∙ ap serial_of_bytes (take_at (iksn_bytes set.iksn) (big_bytes 3 set.counter ++ (concat set.registers ++ rest)) 10 (writable.ten set.iksn))
+    ∙ writable.found set.iksn writable.set_is.iksn_is
+
+behind_serial : (version : ℕ) (set : RegisterSet) (rest : List ℕ) → IsWritable set → drop 11 (image_with version set rest) ≡ big_bytes 3 set.counter ++ (concat set.registers ++ rest)
+behind_serial version set rest writable =
+    ap (drop 10) (present_then set rest)
+    ∙ drop_at (iksn_bytes set.iksn) (big_bytes 3 set.counter ++ (concat set.registers ++ rest)) 10 (writable.ten set.iksn)
+
+counter_found : (version : ℕ) (set : RegisterSet) (rest : List ℕ) → IsWritable set → counter_in (image_with version set rest) ≡ set.counter
+counter_found version set rest writable =
+    ap (λ bytes. big_number 3 (take 3 bytes)) (behind_serial version set rest writable)
     ∙ big_number-reads_back 3 set.counter [] writable.fits
 
-behind_counter : (set : RegisterSet) → IsWritable set → drop 14 (image_bytes set) ≡ concat set.registers
-behind_counter set writable = sym (drop-drop 3 11 (image_bytes set)) ∙ ap (drop 3) (behind_serial set writable)
+behind_counter : (version : ℕ) (set : RegisterSet) (rest : List ℕ) → IsWritable set → drop 14 (image_with version set rest) ≡ concat set.registers ++ rest
+behind_counter version set rest writable = sym (drop-drop 3 11 (image_with version set rest)) ∙ ap (drop 3) (behind_serial version set rest writable)
 
-registers_found_all : (set : RegisterSet) → IsWritable set → registers_in (image_bytes set) ≡ set.registers
+registers_found : (version : ℕ) (set : RegisterSet) (rest : List ℕ) → IsWritable set → registers_in (image_with version set rest) ≡ set.registers
 unfolding registers_in
-registers_found_all set writable =
-    let image = image_bytes set in
-    sym (fill_by_all (λ (place : ℕ). take 16 (drop (14 + 16 * place) image)) set.registers 21 empty_register writable.are_21 (λ place within.
-    let here : place < length set.registers = omega (arith, writable.are_21) in
-    sym (ap (take 16) (sym (drop-drop (16 * place) 14 image) ∙ ap (drop (16 * place)) (behind_counter set writable)) ∙ registers_found set.registers place empty_register (sixteen set writable) here)))
+registers_found version set rest writable =
+    let image = image_with version set rest in
+    sym (fill_by_all (λ (place : ℕ). take 16 (drop (14 + 16 * place) image)) set.registers 21 empty_register writable.set_is.are_21 (λ place within.
+    let here : place < length set.registers = omega (arith, writable.set_is.are_21) in
+    sym (ap (take 16) (sym (drop-drop (16 * place) 14 image) ∙ ap (drop (16 * place)) (behind_counter version set rest writable)) ∙ piece_found 16 set.registers rest place empty_register (sixteen set writable) here)))
+
+present_found : (version : ℕ) (set : RegisterSet) (rest : List ℕ) → IsWritable set → IsPresentPart (image_with version set rest)
+present_found version set rest writable =
+    let image = image_with version set rest in
+    let counter : set.counter ≡ counter_in image = sym (counter_found version set rest writable) in
+    let registers : set.registers ≡ registers_in image = sym (registers_found version set rest writable) in
+    record {
+      counter_bits_are_zero = ap (λ (serial : Serial). serial.counter) (serial_found version set rest writable);
+      counter_is = subst (λ n. IsUsable n ⊎ (n ≡ spent_counter)) counter writable.set_is.counter_is;
+      leaves_empty = subst (λ n. LeavesEmpty n (registers_in image)) counter (subst (LeavesEmpty set.counter) registers writable.set_is.leaves_empty);
+    }
+
+set_found : (version : ℕ) (set : RegisterSet) (rest : List ℕ) → IsWritable set → past_in (image_with version set rest) ≡ set.past → set_in (image_with version set rest) ≡ set
+set_found version set rest writable past =
+    let image = image_with version set rest in
+    ap (λ (serial : Serial). record { iksn = serial.iksn; counter = counter_in image; registers = registers_in image; past = past_in image }) (serial_found version set rest writable)
+    ∙ ap (λ (counter : ℕ). record { iksn = set.iksn; counter = counter; registers = registers_in image; past = past_in image }) (counter_found version set rest writable)
+    ∙ ap (λ (registers : List (List ℕ)). record { iksn = set.iksn; counter = set.counter; registers = registers; past = past_in image }) (registers_found version set rest writable)
+    ∙ ap (λ (list : List ℕ). record { iksn = set.iksn; counter = set.counter; registers = set.registers; past = list }) past
+
+-- ---- version 2
+
+has_past : (set : RegisterSet) → IsWritable set → HasPast (image_bytes set) set.past
+has_past set writable = record {
+  ten = writable.ten;
+  found = writable.found;
+  iksns = writable.set_is.past_are_iksns;
+  bytes = drop_at (present_bytes set) (past_bytes set.past) 349 (length-present_bytes set writable);
+}
+
+pub length-image_bytes : (set : RegisterSet) → IsWritable set → length (image_bytes set) ≡ 431
+length-image_bytes set writable =
+    omega (arith, length-append (present_bytes set) (past_bytes set.past), length-present_bytes set writable, length-past_bytes set.past writable.ten writable.set_is.past_are_at_most_8)
 
 pub set_in-image_bytes : (set : RegisterSet) → IsWritable set → set_in (image_bytes set) ≡ set
-set_in-image_bytes set writable =
-    ap (λ (serial : Serial). record { iksn = serial.iksn; counter = counter_in (image_bytes set); registers = registers_in (image_bytes set) }) (serial_found set writable)
-    ∙ ap (λ (counter : ℕ). record { iksn = set.iksn; counter = counter; registers = registers_in (image_bytes set) }) (counter_found set writable)
-    ∙ ap (λ (registers : List (List ℕ)). record { iksn = set.iksn; counter = set.counter; registers = registers }) (registers_found_all set writable)
+set_in-image_bytes set writable = set_found 2 set (past_bytes set.past) writable (past_found (image_bytes set) set.past (has_past set writable))
 
-length-image_bytes : (set : RegisterSet) → IsWritable set → length (image_bytes set) ≡ 350
-length-image_bytes set writable =
-    let rest = big_bytes 3 set.counter ++ concat set.registers in
-    let whole = length-append (iksn_bytes set.iksn) rest in
-    let registers = length-concat set.registers empty_register (sixteen set writable) in
-    omega (arith, whole, registers, writable.ten, writable.are_21)
+pub IsImage-image_bytes : (set : RegisterSet) → IsWritable set → IsImage (image_bytes set)
+IsImage-image_bytes set writable =
+    let iksn : set.iksn ≡ (serial_in (image_bytes set)).iksn = sym (ap (λ (serial : Serial). serial.iksn) (serial_found 2 set (past_bytes set.past) writable)) in
+    inr
+    (record {
+      is_431_bytes = length-image_bytes set writable;
+      is_version_2 = refl;
+      present_is = present_found 2 set (past_bytes set.past) writable;
+      past_is = IsPastPart-written (image_bytes set) set.past (has_past set writable) writable.set_is.past_are_at_most_8 writable.set_is.past_are_different (subst (λ (n : ℕ). ¬ Contains set.past n) iksn writable.set_is.iksn_is_not_past);
+    })
 
-pub IsImage-image_bytes : (set : RegisterSet) → IsWritable set → IsUsable set.counter ⊎ (set.counter ≡ spent_counter) → LeavesEmpty set.counter set.registers → IsImage (image_bytes set)
-IsImage-image_bytes set writable next leaves_empty =
-    let counter = counter_found set writable in
-    record {
-      is_350_bytes = length-image_bytes set writable;
+-- ---- version 1
+
+with_nothing : (set : RegisterSet) → image_with 1 set [] ≡ image_bytes_of_version_1 set
+with_nothing set = ap (λ bytes. 1 ∷ bytes) (append-nil (present_bytes set))
+
+pub length-image_bytes_of_version_1 : (set : RegisterSet) → IsWritable set → length (image_bytes_of_version_1 set) ≡ 350
+length-image_bytes_of_version_1 set writable = omega (arith, length-present_bytes set writable)
+
+pub set_in-image_bytes_of_version_1 : (set : RegisterSet) → IsWritable set → set.past ≡ [] → set_in (image_bytes_of_version_1 set) ≡ set
+set_in-image_bytes_of_version_1 set writable none =
+    let same = with_nothing set in
+    let is_350 : length (image_with 1 set []) ≡ 350 = ap (λ (image : List ℕ). length image) same ∙ length-image_bytes_of_version_1 set writable in
+    ap set_in (sym same) ∙ set_found 1 set [] writable (no_past (image_with 1 set []) is_350 ∙ sym none)
+
+pub IsImage-image_bytes_of_version_1 : (set : RegisterSet) → IsWritable set → IsImage (image_bytes_of_version_1 set)
+IsImage-image_bytes_of_version_1 set writable =
+    inl
+    (record {
+      is_350_bytes = length-image_bytes_of_version_1 set writable;
       is_version_1 = refl;
-      counter_bits_are_zero = ap (λ (serial : Serial). serial.counter) (serial_found set writable);
-      counter_is = subst (λ n. IsUsable n ⊎ (n ≡ spent_counter)) (sym counter) next;
-      leaves_empty = subst (λ n. LeavesEmpty n (registers_in (image_bytes set))) (sym counter) (subst (LeavesEmpty set.counter) (sym (registers_found_all set writable)) leaves_empty);
-    }
+      present_is = subst IsPresentPart (with_nothing set) (present_found 1 set [] writable);
+    })

@@ -40,13 +40,14 @@ pub taken_by : BitLaws → (old : RegisterSet) (default emptied : List ℕ) (fou
     → ((other : ℕ) → lowest_place old.counter ≤ other → register_at filled other ≡ register_at (set old.registers (trailing_zeros w32 old.counter) emptied) other)
     → IfSome found (IsNextUsable old.counter)
     → (IsNone found ↔ IsLast old.counter)
-    → IsTaken old (get_or old.registers (trailing_zeros w32 old.counter) default) (record { iksn = old.iksn; counter = unwrap_or found spent_counter; registers = filled })
+    → IsTaken old (get_or old.registers (trailing_zeros w32 old.counter) default) (record { iksn = old.iksn; counter = unwrap_or found spent_counter; registers = filled; past = old.past })
 taken_by laws old default emptied found filled is_usable are_21 no_key still_21 lower not_filled others_stay is_next none =
     let place = trailing_zeros w32 old.counter in
     let lowest : place ≡ lowest_place old.counter = trailing_place laws old.counter is_usable in
     let within : place < length old.registers = omega (arith, laws.place old.counter is_usable) in
     record {
       same_iksn = refl;
+      same_past = refl;
       same_length = still_21 ∙ sym are_21;
       next_counter = comes_after old.counter found is_next none;
       key_is = get_or_default old.registers place default empty_register within ∙ ap (register_at old.registers) lowest;

@@ -1,17 +1,27 @@
 -- The future key registers of a terminal (ANSI X9.24-1:2009 annex A).
-use Rattle.std.specs.Prelude.{◌≡◌, ◌≢◌, ◌⊎◌, ◌<◌, ◌≤◌, ◌+◌, ◌^◌, ℕ, List, length, replicate, slice_index_or}
+use Rattle.std.specs.Prelude.{◌≡◌, ◌≢◌, ◌⊎◌, ◌<◌, ◌≤◌, ◌+◌, ◌^◌, ℕ, List, All, AllPairs, Contains, length, replicate, slice_index_or}
 use Rattle.duk_tree.specs.Serial.{IsIksn, low_bytes}
 use Rattle.duk_tree.specs.Path.{IsUsable, path_of, last_place}
 use Rattle.duk_tree.specs.Next.{spent_counter, ComesAfter}
 use Rattle.duk_tree.specs.Frontier.{IsHeld}
 use Rattle.duk_tree.specs.Derivation.{step_of, transaction_key_of}
 
--- what a terminal keeps: its initial key serial number, the counter that it uses next, and its
--- registers
+-- what a terminal keeps: its initial key serial number, the counter that it uses next, its
+-- registers, and (this project's own) the initial key serial numbers that it had before, in order of
+-- their loading
 pub record RegisterSet : Type 0 where
   pub iksn : ℕ
   pub counter : ℕ
   pub registers : List (List ℕ)
+  pub past : List ℕ
+
+-- the terminal had this initial key serial number before
+abbrev pub IsPastOf : ℕ → RegisterSet → Type 0
+IsPastOf iksn set = Contains set.past iksn
+
+-- the terminal has this initial key serial number, or had it before
+abbrev pub IsSpentIksn : ℕ → RegisterSet → Type 0
+IsSpentIksn iksn set = (iksn ≡ set.iksn) ⊎ IsPastOf iksn set
 
 -- this project's own: what a register holds where it holds no key
 abbrev pub empty_register : List ℕ
@@ -45,6 +55,10 @@ pub record IsRegisterSet (set : RegisterSet) : Type 0 where
   pub counter_is : IsUsable set.counter ⊎ (set.counter ≡ spent_counter)
   pub are_21 : length set.registers ≡ 21
   pub leaves_empty : LeavesEmpty set.counter set.registers
+  pub past_are_iksns : All IsIksn set.past
+  pub past_are_at_most_8 : length set.past ≤ 8
+  pub past_are_different : AllPairs (λ one other. one ≢ other) set.past
+  pub iksn_is_not_past : ¬ IsPastOf set.iksn set
 
 -- registers stand for an initial key: each node of the frontier has its key in the register of its
 -- lowest one bit, and each other register is empty
@@ -66,6 +80,7 @@ pub record HoldsNode (initial : List ℕ) (set : RegisterSet) (place : ℕ) : Ty
 -- get the keys of the children
 pub record IsTaken (old : RegisterSet) (key : List ℕ) (new : RegisterSet) : Type 0 where
   pub same_iksn : new.iksn ≡ old.iksn
+  pub same_past : new.past ≡ old.past
   pub same_length : length new.registers ≡ length old.registers
   pub next_counter : ComesAfter old.counter new.counter
   pub key_is : key ≡ register_at old.registers (lowest_place old.counter)

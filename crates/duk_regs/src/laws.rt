@@ -1,12 +1,12 @@
 //! Laws of the registers, each the contract of a function that does nothing.
 
-ghost use Rattle.std.specs.Prelude.{◌≡◌, ◌<◌, ◌≤◌, ◌⊎◌, ◌^◌, ℕ, List, length};
+ghost use Rattle.std.specs.Prelude.{◌≡◌, ◌<◌, ◌≤◌, ◌⊎◌, ◌^◌, [], ℕ, List, length};
 ghost use Rattle.duk_tdes.specs.Key.{IsKey};
 ghost use Rattle.duk_tree.specs.Path.{IsUsable};
 ghost use Rattle.duk_tree.specs.Derivation.{step_of, transaction_key_of};
 ghost use Rattle.duk_tree.specs.Serial.{low_bytes};
 ghost use Rattle.duk_regs.specs.Registers.{HaveSixteenBytes, RegisterSet, IsRegisterSet, StandsFor, IsTaken, HoldsNode, register_at, empty_register};
-ghost use Rattle.duk_regs.specs.Image.{image_bytes, set_in, IsImage};
+ghost use Rattle.duk_regs.specs.Image.{IsImage, image_bytes, image_bytes_of_version_1, set_in};
 
 /// Registers with the keys of the powers of two stand for the initial key at the first number.
 pub fn first()
@@ -47,14 +47,14 @@ pub fn transactions()
     duk_tree::laws::children();
 }
 
-/// Each register holds no key or that of a node of the frontier. So an initial key, a serial number
-/// and a counter determine what a terminal keeps.
+/// Each register holds no key or that of a node of the frontier. So an initial key, a serial number,
+/// a counter and the past serial numbers determine what a terminal keeps.
 pub fn uniqueness()
     ensures register { (initial : List ℕ) (set : RegisterSet) (place : ℕ) → 1 ≤ set.counter
         → StandsFor initial set → place < 21
         → (register_at set.registers place ≡ empty_register) ⊎ HoldsNode initial set place }
     ensures same { (initial : List ℕ) (one other : RegisterSet) → 1 ≤ one.counter
-        → one.iksn ≡ other.iksn → one.counter ≡ other.counter
+        → one.iksn ≡ other.iksn → one.counter ≡ other.counter → one.past ≡ other.past
         → StandsFor initial one → StandsFor initial other
         → one ≡ other }
 {
@@ -72,14 +72,28 @@ pub fn sixteen_bytes()
     uniqueness();
 }
 
-/// What a terminal keeps is found again in its image.
+/// What a terminal keeps is found again in its image, and in that of version 1 where none of its
+/// initial key serial numbers is past.
 pub fn images()
+    ensures length { (set : RegisterSet) → IsRegisterSet set
+        → HaveSixteenBytes set.registers
+        → length (image_bytes set) ≡ 431 }
     ensures read { (set : RegisterSet) → IsRegisterSet set
         → HaveSixteenBytes set.registers
         → set_in (image_bytes set) ≡ set }
     ensures is_image { (set : RegisterSet) → IsRegisterSet set
         → HaveSixteenBytes set.registers
         → IsImage (image_bytes set) }
+    ensures length_of_version_1 { (set : RegisterSet) → IsRegisterSet set
+        → HaveSixteenBytes set.registers
+        → length (image_bytes_of_version_1 set) ≡ 350 }
+    ensures read_of_version_1 { (set : RegisterSet) → IsRegisterSet set
+        → HaveSixteenBytes set.registers
+        → set.past ≡ []
+        → set_in (image_bytes_of_version_1 set) ≡ set }
+    ensures is_image_of_version_1 { (set : RegisterSet) → IsRegisterSet set
+        → HaveSixteenBytes set.registers
+        → IsImage (image_bytes_of_version_1 set) }
 {
     duk_tree::laws::serials();
     duk_tree::laws::bits();

@@ -19,7 +19,6 @@ store_fault_text store.NoMemory = codes "NoMemory"
 -- a fault of a terminal
 abbrev pub term_fault_text : TermFault → List ℕ
 term_fault_text term.NotLoaded = codes "NotLoaded"
-term_fault_text term.AlreadyLoaded = codes "AlreadyLoaded"
 term_fault_text (term.Block fault) = codes "Block " ++ block_fault_name fault
 term_fault_text term.WrongUse = codes "WrongUse"
 term_fault_text term.Spent = codes "Spent"
@@ -29,6 +28,8 @@ term_fault_text term.Malformed = codes "Malformed"
 term_fault_text term.NotPending = codes "NotPending"
 term_fault_text term.NotMine = codes "NotMine"
 term_fault_text term.BadMac = codes "BadMac"
+term_fault_text term.IksnSpent = codes "IksnSpent"
+term_fault_text term.LoadsSpent = codes "LoadsSpent"
 
 -- a fault of the host
 abbrev pub host_fault_text : HostFault → List ℕ

@@ -19,7 +19,6 @@ impl Line {
     {
         match fault {
             TermFault::NotLoaded => self.word(b"NotLoaded"),
-            TermFault::AlreadyLoaded => self.word(b"AlreadyLoaded"),
             TermFault::Block(fault) => self.block_fault(fault),
             TermFault::WrongUse => self.word(b"WrongUse"),
             TermFault::Spent => self.word(b"Spent"),
@@ -29,6 +28,8 @@ impl Line {
             TermFault::NotPending => self.word(b"NotPending"),
             TermFault::NotMine => self.word(b"NotMine"),
             TermFault::BadMac => self.word(b"BadMac"),
+            TermFault::IksnSpent => self.word(b"IksnSpent"),
+            TermFault::LoadsSpent => self.word(b"LoadsSpent"),
         }
     }
 

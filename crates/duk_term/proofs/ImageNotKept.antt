@@ -1,15 +1,18 @@
 -- What a restart would find where an image was not kept.
-use Rattle.std.proofs.Common.{◌≡◌, ◌⊎◌, ℕ, List, Some, inl, inr, sym, subst}
+use Rattle.std.proofs.Common.{◌≡◌, ◌≢◌, ◌⊎◌, ℕ, List, Some, None, Result, Ok, Err, IfOk, IfErr, inl, inr, refl, sym, subst}
 use Rattle.duk_regs.specs.Registers.{HaveSixteenBytes, RegisterSet}
-use Rattle.duk_store.specs.Cell.{CellMeaning, Kept, PutFailed}
+use Rattle.duk_store.specs.Cell.{CellMeaning, IsPut, Kept, PutFailed}
 use Rattle.duk_store.specs.StoreState.{StoreState}
 use Rattle.duk_store.specs.declared.fault.StoreFault.{StoreFault}
 use Rattle.duk_store.specs.declared.fault.StoreFault.TheVariants as store_fault
 use Rattle.duk_term.specs.Begin.{BeginRefused, TakesFrom}
 use Rattle.duk_term.specs.Body.{body_bytes}
-use Rattle.duk_term.specs.Terminal.{Agrees, CellHoldsRegisters, HasRegistersIn, IsImageNotKept, TerminalOf}
+use Rattle.duk_term.specs.Load.{IsFirstSet, IsTerminalLoaded, KeepsState, LoadRefused, Loading, MayTake}
+use Rattle.duk_term.specs.Terminal.{Agrees, CellHoldsRegisters, HasRegistersIn, IsImageNotKept, PromisesBody, TerminalOf}
 use Rattle.duk_term.specs.declared.fault.TermFault.{TermFault}
 use Rattle.duk_term.specs.declared.fault.TermFault.TheVariants as fault
+use Rattle.duk_term.specs.declared.state.State.{State}
+use Rattle.duk_term.specs.declared.state.State.TheVariants.{Stopped, Empty, Loaded}
 
 -- after a write that failed a restart finds what it would have found, or the new body
 found_then : {C : Type 0} (meaning : CellMeaning C) (old new : C) (body : List ℕ) (why : StoreFault) → (meaning.state_of old).honest → PutFailed meaning old new body why
@@ -46,3 +49,49 @@ begin_stopped meaning old mid new set left key (fault.Store why) agrees takes ce
       };
     }
 begin_stopped meaning old mid new set left key _ agrees takes cell left_are not = absurd not
+
+-- what the cell of a running terminal keeps
+kept_by_state : (cell : StoreState Kept) (state : State) (kept : Kept) → state ≢ Stopped → Agrees cell state → cell.honest → cell.found kept → KeepsState state kept
+kept_by_state cell Stopped kept runs holds honest found = absurd (runs refl)
+kept_by_state cell Empty kept runs holds honest found = (holds.finds honest kept).0 found
+kept_by_state cell (Loaded set pending) kept runs holds honest found = held cell set kept holds honest found
+
+-- a terminal is not loaded where the image of its first registers was not kept
+pub load_stopped :
+    {C : Type 0} (meaning : CellMeaning C) (asked : Loading) (old new : TerminalOf C) (set : RegisterSet) (why : TermFault) → Agrees (meaning.state_of old.cell) old.state
+    → MayTake old.state asked.iksn → IsFirstSet asked old.state set → IsImageNotKept meaning (body_bytes set) old new why → LoadRefused meaning asked old new why
+load_stopped meaning asked old new set (fault.Store why) agrees may first not =
+    record {
+      set = set;
+      may = may;
+      set_is = first;
+      stops = record {
+        stopped = not.0;
+        not_kept = not.1;
+        within = λ honest kept found. elim (found_then meaning old.cell new.cell (body_bytes set) why honest not.1 kept found) [
+          | inl before ↦ inl (kept_by_state (meaning.state_of old.cell) old.state kept may.runs agrees honest before)
+          | inr is ↦ inr is
+        ];
+      };
+    }
+load_stopped meaning asked old new set _ agrees may first not = absurd not
+
+-- what came of keeping the first registers is what came of the load
+pub load_done :
+    {C T E : Type 0} (meaning : CellMeaning C) (asked : Loading) (old new : TerminalOf C) (set : RegisterSet) (result : Result T E) → MayTake old.state asked.iksn → IsFirstSet asked old.state set
+    → IfOk result (λ _. IsPut meaning old.cell new.cell (body_bytes set)) → IfOk result (λ _. new.state ≡ Loaded set None) → IfOk result (λ _. IsTerminalLoaded meaning asked old new)
+load_done meaning asked old new set (Ok _) may first kept state = record { set = set; may = may; set_is = first; state_is = state; kept = kept }
+load_done meaning asked old new set (Err _) may first kept state = kept
+
+pub load_not_done :
+    {C T : Type 0} (meaning : CellMeaning C) (asked : Loading) (old new : TerminalOf C) (set : RegisterSet) (result : Result T TermFault) → Agrees (meaning.state_of old.cell) old.state
+    → MayTake old.state asked.iksn → IsFirstSet asked old.state set → IfErr result (IsImageNotKept meaning (body_bytes set) old new) → IfErr result (LoadRefused meaning asked old new)
+load_not_done meaning asked old new set (Ok _) agrees may first not = not
+load_not_done meaning asked old new set (Err why) agrees may first not = load_stopped meaning asked old new set why agrees may first not
+
+-- the cell promises the body of the registers that were kept
+pub promises_kept :
+    {C T E : Type 0} (meaning : CellMeaning C) (new : TerminalOf C) (set : RegisterSet) (result : Result T E) → IfOk result (λ _. new.state ≡ Loaded set None)
+    → IfOk result (λ _. meaning.after_put new.cell (body_bytes set)) → IfOk result (λ _. PromisesBody meaning new)
+promises_kept meaning new set (Ok _) state promised = (set, None, state, promised)
+promises_kept meaning new set (Err _) state promised = promised

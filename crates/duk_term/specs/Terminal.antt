@@ -51,10 +51,6 @@ next_of Empty = next.Empty
 next_of (Loaded set pending) =
     if set.counter == spent_counter then next.Spent else next.At (serial_of set)
 
--- a state with registers
-abbrev pub HasRegisters : State → Type 0
-HasRegisters state = (set : RegisterSet) × (pending : _) × (state ≡ Loaded set pending)
-
 -- the cell promises, of the body of the terminal's registers, what it promises of each body that it
 -- has acknowledged
 abbrev pub PromisesBody : {C : Type 0} → CellMeaning C → TerminalOf C → Type 0

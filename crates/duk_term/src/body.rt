@@ -2,9 +2,9 @@
 
 ghost use Rattle.std.specs.Prelude.{◌≡◌, ◌↔◌, ◌++◌, IsTrue, IsSome, IfSome, length, replicate};
 ghost use Rattle.duk_regs.specs.Registers.{HaveSixteenBytes, IsRegisterSet};
-ghost use Rattle.duk_term.specs.Body.{IsTerminalBody, body_bytes, set_of_body};
+ghost use Rattle.duk_term.specs.Body.{IsTerminalBody, KeepsRegisters, body_bytes, image_length, set_of_body};
 
-use duk_regs::{IMAGE_LENGTH, Registers};
+use duk_regs::{IMAGE_LENGTH, IMAGE_LENGTH_OF_VERSION_1, Registers};
 use duk_store::{BODY_LENGTH, Body};
 
 /// The body of these registers: their image, with zero bytes behind it.
@@ -18,17 +18,29 @@ pub(crate) fn body_of(registers: &Registers) -> Body
     body
 }
 
-/// The registers of a body, where these bytes are one.
+/// The registers of a body, where these bytes are one: an image of either version, with zero bytes
+/// behind it.
 pub(crate) fn registers_in(body: &Body) -> Option<Registers>
     ensures found { IsSome result ↔ IsTerminalBody body.now }
     ensures set { IfSome result (λ registers. registers ≡ set_of_body body.now) }
-    ensures body { IfSome result (λ registers. body_bytes registers ≡ body.now) }
+    ensures keeps { IfSome result (KeepsRegisters body.now) }
 {
-    let (image, rest) = body.split_at(IMAGE_LENGTH);
+    let (image, rest) = body.split_at(length_of_image(body));
     if !are_zeros(rest) {
         return None;
     }
     Registers::from_image(image)
+}
+
+/// The bytes of the image in a body, by its version.
+fn length_of_image(body: &Body) -> usize
+    ensures { result ≡ image_length body.now }
+{
+    if body[0] == 1 {
+        IMAGE_LENGTH_OF_VERSION_1
+    } else {
+        IMAGE_LENGTH
+    }
 }
 
 /// Whether each byte is zero.

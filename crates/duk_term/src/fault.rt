@@ -1,9 +1,10 @@
 //! Why a terminal refuses.
 
 ghost use Rattle.std.specs.Prelude.{◌≡◌};
-ghost use Rattle.duk_term.specs.Loading.{term_fault_of};
+ghost use Rattle.duk_term.specs.Loading.{reload_fault_of, term_fault_of};
 
 use duk_block::{BlockFault, KeyFault};
+use duk_regs::ReloadFault;
 use duk_store::StoreFault;
 use thiserror::Error;
 
@@ -14,9 +15,6 @@ pub enum TermFault {
     /// The terminal is not loaded yet.
     #[error("NotLoaded")]
     NotLoaded,
-    /// The terminal is loaded, with numbers left or spent.
-    #[error("AlreadyLoaded")]
-    AlreadyLoaded,
     /// The loading block cannot be read.
     #[error("Block {0}")]
     Block(BlockFault),
@@ -44,6 +42,23 @@ pub enum TermFault {
     /// The MAC of the reply is not that of the host.
     #[error("BadMac")]
     BadMac,
+    /// The initial key serial number is the terminal's own, or one that it had before.
+    #[error("IksnSpent")]
+    IksnSpent,
+    /// The terminal had eight initial key serial numbers before its own, and takes no other.
+    #[error("LoadsSpent")]
+    LoadsSpent,
+}
+
+impl From<ReloadFault> for TermFault {
+    ghost from_gives = { λ fault told. told ≡ reload_fault_of fault };
+
+    fn from(fault: ReloadFault) -> TermFault {
+        match fault {
+            ReloadFault::IksnSpent => TermFault::IksnSpent,
+            ReloadFault::LoadsSpent => TermFault::LoadsSpent,
+        }
+    }
 }
 
 impl From<KeyFault> for TermFault {

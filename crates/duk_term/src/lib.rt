@@ -1,10 +1,11 @@
 //! A PIN terminal, keyed by TDES DUKPT (ANSI X9.24-1:2009 annex A).
 //!
-//! It is loaded once with the initial key of a key block, and then takes a number for each
-//! purchase. The image of the registers after a number was taken is in its cell before the request
-//! of that number goes out. So a stop at any moment loses a number at most and never gives one
-//! twice, and no image has the key of a number that was used. What is pending is in memory alone.
-//! Nothing here takes memory of the heap.
+//! It is loaded with the initial key of a key block, and then takes a number for each purchase. It
+//! may be loaded again with another initial key, and never under an initial key serial number that
+//! it had before. The image of the registers after a number was taken is in its cell before the
+//! request of that number goes out. So a stop at any moment loses a number at most and never gives
+//! one twice, and no image has the key of a number that was used. What is pending is in memory
+//! alone. Nothing here takes memory of the heap.
 #![tactic(auto)]
 
 mod answer;

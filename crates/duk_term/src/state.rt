@@ -3,7 +3,9 @@
 ghost use Rattle.std.specs.Prelude.{◌≡◌, ◌≢◌, ◌↔◌, IsTrue, ℕ, List, Some, None, IfOk, IfErr, MatchOption};
 ghost use Rattle.duk_regs.specs.Registers.{RegisterSet};
 ghost use Rattle.duk_frame.specs.Answer.{IsAnswer, IsReply};
+ghost use Rattle.duk_regs.specs.Registers.{IsRegisterSet, StandsFor};
 ghost use Rattle.duk_term.specs.Begin.{IsNotTaken, TakesFrom};
+ghost use Rattle.duk_term.specs.Load.{MayNotTake, MayTake, past_after_load};
 ghost use Rattle.duk_term.specs.Terminal.{next_of, serial_of};
 ghost use Rattle.duk_term.specs.Reply.{IsTold, IsPending, ReplyRefused, completed, reply_to};
 
@@ -12,7 +14,7 @@ use crate::fault::TermFault;
 use duk_frame::{AnswerFrame, Code, is_payment_reply, read_answer};
 use duk_regs::Registers;
 use duk_tdes::Key;
-use duk_tree::Ksn;
+use duk_tree::{Iksn, Ksn};
 use std::mem;
 
 /// A transaction whose reply has not come yet.
@@ -52,6 +54,33 @@ impl State {
                 Some(ksn) => Next::At(ksn),
                 None => Next::Spent,
             },
+        }
+    }
+
+    /// Tells whether the terminal may be given an initial key serial number.
+    pub fn may_take(&self, iksn: Iksn) -> Result<(), TermFault>
+        ensures may { IfOk result (λ _. MayTake self.now iksn) }
+        ensures refused { IfErr result (MayNotTake self.now iksn) }
+    {
+        match self {
+            State::Stopped => Err(TermFault::Stopped),
+            State::Empty => Ok(()),
+            State::Loaded { registers, .. } => Ok(registers.check_reload(iksn)?),
+        }
+    }
+
+    /// The first registers of an initial key, with the history of the terminal.
+    pub fn first_registers(&self, initial: Key<16>, iksn: Iksn) -> Result<Registers, TermFault>
+        ensures iksn { IfOk result (λ set. set.iksn ≡ iksn) }
+        ensures counter { IfOk result (λ set. set.counter ≡ 1) }
+        ensures past { IfOk result (λ set. set.past ≡ past_after_load self.now) }
+        ensures stands { IfOk result (λ set. StandsFor initial set) }
+        ensures refused { IfErr result (MayNotTake self.now iksn) }
+    {
+        match self {
+            State::Stopped => Err(TermFault::Stopped),
+            State::Empty => Ok(Registers::load(initial, iksn)),
+            State::Loaded { registers, .. } => Ok(registers.reload(initial, iksn)?),
         }
     }
 

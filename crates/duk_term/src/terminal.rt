@@ -95,12 +95,14 @@ impl<C: Cell> Terminal<C> {
 
     /// Loads the terminal with the initial key in a key block of version B under the loading key
     /// (`M` is 16 or 24), at the first number of `iksn`. The block is to have usage `B1`, algorithm
-    /// `T`, mode `X` or `N`, and a key of 16 bytes.
+    /// `T`, mode `X` or `N`, and a key of 16 bytes. A terminal that is loaded already, with numbers
+    /// left or spent, keeps the initial key serial number that it had among its past ones, and what
+    /// was pending is given up.
     ///
-    /// Refused with, in this order: `Stopped`; `AlreadyLoaded`, also where the terminal is spent;
-    /// `Block`, where the text is no key block; `WrongUse`, where its key is for another use;
-    /// `Store`, where the image could not be kept, and then the terminal is stopped. The others
-    /// change nothing.
+    /// Refused with, in this order: `Stopped`; `IksnSpent`, where the terminal has `iksn` or had it
+    /// before; `LoadsSpent`, where it had eight before its own; `Block`, where the text is no key
+    /// block; `WrongUse`, where its key is for another use; `Store`, where the image could not be
+    /// kept, and then the terminal is stopped. The others change nothing.
     pub fn load<const M: usize>(
         &mut self,
         loading: &Key<M>,
@@ -114,13 +116,10 @@ impl<C: Cell> Terminal<C> {
         ensures refused { IfErr result
             (LoadRefused C.meaning (loading_of loading.now block.now iksn) self.old self.new) }
     {
-        match self.state {
-            State::Stopped => return Err(TermFault::Stopped),
-            State::Loaded { .. } => return Err(TermFault::AlreadyLoaded),
-            State::Empty => {}
-        }
+        self.state.may_take(iksn)?;
         let initial = unwrap_double_for(KeyUse::InitialKey, loading, block)?;
-        self.keep(Registers::load(initial, iksn), None)
+        let registers = self.state.first_registers(initial, iksn)?;
+        self.keep(registers, None)
     }
 
     /// Begins a transaction: takes the next number, keeps the image of the registers that are left,

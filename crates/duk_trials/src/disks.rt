@@ -13,7 +13,9 @@ use duk_store::{CELL_DISK_SIZE, DiskLog, Filling, MemDisk, SlotCell, StoreFault}
 use duk_term::Terminal;
 use std::alloc::Global;
 
-pub type DiskTerminal = Terminal<SlotCell<MemDisk>>;
+pub type DiskCell = SlotCell<MemDisk>;
+
+pub type DiskTerminal = Terminal<DiskCell>;
 
 /// More device steps than a disk makes in a trial.
 const NEVER: u32 = 1_000_000;

@@ -2,48 +2,29 @@
 //! that it used, and of no ancestor of one, stands on its disk.
 
 use crate::bank::{Bank, random_iksn};
-use crate::disks::{DiskTerminal, Habit, new_disk, random_filling};
-use crate::dukpt::{Serial, counter_of, key_of, path_keys, request_frame, serial_at};
-use crate::loads::{begin_with, body_at, initial_header, key_from, random_counter};
+use crate::bodies::{body_at, random_counter};
+use crate::disks::{DiskCell, DiskTerminal, Habit, new_disk, random_filling};
+use crate::dukpt::{Serial, key_of, path_keys, request_frame};
+use crate::loads::{begin_with, load_with};
 use crate::random::Random;
 use crate::services::right_payment;
-use crate::standard::DoubleKey;
+use crate::standard::{DoubleKey, key_from};
 use crate::trouble::{Trouble, demand};
-use duk_block::wrap;
 use duk_store::{Cell, Disk, MemDisk, SlotCell, StoreFault};
 use duk_term::{Next, TermFault, Terminal};
-use duk_tree::Ksn;
 use std::alloc::Global;
 
 /// The bytes of the disk of a cell.
 const SIZE: usize = 1024;
 
-/// The initial key of a terminal, and its serial number.
-#[derive(Clone, Copy)]
-struct Initial {
-    iksn: Serial,
-    key: DoubleKey,
-}
-
-impl Initial {
-    /// The key of a node of its tree: of the root, or of a number.
-    fn key_at(&self, counter: u32) -> DoubleKey {
-        key_of(self.key, &serial_at(&self.iksn, counter))
-    }
-}
-
-/// A terminal over a new disk, or over one that has a body of any counter, unless it fails first.
-fn terminal_at_random(
-    alloc: Global,
-    initial: &Initial,
-    random: &mut Random,
-) -> Result<DiskTerminal, Trouble> {
-    let mut cell = SlotCell::new(new_disk(alloc, SIZE, Habit::at_random(random))?);
-    if random.once_in(2) && cell.restart().is_ok() {
-        let body = body_at(initial.key, &initial.iksn, random_counter(random));
-        let _ = cell.put(&body);
-    }
-    Ok(Terminal::new(cell))
+/// What a terminal by itself did.
+#[derive(Drop)]
+struct Life<'a> {
+    bank: &'a Bank,
+    /// The initial key serial numbers that it was given, or may have been.
+    given: Vec<Serial>,
+    /// The numbers of the requests that it handed out.
+    used: Vec<Serial>,
 }
 
 /// Refuses what is neither done nor told as a disk that failed.
@@ -54,64 +35,123 @@ fn demand_done_or_failed(told: Result<(), TermFault>) -> Result<(), Trouble> {
     }
 }
 
-/// Loads a terminal with its initial key.
-fn load(terminal: &mut DiskTerminal, bank: &Bank, initial: &Initial) -> Result<(), Trouble> {
-    let loading = key_from(bank.loading);
-    let Ok(block) = wrap(&loading, &initial_header(), &key_from(initial.key), &[0; 6]) else {
-        return Err(Trouble::Violation("a key block is not wrapped"));
-    };
-    let iksn = Ksn::from_bytes(initial.iksn).iksn();
-    demand_done_or_failed(terminal.load(&loading, block.as_slice(), iksn))
-}
-
-/// Begins a payment at a number, and notes that it is used where the request is handed out.
-fn begin(
-    alloc: Global,
-    terminal: &mut DiskTerminal,
-    bank: &Bank,
-    initial: &Initial,
-    counter: u32,
-    random: &mut Random,
-    used: &mut Vec<u32>,
-) -> Result<(), Trouble> {
-    let payment = right_payment(bank, random);
-    let serial = serial_at(&initial.iksn, counter);
-    match begin_with(terminal, &payment)? {
-        Ok(frame) => {
-            let expected = request_frame(alloc, initial.key_at(counter), &serial, &payment)?;
-            used.push(counter)?;
-            demand(
-                frame.as_slice() == expected.as_slice(),
-                "a terminal by itself sends something else",
-            )
+impl<'a> Life<'a> {
+    /// Puts a body of any counter into a cell, in half of all cases.
+    fn fill(&mut self, cell: &mut DiskCell, random: &mut Random) -> Result<(), Trouble> {
+        let iksn = random_iksn(random);
+        let Some(initial) = self.bank.initial_key_of(&iksn) else {
+            return Ok(());
+        };
+        if random.once_in(2) && cell.restart().is_ok() {
+            let _ = cell.put(&body_at(initial, &iksn, random_counter(random)));
+            self.given.push(iksn)?;
         }
-        Err(why) => demand_done_or_failed(Err(why)),
+        Ok(())
     }
-}
 
-/// Does what comes next in the life of a terminal.
-fn live(
-    alloc: Global,
-    terminal: &mut DiskTerminal,
-    bank: &Bank,
-    initial: &Initial,
-    random: &mut Random,
-    used: &mut Vec<u32>,
-) -> Result<(), Trouble> {
-    if random.once_in(6) {
-        terminal.arm(random.below(10));
-    }
-    if random.once_in(8) {
-        return demand_done_or_failed(terminal.restart());
-    }
-    match terminal.next() {
-        Next::Stopped => demand_done_or_failed(terminal.restart()),
-        Next::Empty => load(terminal, bank, initial),
-        Next::Spent => Ok(()),
-        Next::At(next) => {
-            let counter = counter_of(&next.bytes());
-            begin(alloc, terminal, bank, initial, counter, random, used)
+    /// Loads the terminal under a number, where a key set is held for it. It is refused where the
+    /// terminal had the number, or many.
+    fn load(&mut self, terminal: &mut DiskTerminal, iksn: &Serial) -> Result<(), Trouble> {
+        let Some(initial) = self.bank.initial_key_of(iksn) else {
+            return Ok(());
+        };
+        let told = load_with(terminal, self.bank, initial, iksn)?;
+        let had = self.given.contains(iksn);
+        if told == Err(TermFault::IksnSpent) {
+            return demand(had, "a terminal by itself tells a number as spent");
         }
+        if told == Err(TermFault::LoadsSpent) {
+            return demand(
+                self.given.len() >= 9,
+                "a terminal by itself tells loads as spent",
+            );
+        }
+        if !had {
+            self.given.push(*iksn)?;
+        }
+        demand_done_or_failed(told)
+    }
+
+    /// Begins a payment at a number, and notes that it is used where the request is handed out.
+    fn begin(
+        &mut self,
+        alloc: Global,
+        terminal: &mut DiskTerminal,
+        serial: &Serial,
+        random: &mut Random,
+    ) -> Result<(), Trouble> {
+        let Some(initial) = self.bank.initial_key_of(serial) else {
+            return Err(Trouble::Violation("a terminal by itself is at a number of no key set"));
+        };
+        let payment = right_payment(self.bank, random);
+        match begin_with(terminal, &payment)? {
+            Ok(frame) => {
+                let expected = request_frame(alloc, key_of(initial, serial), serial, &payment)?;
+                self.used.push(*serial)?;
+                demand(
+                    frame.as_slice() == expected.as_slice(),
+                    "a terminal by itself sends something else",
+                )
+            }
+            Err(why) => demand_done_or_failed(Err(why)),
+        }
+    }
+
+    /// Does what comes next.
+    fn go_on(
+        &mut self,
+        alloc: Global,
+        terminal: &mut DiskTerminal,
+        random: &mut Random,
+    ) -> Result<(), Trouble> {
+        if random.once_in(6) {
+            terminal.arm(random.below(10));
+        }
+        if random.once_in(8) {
+            return demand_done_or_failed(terminal.restart());
+        }
+        let loads = random.once_in(6);
+        match terminal.next() {
+            Next::Stopped => demand_done_or_failed(terminal.restart()),
+            Next::At(next) if !loads => self.begin(alloc, terminal, &next.bytes(), random),
+            _ => self.load(terminal, &random_iksn(random)),
+        }
+    }
+
+    /// None of these bytes are the key of a number that was used, or of an ancestor of one, or an
+    /// initial key.
+    fn demand_forgotten(&self, bytes: &[u8; SIZE]) -> Result<(), Trouble> {
+        for serial in &self.used {
+            let kept = self.holds_path(bytes, serial);
+            demand(!kept, "a disk holds the key of a used number")?;
+        }
+        for iksn in &self.given {
+            let kept = self.holds_path(bytes, iksn);
+            demand(!kept, "a disk holds an initial key")?;
+        }
+        Ok(())
+    }
+
+    /// Whether the key of a number stands among bytes.
+    fn holds_own(&self, bytes: &[u8; SIZE], serial: &Serial) -> bool {
+        match self.bank.initial_key_of(serial) {
+            Some(initial) => holds(bytes, key_of(initial, serial)),
+            None => false,
+        }
+    }
+
+    /// Whether the key of a number, or of an ancestor of it, of which the root is one, stands among
+    /// bytes.
+    fn holds_path(&self, bytes: &[u8; SIZE], serial: &Serial) -> bool {
+        let Some(initial) = self.bank.initial_key_of(serial) else {
+            return false;
+        };
+        for key in &path_keys(initial, serial) {
+            if holds(bytes, *key) {
+                return true;
+            }
+        }
+        holds(bytes, initial)
     }
 }
 
@@ -138,41 +178,26 @@ fn holds(bytes: &[u8; SIZE], key: DoubleKey) -> bool {
     false
 }
 
-/// Whether the key of a number, or of an ancestor of it, of which the root is one, stands among
-/// bytes.
-fn holds_path(bytes: &[u8; SIZE], initial: &Initial, counter: u32) -> bool {
-    let serial = serial_at(&initial.iksn, counter);
-    for key in &path_keys(initial.key, &serial) {
-        if holds(bytes, *key) {
-            return true;
-        }
-    }
-    holds(bytes, initial.key)
-}
-
 /// A terminal lives for a while; what its disk holds then is the key of its next number, where it
 /// is not stopped, and none that it should have forgotten.
 pub fn try_life(alloc: Global, bank: &Bank, random: &mut Random) -> Result<(), Trouble> {
-    let iksn = random_iksn(random);
-    let Some(key) = bank.initial_key_of(&iksn) else {
-        return Ok(());
+    let mut life = Life {
+        bank,
+        given: Vec::new(alloc),
+        used: Vec::new(alloc),
     };
-    let initial = Initial { iksn, key };
-    let mut used = Vec::new(alloc);
-    let mut terminal = terminal_at_random(alloc, &initial, random)?;
+    let mut cell = SlotCell::new(new_disk(alloc, SIZE, Habit::at_random(random))?);
+    life.fill(&mut cell, random)?;
+    let mut terminal = Terminal::new(cell);
     for _ in 0..random.below(20) {
-        live(alloc, &mut terminal, bank, &initial, random, &mut used)?;
+        life.go_on(alloc, &mut terminal, random)?;
     }
     let next = terminal.next();
     let mut disk = terminal.into_cell().into_disk();
     let bytes = left_on(&mut disk, random)?;
     if let Next::At(next) = next {
-        let there = holds(&bytes, initial.key_at(counter_of(&next.bytes())));
+        let there = life.holds_own(&bytes, &next.bytes());
         demand(there, "a disk does not hold the key of the next number")?;
     }
-    for counter in &used {
-        let kept = holds_path(&bytes, &initial, *counter);
-        demand(!kept, "a disk holds the key of a used number")?;
-    }
-    Ok(())
+    life.demand_forgotten(&bytes)
 }

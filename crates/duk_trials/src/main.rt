@@ -5,10 +5,12 @@
 
 mod bank;
 mod blocks;
+mod bodies;
 mod disks;
 mod dukpt;
 mod files;
 mod judge;
+mod key_blocks;
 mod lives;
 mod loads;
 mod play;

@@ -1,7 +1,9 @@
 //! The ciphers and MACs, written once more from the standards: DES and TDES (NIST SP 800-67), the
 //! retail MAC (ANSI X9.19). Blocks and keys of eight bytes are numbers of 64 bits.
 
-/// The initial permutation, and its inverse.
+use duk_tdes::Key;
+
+/// The initial permutation.
 #[rattlefmt::skip]
 static FIRST: [u8; 64] = [
     58, 50, 42, 34, 26, 18, 10, 2, 60, 52, 44, 36, 28, 20, 12, 4,
@@ -117,6 +119,15 @@ impl DoubleKey {
             right: self.right ^ mask,
         }
     }
+}
+
+/// A key as the library has it.
+pub fn key_from(key: DoubleKey) -> Key<16> {
+    let mut bytes = [0; 16];
+    let (left, right) = bytes.split_at_mut(8);
+    left.copy_from_slice(&key.left.to_be_bytes());
+    right.copy_from_slice(&key.right.to_be_bytes());
+    Key::new(bytes)
 }
 
 /// The bit at a place, counted from the least significant.

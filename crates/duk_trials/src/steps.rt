@@ -19,11 +19,14 @@ pub enum Step {
     ArmHost { n: u32 },
 }
 
-/// About how many requests and answers were sent so far, and which terminals were loaded.
+/// About how many requests and answers were sent so far, and by whom, and which terminals were
+/// loaded.
 #[derive(Drop)]
 struct Guess {
     sent: u32,
     answered: u32,
+    /// The terminal that sent the last request.
+    sender: u32,
     loaded: [bool; 17],
 }
 
@@ -32,6 +35,7 @@ impl Guess {
     const NOTHING: Guess = Guess {
         sent: 0,
         answered: 0,
+        sender: 1,
         loaded: [false; 17],
     };
 
@@ -43,7 +47,10 @@ impl Guess {
                     *loaded = true;
                 }
             }
-            Step::Begin { t, .. } if self.is_loaded(t) => self.sent = self.sent.saturating_add(1),
+            Step::Begin { t, .. } if self.is_loaded(t) => {
+                self.sent = self.sent.saturating_add(1);
+                self.sender = t;
+            }
             Step::Up { k } if k <= self.sent => self.answered = self.answered.saturating_add(1),
             _ => {}
         }
@@ -94,17 +101,17 @@ fn random_load(bank: &Bank, random: &mut Random, t: u32) -> Step {
 fn random_step(bank: &Bank, random: &mut Random, guess: &Guess) -> Step {
     let t = random_terminal(bank, random);
     match random.below(22) {
-        0..=3 => random_load(bank, random, t),
-        4..=8 => Step::Begin {
+        0..=2 => random_load(bank, random, t),
+        3..=7 => Step::Begin {
             t,
             payment: right_payment(bank, random),
         },
-        9..=12 => Step::Up {
+        8..=12 => Step::Up {
             k: recent(random, guess.sent),
         },
         13..=17 => Step::Down {
             k: recent(random, guess.answered),
-            t,
+            t: if random.once_in(2) { guess.sender } else { t },
         },
         18 => Step::RestartTerm { t },
         19 => Step::RestartHost,

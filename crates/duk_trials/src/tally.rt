@@ -11,7 +11,7 @@ pub struct Tally {
 }
 
 /// The names of all that is to come.
-static NAMES: [&str; 66] = [
+static NAMES: [&str; 67] = [
     "event load",
     "event begin",
     "event up",
@@ -34,7 +34,6 @@ static NAMES: [&str; 66] = [
     "outcome no such terminal",
     "outcome no such frame",
     "terminal NotLoaded",
-    "terminal AlreadyLoaded",
     "terminal Block Length",
     "terminal Block Version",
     "terminal Block HeaderField",
@@ -51,6 +50,8 @@ static NAMES: [&str; 66] = [
     "terminal NotPending",
     "terminal NotMine",
     "terminal BadMac",
+    "terminal IksnSpent",
+    "terminal LoadsSpent",
     "host Store Device",
     "host Store Damaged",
     "host Stopped",

@@ -2,12 +2,14 @@
 
 use crate::disks::Habit;
 use crate::files::try_files;
+use crate::key_blocks::try_key_block;
 use crate::lives::try_life;
-use crate::loads::{key_from, try_key_block, try_terminal};
+use crate::loads::try_terminal;
 use crate::play::{Game, count, lines_of, outcomes_of, try_laws};
 use crate::played::Played;
 use crate::random::Random;
 use crate::services::try_service;
+use crate::standard::key_from;
 use crate::streams::WHOLE;
 use crate::tally::Tally;
 use crate::trouble::{Trouble, demand};

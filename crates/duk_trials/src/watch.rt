@@ -2,6 +2,8 @@
 //! host accepts each number once and under the terminal's own key, a terminal completes with the
 //! host's reply alone, and no terminal goes back to a used number.
 
+mod terminals;
+
 use crate::bank::Bank;
 use crate::dukpt::{
     Payment, Serial, counter_of, iksn_of, is_usable, key_of, pin_block, refusal_frame, reply_frame,
@@ -44,6 +46,8 @@ pub struct Watch<'a> {
     /// Numbers whose append failed, which the log may keep.
     doubtful: Vec<Serial>,
     done: Vec<Serial>,
+    /// Initial key serial numbers that were loaded.
+    loaded: Vec<Serial>,
     pending: [Option<Serial>; 16],
     owners: Vec<(Serial, u32)>,
     /// The frames that the host should have sent.
@@ -71,6 +75,7 @@ impl<'a> Watch<'a> {
             accepted: Vec::new(alloc),
             doubtful: Vec::new(alloc),
             done: Vec::new(alloc),
+            loaded: Vec::new(alloc),
             pending: [None; 16],
             owners: Vec::new(alloc),
             answers: Vec::new(alloc),
@@ -134,38 +139,6 @@ impl<'a> Watch<'a> {
     fn set_pending(&mut self, t: u32, serial: Option<Serial>) {
         if let Some(pending) = self.pending.get_mut(t as usize % 16) {
             *pending = serial;
-        }
-    }
-
-    fn see_load(&mut self, t: u32, iksn: &Serial, outcome: &Outcome) -> Result<(), Trouble> {
-        match outcome {
-            Outcome::Loaded {
-                t: loaded,
-                iksn: of,
-            } => {
-                demand(*loaded == t && of.bytes() == *iksn, "another load is told")?;
-                self.own(t, iksn)
-            }
-            Outcome::TermFaulted {
-                fault: TermFault::Store(_),
-                ..
-            } => {
-                self.set_pending(t, None);
-                self.own(t, iksn)
-            }
-            Outcome::TermFaulted { t: refused, .. } => demand(*refused == t, "another terminal"),
-            Outcome::IksnElsewhere { .. } => demand(
-                self.owner_of(iksn).is_some() && self.owner_of(iksn) != Some(t),
-                "a number is told as owned elsewhere and is not",
-            ),
-            Outcome::NoKeySet { .. } => demand(
-                self.bank.initial_key_of(iksn).is_none(),
-                "a key set that is there is not found",
-            ),
-            other => demand(
-                self.has_no_terminal(t, other),
-                "a load comes to something else",
-            ),
         }
     }
 
@@ -335,40 +308,6 @@ impl<'a> Watch<'a> {
         demand(!self.done.contains(serial), "a number is done twice")?;
         self.done.push(*serial)?;
         self.set_pending(t, None);
-        Ok(())
-    }
-
-    fn see_restart(&mut self, t: u32, outcome: &Outcome) -> Result<(), Trouble> {
-        self.set_pending(t, None);
-        match outcome {
-            Outcome::TermNext {
-                next: Next::At(next),
-                ..
-            } => self.see_next(t, &next.bytes()),
-            Outcome::TermNext { .. } => Ok(()),
-            Outcome::TermFaulted {
-                fault: TermFault::Store(_),
-                ..
-            } => Ok(()),
-            other => demand(
-                self.has_no_terminal(t, other),
-                "a restart comes to something else",
-            ),
-        }
-    }
-
-    /// The next number is above all that were sent, and its terminal owns it.
-    fn see_next(&self, t: u32, next: &Serial) -> Result<(), Trouble> {
-        let iksn = iksn_of(next);
-        demand(
-            self.owner_of(&iksn) == Some(t),
-            "a terminal finds what it does not own",
-        )?;
-        for sent in &self.sent {
-            let passed = iksn_of(&sent.serial) != iksn
-                || counter_of(&sent.serial) < counter_of(next);
-            demand(passed, "a terminal goes back to a used number")?;
-        }
         Ok(())
     }
 

@@ -15,6 +15,15 @@ returns-in_err-make_room-clause-cut g c initial stands =
     (c.loop-printed._printed + 0, text, omega arith, printed, c.writes.ensures.cut_later _ _ _ loop.written c.loop-printed.lines.items loop.was_written c.in_err-make_room.ensures.cut) in
     on_err _ _ part
 
+pub loop-printed-init : goal.loop-printed-init
+loop-printed-init g c = record {
+  same_iksn = refl;
+  stands = λ initial stands. stands;
+  written = [];
+  was_written = c.writes.ensures.none (g.W.Sink.known c.args.output.now);
+  lines = λ initial more rest stands printed. let all : 0 + more ≡ more = omega arith in rw (all, c.new-lines.ensures) printed;
+}
+
 pub loop-printed-preserved : goal.loop-printed-preserved
 loop-printed-preserved g c =
     let loop = c.loop-printed.invariant in

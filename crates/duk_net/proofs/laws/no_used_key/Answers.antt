@@ -19,7 +19,7 @@ laws_of g c = record {
 
 pub returns-clause-above : goal.returns-clause-above
 returns-clause-above g c world reached =
-    terminals_hold _ world _ (laws_of g c) reached (λ t set safe. record { owned = safe.owned; above = safe.stands })
+    terminals_hold _ world _ (laws_of g c) reached (λ t set safe. record { owned = safe.owned; above = safe.stands; remembers = safe.remembers })
 
 pub returns-clause-no_used_key : goal.returns-clause-no_used_key
 returns-clause-no_used_key g c world reached =

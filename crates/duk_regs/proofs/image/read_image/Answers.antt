@@ -1,19 +1,46 @@
-use Rattle.std.proofs.Common.{sym, ap, ◌∙◌, arith}
-use Rattle.duk_tree.specs.Serial.{Serial, serial_bytes}
-use Rattle.duk_regs.proofs.ImageWrittenAndRead.{image_bytes-set_in}
+use Rattle.std.proofs.Common.{All, refl, sym, ap, subst, ◌∙◌}
+use Rattle.duk_tree.specs.Serial.{IsIksn}
+use Rattle.duk_regs.specs.Registers.{IsRegisterSet}
+use Rattle.duk_regs.specs.Image.{past_bytes, past_in, present_bytes, set_in}
+use Rattle.duk_regs.proofs.ImageWrittenAndRead.{length_of_version_1, length_of_version_2, parts_read, set_of_version_1, set_of_version_2, version_1_again, version_2_again}
+use Rattle.duk_regs.proofs.PastWrittenAndRead.{no_past}
 use Rattle.duk_regs.proofs.image.read_image.Goals as goal
 
-pub returns-then-leaves_empty-clause-image : goal.returns-then-leaves_empty-clause-image
-returns-then-leaves_empty-clause-image c =
-    let serial = c.from_bytes-serial.ensures in
-    let bytes = c.array_of.ensures.bytes in
-    image_bytes-set_in c.args.image.now (omega arith) (λ i. omega (arith, c.type_inv.image i)) (omega arith)
-    (rw (← bytes) (ap serial_bytes (sym serial.value) ∙ serial.bytes))
-    (rw (← bytes) (ap (λ (n : Serial). n.counter) (sym serial.value)) ∙ sym c.counter.ensures.value ∙ c.if-counter-ne0.false)
+pub returns-then-image-eq-VERSION_1-clause-parts : goal.returns-then-image-eq-VERSION_1-clause-parts
+returns-then-image-eq-VERSION_1-clause-parts c =
+    let image = c.args.image.now in
+    let is_350 = length_of_version_1 image (c.if-not-has_version.ensures.0 refl) c.if-image-eq-VERSION_1.true in
+    let present = c.in_ok-iksn.ensures in
+    parts_read image c.in_ok-iksn.iksn c.in_ok-iksn.counter c.in_ok-iksn.registers c.none.result present.iksn present.counter present.registers (c.none.ensures ∙ sym (no_past image is_350))
 
-pub returns-else-leaves_empty-clause-found : goal.returns-else-leaves_empty-clause-found
-returns-else-leaves_empty-clause-found c = (
-  λ never. absurd (cc),
-  λ image. c.if-leaves_empty.ensures.1
-      (rw (c.read_registers-registers.ensures, c.read_u24-counter.ensures) image.leaves_empty),
-)
+pub returns-then-image-eq-VERSION_1-clause-set : goal.returns-then-image-eq-VERSION_1-clause-set
+returns-then-image-eq-VERSION_1-clause-set c =
+    let image = c.args.image.now in
+    let is_350 = length_of_version_1 image (c.if-not-has_version.ensures.0 refl) c.if-image-eq-VERSION_1.true in
+    let present = c.in_ok-iksn.ensures in
+    let same = parts_read image c.in_ok-iksn.iksn c.in_ok-iksn.counter c.in_ok-iksn.registers c.none.result present.iksn present.counter present.registers (c.none.ensures ∙ sym (no_past image is_350)) in
+    subst IsRegisterSet (sym same) (set_of_version_1 image (present.found.0 refl) (subst IsIksn present.iksn present.is_iksn) is_350)
+
+pub returns-then-image-eq-VERSION_1-clause-version_1 : goal.returns-then-image-eq-VERSION_1-clause-version_1
+returns-then-image-eq-VERSION_1-clause-version_1 c = λ version.
+    let image = c.args.image.now in
+    let is_350 = length_of_version_1 image (c.if-not-has_version.ensures.0 refl) version in
+    version_1_again image (present_bytes (set_in image)) is_350 version c.in_ok-iksn.ensures.written
+
+pub returns-then-image-eq-VERSION_1-clause-no_past : goal.returns-then-image-eq-VERSION_1-clause-no_past
+returns-then-image-eq-VERSION_1-clause-no_past c = λ version.
+    no_past c.args.image.now (length_of_version_1 c.args.image.now (c.if-not-has_version.ensures.0 refl) version)
+
+pub returns-clause-set : goal.returns-clause-set
+returns-clause-set c =
+    let image = c.args.image.now in
+    let present = c.in_ok-iksn.ensures in
+    let past = c.in_ok-past.ensures in
+    let same = parts_read image c.in_ok-iksn.iksn c.in_ok-iksn.counter c.in_ok-iksn.registers c.in_ok-past.past present.iksn present.counter present.registers past.past in
+    subst IsRegisterSet (sym same) (set_of_version_2 image (present.found.0 refl) (subst IsIksn present.iksn present.is_iksn) (past.found.0 refl) (subst (All IsIksn) past.past past.iksns))
+
+pub returns-clause-version_2 : goal.returns-clause-version_2
+returns-clause-version_2 c = λ version.
+    let image = c.args.image.now in
+    let is_431 = length_of_version_2 image (c.if-not-has_version.ensures.0 refl) c.if-image-eq-VERSION_1.false in
+    version_2_again image (present_bytes (set_in image)) (past_bytes (past_in image)) is_431 version c.in_ok-iksn.ensures.written (ap past_bytes (sym c.in_ok-past.ensures.past) ∙ c.in_ok-past.ensures.written)

@@ -1,4 +1,4 @@
-use Rattle.std.proofs.Common.{◌≡◌, List, ℕ, length, inl, inr, ap, ◌∙◌}
+use Rattle.std.proofs.Common.{ℕ, length, inl, inr, ap, ◌∙◌}
 use Rattle.std.proofs.lemmas.List.{length-replicate}
 use Rattle.duk_tree.specs.Path.{path_of}
 use Rattle.duk_regs.proofs.CounterBounds.{BitLaws, counter_bounds}

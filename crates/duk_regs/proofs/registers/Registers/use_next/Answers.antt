@@ -10,7 +10,7 @@ use Rattle.duk_regs.proofs.registers.Registers.use_next.Goals as goal
 pub invariant_of-self : goal.invariant_of-self
 invariant_of-self c =
     let laws : BitLaws = record { usable = c.bits.ensures.usable; place = c.bits.ensures.place; ones = c.bits.ensures.ones; lowest = c.bits.ensures.lowest } in
-    let before : RegisterSet = record { iksn = c.self.inside.iksn; counter = c.self.inside.counter; registers = c.self.inside.registers } in
+    let before : RegisterSet = record { iksn = c.self.inside.iksn; counter = c.self.inside.counter; registers = c.self.inside.registers; past = c.self.inside.past } in
     let is_usable = usable_counter before.counter c.self.invariant.counter_is c.if-counter-eq-SPENT.false in
     let fill = c.fill_below.ensures in
     let taken = taken_by laws before c.index-self-place.result c.no_key.result c.next_usable.result c.fill_below.new.registers is_usable c.self.invariant.are_21 c.no_key.ensures fill.are_21 fill.filled fill.not_filled fill.others_stay c.next_usable.ensures.found c.next_usable.ensures.none in
@@ -24,19 +24,19 @@ returns-clause-usable c =
 pub returns-clause-taken : goal.returns-clause-taken
 returns-clause-taken c =
     let laws : BitLaws = record { usable = c.bits.ensures.usable; place = c.bits.ensures.place; ones = c.bits.ensures.ones; lowest = c.bits.ensures.lowest } in
-    let before : RegisterSet = record { iksn = c.self.inside.iksn; counter = c.self.inside.counter; registers = c.self.inside.registers } in
+    let before : RegisterSet = record { iksn = c.self.inside.iksn; counter = c.self.inside.counter; registers = c.self.inside.registers; past = c.self.inside.past } in
     let is_usable = usable_counter before.counter c.self.invariant.counter_is c.if-counter-eq-SPENT.false in
     let fill = c.fill_below.ensures in
     let taken = taken_by laws before c.index-self-place.result c.no_key.result c.next_usable.result c.fill_below.new.registers is_usable c.self.invariant.are_21 c.no_key.ensures fill.are_21 fill.filled fill.not_filled fill.others_stay c.next_usable.ensures.found c.next_usable.ensures.none in
     let key = get_or c.self.inside.registers (trailing_zeros w32 c.self.inside.counter) c.index-self-place.result in
-    let left : RegisterSet = record { iksn = c.self.inside.iksn; counter = c.unwrap_or-self-inside.result; registers = c.fill_below.new.registers } in
+    let left : RegisterSet = record { iksn = c.self.inside.iksn; counter = c.unwrap_or-self-inside.result; registers = c.fill_below.new.registers; past = c.self.inside.past } in
     let here : IsTaken before key left = rw c.unwrap_or-self-inside.ensures taken in
     subst (λ old. IsTaken old key left) c.self.view_is here
 
 pub returns-clause-stands : goal.returns-clause-stands
 returns-clause-stands c =
     let laws : BitLaws = record { usable = c.bits.ensures.usable; place = c.bits.ensures.place; ones = c.bits.ensures.ones; lowest = c.bits.ensures.lowest } in
-    let before : RegisterSet = record { iksn = c.self.inside.iksn; counter = c.self.inside.counter; registers = c.self.inside.registers } in
+    let before : RegisterSet = record { iksn = c.self.inside.iksn; counter = c.self.inside.counter; registers = c.self.inside.registers; past = c.self.inside.past } in
     let is_usable = usable_counter before.counter c.self.invariant.counter_is c.if-counter-eq-SPENT.false in
     let fill = c.fill_below.ensures in
     let taken = taken_by laws before c.index-self-place.result c.no_key.result c.next_usable.result c.fill_below.new.registers is_usable c.self.invariant.are_21 c.no_key.ensures fill.are_21 fill.filled fill.not_filled fill.others_stay c.next_usable.ensures.found c.next_usable.ensures.none in

@@ -1,0 +1,38 @@
+use Rattle.std.proofs.Common.{subst}
+use Rattle.duk_term.specs.Load.{IsFirstSet, Loading, MayTake, loading_of}
+use Rattle.duk_term.specs.Terminal.{Agrees, TerminalOf}
+use Rattle.duk_term.proofs.ImageNotKept.{load_done, load_not_done, promises_kept}
+use Rattle.duk_term.proofs.terminal.Terminal.load.Goals as goal
+
+abbrev asked : (g : _) → goal.After-keep g → Loading
+asked g c = loading_of c.args.loading.now c.args.block.now c.args.iksn
+
+may : (g : _) (c : goal.After-keep g) → MayTake c.args.self.now.state c.args.iksn
+may g c = subst (λ (terminal : TerminalOf _). MayTake terminal.state c.args.iksn) c.self.view_is c.in_ok-may_take.ensures.may
+
+agrees : (g : _) (c : goal.After-keep g) → Agrees (g.C.Cell.meaning.state_of c.args.self.now.cell) c.args.self.now.state
+agrees g c = subst (λ (terminal : TerminalOf _). Agrees (g.C.Cell.meaning.state_of terminal.cell) terminal.state) c.self.view_is c.self.invariant
+
+first : (g : _) (c : goal.After-keep g) → IsFirstSet (asked g c) c.args.self.now.state c.in_ok-registers.registers
+first g c =
+    let made = c.in_ok-registers.ensures in
+    subst (λ (terminal : TerminalOf _). IsFirstSet (asked g c) terminal.state c.in_ok-registers.registers) c.self.view_is (record {
+      initial = c.in_ok-initial.initial;
+      wrapped = c.in_ok-initial.ensures.found;
+      set_is = c.keep.ensures.set;
+      stands = made.stands;
+      iksn_is = made.iksn;
+      counter_is = made.counter;
+      past_is = made.past;
+    })
+
+pub returns-clause-loaded : goal.returns-clause-loaded
+returns-clause-loaded g c =
+    load_done g.C.Cell.meaning (asked g c) c.args.self.now c.keep.new.self c.in_ok-registers.registers c.keep.result (may g c) (first g c) c.keep.ensures.kept c.keep.ensures.state
+
+pub returns-clause-after_put : goal.returns-clause-after_put
+returns-clause-after_put g c = promises_kept g.C.Cell.meaning c.keep.new.self c.in_ok-registers.registers c.keep.result c.keep.ensures.state c.keep.ensures.after_put
+
+pub returns-clause-refused : goal.returns-clause-refused
+returns-clause-refused g c =
+    load_not_done g.C.Cell.meaning (asked g c) c.args.self.now c.keep.new.self c.in_ok-registers.registers c.keep.result (agrees g c) (may g c) (first g c) c.keep.ensures.refused
