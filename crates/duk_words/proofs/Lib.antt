@@ -3,4 +3,5 @@ mod FoundRows
 mod OneRequest
 pub mod PlainWords
 pub mod TopLevel
+pub mod WithoutACommand
 pub mod WrittenRequests

@@ -73,7 +73,7 @@ is_shown kind = false
 abbrev pub AskForNothing : List Text → Type 0
 AskForNothing words = (request : Request) → ¬ Asks words request
 
--- the words ask for help
+-- the words ask for help or for the version
 abbrev pub AskForHelp : List Text → Type 0
 AskForHelp words = list_any is_shown (fault_of command_line words) ≡ true
 

@@ -55,10 +55,18 @@ run_command = command (codes "run") (word_rule (codes "CONFIG") ∷ word_rule (c
 abbrev pub serve_command : Shape
 serve_command = command (codes "serve") (word_rule (codes "CONFIG") ∷ option_rule (codes "log") ∷ [])
 
+-- dukpt: it has a version, wants a command, and answers with its help where no words are given
+abbrev pub program_shape : Shape
+program_shape = record (new_shape (codes "dukpt")) {
+  has_version = true;
+  arg_required_else_help = true;
+  subcommand_required = true;
+}
+
 -- the program, that some of these commands have been given
 abbrev pub program_of : List Shape → App
 program_of commands = record {
-  top = record (new_shape (codes "dukpt")) { is_leaf = false; subcommand_required = true };
+  top = record program_shape { is_leaf = false };
   subs = commands;
 }
 

@@ -4,12 +4,17 @@ ghost use Rattle.std.specs.Prelude.{◌≡◌, ◌∷◌, [], IfOk, codes};
 ghost use Rattle.clap.specs.Words.{app_of};
 ghost use Rattle.duk_words.specs.CommandLine.{IsArgument, IsCommand, command, command_line};
 ghost use Rattle.duk_words.specs.CommandLine.{derive_command, flag_rule, option_rule, pin_command};
-ghost use Rattle.duk_words.specs.CommandLine.{program_of, run_command, serve_command};
+ghost use Rattle.duk_words.specs.CommandLine.{program_of, program_shape, run_command};
+ghost use Rattle.duk_words.specs.CommandLine.{serve_command};
 ghost use Rattle.duk_words.specs.CommandLine.{unwrap_command};
 ghost use Rattle.duk_words.specs.CommandLine.{walk_command, word_rule, wrap_command};
 
+use crate::help;
 use clap::{Arg, ArgAction, Command};
 use std::alloc::{AllocError, Global};
+
+/// What `--version` prints after the program's name.
+const VERSION: &str = "0.1.0";
 
 /// The program's commands.
 pub fn program<'a>(alloc: Global) -> Result<Command<'a>, AllocError>
@@ -36,12 +41,22 @@ fn key_commands<'a>(alloc: Global) -> Result<Command<'a>, AllocError>
     ensures { IfOk result (λ made.
         app_of made ≡ program_of (derive_command ∷ walk_command ∷ pin_command ∷ [])) }
 {
-    Command::new(alloc, "dukpt")
-        .about("A payment host, its HSM and its PIN terminals, keyed by TDES DUKPT")
-        .subcommand_required(true)
+    bare_program(alloc)
         .subcommand(derive_words(alloc)?)?
         .subcommand(walk_words(alloc)?)?
         .subcommand(pin_words(alloc)?)
+}
+
+/// The program, before it has commands. Where no words are given, it answers with its help.
+fn bare_program<'a>(alloc: Global) -> Command<'a>
+    ensures { app_of result ≡ record { top = program_shape; subs = [] } }
+{
+    Command::new(alloc, "dukpt")
+        .about("A payment host, its HSM and its PIN terminals, keyed by TDES DUKPT")
+        .version(VERSION)
+        .after_help(help::PROGRAM)
+        .arg_required_else_help(true)
+        .subcommand_required(true)
 }
 
 fn derive_words<'a>(alloc: Global) -> Result<Command<'a>, AllocError>
@@ -49,6 +64,7 @@ fn derive_words<'a>(alloc: Global) -> Result<Command<'a>, AllocError>
 {
     Command::new(alloc, "derive")
         .about("Prints the initial key, the transaction key and the PIN key of a key serial number")
+        .after_help(help::DERIVE)
         .arg(bdk_word(alloc))?
         .arg(word(alloc, "KSN", "The key serial number, 20 hexadecimal digits"))
 }
@@ -69,6 +85,7 @@ fn counted_words<'a>(alloc: Global) -> Result<Command<'a>, AllocError>
 {
     Command::new(alloc, "walk")
         .about("Walks a terminal through its numbers and prints the key of each")
+        .after_help(help::WALK)
         .arg(bdk_word(alloc))?
         .arg(word(
             alloc,
@@ -83,6 +100,7 @@ fn pin_words<'a>(alloc: Global) -> Result<Command<'a>, AllocError>
 {
     Command::new(alloc, "pin")
         .about("Prints the PIN block of a PIN and a PAN, and the block enciphered")
+        .after_help(help::PIN)
         .arg(word(alloc, "PIN", "The PIN, 4 to 12 digits"))?
         .arg(word(
             alloc,
@@ -100,14 +118,7 @@ fn pin_words<'a>(alloc: Global) -> Result<Command<'a>, AllocError>
 fn wrap_words<'a>(alloc: Global) -> Result<Command<'a>, AllocError>
     ensures { IfOk result (IsCommand wrap_command) }
 {
-    Command::new(alloc, "wrap")
-        .about("Prints the key block of a key")
-        .arg(kbpk_word(alloc))?
-        .arg(word(
-            alloc,
-            "FIELDS",
-            "The header fields, 7 bytes: usage, algorithm, mode, version and exportability",
-        ))?
+    header_words(alloc)?
         .arg(word(alloc, "KEY", "The key, 32 or 48 hexadecimal digits"))?
         .arg(word(
             alloc,
@@ -116,11 +127,28 @@ fn wrap_words<'a>(alloc: Global) -> Result<Command<'a>, AllocError>
         ))
 }
 
+/// The words of `wrap` that stand before the key.
+fn header_words<'a>(alloc: Global) -> Result<Command<'a>, AllocError>
+    ensures { IfOk result (IsCommand (command (codes "wrap")
+        (word_rule (codes "KBPK") ∷ word_rule (codes "FIELDS") ∷ []))) }
+{
+    Command::new(alloc, "wrap")
+        .about("Prints the key block of a key")
+        .after_help(help::WRAP)
+        .arg(kbpk_word(alloc))?
+        .arg(word(
+            alloc,
+            "FIELDS",
+            "The header fields, 7 bytes: usage, algorithm, mode, version and exportability",
+        ))
+}
+
 fn unwrap_words<'a>(alloc: Global) -> Result<Command<'a>, AllocError>
     ensures { IfOk result (IsCommand unwrap_command) }
 {
     Command::new(alloc, "unwrap")
         .about("Prints the header fields and the key of a key block")
+        .after_help(help::UNWRAP)
         .arg(kbpk_word(alloc))?
         .arg(word(alloc, "BLOCK", "The key block"))
 }
@@ -130,6 +158,7 @@ fn run_words<'a>(alloc: Global) -> Result<Command<'a>, AllocError>
 {
     Command::new(alloc, "run")
         .about("Runs a script of events, and prints what comes of each")
+        .after_help(help::RUN)
         .arg(word(alloc, "CONFIG", "The file of the configuration, in TOML"))?
         .arg(word(
             alloc,
@@ -143,6 +172,7 @@ fn serve_words<'a>(alloc: Global) -> Result<Command<'a>, AllocError>
 {
     Command::new(alloc, "serve")
         .about("Answers the request frames of standard input on standard output")
+        .after_help(help::SERVE)
         .arg(word(
             alloc,
             "CONFIG",

@@ -1,7 +1,8 @@
 //! Laws of the command line, each the contract of a function that does nothing.
 
-ghost use Rattle.std.specs.Prelude.{◌≡◌, ◌∷◌, []};
+ghost use Rattle.std.specs.Prelude.{◌≡◌, ◌∷◌, [], codes};
 ghost use Rattle.clap.specs.Words.{Text, fault_of};
+ghost use Rattle.clap.specs.declared.error.kind.ErrorKind.TheVariants as kind;
 ghost use Rattle.duk_words.specs.Asked.{Asks};
 ghost use Rattle.duk_words.specs.CommandLine.{command_line};
 ghost use Rattle.duk_words.specs.Written.{IsPlain, words_of};
@@ -16,4 +17,19 @@ pub fn written_requests()
         → Asks (program ∷ words_of request) request }
     ensures only { (program : Text) (request other : Request) → IsPlain request
         → Asks (program ∷ words_of request) other → words_of other ≡ words_of request }
+{}
+
+/// Behind any name of the program, no word at all is a mistake that is answered with help. The words
+/// `--version` and `-V` ask for the version, and `--help` and `-h` for help.
+pub fn words_without_a_command()
+    ensures none { (program : Text) → fault_of command_line (program ∷ [])
+        ≡ kind.DisplayHelpOnMissingArgumentOrSubcommand ∷ [] }
+    ensures version { (program : Text) → fault_of command_line (program ∷ codes "--version" ∷ [])
+        ≡ kind.DisplayVersion ∷ [] }
+    ensures version_letter { (program : Text) → fault_of command_line (program ∷ codes "-V" ∷ [])
+        ≡ kind.DisplayVersion ∷ [] }
+    ensures help { (program : Text) → fault_of command_line (program ∷ codes "--help" ∷ [])
+        ≡ kind.DisplayHelp ∷ [] }
+    ensures help_letter { (program : Text) → fault_of command_line (program ∷ codes "-h" ∷ [])
+        ≡ kind.DisplayHelp ∷ [] }
 {}

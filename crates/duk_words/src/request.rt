@@ -81,7 +81,7 @@ pub enum Request<'a> {
 /// What stands in place of a request.
 #[derive(Debug, Drop)]
 pub enum NoRequest {
-    /// Help that was asked for: its text, with its last line ended.
+    /// Help or the version, which was asked for: its text, with its last line ended.
     Help(String),
     /// The words are refused: the text that says why, with its last line ended.
     Refused(String),

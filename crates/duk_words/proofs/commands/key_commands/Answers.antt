@@ -1,20 +1,13 @@
-use Rattle.std.proofs.Common.{ap, ap₂, ◌≡◌, ◌∷◌, ◌∙◌, [], codes, true}
+use Rattle.std.proofs.Common.{ap₂, ◌≡◌, ◌∷◌, ◌∙◌, []}
 use Rattle.std.proofs.lemmas.Result.{IfOk-weaker}
-use Rattle.clap.specs.Words.{App, app_of, new_app, with_subcommand}
-use Rattle.clap.specs.Simple.{app_of_fields}
-use Rattle.duk_words.specs.CommandLine.{derive_command, program_of, walk_command}
+use Rattle.clap.specs.Words.{app_of, with_subcommand}
+use Rattle.duk_words.specs.CommandLine.{derive_command, program_of, program_shape, walk_command}
 use Rattle.duk_words.proofs.commands.key_commands.Goals as goal
-
--- a command that needs one of its subcommands
-abbrev wanting : App → App
-wanting app = record app { top = record app.top { subcommand_required = true } }
 
 pub returns : goal.returns
 returns c =
-    let named : app_of c.about.result ≡ new_app (codes "dukpt") =
-    ap app_of_fields c.about.ensures ∙ c.new.ensures.app in
-    let start : app_of c.subcommand_required.result ≡ wanting (new_app (codes "dukpt")) =
-    ap app_of_fields c.subcommand_required.ensures ∙ ap wanting named in
+    let start : app_of c.bare_program.result ≡ record { top = program_shape; subs = [] } =
+    c.bare_program.ensures in
     let one : app_of c.in_ok-subcommand.field-0 ≡ program_of (derive_command ∷ []) =
     c.in_ok-subcommand.ensures.shape c.in_ok-derive_words.ensures.1
     ∙ ap₂ with_subcommand start c.in_ok-derive_words.ensures.0 in
