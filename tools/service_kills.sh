@@ -1,7 +1,9 @@
 # Runs of a service on one log, each of which but the last is killed. Sourced by check-service.
 #
-# In each run everything is sent again. The requests of a history are a stretch of the stored
-# payments, with the stored refused requests among them.
+# In each run everything is sent again, and some of it again at once or later in the same run. The
+# requests of a history are a stretch of the stored payments, with the stored refused requests among
+# them. Of one run equal replies to a number count as one acceptance; of two runs none may accept
+# what the other did.
 
 history_payments=150
 # How many acceptances a run shall reach, about, before it is killed.
@@ -11,7 +13,7 @@ share=15
 # its next start accepts nothing again. Some histories run beside one another, each on a log of
 # its own.
 check_kills() {
-    local at workers=() totals=(0 0 0 0)
+    local at workers=() totals=(0 0 0 0 0)
     measure_a_run
     for at in 1 2 3 4; do
         draw 32768
@@ -22,33 +24,39 @@ check_kills() {
         wait "$at" || exit 1
     done
     for at in 1 2 3 4; do
-        read -r kills middle lost histories worker_checks <"kills_$at/counts" ||
+        read -r kills middle lost histories again worker_checks <"kills_$at/counts" ||
             wrong "a history has told nothing"
         totals=($((totals[0] + kills)) $((totals[1] + middle)) $((totals[2] + lost))
-            $((totals[3] + histories)))
+            $((totals[3] + histories)) $((totals[4] + again)))
         checks=$((checks + worker_checks))
     done
     ((8 * totals[1] >= totals[0])) || wrong "only ${totals[1]} of ${totals[0]} kills fell in the" \
         "midst of acceptances"
+    ((totals[4] > 0)) || wrong "no reply was given again"
     told="${totals[0]} kills in ${totals[3]} histories, ${totals[1]} of them in the midst of"
-    told+=" acceptances; no number was accepted twice, none that was acknowledged is lost;"
-    told+=" ${totals[2]} were in the log and their answers were not read"
+    told+=" acceptances; no number was accepted in two runs or replied to in two ways, none that was"
+    told+=" acknowledged is lost; ${totals[2]} were in the log and their answers were not read;"
+    told+=" ${totals[4]} replies were given again"
 }
 
 histories_of_a_worker() {
+    local left
     RANDOM=$3
-    kills=0 middle=0 lost=0 histories=0 checks=0
+    kills=0 middle=0 lost=0 histories=0 again=0 checks=0
     rm -rf "kills_$1"
     mkdir "kills_$1" && cd "kills_$1" && mkfifo in out && cp ../wide.toml . ||
         wrong "no folder for a history"
     while ((kills < $2)); do
         begin_history
-        while ((kills < $2 && ${#listed[@]} < history_payments)); do
+        # Behind few kills there is much left for the last run.
+        draw 12
+        for ((left = drawn; left >= 0; left--)); do
+            ((kills < $2 && ${#listed[@]} < history_payments)) || break
             kill_a_run
         done
         end_history
     done
-    echo "$kills $middle $lost $histories $checks" >counts
+    echo "$kills $middle $lost $histories $again $checks" >counts
 }
 
 # The longest time, in microseconds, behind which a run is killed at first: a multiple of what a
@@ -135,8 +143,7 @@ kill_a_run() {
 # some place on and around, or in any order, and some requests a second time; in a conversation
 # what is not used comes first.
 put_in_order() {
-    local at other index number
-    local -A seen=()
+    local at other
     order=("${!item_texts[@]}")
     for ((at = 0; at < 5; at++)); do
         draw "$item_count"
@@ -157,17 +164,44 @@ put_in_order() {
     if [[ ${manner-} == 0 ]]; then
         unused_first
     fi
+    repeat_some
+    want_answers
+}
+
+# Some requests of the order come again: behind a few others, or behind many.
+repeat_some() {
+    local at back repeated=()
+    for at in "${!order[@]}"; do
+        repeated+=("${order[at]}")
+        draw 8
+        if ((drawn < 2)); then
+            if ((drawn == 0)); then back=4; else back=120; fi
+            draw $((at < back ? at + 1 : back))
+            repeated+=("${order[at-drawn]}")
+        fi
+    done
+    order=("${repeated[@]}")
+}
+
+# The answers to the requests in this order, in `wanted`, and the numbers that are accepted, in
+# `fresh`. What this run accepted among its last ones is given its reply again.
+want_answers() {
+    local index number
+    # The place of each number in `fresh`.
+    local -A place=()
     wanted=() fresh=()
     for index in "${order[@]}"; do
         number=${item_numbers[index]-}
         if [[ -z $number ]]; then
             wanted+=("${item_answers[index]}")
-        elif [[ -n ${in_log[$number]-}${seen[$number]-} ]]; then
+        elif [[ -n ${place[$number]-} ]] && ((place[$number] >= ${#fresh[@]} - kept_exchanges)); then
+            wanted+=("${item_answers[index]}")
+        elif [[ -n ${in_log[$number]-}${place[$number]-} ]]; then
             wanted+=("000D0103${number}05")
         else
             wanted+=("${item_answers[index]}")
+            place[$number]=${#fresh[@]}
             fresh+=("$number")
-            seen[$number]=1
         fi
     done
 }
@@ -251,24 +285,36 @@ read_log() {
     done
 }
 
-# Each number that was answered as accepted is in the log, and none was in the history before.
+# Each number that was replied to is in the log, all replies of this run to it are equal, and it was
+# accepted in no run before.
 judge_acceptances() {
-    local given=$1 at=0 size number
+    local given=$1 at=0 size
+    local -A replies=()
     answered_count=0 accepted_count=0
     while ((at + 4 <= ${#given})); do
         size=$((2 * 16#${given:at:4} + 4))
         ((at + size <= ${#given})) || break
         if [[ ${given:at+4:4} == 0102 ]]; then
-            number=${given:at+8:20}
-            [[ -z ${accepted[$number]-} ]] || wrong "$number was accepted twice"
-            [[ -n ${in_log[$number]-} ]] ||
-                wrong "$number was answered as accepted and is not in the log"
-            accepted[$number]=1
-            accepted_count=$((accepted_count + 1))
+            judge_reply "${given:at+8:20}" "${given:at:size}"
         fi
         at=$((at + size))
         answered_count=$((answered_count + 1))
     done
+}
+
+# A reply of this run to a number: the first one, or the same once more.
+judge_reply() {
+    local number=$1
+    if [[ -n ${replies[$number]-} ]]; then
+        [[ ${replies[$number]} == "$2" ]] || wrong "$number was replied to in two ways"
+        again=$((again + 1))
+        return
+    fi
+    [[ -z ${accepted[$number]-} ]] || wrong "$number was accepted in two runs"
+    [[ -n ${in_log[$number]-} ]] || wrong "$number was answered as accepted and is not in the log"
+    replies[$number]=$2
+    accepted[$number]=1
+    accepted_count=$((accepted_count + 1))
 }
 
 # The log is that from before, and behind it what was accepted, in the order of this run, and at

@@ -8,6 +8,8 @@ request_bytes=48
 reply_bytes=24
 refusal_bytes=15
 seconds=120
+# How many of the requests that a run accepted it answers again, the last ones.
+kept_exchanges=64
 
 # What a check found wrong ends the script; only the shell that began it says this.
 wrong() {
@@ -95,6 +97,14 @@ first_requests() {
 answers() {
     head -c $((refusal_bytes * $1)) used
     head -c $((reply_bytes * $2)) replies | tail -c +$((reply_bytes * $1 + 1))
+}
+
+# The answers to the first $1 requests where they come again in the run that accepted them in that
+# order: the last of them are given their replies. $2 is the folder, where it is another.
+answers_again() {
+    local folder=${2-.} gone=$(($1 > kept_exchanges ? $1 - kept_exchanges : 0))
+    head -c $((refusal_bytes * gone)) "$folder/used"
+    head -c $((reply_bytes * $1)) "$folder/replies" | tail -c +$((reply_bytes * gone + 1))
 }
 
 # Logs

@@ -69,7 +69,8 @@ class Trial:
         self.passed += 1
 
     def mixed(self, count):
-        """So many payments, with a refused request behind some."""
+        """So many payments, with a refused request behind some, and behind some one that came
+        before: any, or one of the last."""
         requests = []
         for one in self.payments[:count]:
             requests.append(one)
@@ -77,6 +78,8 @@ class Trial:
                 requests.append(self.chance.choice(self.refused))
             if self.chance.random() < 0.1:
                 requests.append(self.chance.choice(requests))
+            if self.chance.random() < 0.1:
+                requests.append(self.chance.choice(requests[-terminal.KEPT :]))
         return requests
 
 

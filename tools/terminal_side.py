@@ -17,6 +17,7 @@ integers, the most significant first: integer i holds bit i of every payment's v
 """
 import os
 import sys
+from collections import deque
 
 INITIAL_PERMUTATION = """
 58 50 42 34 26 18 10 2 60 52 44 36 28 20 12 4 62 54 46 38 30 22 14 6 64 56 48 40 32 24 16 8
@@ -227,6 +228,10 @@ def refusal(number, reason):
     return framed(b"\x01\x03" + number + bytes([reason]))
 
 
+# How many of the requests that it accepted a host answers again, the last ones of its run.
+KEPT = 64
+
+
 class Payment:
     """A request that a host accepts once, with its number and the reply to it."""
 
@@ -301,10 +306,12 @@ def refused_requests():
 
 
 def answered(given, used, room):
-    """The answer to each request in turn, and the used numbers behind the last."""
+    """The answer to each request in turn, in one run of a service, and the used numbers behind the
+    last. A request that is one of the last that were accepted is given the same reply again."""
     listed, known, answers = list(used), set(used), []
+    recent = deque(maxlen=KEPT)
     for one in given:
-        if one.number is None:
+        if one.number is None or one.frame in recent:
             answers.append(one.answer)
         elif one.number in known:
             answers.append(refusal(one.number, 5))
@@ -313,6 +320,7 @@ def answered(given, used, room):
         else:
             listed.append(one.number)
             known.add(one.number)
+            recent.append(one.frame)
             answers.append(one.answer)
     return answers, listed
 

@@ -1,8 +1,10 @@
+mod Exchanges
 mod UsedNumberSet
 mod OneNumberMore
 mod NumbersAreRead
 mod AcceptedIsAnswered
 mod RestartReadsAll
+mod NumberRefuses
 mod RefusalsAreRead
 mod OneAnswer
 mod ServedInTurn

@@ -7,7 +7,7 @@ use Rattle.duk_tree.specs.Path.{IsUsable}
 use Rattle.duk_tree.specs.Serial.{Serial}
 use Rattle.duk_host.specs.Host.{LogHolds}
 use Rattle.duk_host.specs.Reading.{IsTakenIn}
-use Rattle.duk_host.specs.Used.{IsOneMore, IsUsed, Lists}
+use Rattle.duk_host.specs.Used.{AreUsable, IsOneMore, IsUsed, Lists}
 
 one_contains : (ksn other : Serial) → Contains (ksn ∷ []) other → ksn ≡ other
 one_contains ksn other (zero, within, is) = is
@@ -36,15 +36,19 @@ contains_more numbers used more ksn members one_more other = (
   ],
 )
 
+-- a list of numbers that may be used, with one more of these at its end
+pub usable_more : (numbers : Numbers) (ksn : Serial) → AreUsable numbers → IsUsable ksn.counter → ¬ Contains numbers ksn → AreUsable (numbers ++ ksn ∷ [])
+usable_more numbers ksn are usable fresh = record {
+  usable = All-append (λ number. IsUsable number.counter) numbers (ksn ∷ []) are.usable
+      (All-cons (λ number. IsUsable number.counter) ksn [] usable (All-nil (λ number. IsUsable number.counter)));
+  once = all_pairs_push (λ earlier later. earlier ≢ later) numbers ksn are.once
+      (λ k d within same. fresh (contains_at numbers k d ksn within same));
+}
+
 -- the used ones are those of the list with the number that was taken in
 pub lists_more : (numbers : Numbers) (used : Numbers) (ksn : Serial) (more : Numbers) → Lists numbers used → IsTakenIn used ksn more → Lists (numbers ++ ksn ∷ []) more
 lists_more numbers used ksn more lists taken = record {
-  usable = record {
-    usable = All-append (λ number. IsUsable number.counter) numbers (ksn ∷ []) lists.usable.usable
-        (All-cons (λ number. IsUsable number.counter) ksn [] taken.usable (All-nil (λ number. IsUsable number.counter)));
-    once = all_pairs_push (λ earlier later. earlier ≢ later) numbers ksn lists.usable.once
-        (λ k d within same. taken.fresh ((lists.members ksn).0 (contains_at numbers k d ksn within same)));
-  };
+  usable = usable_more numbers ksn lists.usable taken.usable (λ contains. taken.fresh ((lists.members ksn).0 contains));
   members = contains_more numbers used more ksn lists.members taken.one_more;
 }
 

@@ -1,12 +1,12 @@
 -- A host's restart, from what its log's restart and the reading do.
-use Rattle.std.proofs.Common.{◌≡◌, ℕ, Some, None, inl, inr, refl, sym, ◌∙◌, subst}
+use Rattle.std.proofs.Common.{◌≡◌, ℕ, [], Some, None, inl, inr, refl, sym, ◌∙◌, subst}
 use Rattle.duk_store.specs.Log.{LogMeaning, Numbers, LogRestarted, ReadStopped}
 use Rattle.duk_store.specs.StoreState.{StoreState, Stays}
 use Rattle.duk_store.specs.Restart.{Restarted, RestartFailed}
 use Rattle.duk_store.specs.declared.fault.StoreFault.TheVariants.{Device}
 use Rattle.duk_host.specs.Host.{LogHolds, HostOf}
 use Rattle.duk_host.specs.Reading.{AreRead, ReadAllRefused}
-use Rattle.duk_host.specs.Restart.{IsHostRestarted, KeepsEnds, HostRestartRefused}
+use Rattle.duk_host.specs.Restart.{IsHostRestarted, KeepsEnds, HostRestartNoMemory, HostRestartRefused}
 use Rattle.duk_host.specs.Used.{Lists}
 use Rattle.duk_host.specs.declared.fault.HostFault.{HostFault}
 use Rattle.duk_host.specs.declared.fault.HostFault.TheVariants as fault
@@ -73,8 +73,8 @@ holds_read meaning old mid new kept used restarted read =
 -- the host is brought up
 pub is_restarted :
     {L I : Type 0} (meaning : LogMeaning L) (old new : HostOf L I) (mid : L) (kept : ℕ) (running : Running)
-    → LogRestarted meaning old.log mid kept → AreRead meaning mid new.log kept running.used → KeepsEnds old new → new.state ≡ Some running → IsHostRestarted meaning old new kept
-is_restarted meaning old new mid kept running restarted read ends runs = record {
+    → LogRestarted meaning old.log mid kept → AreRead meaning mid new.log kept running.used → KeepsEnds old new → new.state ≡ Some running → running.recent ≡ [] → IsHostRestarted meaning old new kept
+is_restarted meaning old new mid kept running restarted read ends runs forgets = record {
   numbers = restarted.numbers;
   running = running;
   ends = ends;
@@ -82,6 +82,18 @@ is_restarted meaning old new mid kept running restarted read ends runs = record 
   counted = restarted.counted;
   runs = runs;
   lists = lists_found meaning old.log mid new.log kept running.used restarted read;
+  forgets = forgets;
+}
+
+-- the numbers are read, but there is no memory for the exchanges
+pub restart_without_memory :
+    {L I : Type 0} (meaning : LogMeaning L) (old new : HostOf L I) (mid : L) (kept : ℕ) (used : Numbers)
+    → LogRestarted meaning old.log mid kept → AreRead meaning mid new.log kept used → KeepsEnds old new → new.state ≡ None → HostRestartNoMemory meaning old new
+restart_without_memory meaning old new mid kept used restarted read ends stopped = record {
+  numbers = restarted.numbers;
+  ends = ends;
+  stopped = stopped;
+  log = restarted_on (meaning.state_of old.log) (meaning.state_of mid) (meaning.state_of new.log) restarted.numbers restarted.restarted read.read.stays;
 }
 
 -- the numbers are not read, and the host is stopped

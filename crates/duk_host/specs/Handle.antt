@@ -1,17 +1,18 @@
 -- What a host answers to bytes: this project's own.
 use Rattle.std.specs.Prelude.{◌≡◌, ◌+◌, ◌⊎◌, ℕ, List, Some, None}
-use Rattle.duk_frame.specs.Answer.{IsRefusal, IsReply}
-use Rattle.duk_frame.specs.declared.answer.AnswerFrame.{AnswerFrame}
-use Rattle.duk_frame.specs.declared.answer.AnswerFrame.TheVariants.{Refusal, Reply}
+use Rattle.duk_frame.specs.Answer.{IsRefusal}
 use Rattle.duk_frame.specs.declared.request.Request.{Request}
 use Rattle.duk_frame.specs.Request.{IsRequest}
 use Rattle.duk_store.specs.Log.{AppendFailed, IsAppended}
 use Rattle.duk_store.specs.declared.fault.StoreFault.{StoreFault}
 use Rattle.duk_tree.specs.Serial.{Serial}
 use Rattle.duk_host.specs.Host.{HostMeaning, HostOf, basis_of}
-use Rattle.duk_host.specs.Judgement.{IsAcceptable, IsAccepted, IsRefusalFor, IsReplyTo}
+use Rattle.duk_host.specs.Judgement.{IsAcceptable, IsAccepted, IsRefusalFor, IsRepeated, IsReplyTo, JudgementBasis}
+use Rattle.duk_host.specs.Recent.{Exchange, IsReplyWithCode, exchange, with_exchange}
 use Rattle.duk_host.specs.Restart.{KeepsEnds}
 use Rattle.duk_host.specs.Used.{IsOneMore}
+use Rattle.duk_host.specs.declared.answered.Verdict.{Verdict}
+use Rattle.duk_host.specs.declared.answered.Verdict.TheVariants.{Accepted, Refused, Repeated}
 use Rattle.duk_host.specs.declared.fault.HostFault.{HostFault}
 use Rattle.duk_host.specs.declared.fault.HostFault.TheVariants as fault
 use Rattle.duk_host.specs.declared.running.Running.{Running}
@@ -38,6 +39,22 @@ pub record IsNumberKept
   pub runs : new.state ≡ Some after
   pub one_more : IsOneMore before.used ksn after.used
 
+-- the number is in the log, and is used, and the latest exchanges stay: what a private function does
+pub record IsNumberAdded
+    {L I : Type 0} (meaning : HostMeaning L I) (old new : HostOf L I) (ksn : Serial) : Type 0 where
+  pub kept : IsNumberKept meaning old new ksn
+  pub recent : kept.after.recent ≡ kept.before.recent
+
+-- a running host keeps one exchange more in memory, and all else stays: what a private function does
+pub record IsRemembered
+    {L I : Type 0} (old new : HostOf L I) (last : Exchange) : Type 0 where
+  pub before : Running
+  pub after : Running
+  pub was_running : old.state ≡ Some before
+  pub rest : new ≡ record old { state = Some after }
+  pub used : after.used ≡ before.used
+  pub recent : after.recent ≡ with_exchange before.recent last
+
 -- a request against which a running host has no reason
 pub record IsToAccept
     {L I : Type 0} (meaning : HostMeaning L I) (old : HostOf L I) (request : Request) : Type 0 where
@@ -45,14 +62,16 @@ pub record IsToAccept
   pub was_running : old.state ≡ Some running
   pub acceptable : IsAcceptable (basis_of meaning old running) request
 
--- the number of a request is kept, and the frame is its reply
+-- the number of a request is kept, the frame is its reply, and the two are the latest exchange
 pub record IsReplied
-    {L I : Type 0} (meaning : HostMeaning L I) (old new : HostOf L I) (request : Request)
-    (frame : List ℕ) : Type 0 where
+    {L I : Type 0} (meaning : HostMeaning L I) (bytes : List ℕ) (old new : HostOf L I)
+    (request : Request) (frame : List ℕ) : Type 0 where
   pub kept : IsNumberKept meaning old new request.ksn
   pub reply : IsReplyTo old.keys (meaning.decides old.issuer) request frame
+  pub recent : kept.after.recent ≡ with_exchange kept.before.recent (exchange bytes frame)
 
--- an accepted reply: its number is in the log before the reply goes out
+-- an accepted reply: its number is in the log before the reply goes out, and request and reply are
+-- the latest exchange
 pub record AnswersReply
     {L I : Type 0} (meaning : HostMeaning L I) (bytes : List ℕ) (old new : HostOf L I)
     (frame : List ℕ) : Type 0 where
@@ -61,30 +80,61 @@ pub record AnswersReply
   pub was_running : old.state ≡ Some running
   pub accepted : IsAccepted (basis_of meaning old running) bytes request frame
   pub kept : IsNumberKept meaning old new request.ksn
+  pub recent : kept.after.recent ≡ with_exchange kept.before.recent (exchange bytes frame)
+
+-- a reply that was given before: nothing changes
+pub record AnswersRepeat
+    {L I : Type 0} (meaning : HostMeaning L I) (bytes : List ℕ) (old new : HostOf L I)
+    (frame : List ℕ) : Type 0 where
+  pub running : Running
+  pub was_running : old.state ≡ Some running
+  pub repeated : IsRepeated (basis_of meaning old running) bytes frame
+  pub same : new ≡ old
 
 -- what a host answers
 abbrev pub Answers : {L I : Type 0} → HostMeaning L I → List ℕ → HostOf L I → HostOf L I → List ℕ
     → Type 0
 Answers meaning bytes old new frame =
-    AnswersRefusal meaning bytes old new frame ⊎ AnswersReply meaning bytes old new frame
+    AnswersRefusal meaning bytes old new frame
+    ⊎ AnswersReply meaning bytes old new frame
+    ⊎ AnswersRepeat meaning bytes old new frame
+
+-- what is told of a frame is what it says
+abbrev pub IsTold : List ℕ → Verdict → Type 0
+IsTold frame (Accepted ksn code) = IsReplyWithCode frame ksn code
+IsTold frame (Repeated ksn code) = IsReplyWithCode frame ksn code
+IsTold frame (Refused ksn reason) = IsRefusal frame ksn reason
 
 -- what is told of a frame is the refusal that it is
-abbrev pub IsToldRefusal : List ℕ → AnswerFrame → Type 0
-IsToldRefusal frame (Refusal ksn reason) = IsRefusal frame ksn reason
+abbrev pub IsToldRefusal : List ℕ → Verdict → Type 0
+IsToldRefusal frame (Refused ksn reason) = IsRefusal frame ksn reason
 IsToldRefusal frame _ = ⊥
 
 -- what is told of a frame is the accepted reply that it is
-abbrev pub IsToldReply : List ℕ → AnswerFrame → Type 0
-IsToldReply frame (Reply ksn code mac) = IsReply frame ksn code mac
+abbrev pub IsToldReply : List ℕ → Verdict → Type 0
+IsToldReply frame (Accepted ksn code) = IsReplyWithCode frame ksn code
 IsToldReply frame _ = ⊥
 
--- what a host does, by what it tells of its frame: a request is accepted where that is an accepted
--- reply, and refused where it is a refusal
+-- what is told of a frame is that it is an accepted reply that was given before
+abbrev pub IsToldRepeat : List ℕ → Verdict → Type 0
+IsToldRepeat frame (Repeated ksn code) = IsReplyWithCode frame ksn code
+IsToldRepeat frame _ = ⊥
+
+-- an answer that changes nothing, by what is told of it: a refusal, or a reply that was given before
+abbrev pub IsSettled : JudgementBasis → List ℕ → List ℕ → Verdict → Type 0
+IsSettled basis bytes frame (Refused ksn reason) = IsRefusalFor basis bytes frame
+IsSettled basis bytes frame (Repeated ksn code) = IsRepeated basis bytes frame
+IsSettled basis bytes frame (Accepted ksn code) = ⊥
+
+-- what a host does, by what it tells of its frame: a request is accepted, is one that was accepted
+-- before, or is refused
 abbrev pub AnswersAs : {L I : Type 0} → HostMeaning L I → List ℕ → HostOf L I → HostOf L I → List ℕ
-    → AnswerFrame → Type 0
-AnswersAs meaning bytes old new frame (Reply ksn code mac) =
+    → Verdict → Type 0
+AnswersAs meaning bytes old new frame (Accepted ksn code) =
     AnswersReply meaning bytes old new frame
-AnswersAs meaning bytes old new frame (Refusal ksn reason) =
+AnswersAs meaning bytes old new frame (Repeated ksn code) =
+    AnswersRepeat meaning bytes old new frame
+AnswersAs meaning bytes old new frame (Refused ksn reason) =
     AnswersRefusal meaning bytes old new frame
 
 -- the number was not kept: the host is stopped

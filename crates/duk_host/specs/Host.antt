@@ -39,7 +39,7 @@ host_meaning_of log decides = record { log = log; decides = decides }
 abbrev pub basis_of : {L I : Type 0} → HostMeaning L I → HostOf L I → Running → JudgementBasis
 basis_of meaning host running =
     let room = meaning.log.capacity host.log - meaning.log.count host.log in
-    basis_with host.keys running.used room (meaning.decides host.issuer)
+    basis_with host.keys running.used running.recent room (meaning.decides host.issuer)
 
 -- the log runs, a restart would find one list alone, and the used numbers are those of that list
 pub record LogHolds (log : StoreState Numbers) (used : Numbers) : Type 0 where

@@ -1,10 +1,10 @@
 -- The judgement of a request: this project's own, over the transaction keys of ANSI X9.24-1:2009
 -- annex A.
-use Rattle.std.specs.Prelude.{◌≡◌, ◌⊎◌, ◌<◌, ℕ, List, None, replicate}
+use Rattle.std.specs.Prelude.{◌≡◌, ◌⊎◌, ◌<◌, ℕ, List, Some, None, replicate}
 use Rattle.duk_frame.specs.Answer.{refusal_text}
 use Rattle.duk_frame.specs.Frame.{framed}
 use Rattle.duk_frame.specs.Payment.{payment_reply}
-use Rattle.duk_frame.specs.Request.{IsRequest, request_text}
+use Rattle.duk_frame.specs.Request.{IsRequest, request_bytes, request_text}
 use Rattle.duk_frame.specs.declared.code.Code.{Code}
 use Rattle.duk_frame.specs.declared.code.Code.TheVariants.{Unreadable}
 use Rattle.duk_frame.specs.declared.request.Request.{Request}
@@ -12,6 +12,7 @@ use Rattle.duk_hsm.specs.Commands.{HasBadCounter, HasNoPin, IsOtherMac, IsReques
 use Rattle.duk_hsm.specs.Keys.{HsmKeys, key_set_of}
 use Rattle.duk_store.specs.Log.{Numbers}
 use Rattle.duk_tree.specs.Serial.{Serial, serial_bytes, prefix_of}
+use Rattle.duk_host.specs.Recent.{Exchange, reply_given}
 use Rattle.duk_host.specs.Used.{IsUsed}
 use Rattle.duk_host.specs.declared.reason.Reason.{Reason}
 use Rattle.duk_host.specs.declared.reason.Reason.TheVariants as reason
@@ -20,18 +21,20 @@ use Rattle.duk_host.specs.declared.reason.Reason.TheVariants as reason
 abbrev pub Decision : Type 0
 Decision = List ℕ → ℕ → List ℕ → Code
 
--- what requests are judged by: the keys that are held, the used numbers, for how many more there is
--- room, and the issuer's decision
+-- what requests are judged by: the keys that are held, the used numbers, the latest requests that
+-- were accepted with their replies, the oldest first, for how many more numbers there is room, and
+-- the issuer's decision
 pub record JudgementBasis : Type 0 where
   pub keys : HsmKeys
   pub used : Numbers
+  pub recent : List Exchange
   pub room : ℕ
   pub decides : Decision
 
 -- those things together
-abbrev pub basis_with : HsmKeys → Numbers → ℕ → Decision → JudgementBasis
-basis_with keys used room decides =
-    record { keys = keys; used = used; room = room; decides = decides }
+abbrev pub basis_with : HsmKeys → Numbers → List Exchange → ℕ → Decision → JudgementBasis
+basis_with keys used recent room decides =
+    record { keys = keys; used = used; recent = recent; room = room; decides = decides }
 
 -- the body of a request before its MAC
 abbrev pub authenticated_text : Request → List ℕ
@@ -51,14 +54,24 @@ reason_number reason.LogFull = 6
 abbrev pub IsAuthentic : HsmKeys → Request → Type 0
 IsAuthentic keys request = IsRequestMac keys request.ksn (authenticated_text request) request.mac
 
--- the number is used
+-- the frame of the request is one of the latest that were accepted, and this reply was given to it
+abbrev pub WasGiven : JudgementBasis → Request → List ℕ → Type 0
+WasGiven basis request frame = reply_given basis.recent (request_bytes request) ≡ Some frame
+
+-- the frame of the request is none of the latest that were accepted
+abbrev pub IsNoRepeat : JudgementBasis → Request → Type 0
+IsNoRepeat basis request = reply_given basis.recent (request_bytes request) ≡ None
+
+-- the number is used, and the request is none of the latest that were accepted
 pub record IsUsedAgain (basis : JudgementBasis) (request : Request) : Type 0 where
   pub authentic : IsAuthentic basis.keys request
+  pub no_repeat : IsNoRepeat basis request
   pub used : IsUsed basis.used request.ksn
 
--- there is no room for the number
+-- the number is not used, the request is none of the latest that were accepted, and there is no room
 pub record HasNoRoom (basis : JudgementBasis) (request : Request) : Type 0 where
   pub authentic : IsAuthentic basis.keys request
+  pub no_repeat : IsNoRepeat basis request
   pub fresh : ¬ IsUsed basis.used request.ksn
   pub full : basis.room ≡ 0
 
@@ -71,8 +84,20 @@ IsReasonAgainstMac keys request reason.BadMac =
     IsOtherMac keys request.ksn (authenticated_text request) request.mac
 IsReasonAgainstMac keys request _ = ⊥
 
--- the least reason against a request: one against its MAC, or else that its number is used, or else
--- that there is no room for it
+-- the number is not used, and there is no room for it
+pub record IsFreshWithoutRoom (used : Numbers) (room : ℕ) (ksn : Serial) : Type 0 where
+  pub fresh : ¬ IsUsed used ksn
+  pub full : room ≡ 0
+
+-- why a number cannot be used by the next request: it is used, or else there is no room for it. A
+-- private function answers this
+abbrev pub IsReasonAgainstNumber : Numbers → ℕ → Serial → Reason → Type 0
+IsReasonAgainstNumber used room ksn reason.Used = IsUsed used ksn
+IsReasonAgainstNumber used room ksn reason.LogFull = IsFreshWithoutRoom used room ksn
+IsReasonAgainstNumber used room ksn _ = ⊥
+
+-- the least reason against a request: one against its MAC, or else, where it is none of the latest
+-- that were accepted, that its number is used, or else that there is no room for it
 abbrev pub IsReasonAgainst : JudgementBasis → Request → Reason → Type 0
 IsReasonAgainst basis request reason.Used = IsUsedAgain basis request
 IsReasonAgainst basis request reason.LogFull = HasNoRoom basis request
@@ -103,9 +128,18 @@ pub record IsRefusedRequest (basis : JudgementBasis) (bytes frame : List ℕ) : 
 abbrev pub IsRefusalFor : JudgementBasis → List ℕ → List ℕ → Type 0
 IsRefusalFor basis bytes frame = IsMalformed bytes frame ⊎ IsRefusedRequest basis bytes frame
 
--- there is no reason against a request
+-- the bytes are one of the latest requests that were accepted, and the frame is the reply that it was
+-- given
+pub record IsRepeated (basis : JudgementBasis) (bytes frame : List ℕ) : Type 0 where
+  pub request : Request
+  pub is_request : IsRequest bytes request
+  pub authentic : IsAuthentic basis.keys request
+  pub given : WasGiven basis request frame
+
+-- there is no reason against a request, and it is none of the latest that were accepted
 pub record IsAcceptable (basis : JudgementBasis) (request : Request) : Type 0 where
   pub authentic : IsAuthentic basis.keys request
+  pub no_repeat : IsNoRepeat basis request
   pub fresh : ¬ IsUsed basis.used request.ksn
   pub room : 0 < basis.room
 
@@ -146,7 +180,10 @@ pub record IsAccepted
   pub acceptable : IsAcceptable basis request
   pub reply : IsReplyTo basis.keys basis.decides request frame
 
--- the frame is the answer to the bytes: their refusal, or the reply to the request that they are
+-- the frame is the answer to the bytes: their refusal, the reply to the request that they are, or
+-- the reply that this request was given before
 abbrev pub IsAnswerTo : JudgementBasis → List ℕ → List ℕ → Type 0
 IsAnswerTo basis bytes frame =
-    IsRefusalFor basis bytes frame ⊎ ((request : Request) × IsAccepted basis bytes request frame)
+    IsRefusalFor basis bytes frame
+    ⊎ ((request : Request) × IsAccepted basis bytes request frame)
+    ⊎ IsRepeated basis bytes frame

@@ -1,4 +1,5 @@
 pub mod Used
+pub mod Recent
 pub mod Index
 pub mod Table
 pub mod Judgement

@@ -1,6 +1,5 @@
 -- A service over its whole life, in as many runs as it takes: this project's own.
-use Rattle.std.specs.Prelude.{◌≡◌, ◌⊎◌, ◌++◌, ℕ, List, [], ◌∷◌}
-use Rattle.duk_frame.specs.Answer.{IsReply}
+use Rattle.std.specs.Prelude.{◌≡◌, ◌⊎◌, ◌++◌, ℕ, List, [], ◌∷◌, Contains}
 use Rattle.duk_frame.specs.declared.code.Code.{Code}
 use Rattle.duk_frame.specs.declared.request.Request.{Request}
 use Rattle.duk_hsm.specs.Keys.{HsmKeys}
@@ -10,18 +9,27 @@ use Rattle.duk_tree.specs.Serial.{Serial}
 use Rattle.duk_host.specs.Handle.{HandleRefused}
 use Rattle.duk_host.specs.Host.{HostMeaning, HostOf}
 use Rattle.duk_host.specs.Judgement.{Decision, IsReplyTo}
+use Rattle.duk_host.specs.Recent.{IsReplyWithCode}
 use Rattle.duk_host.specs.Restart.{HostRestartRefused, IsHostRestarted}
 use Rattle.duk_host.specs.Serve.{Serves}
 use Rattle.duk_host.specs.declared.fault.HostFault.{HostFault}
 
 -- the frame is an accepted reply to the transaction of this number
 abbrev pub AcceptsNumber : Serial → List ℕ → Type 0
-AcceptsNumber ksn frame = (code : Code) × (mac : List ℕ) × IsReply frame ksn code mac
+AcceptsNumber ksn frame = (code : Code) × IsReplyWithCode frame ksn code
 
--- two answers do not accept one number
-abbrev pub AcceptOtherNumbers : List ℕ → List ℕ → Type 0
-AcceptOtherNumbers one other =
-    (ksn : Serial) → AcceptsNumber ksn one → ¬ AcceptsNumber ksn other
+-- the answers of a run that accept one number are all equal: a reply that is given again cannot be
+-- told from the first
+abbrev pub AcceptsAlike : List (List ℕ) → Type 0
+AcceptsAlike run =
+    (ksn : Serial) (one other : List ℕ) → Contains run one → Contains run other
+    → AcceptsNumber ksn one → AcceptsNumber ksn other → one ≡ other
+
+-- no number is accepted in two runs
+abbrev pub AcceptOtherNumbers : List (List ℕ) → List (List ℕ) → Type 0
+AcceptOtherNumbers run later =
+    (ksn : Serial) (one other : List ℕ) → Contains run one → Contains later other
+    → AcceptsNumber ksn one → ¬ AcceptsNumber ksn other
 
 -- an answer that accepts a number is the reply to a request of that number, under the key of that
 -- number

@@ -1,5 +1,5 @@
 -- A host's restart: this project's own.
-use Rattle.std.specs.Prelude.{◌≡◌, ◌⊎◌, ℕ, Some, None, length}
+use Rattle.std.specs.Prelude.{◌≡◌, ◌⊎◌, ℕ, [], Some, None, length}
 use Rattle.duk_store.specs.Log.{LogMeaning, Numbers}
 use Rattle.duk_store.specs.Restart.{Restarted, RestartFailed}
 use Rattle.duk_store.specs.declared.fault.StoreFault.{StoreFault}
@@ -16,7 +16,7 @@ pub record KeepsEnds {L I : Type 0} (old new : HostOf L I) : Type 0 where
   pub issuer : new.issuer ≡ old.issuer
 
 -- a restart that is done: the log's restart is, and the host runs, with the numbers of the list
--- that it found as the used ones
+-- that it found as the used ones, and without any request that was accepted before
 pub record IsHostRestarted
     {L I : Type 0} (meaning : LogMeaning L) (old new : HostOf L I) (found : ℕ) : Type 0 where
   pub numbers : Numbers
@@ -26,6 +26,7 @@ pub record IsHostRestarted
   pub counted : (meaning.state_of old.log).honest → length numbers ≡ found
   pub runs : new.state ≡ Some running
   pub lists : (meaning.state_of old.log).honest → Lists numbers running.used
+  pub forgets : running.recent ≡ []
 
 -- the log kept a list in which a number occurs twice, or one that numbers no transaction
 pub record FoundUnusable

@@ -7,41 +7,57 @@ use Rattle.duk_io.specs.Sink.{IsWritten}
 use Rattle.duk_store.specs.StoreState.{FindsOnly}
 use Rattle.duk_tree.specs.Serial.{Serial}
 use Rattle.duk_host.specs.Host.{HostMeaning, HostOf}
-use Rattle.duk_host.specs.Judgement.{IsAccepted, IsRefusalFor, JudgementBasis, basis_with}
+use Rattle.duk_host.specs.Judgement.{IsAccepted, IsRefusalFor, IsRepeated, JudgementBasis, basis_with}
+use Rattle.duk_host.specs.Recent.{Exchange, exchange, with_exchange}
 use Rattle.duk_host.specs.Serve.{Service}
 use Rattle.duk_host.specs.Used.{IsUsed}
 use Rattle.duk_host.specs.declared.running.Running.{Running}
 
--- one more number is used, at the end of the list, and there is room for one less
-abbrev pub with_used : JudgementBasis → Serial → JudgementBasis
-with_used basis ksn =
-    basis_with basis.keys (basis.used ++ ksn ∷ []) (basis.room - 1) basis.decides
+-- one more number is used, at the end of the list, its exchange is the latest, and there is room for
+-- one number less
+abbrev pub with_accepted : JudgementBasis → Serial → Exchange → JudgementBasis
+with_accepted basis ksn last =
+    basis_with basis.keys (basis.used ++ ksn ∷ []) (with_exchange basis.recent last)
+    (basis.room - 1) basis.decides
 
--- bytes are refused with this frame, and no more is used
+-- bytes are refused with this frame, and both lists stay
 pub record IsRefusedOn
     (basis : JudgementBasis) (bytes frame : List ℕ) (after : JudgementBasis) : Type 0 where
   pub refused : IsRefusalFor basis bytes frame
   pub same : after ≡ basis
 
--- bytes are accepted with this frame, and their number is used
+-- bytes are accepted with this frame, their number is used, and the two are the latest exchange
 pub record IsAcceptedOn
     (basis : JudgementBasis) (bytes frame : List ℕ) (after : JudgementBasis) : Type 0 where
   pub request : Request
   pub accepted : IsAccepted basis bytes request frame
-  pub used : after ≡ with_used basis request.ksn
+  pub used : after ≡ with_accepted basis request.ksn (exchange bytes frame)
 
--- frames are judged in turn, each with the used numbers and the room that are left after those
--- before it; these are the answers, and this is what is left after the last
+-- bytes are given the frame again that they were given before, and both lists stay
+pub record IsRepeatedOn
+    (basis : JudgementBasis) (bytes frame : List ℕ) (after : JudgementBasis) : Type 0 where
+  pub repeated : IsRepeated basis bytes frame
+  pub same : after ≡ basis
+
+-- a frame is judged: it is refused, accepted, or answered as before
+abbrev pub IsJudgedOn : JudgementBasis → List ℕ → List ℕ → JudgementBasis → Type 0
+IsJudgedOn basis bytes frame after =
+    IsRefusedOn basis bytes frame after
+    ⊎ IsAcceptedOn basis bytes frame after
+    ⊎ IsRepeatedOn basis bytes frame after
+
+-- frames are judged in turn, each with the used numbers, the latest exchanges and the room that are
+-- left after those before it; these are the answers, and this is what is left after the last
 abbrev pub AreJudged : JudgementBasis → List (List ℕ) → List (List ℕ) → JudgementBasis → Type 0
 AreJudged basis [] [] after = after ≡ basis
 AreJudged basis (frame ∷ frames) (answer ∷ answers) after =
     (mid : JudgementBasis)
-    × (IsRefusedOn basis frame answer mid ⊎ IsAcceptedOn basis frame answer mid)
+    × IsJudgedOn basis frame answer mid
     × AreJudged mid frames answers after
 AreJudged basis _ _ after = ⊥
 
--- a running host judges by this: its used numbers are those of the list, and a restart of its log
--- would find that list and no other
+-- a running host judges by this: its used numbers are those of the list, a restart of its log would
+-- find that list and no other, and its latest exchanges are those of the other list
 pub record JudgesBy
     {L I : Type 0} (meaning : HostMeaning L I) (host : HostOf L I)
     (basis : JudgementBasis) : Type 0 where
@@ -51,6 +67,7 @@ pub record JudgesBy
   pub decides : basis.decides ≡ meaning.decides host.issuer
   pub room : basis.room ≡ meaning.log.capacity host.log - meaning.log.count host.log
   pub used : (ksn : Serial) → IsUsed basis.used ksn ↔ IsUsed running.used ksn
+  pub recent : basis.recent ≡ running.recent
   pub finds : (meaning.log.state_of host.log).honest
       → FindsOnly (meaning.log.state_of host.log) basis.used
 

@@ -1,32 +1,36 @@
 //! A host over its log.
 
-ghost use Rattle.std.specs.Prelude.{◌≡◌, ◌↔◌, ◌<◌, ◌-◌, None, IfOk, IfErr, IsSome, IsTrue};
+ghost use Rattle.std.specs.Prelude.{◌≡◌, ◌↔◌, ◌<◌, ◌-◌, [], None, IfOk, IfErr, IsSome, IsTrue};
 ghost use Rattle.duk_store.specs.StoreState.{StaysButCalm};
-ghost use Rattle.duk_frame.specs.Answer.{IsAnswer};
+ghost use Rattle.duk_frame.specs.Request.{IsRequest};
 ghost use Rattle.duk_hsm.specs.Opened.{IsOpened};
-ghost use Rattle.duk_host.specs.Handle.{Answers, AnswersAs, HandleRefused, IsNumberKept, IsReplied, IsToAccept, IsToldReply, KeepRefused};
+ghost use Rattle.duk_host.specs.Handle.{Answers, AnswersAs, HandleRefused, IsNumberAdded, IsRemembered, IsReplied, IsToAccept, IsTold, IsToldReply, KeepRefused};
 ghost use Rattle.duk_host.specs.Judgement.{IsReplyTo};
 ghost use Rattle.duk_host.specs.Host.{IsFreshIn, IsUsedIn, host_meaning_of};
 ghost use Rattle.duk_host.specs.Restart.{IsHostRestarted, KeepsEnds, HostRestartRefused};
 ghost use Rattle.duk_tree.specs.Path.{IsUsable};
 
 use crate::answered::Answered;
+use crate::exchange::Exchange;
 use crate::fault::HostFault;
 use crate::issuer::Issuer;
 use crate::judge::judge;
 use crate::payment::Payment;
 use crate::reading::numbers_in;
+use crate::recent::{EmptyRing, Recent};
 use crate::reply::{code_for, reply_with};
 use crate::running::Running;
 use duk_frame::Frame;
 use duk_hsm::Hsm;
 use duk_store::UsedLog;
 use duk_tree::Ksn;
-use std::alloc::Global;
+use std::alloc::{AllocError, Global};
 use std::marker::Model;
 
 /// A host: a security module, the issuer of the cards, and the log of the used numbers. It is made
-/// stopped. While it runs, the used numbers are in memory.
+/// stopped. While it runs, the used numbers are in memory, and the last 64 requests that it accepted
+/// since its restart with their replies. The room for these is made once, and kept while it is
+/// stopped.
 #[derive(Drop)]
 pub struct Host<const N: usize, L: UsedLog, I: Issuer> {
     alloc: Global,
@@ -34,6 +38,7 @@ pub struct Host<const N: usize, L: UsedLog, I: Issuer> {
     issuer: I,
     log: L,
     state: Option<Running>,
+    spare: Option<EmptyRing>,
 }
 
 impl<const N: usize, L: UsedLog, I: Issuer> Model for Host<N, L, I> {
@@ -64,10 +69,12 @@ impl<const N: usize, L: UsedLog, I: Issuer> Host<N, L, I> {
             issuer,
             log,
             state: None,
+            spare: None,
         }
     }
 
-    /// Brings log and host up, reads the used numbers from the log, and tells how many there are.
+    /// Brings log and host up, reads the used numbers from the log, and tells how many there are. No
+    /// request is known as accepted before.
     ///
     /// Refused with `Store`: of the log's fault, or with `Damaged` where a number that it keeps
     /// occurs twice or numbers no transaction; and with `NoMemory`. The host is stopped after
@@ -79,24 +86,28 @@ impl<const N: usize, L: UsedLog, I: Issuer> Host<N, L, I> {
         ensures counted { IfOk result (λ found. L.meaning.count self.new.log ≡ found) }
         ensures capacity { L.meaning.capacity self.new.log ≡ L.meaning.capacity self.old.log }
     {
-        self.state = None;
+        stop(&mut self.state, &mut self.spare);
         let kept = match self.log.restart() {
             Ok(kept) => kept,
             Err(fault) => return Err(HostFault::Store(fault)),
         };
         let used = numbers_in(self.alloc, &mut self.log, kept)?;
-        self.state = Some(Running { used });
+        let recent = room_for_exchanges(self.alloc, &mut self.spare)?;
+        self.state = Some(Running { used, recent });
         Ok(kept)
     }
 
-    /// Judges the bytes of a request, and answers with a refusal or with an accepted reply.
+    /// Judges the bytes of a request, and answers with a refusal, with an accepted reply, or with
+    /// the reply that the same request was given before.
     ///
     /// A refusal has the least reason that holds: 1 where the bytes are no request's frame, and
     /// then its key serial number is ten zero bytes; 2 where no key set for the key serial number
     /// is held; 3 where the counter numbers no transaction; 4 where the MAC is not that of the
-    /// request; 5 where the number is used; 6 where the log has no room. It changes nothing and
-    /// takes no memory. Else the number goes into the log before the reply is handed out, with code
-    /// 30 where the PIN block is that of no PIN, or with what the issuer says.
+    /// request; 5 where the number is used; 6 where the log has no room. Behind reason 4 and before
+    /// reason 5, a request that is equal in every byte to one of the last 64 that were accepted
+    /// since the restart is given the reply of that one. Both change nothing and take no memory.
+    /// Else the number goes into the log before the reply is handed out, with code 30 where the PIN
+    /// block is that of no PIN, or with what the issuer says.
     ///
     /// Refused with, in this order: `Stopped`; and where the request is to be accepted, `NoMemory`,
     /// which changes nothing, and `Store`, after which the host is stopped.
@@ -110,9 +121,9 @@ impl<const N: usize, L: UsedLog, I: Issuer> Host<N, L, I> {
     }
 
     /// Does with the bytes of a request what `handle` does, and tells beside the frame what it
-    /// says: an accepted reply where the request is accepted, and else a refusal.
+    /// says: that the request is accepted, that it was accepted before, or that it is refused.
     pub fn answer(&mut self, bytes: &[u8]) -> Result<Answered, HostFault>
-        ensures told { IfOk result (λ answered. IsAnswer answered.frame.items answered.says) }
+        ensures told { IfOk result (λ answered. IsTold answered.frame.items answered.says) }
         ensures answered { IfOk result (λ answered. AnswersAs
             (host_meaning_of L.meaning I.decides)
             bytes.now self.old self.new answered.frame.items answered.says) }
@@ -122,39 +133,61 @@ impl<const N: usize, L: UsedLog, I: Issuer> Host<N, L, I> {
         let Some(running) = &self.state else {
             return Err(HostFault::Stopped);
         };
-        match judge(&self.hsm, &running.used, self.log.room(), bytes) {
-            Ok(payment) => self.accept(&payment),
-            Err(refusal) => Ok(refusal),
+        match judge(&self.hsm, running, self.log.room(), bytes) {
+            Ok(payment) => self.accept(&payment, bytes),
+            Err(answered) => Ok(answered),
         }
     }
 
     /// Keeps the number of a request against which there is no reason, and then replies to it.
-    fn accept(&mut self, payment: &Payment) -> Result<Answered, HostFault>
+    fn accept(&mut self, payment: &Payment, bytes: &[u8]) -> Result<Answered, HostFault>
         requires acceptable { IsToAccept
             (host_meaning_of L.meaning I.decides) self.old payment.now.request }
+        requires request { IsRequest bytes.now payment.now.request }
         requires opened { IsOpened
             self.old.keys payment.now.request.ksn payment.now.transaction }
         ensures replied { IfOk result (λ answered. IsReplied
             (host_meaning_of L.meaning I.decides)
-            self.old self.new payment.now.request answered.frame.items) }
+            bytes.now self.old self.new payment.now.request answered.frame.items) }
         ensures told { IfOk result (λ answered. IsToldReply answered.frame.items answered.says) }
         ensures refused { IfErr result (KeepRefused
             (host_meaning_of L.meaning I.decides) self.old self.new payment.now.request.ksn) }
     {
         self.keep(payment.request.ksn)?;
-        Ok(self.reply(payment))
+        let last = self.reply(payment, bytes);
+        let answered = last.accepted();
+        self.remember(last);
+        Ok(answered)
     }
 
-    /// The reply to a request that is accepted.
-    fn reply(&self, payment: &Payment) -> Answered
+    /// A request that is accepted, and its reply.
+    fn reply(&self, payment: &Payment, bytes: &[u8]) -> Exchange
+        requires request { IsRequest bytes.now payment.now.request }
         requires opened { IsOpened
             self.now.keys payment.now.request.ksn payment.now.transaction }
+        ensures request { result.request ≡ bytes.now }
         ensures reply { IsReplyTo
-            self.now.keys (I.decides self.now.issuer) payment.now.request result.frame.items }
-        ensures told { IsToldReply result.frame.items result.says }
+            self.now.keys (I.decides self.now.issuer) payment.now.request result.reply }
     {
+        let ksn = payment.request.ksn;
         let code = code_for(payment, &self.issuer);
-        reply_with(&payment.transaction, payment.request.ksn, code)
+        Exchange::new(
+            ksn,
+            code,
+            bytes,
+            reply_with(&payment.transaction, ksn, code),
+        )
+    }
+
+    /// Keeps an exchange in memory as the latest. This takes no memory.
+    fn remember(&mut self, last: Exchange)
+        requires { IsSome self.old.state }
+        ensures { IsRemembered self.old self.new last }
+    {
+        let Some(Running { recent, .. }) = &mut self.state else {
+            unreachable!()
+        };
+        recent.push(last);
     }
 
     /// Takes a number in as used, and appends it to the log. Where the log fails, the host is
@@ -164,16 +197,16 @@ impl<const N: usize, L: UsedLog, I: Issuer> Host<N, L, I> {
         requires usable { IsUsable ksn.counter }
         requires room { 0 < L.meaning.capacity self.old.log - L.meaning.count self.old.log }
         ensures kept { IfOk result
-            (λ _. IsNumberKept (host_meaning_of L.meaning I.decides) self.old self.new ksn) }
+            (λ _. IsNumberAdded (host_meaning_of L.meaning I.decides) self.old self.new ksn) }
         ensures refused { IfErr result
             (KeepRefused (host_meaning_of L.meaning I.decides) self.old self.new ksn) }
     {
-        let Some(Running { used }) = &mut self.state else {
+        let Some(Running { used, .. }) = &mut self.state else {
             return Err(HostFault::Stopped);
         };
         used.insert(ksn)?;
         if let Err(fault) = self.log.append(ksn) {
-            self.state = None;
+            stop(&mut self.state, &mut self.spare);
             return Err(HostFault::Store(fault));
         }
         Ok(())
@@ -207,5 +240,24 @@ impl<const N: usize, L: UsedLog, I: Issuer> Host<N, L, I> {
         ensures state { self.new.state ≡ self.old.state }
     {
         self.log.arm(steps);
+    }
+}
+
+/// Stops a host that is in this state, and keeps the room for its exchanges.
+fn stop(state: &mut Option<Running>, spare: &mut Option<EmptyRing>)
+    ensures { state.new ≡ None }
+{
+    if let Some(running) = state.take() {
+        *spare = Some(EmptyRing::of(running.recent));
+    }
+}
+
+/// The room that was kept, or else new room. No exchange is in it.
+fn room_for_exchanges(alloc: Global, spare: &mut Option<EmptyRing>) -> Result<Recent, AllocError>
+    ensures { IfOk result (λ recent. recent ≡ []) }
+{
+    match spare.take() {
+        Some(ring) => Ok(ring.open()),
+        None => Recent::new(alloc),
     }
 }

@@ -1,45 +1,53 @@
 //! The judgement of a request.
 
-ghost use Rattle.std.specs.Prelude.{◌≡◌, ◌≤◌, ℕ, List, IfOk, IfErr, length};
+ghost use Rattle.std.specs.Prelude.{◌≡◌, ◌≤◌, ◌<◌, ℕ, List, IfOk, IfErr, OnOk, length};
 ghost use Rattle.duk_frame.specs.Frame.{mac_text_of};
 ghost use Rattle.duk_frame.specs.Request.{IsRequest};
 ghost use Rattle.duk_hsm.specs.Opened.{IsOpened};
-ghost use Rattle.duk_host.specs.Handle.{IsToldRefusal};
-ghost use Rattle.duk_host.specs.Judgement.{Decision, IsAcceptable, IsAuthentic, IsRefusalFor, IsReasonAgainstMac, IsReasonAgainst, basis_with, authenticated_text};
+ghost use Rattle.duk_host.specs.Handle.{IsSettled, IsTold};
+ghost use Rattle.duk_host.specs.Judgement.{Decision, IsAcceptable, IsAuthentic, IsReasonAgainstMac, IsReasonAgainstNumber, basis_with, authenticated_text};
+ghost use Rattle.duk_host.specs.Used.{IsUsed};
 
 use crate::answered::Answered;
 use crate::payment::Payment;
 use crate::reason::Reason;
+use crate::running::Running;
 use crate::used::UsedNumbers;
 use duk_frame::{Request, mac_text, read_request};
 use duk_hsm::{Hsm, HsmFault, Transaction};
 use duk_tree::Ksn;
 
-/// The request in the bytes with its transaction, where there is no reason against it, or else the
-/// refusal of the least reason.
+/// The request in the bytes with its transaction, where it is to be accepted, or else its answer:
+/// the refusal of the least reason, or the reply that it was given before.
 pub(crate) fn judge<const N: usize>(
     hsm: &Hsm<N>,
-    used: &UsedNumbers,
+    running: &Running,
     room: u64,
     bytes: &[u8],
 ) -> Result<Payment, Answered>
-    ensures acceptable { (decides : Decision) → IfOk result
-        (λ payment. IsAcceptable (basis_with hsm.now used.now room decides) payment.request) }
+    ensures acceptable { (decides : Decision) → IfOk result (λ payment. IsAcceptable
+        (basis_with hsm.now running.now.used running.now.recent room decides) payment.request) }
     ensures request { IfOk result (λ payment. IsRequest bytes.now payment.request) }
     ensures opened { IfOk result
         (λ payment. IsOpened hsm.now payment.request.ksn payment.transaction) }
-    ensures refused { (decides : Decision) → IfErr result
-        (λ answered. IsRefusalFor
-        (basis_with hsm.now used.now room decides) bytes.now answered.frame.items) }
-    ensures told { IfErr result
-        (λ answered. IsToldRefusal answered.frame.items answered.says) }
+    ensures settled { (decides : Decision) → IfErr result (λ answered. IsSettled
+        (basis_with hsm.now running.now.used running.now.recent room decides)
+        bytes.now answered.frame.items answered.says) }
+    ensures told { IfErr result (λ answered. IsTold answered.frame.items answered.says) }
 {
     let Some(request) = read_request(bytes) else {
         return Err(Reason::Malformed.answer(Ksn::from_bytes([0; 10])));
     };
     duk_frame::laws::mac_texts();
-    match open_acceptable(hsm, used, room, &request, mac_text(bytes)) {
-        Ok(transaction) => Ok(Payment {
+    let transaction = match open_authentic(hsm, &request, mac_text(bytes)) {
+        Ok(transaction) => transaction,
+        Err(reason) => return Err(reason.answer(request.ksn)),
+    };
+    if let Some(repeat) = running.recent.answer_to(request.ksn, bytes) {
+        return Err(repeat);
+    }
+    match check_number(&running.used, room, request.ksn) {
+        Ok(()) => Ok(Payment {
             request,
             transaction,
         }),
@@ -47,28 +55,18 @@ pub(crate) fn judge<const N: usize>(
     }
 }
 
-/// The transaction of a request with this text, or the least reason against it.
-fn open_acceptable<const N: usize>(
-    hsm: &Hsm<N>,
-    used: &UsedNumbers,
-    room: u64,
-    request: &Request,
-    text: &[u8],
-) -> Result<Transaction, Reason>
-    requires text { text.now ≡ authenticated_text request.now }
-    ensures opened { IfOk result (IsOpened hsm.now request.now.ksn) }
-    ensures acceptable { (decides : Decision) → IfOk result
-        (λ _. IsAcceptable (basis_with hsm.now used.now room decides) request.now) }
-    ensures refused { (decides : Decision) → IfErr result
-        (IsReasonAgainst (basis_with hsm.now used.now room decides) request.now) }
+/// Whether a number can be used by the next request, or why not.
+fn check_number(used: &UsedNumbers, room: u64, ksn: Ksn) -> Result<(), Reason>
+    ensures fresh { OnOk result (¬ IsUsed used.now ksn) }
+    ensures room { OnOk result (0 < room) }
+    ensures refused { IfErr result (IsReasonAgainstNumber used.now room ksn) }
 {
-    let transaction = open_authentic(hsm, request, text)?;
-    if used.contains(request.ksn) {
+    if used.contains(ksn) {
         Err(Reason::Used)
     } else if room == 0 {
         Err(Reason::LogFull)
     } else {
-        Ok(transaction)
+        Ok(())
     }
 }
 

@@ -1,29 +1,29 @@
 //! Laws of hosts, each the contract of a function that does nothing.
 
-ghost use Rattle.std.specs.Prelude.{◌≡◌, ◌-◌, ◌⊎◌, ℕ, List, All, AllPairs};
+ghost use Rattle.std.specs.Prelude.{◌≡◌, ◌-◌, ◌⊎◌, ◌≤◌, [], ℕ, List, Some, All, AllPairs, Contains, length};
 ghost use Rattle.duk_hsm.specs.Keys.{HsmKeys};
-ghost use Rattle.duk_store.specs.Log.{Numbers};
 ghost use Rattle.duk_frame.specs.Answer.{IsRefusal, IsReply};
 ghost use Rattle.duk_frame.specs.Payment.{reply_mac};
 ghost use Rattle.duk_frame.specs.Stream.{BeginsTooLong, IsPart};
 ghost use Rattle.duk_frame.specs.declared.request.Request.{Request};
 ghost use Rattle.duk_host.specs.Host.{HostOf, host_meaning_of};
-ghost use Rattle.duk_host.specs.Lifetime.{AcceptOtherNumbers, IsLifetime, IsServiceRun, IsUnderOwnKey, all_answers};
+ghost use Rattle.duk_host.specs.Lifetime.{AcceptOtherNumbers, AcceptsAlike, IsLifetime, IsServiceRun, IsUnderOwnKey, all_answers};
+ghost use Rattle.duk_host.specs.Recent.{Exchange, exchange, most_exchanges, reply_given, with_exchange};
 ghost use Rattle.duk_host.specs.Restart.{IsHostRestarted};
 ghost use Rattle.duk_host.specs.Serve.{IsReadUp, IsServed, Serves, Service, ServiceFailed, Supply};
 ghost use Rattle.duk_host.specs.Served.{AreJudged, IsServedStream, JudgesBy, WroteAllOf, WroteFirstOf};
+ghost use Rattle.duk_host.specs.Used.{AreUsable};
 ghost use Rattle.duk_host.specs.declared.fault.HostFault.{HostFault};
 ghost use Rattle.duk_host.specs.Judgement.{Decision, IsAccepted, IsAnswerTo, IsMalformed, IsRefusedRequest, JudgementBasis, basis_with, no_serial, reason_number};
 
 use crate::issuer::Issuer;
 use duk_store::UsedLog;
 
-/// By one set of keys, used numbers, room and issuer, bytes have at most one answer.
+/// By one set of keys, used numbers, latest exchanges, room and issuer, bytes have at most one
+/// answer.
 pub fn one_answer()
-    ensures { (keys : HsmKeys) (used : Numbers) (room : ℕ) (decides : Decision)
-        → (bytes frame other : List ℕ)
-        → IsAnswerTo (basis_with keys used room decides) bytes frame
-        → IsAnswerTo (basis_with keys used room decides) bytes other
+    ensures { (basis : JudgementBasis) (bytes frame other : List ℕ)
+        → IsAnswerTo basis bytes frame → IsAnswerTo basis bytes other
         → frame ≡ other }
 {
     duk_frame::laws::one_reading();
@@ -50,7 +50,21 @@ pub fn replies()
     duk_frame::laws::payments();
 }
 
-/// The frames of a stream have one list of answers, and leave one list of used numbers.
+/// A reply that is given again is that of an exchange on the list; the list with one exchange more
+/// has that one and none but those before it, and no more than 64.
+pub fn exchanges()
+    ensures given { (recent : List Exchange) (bytes frame : List ℕ)
+        → reply_given recent bytes ≡ Some frame → Contains recent (exchange bytes frame) }
+    ensures last { (recent : List Exchange) (last : Exchange)
+        → Contains (with_exchange recent last) last }
+    ensures others { (recent : List Exchange) (last other : Exchange)
+        → Contains (with_exchange recent last) other → Contains recent other ⊎ (other ≡ last) }
+    ensures few { (recent : List Exchange) (last : Exchange)
+        → length (with_exchange recent last) ≤ most_exchanges }
+{}
+
+/// The frames of a stream have one list of answers, and leave one list of used numbers and one of
+/// exchanges.
 pub fn one_service()
     ensures { (basis after other : JudgementBasis) (bytes : List ℕ)
         → (answers others : List (List ℕ))
@@ -62,9 +76,16 @@ pub fn one_service()
     duk_pin::laws::one_pin();
 }
 
-/// What a host answers to frames in turn is their judgement, each with the list of used numbers
-/// after the earlier ones, and its used numbers are then those of the list after the last. A host
-/// that was restarted judges by the list that its log found.
+/// Where frames are judged in turn, the list of used numbers that they leave has none twice, if that
+/// which they found had none. So no number is accepted twice among them, or again.
+pub fn used_numbers()
+    ensures { (basis after : JudgementBasis) (frames answers : List (List ℕ))
+        → AreJudged basis frames answers after → AreUsable basis.used → AreUsable after.used }
+{}
+
+/// What a host answers to frames in turn is their judgement, each with the lists of used numbers and
+/// of exchanges after the earlier ones, and its own are then those after the last. A host that was
+/// restarted judges by the list that its log found, and by no exchange.
 pub fn services<L: UsedLog, I: Issuer>()
     ensures judged { (old new : HostOf L I) (basis : JudgementBasis)
         → (frames answers : List (List ℕ))
@@ -76,13 +97,13 @@ pub fn services<L: UsedLog, I: Issuer>()
         → (restarted : IsHostRestarted L.meaning old new found)
         → (L.meaning.state_of old.log).honest
         → JudgesBy (host_meaning_of L.meaning I.decides) new
-        (basis_with new.keys restarted.numbers
+        (basis_with new.keys restarted.numbers []
         (L.meaning.capacity new.log - L.meaning.count new.log) (I.decides new.issuer)) }
 {}
 
-/// What a service writes by the list of used numbers and the bytes that it read: all answers to
-/// their frames, where it served these up to a part of one or a length above 62; and else the first
-/// of them, as many as it served frames.
+/// What a service writes by both lists and the bytes that it read: all answers to their frames, where
+/// it served these up to a part of one or a length above 62; and else the first of them, as many as
+/// it served frames.
 pub fn served_streams<L: UsedLog, I: Issuer>()
     ensures all { (old new : Service L I) (basis : JudgementBasis) (bytes rest : List ℕ)
         → (count : ℕ)
@@ -102,15 +123,20 @@ pub fn served_streams<L: UsedLog, I: Issuer>()
     duk_pin::laws::one_pin();
 }
 
-/// All that a service accepts over its whole life, in as many runs as it takes: no two of its
-/// accepted replies, of one run or of two, are to one number, and each is made under the key of its
-/// number.
+/// All that a service accepts over its whole life, in as many runs as it takes. In one run all
+/// accepted replies to a number are equal, since a reply may be given again; no number is accepted in
+/// two runs; and each accepted reply is made under the key of its number.
 pub fn lifetimes<L: UsedLog, I: Issuer>()
     ensures once { (keys : HsmKeys) (decides : Decision) (first : L)
         → (runs : List (List (List ℕ)))
         → IsLifetime (host_meaning_of L.meaning I.decides) keys decides
         (L.meaning.state_of first).found runs
-        → AllPairs AcceptOtherNumbers (all_answers runs) }
+        → All AcceptsAlike runs }
+    ensures apart { (keys : HsmKeys) (decides : Decision) (first : L)
+        → (runs : List (List (List ℕ)))
+        → IsLifetime (host_meaning_of L.meaning I.decides) keys decides
+        (L.meaning.state_of first).found runs
+        → AllPairs AcceptOtherNumbers runs }
     ensures own_key { (keys : HsmKeys) (decides : Decision) (first : L)
         → (runs : List (List (List ℕ)))
         → IsLifetime (host_meaning_of L.meaning I.decides) keys decides
@@ -118,6 +144,7 @@ pub fn lifetimes<L: UsedLog, I: Issuer>()
         → All (IsUnderOwnKey keys decides) (all_answers runs) }
 {
     duk_frame::laws::one_reading();
+    exchanges();
     refusals();
     replies();
     services::<L, I>();

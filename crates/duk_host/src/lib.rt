@@ -2,11 +2,13 @@
 //!
 //! It judges each request by the keys of its security module and by the numbers that were used. The
 //! number of a request that is accepted is in the log before the reply goes out, so that a stop at
-//! any moment never lets a number be accepted twice. What the card's issuer says is asked of an
-//! `Issuer`.
+//! any moment never lets a number be accepted twice. A request that is one of the last 64 that were
+//! accepted since the restart, equal in every byte, is given its reply again. What the card's issuer
+//! says is asked of an `Issuer`.
 #![tactic(auto)]
 
 mod answered;
+mod exchange;
 mod fault;
 mod host;
 mod issuer;
@@ -15,13 +17,14 @@ pub mod laws;
 mod payment;
 mod reading;
 mod reason;
+mod recent;
 mod reply;
 mod running;
 mod service;
 mod table;
 mod used;
 
-pub use answered::Answered;
+pub use answered::{Answered, Verdict};
 pub use fault::HostFault;
 pub use host::Host;
 pub use issuer::Issuer;

@@ -5,8 +5,8 @@ ghost use Rattle.duk_tree.specs.Serial.{serial_bytes};
 ghost use Rattle.duk_host.specs.Handle.{IsToldRefusal};
 ghost use Rattle.duk_host.specs.Judgement.{reason_number, refusal_frame};
 
-use crate::answered::Answered;
-use duk_frame::{AnswerFrame, write_refusal};
+use crate::answered::{Answered, Verdict};
+use duk_frame::write_refusal;
 use duk_tree::Ksn;
 
 /// Why a request is refused, in the order in which the reasons are tested.
@@ -49,7 +49,7 @@ impl Reason {
         let reason = self.number();
         Answered {
             frame: write_refusal(ksn.bytes(), reason),
-            says: AnswerFrame::Refusal { ksn, reason },
+            says: Verdict::Refused { ksn, reason },
         }
     }
 }

@@ -3,13 +3,12 @@
 ghost use Rattle.std.specs.Prelude.{◌≡◌, IsSome};
 ghost use Rattle.duk_hsm.specs.Keys.{HsmKeys};
 ghost use Rattle.duk_hsm.specs.Opened.{IsOpened};
-ghost use Rattle.duk_host.specs.Handle.{IsToldReply};
 ghost use Rattle.duk_host.specs.Judgement.{IsCodeOf, IsReplyWith};
+ghost use Rattle.duk_host.specs.Recent.{IsReplyWithCode};
 
-use crate::answered::Answered;
 use crate::issuer::Issuer;
 use crate::payment::Payment;
-use duk_frame::{AnswerFrame, Code, reply_text};
+use duk_frame::{Code, Frame, reply_text};
 use duk_hsm::{HsmFault, Transaction};
 use duk_tree::Ksn;
 
@@ -32,15 +31,12 @@ pub(crate) fn code_for<I: Issuer>(payment: &Payment, issuer: &I) -> Code
 }
 
 /// The accepted reply with this code.
-pub(crate) fn reply_with(transaction: &Transaction, ksn: Ksn, code: Code) -> Answered
+pub(crate) fn reply_with(transaction: &Transaction, ksn: Ksn, code: Code) -> Frame
     ensures reply { (keys : HsmKeys) → IsOpened keys ksn transaction.now
-        → IsReplyWith keys ksn code result.frame.items }
-    ensures told { IsToldReply result.frame.items result.says }
+        → IsReplyWith keys ksn code result.items }
+    ensures code { IsReplyWithCode result.items ksn code }
 {
     let text = reply_text(ksn, code);
     let mac = transaction.reply_mac(text.bytes());
-    Answered {
-        frame: text.with_mac(mac),
-        says: AnswerFrame::Reply { ksn, code, mac },
-    }
+    text.with_mac(mac)
 }

@@ -23,6 +23,13 @@ type DiskCell = SlotCell<MemDisk>;
 
 type DiskWorld = World<16, DiskCell, DiskLog<MemDisk>, TableIssuer>;
 
+/// A world, and the numbers that its host accepted, in order.
+#[derive(Drop)]
+struct Played {
+    world: DiskWorld,
+    accepted: Vec<Ksn>,
+}
+
 /// What a restart may leave of what was not synced.
 const FILLINGS: [Filling; 5] = [
     Filling::Old,
@@ -100,16 +107,19 @@ fn world_of(
     Ok(World::new(alloc, host, key(LOADING), terminals))
 }
 
-/// A host and a terminal over new disks that leave this at a restart. A device step of the one
-/// end's disk fails.
-fn failing_world(alloc: Global, filling: Filling, end: End, step: u32) -> Result<DiskWorld, Fail> {
+/// A run of a host and a terminal over new disks that leave this at a restart. A device step of the
+/// one end's disk fails.
+fn failing_run(alloc: Global, filling: Filling, end: End, step: u32) -> Result<Played, Fail> {
     let (of_host, of_terminal) = match end {
         End::Host => (step, NEVER),
         End::Term(_) => (NEVER, step),
     };
     let log = new_log(alloc, filling, of_host)?;
     let terminal = new_terminal(alloc, filling, of_terminal)?;
-    world_of(alloc, log, terminal)
+    Ok(Played {
+        world: world_of(alloc, log, terminal)?,
+        accepted: Vec::new(alloc),
+    })
 }
 
 /// The end whose store failed in an event, if one did.
@@ -125,9 +135,12 @@ fn failed_end(outcome: &Outcome) -> Option<End> {
 }
 
 /// Lets an event happen, and tells the end whose store failed, if one did.
-fn failure_in(alloc: Global, world: &mut DiskWorld, event: Event) -> Result<Option<End>, Fail> {
+fn failure_in(alloc: Global, played: &mut Played, event: Event) -> Result<Option<End>, Fail> {
     let mut out = Vec::new(alloc);
-    run(world, &[event], &mut out)?;
+    run(&mut played.world, &[event], &mut out)?;
+    if let Some(Outcome::Accepted { ksn, .. }) = out.first() {
+        played.accepted.push(*ksn)?;
+    }
     Ok(out.first().and_then(failed_end))
 }
 
@@ -140,9 +153,9 @@ fn restart_of(end: End) -> Event {
 }
 
 /// Restarts an end until this succeeds.
-fn restart(alloc: Global, world: &mut DiskWorld, end: End) -> Result<(), Fail> {
+fn restart(alloc: Global, played: &mut Played, end: End) -> Result<(), Fail> {
     for _ in 0..3 {
-        if failure_in(alloc, world, restart_of(end))?.is_none() {
+        if failure_in(alloc, played, restart_of(end))?.is_none() {
             return Ok(());
         }
     }
@@ -156,10 +169,10 @@ fn last_of<T>(frames: &[T]) -> u32 {
 
 /// Lets each request reach the host, and tells whether none met a store that fails. The host is
 /// restarted then, and no further request reaches it.
-fn deliver_each(alloc: Global, world: &mut DiskWorld) -> Result<bool, Fail> {
-    for k in 1..=last_of(world.requests()) {
-        if let Some(end) = failure_in(alloc, world, Event::Up { k })? {
-            restart(alloc, world, end)?;
+fn deliver_each(alloc: Global, played: &mut Played) -> Result<bool, Fail> {
+    for k in 1..=last_of(played.world.requests()) {
+        if let Some(end) = failure_in(alloc, played, Event::Up { k })? {
+            restart(alloc, played, end)?;
             return Ok(false);
         }
     }
@@ -167,9 +180,9 @@ fn deliver_each(alloc: Global, world: &mut DiskWorld) -> Result<bool, Fail> {
 }
 
 /// Lets all requests reach the host once more.
-fn deliver_all(alloc: Global, world: &mut DiskWorld) -> Result<(), Fail> {
+fn deliver_all(alloc: Global, played: &mut Played) -> Result<(), Fail> {
     for _ in 0..3 {
-        if deliver_each(alloc, world)? {
+        if deliver_each(alloc, played)? {
             return Ok(());
         }
     }
@@ -177,8 +190,8 @@ fn deliver_all(alloc: Global, world: &mut DiskWorld) -> Result<(), Fail> {
 }
 
 /// Lets an event happen that is not to meet a store that fails.
-fn succeed(alloc: Global, world: &mut DiskWorld, event: Event) -> Result<(), Fail> {
-    match failure_in(alloc, world, event)? {
+fn succeed(alloc: Global, played: &mut Played, event: Event) -> Result<(), Fail> {
+    match failure_in(alloc, played, event)? {
         None => Ok(()),
         Some(_) => Err("a second failure".into()),
     }
@@ -206,52 +219,52 @@ fn begin() -> Result<Event, Fail> {
 }
 
 /// Goes on after the store of an end failed in an event.
-fn go_on(alloc: Global, world: &mut DiskWorld, end: End, event: &Event) -> Result<(), Fail> {
-    restart(alloc, world, end)?;
-    if is_empty(world) {
-        succeed(alloc, world, load())?;
+fn go_on(alloc: Global, played: &mut Played, end: End, event: &Event) -> Result<(), Fail> {
+    restart(alloc, played, end)?;
+    if is_empty(&played.world) {
+        succeed(alloc, played, load())?;
     }
     if let Event::Begin { .. } = event {
-        succeed(alloc, world, *event)?;
+        succeed(alloc, played, *event)?;
     }
-    deliver_all(alloc, world)
+    deliver_all(alloc, played)
 }
 
 /// Lets an event happen, and goes on where a store fails. Tells whether one did.
-fn happen(alloc: Global, world: &mut DiskWorld, event: &Event) -> Result<bool, Fail> {
-    if let Some(end) = failure_in(alloc, world, *event)? {
-        go_on(alloc, world, end, event)?;
+fn happen(alloc: Global, played: &mut Played, event: &Event) -> Result<bool, Fail> {
+    if let Some(end) = failure_in(alloc, played, *event)? {
+        go_on(alloc, played, end, event)?;
         return Ok(true);
     }
     Ok(false)
 }
 
 /// Arms the store of an end, where it is to fail behind so many steps.
-fn arm(alloc: Global, world: &mut DiskWorld, end: End, armed: Option<u32>) -> Result<(), Fail> {
+fn arm(alloc: Global, played: &mut Played, end: End, armed: Option<u32>) -> Result<(), Fail> {
     match armed {
         None => Ok(()),
-        Some(n) => succeed(alloc, world, Event::Arm { end, n }),
+        Some(n) => succeed(alloc, played, Event::Arm { end, n }),
     }
 }
 
 /// Restarts both ends and loads the terminal. Tells whether a store failed.
-fn set_up(alloc: Global, world: &mut DiskWorld) -> Result<bool, Fail> {
-    let host = happen(alloc, world, &Event::RestartHost)?;
-    let terminal = happen(alloc, world, &Event::RestartTerm { t: 1 })?;
-    let loaded = happen(alloc, world, &load())?;
+fn set_up(alloc: Global, played: &mut Played) -> Result<bool, Fail> {
+    let host = happen(alloc, played, &Event::RestartHost)?;
+    let terminal = happen(alloc, played, &Event::RestartTerm { t: 1 })?;
+    let loaded = happen(alloc, played, &load())?;
     Ok(host || terminal || loaded)
 }
 
 /// A payment: a begin, and the last request and the last answer delivered. The store of the one end
 /// or the other is armed before each of the first two. Tells whether a store failed.
-fn pay(alloc: Global, world: &mut DiskWorld, armed: Option<u32>) -> Result<bool, Fail> {
-    arm(alloc, world, End::Term(1), armed)?;
-    let begun = happen(alloc, world, &begin()?)?;
-    arm(alloc, world, End::Host, armed)?;
-    let k = last_of(world.requests());
-    let answered = happen(alloc, world, &Event::Up { k })?;
-    let k = last_of(world.answers());
-    let done = happen(alloc, world, &Event::Down { k, t: 1 })?;
+fn pay(alloc: Global, played: &mut Played, armed: Option<u32>) -> Result<bool, Fail> {
+    arm(alloc, played, End::Term(1), armed)?;
+    let begun = happen(alloc, played, &begin()?)?;
+    arm(alloc, played, End::Host, armed)?;
+    let k = last_of(played.world.requests());
+    let answered = happen(alloc, played, &Event::Up { k })?;
+    let k = last_of(played.world.answers());
+    let done = happen(alloc, played, &Event::Down { k, t: 1 })?;
     Ok(begun || answered || done)
 }
 
@@ -266,23 +279,28 @@ fn requested(alloc: Global, world: &DiskWorld) -> Result<Vec<Ksn>, AllocError> {
     Ok(numbers)
 }
 
-/// The number that an answer accepts.
-fn accepted_in(answer: &Frame) -> Option<Ksn> {
+/// The number that an answer is a reply to.
+fn replied_in(answer: &Frame) -> Option<Ksn> {
     match read_answer(answer.as_slice())? {
         AnswerFrame::Reply { ksn, .. } => Some(ksn),
         AnswerFrame::Refusal { .. } => None,
     }
 }
 
-/// The numbers that all answers accept.
-fn accepted(alloc: Global, world: &DiskWorld) -> Result<Vec<Ksn>, AllocError> {
-    let mut numbers = Vec::new(alloc);
-    for frame in world.answers() {
-        if let Some(number) = accepted_in(frame) {
-            numbers.push(number)?;
-        }
-    }
-    Ok(numbers)
+/// Whether an answer is a reply to the same number as another and has other bytes.
+fn contradicts(answer: &Frame, other: &Frame) -> bool {
+    let number = replied_in(answer);
+    number.is_some() && number == replied_in(other) && answer.as_slice() != other.as_slice()
+}
+
+/// Whether no other reply to its number has other bytes.
+fn stands_alone(answers: &[Frame], answer: &Frame) -> bool {
+    !answers.iter().any(|other| contradicts(answer, other))
+}
+
+/// Whether all replies to a number are equal.
+fn agree(answers: &[Frame]) -> bool {
+    answers.iter().all(|answer| stands_alone(answers, answer))
 }
 
 /// Whether a number stands once in a list.
@@ -301,32 +319,34 @@ fn are_used(world: &DiskWorld, numbers: &[Ksn]) -> bool {
 }
 
 /// What is told of a run: whether a store failed; and whether at its end no two requests have one
-/// number, no number was accepted twice, and each number of a request is used.
-type Told = (bool, [bool; 3]);
+/// number, no number was accepted twice, all replies to a number are equal, and each number of a
+/// request is used.
+type Told = (bool, [bool; 4]);
 
 /// What holds at the end of a run.
-fn of_numbers(alloc: Global, world: &DiskWorld) -> Result<[bool; 3], Fail> {
+fn of_numbers(alloc: Global, played: &Played) -> Result<[bool; 4], Fail> {
+    let world = &played.world;
     let requested = requested(alloc, world)?;
-    let accepted = accepted(alloc, world)?;
     Ok([
         requested.len() == world.requests().len() && differ(requested.as_slice()),
-        differ(accepted.as_slice()),
+        differ(played.accepted.as_slice()),
+        agree(world.answers()),
         are_used(world, requested.as_slice()),
     ])
 }
 
 /// A run of two payments.
-fn play(alloc: Global, world: &mut DiskWorld, armed: Option<u32>) -> Result<Told, Fail> {
-    let at_first = set_up(alloc, world)?;
-    let in_one = pay(alloc, world, armed)?;
-    let in_two = pay(alloc, world, armed)?;
-    Ok((at_first || in_one || in_two, of_numbers(alloc, world)?))
+fn play(alloc: Global, played: &mut Played, armed: Option<u32>) -> Result<Told, Fail> {
+    let at_first = set_up(alloc, played)?;
+    let in_one = pay(alloc, played, armed)?;
+    let in_two = pay(alloc, played, armed)?;
+    Ok((at_first || in_one || in_two, of_numbers(alloc, played)?))
 }
 
 /// A run in which one device step of an end fails.
 fn of_failure(alloc: Global, filling: Filling, end: End, step: u32) -> Result<Told, Fail> {
-    let mut world = failing_world(alloc, filling, end, step)?;
-    play(alloc, &mut world, None)
+    let mut played = failing_run(alloc, filling, end, step)?;
+    play(alloc, &mut played, None)
 }
 
 /// Before which device step of an end no run is without a failure, if in all of these runs the
@@ -334,8 +354,8 @@ fn of_failure(alloc: Global, filling: Filling, end: End, step: u32) -> Result<To
 fn failing_steps(alloc: Global, filling: Filling, end: End) -> Result<Option<u32>, Fail> {
     for step in 0..100 {
         match of_failure(alloc, filling, end, step)? {
-            (true, [true, true, true]) => {}
-            (false, [true, true, true]) => return Ok(Some(step)),
+            (true, [true, true, true, true]) => {}
+            (false, [true, true, true, true]) => return Ok(Some(step)),
             _ => return Ok(None),
         }
     }
@@ -364,8 +384,8 @@ fn a_step_of_a_log_fails(rt: HostRuntime) -> Result<(), Fail> {
 
 /// A run in which the store is armed with this number before each begin and each request.
 fn of_arming(alloc: Global, filling: Filling, armed: u32) -> Result<Told, Fail> {
-    let mut world = failing_world(alloc, filling, End::Host, NEVER)?;
-    play(alloc, &mut world, Some(armed))
+    let mut played = failing_run(alloc, filling, End::Host, NEVER)?;
+    play(alloc, &mut played, Some(armed))
 }
 
 /// The least number of device steps with which no armed run has a failure, if in all of these runs
@@ -373,8 +393,8 @@ fn of_arming(alloc: Global, filling: Filling, armed: u32) -> Result<Told, Fail> 
 fn armed_steps(alloc: Global, filling: Filling) -> Result<Option<u32>, Fail> {
     for armed in 0..100 {
         match of_arming(alloc, filling, armed)? {
-            (true, [true, true, true]) => {}
-            (false, [true, true, true]) => return Ok(Some(armed)),
+            (true, [true, true, true, true]) => {}
+            (false, [true, true, true, true]) => return Ok(Some(armed)),
             _ => return Ok(None),
         }
     }

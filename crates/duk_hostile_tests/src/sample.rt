@@ -80,10 +80,10 @@ t2 IKSN elsewhere
 t2 no key set
 t1 sent 1 FFFF9876543210E00001
 answer 1 accepted FFFF9876543210E00001 00
-answer 2 refused FFFF9876543210E00001 5
-t1 refused FFFF9876543210E00001 5
-t2 fault NotPending
+answer 2 repeated FFFF9876543210E00001 00
 t1 done FFFF9876543210E00001 00
+t2 fault NotPending
+t1 fault NotPending
 t1 fault NotPending
 no such frame
 no such terminal

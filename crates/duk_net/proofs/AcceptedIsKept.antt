@@ -33,7 +33,8 @@ use Rattle.duk_net.specs.declared.outcome.Outcome.{Outcome}
 use Rattle.duk_net.specs.declared.outcome.Outcome.TheVariants as came
 use Rattle.duk_net.proofs.ReachedByMoves.{leads_all, reached_all}
 use Rattle.duk_net.proofs.HostAnswers.{OneReading}
-use Rattle.duk_net.proofs.StepChanges.{IsQuiet, TouchesHost, View, accept, done, host, host_armed, host_restart_refused, host_restarted, left_touches, load, no_answer, nothing, refuse, send, step_view, terminal}
+use Rattle.duk_net.proofs.RepeatsWereSent.{ExchangeLaws, HostGivesSent, WasSent, reached_gives, repeat_was_sent}
+use Rattle.duk_net.proofs.StepChanges.{IsQuiet, TouchesHost, View, accept, done, host, host_armed, host_restart_refused, host_restarted, left_touches, load, no_answer, nothing, refuse, repeat, send, step_view, terminal}
 
 -- the key serial number of an answer
 abbrev ksn_of : AnswerFrame → Serial
@@ -66,6 +67,7 @@ RepliesAreRead = (basis : JudgementBasis) (bytes : List ℕ) (request : Request)
 pub record AnswerLaws : Type 0 where
   pub reading : OneReading
   pub replies : RepliesAreRead
+  pub exchanges : ExchangeLaws
 
 -- an accepted number stays one as an answer is sent
 stays_accepted : (answers : List Frame) (frame : Frame) (ksn : Serial) → IsAcceptedNumber answers ksn → IsAcceptedNumber (answers ++ frame ∷ []) ksn
@@ -229,6 +231,21 @@ refuses_safe m at answers frame number reason laws safe refusal = record {
   uses = safe.uses;
 }
 
+-- an accepted reply that was sent makes its number an accepted one
+accepted_as_sent : (answers : List Frame) (bytes : List ℕ) (ksn : Serial) → WasSent answers bytes → RepliesTo bytes ksn → IsAcceptedNumber answers ksn
+accepted_as_sent answers bytes ksn was (code, mac, reply) = (code, record { frame = was.frame; mac = mac; sent = was.sent; reply = subst (λ bytes. IsReply bytes ksn code mac) (sym was.bytes_are) reply })
+
+-- a host that gives a reply again keeps each accepted number
+repeats_safe : {C L I : Type 0} (m : Meanings C L I) (at : HostOf L I) (answers : List Frame) (frame : Frame) → HostKeepsAccepted m at answers → WasSent answers frame.items → HostKeepsAccepted m at (answers ++ frame ∷ [])
+repeats_safe m at answers frame safe was = record {
+  honest = safe.honest;
+  keeps = λ numbers found ksn accepted. safe.keeps numbers found ksn (elim (accepted_cases answers frame ksn accepted) [
+    | inl before ↦ before
+    | inr told ↦ accepted_as_sent answers frame.items ksn was told
+  ]);
+  uses = safe.uses;
+}
+
 -- an outcome tells of no acceptance
 abbrev AcceptsNone : Outcome → Type 0
 AcceptsNone outcome = (ksn : Serial) → ¬ Accepts ksn outcome
@@ -253,14 +270,14 @@ same_view : {C L I : Type 0} (m : Meanings C L I) (old next new : WorldOf C L I)
 same_view m old next new outcome safe is hosts answers none = rw is (rw (hosts, answers) safe, gains_none old.answers next.answers outcome answers none)
 
 -- what a step does to accepted numbers
-view_safe : {C L I : Type 0} (m : Meanings C L I) (old : WorldOf C L I) (outcome : Outcome) (new : WorldOf C L I) → AnswerLaws → KeepsAllAccepted m old → View m old outcome new
+view_safe : {C L I : Type 0} (m : Meanings C L I) (old : WorldOf C L I) (outcome : Outcome) (new : WorldOf C L I) → AnswerLaws → HostGivesSent old → KeepsAllAccepted m old → View m old outcome new
     → KeepsAllAccepted m new × Gains old.answers outcome new.answers
-view_safe m old outcome new laws safe (nothing same quiet) = same_view m old _ new outcome safe same refl refl (quiet_accepts outcome quiet)
-view_safe m old outcome new laws safe (load t iksn given quiet) = same_view m old _ new outcome safe given.rest refl refl (quiet_accepts outcome quiet)
-view_safe m old outcome new laws safe (send t k purchase ksn is sent) = same_view m old _ new outcome safe sent.rest refl refl (rw is (λ ksn accepts. accepts))
-view_safe m old outcome new laws safe (terminal t change quiet) = same_view m old _ new outcome safe change.rest refl refl (quiet_accepts outcome quiet)
-view_safe m old outcome new laws safe (done k t frame ksn code is sent change) = same_view m old _ new outcome safe change.rest refl refl (rw is (λ ksn accepts. accepts))
-view_safe m old outcome new laws safe (accept k n ksn code is up) =
+view_safe m old outcome new laws gives safe (nothing same quiet) = same_view m old _ new outcome safe same refl refl (quiet_accepts outcome quiet)
+view_safe m old outcome new laws gives safe (load t iksn given quiet) = same_view m old _ new outcome safe given.rest refl refl (quiet_accepts outcome quiet)
+view_safe m old outcome new laws gives safe (send t k purchase ksn is sent) = same_view m old _ new outcome safe sent.rest refl refl (rw is (λ ksn accepts. accepts))
+view_safe m old outcome new laws gives safe (terminal t change quiet) = same_view m old _ new outcome safe change.rest refl refl (quiet_accepts outcome quiet)
+view_safe m old outcome new laws gives safe (done k t frame ksn code is sent change) = same_view m old _ new outcome safe change.rest refl refl (rw is (λ ksn accepts. accepts))
+view_safe m old outcome new laws gives safe (accept k n ksn code is up) =
     let answers : new.answers ≡ old.answers ++ up.frame ∷ [] = ap (λ world. world.answers) up.answered.rest in
     let told : RepliesTo up.frame.items ksn = (code, up.mac, up.told) in
     rw answers (
@@ -273,13 +290,19 @@ view_safe m old outcome new laws safe (accept k n ksn code is up) =
         ));
       },
     )
-view_safe m old outcome new laws safe (refuse k n ksn reason is up) =
+view_safe m old outcome new laws gives safe (repeat k n ksn code is up) =
+    let answers : new.answers ≡ old.answers ++ up.frame ∷ [] = ap (λ world. world.answers) up.answered.rest in
+    rw (answers, up.repeated.same) (
+      repeats_safe m old.host old.answers up.frame safe (repeat_was_sent m old k n ksn code new laws.exchanges gives up),
+      record { stays = stays_accepted old.answers up.frame; accepts = rw is (λ number accepts. absurd accepts) },
+    )
+view_safe m old outcome new laws gives safe (refuse k n ksn reason is up) =
     let answers : new.answers ≡ old.answers ++ up.frame ∷ [] = ap (λ world. world.answers) up.answered.rest in
     rw (answers, up.refused.same) (
       refuses_safe m old.host old.answers up.frame ksn reason laws safe up.told,
       record { stays = stays_accepted old.answers up.frame; accepts = rw is (λ number accepts. absurd accepts) },
     )
-view_safe m old outcome new laws safe (host touches rest quiet) =
+view_safe m old outcome new laws gives safe (host touches rest quiet) =
     let answers : new.answers ≡ old.answers = ap (λ world. world.answers) rest in
     (rw answers (touched_safe m old.host new.host old.answers safe touches), gains_none old.answers new.answers outcome answers (quiet_accepts outcome quiet))
 
@@ -302,7 +325,7 @@ first_safe m world first = record {
 -- each world that is reached keeps each accepted number
 pub reached_safe : {C L I : Type 0} (m : Meanings C L I) → AnswerLaws → (world : WorldOf C L I) → Reached m world → KeepsAllAccepted m world
 reached_safe m laws = reached_all m (KeepsAllAccepted m) (first_safe m) (λ old new reached safe moves. elim moves [
-  | inl happens ↦ (view_safe m old happens.outcome new laws safe (step_view m old happens.event happens.outcome new happens.step)).0
+  | inl happens ↦ (view_safe m old happens.outcome new laws (reached_gives m laws.exchanges old reached) safe (step_view m old happens.event happens.outcome new happens.step)).0
   | inr left ↦ left_safe m old new safe left
 ])
 
@@ -351,6 +374,6 @@ leads_once m laws old new outcomes reached leads =
     } in
     (leads_all m (λ outcomes world. Once old.answers outcomes world.answers)
     (λ outcomes before after event outcome reached once step. once_more old.answers outcomes before.answers outcome after.answers once
-    (view_safe m before outcome after laws (reached_safe m laws before reached) (step_view m before event outcome after step)).1)
+    (view_safe m before outcome after laws (reached_gives m laws.exchanges before reached) (reached_safe m laws before reached) (step_view m before event outcome after step)).1)
     (λ outcomes before after reached once left. rw (ap (λ world. world.answers) left.rest) once)
     old new outcomes reached first leads).once

@@ -251,6 +251,9 @@ up_step m old k came.NoSuchFrame new known up = nothing_step m old came.NoSuchFr
 up_step m old k (came.Accepted n ksn code) new known up =
     host_step m old new (came.Accepted n ksn code) known (ap (λ world. world.terminals) up.answered.rest)
     (host_plainly m (came.Accepted n ksn code) old.host new.host (λ end fault tells. tells) (nature_kept _ _ up.accepted.kept.appended.nature))
+up_step m old k (came.Repeated n ksn code) new known up =
+    host_step m old new (came.Repeated n ksn code) known (ap (λ world. world.terminals) up.answered.rest)
+    (host_plainly m (came.Repeated n ksn code) old.host new.host (λ end fault tells. tells) (rw up.repeated.same (same_kept (m.host.log.state_of old.host.log))))
 up_step m old k (came.Refused n ksn reason) new known up =
     host_step m old new (came.Refused n ksn reason) known (ap (λ world. world.terminals) up.answered.rest)
     (host_plainly m (came.Refused n ksn reason) old.host new.host (λ end fault tells. tells) (rw up.refused.same (same_kept (m.host.log.state_of old.host.log))))

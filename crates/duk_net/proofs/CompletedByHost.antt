@@ -4,7 +4,7 @@ use Rattle.std.proofs.Math.ListN.{get_or}
 use Rattle.std.proofs.lemmas.List.{get_or_append_left, get_or_push, length-append, length_push}
 use Rattle.std.proofs.lemmas.List.Elements.{Contains-append_left, Contains-get_or, Contains-push_cases}
 use Rattle.std.proofs.lemmas.List.Quantifiers.{Any-push, all_pairs_push}
-use Rattle.duk_frame.specs.Answer.{IsAnswer}
+use Rattle.duk_frame.specs.Answer.{IsAnswer, IsReply}
 use Rattle.duk_frame.specs.declared.answer.AnswerFrame.TheVariants.{Refusal, Reply}
 use Rattle.duk_frame.specs.declared.code.Code.{Code}
 use Rattle.duk_term.specs.Terminal.{TerminalOf}
@@ -23,6 +23,7 @@ use Rattle.duk_net.proofs.PendingIsSent.{OwnPending, SendsNumber, SentByOwners, 
 use Rattle.duk_net.proofs.ReachedByMoves.{leads_all, reached_step}
 use Rattle.duk_net.proofs.AboveUsed.{BegunIsRequest}
 use Rattle.duk_net.proofs.HostAnswers.{OneReading}
+use Rattle.duk_net.proofs.RepeatsWereSent.{ExchangeLaws, HostGivesSent, reached_gives, repeat_was_sent}
 use Rattle.duk_net.proofs.StepChanges.{View, step_view}
 use Rattle.duk_net.proofs.StepChanges as step
 
@@ -58,13 +59,13 @@ fresh_number old new ksn none sent used =
     pairs_with_last HaveOtherNumbers old.requests sent.frame used.frame pairs used.sent ksn used.number sent.number
 
 -- an accepted reply after a step was sent before, or in it
-replied_comes : {C L I : Type 0} (m : Meanings C L I) (old : WorldOf C L I) (outcome : Outcome) (new : WorldOf C L I) (ksn : Serial) (code : Code) → OneReading
+replied_comes : {C L I : Type 0} (m : Meanings C L I) (old : WorldOf C L I) (outcome : Outcome) (new : WorldOf C L I) (ksn : Serial) (code : Code) → OneReading → ExchangeLaws → HostGivesSent old
     → View m old outcome new → HasReply new.answers ksn code → HasReply old.answers ksn code ⊎ AcceptsWith ksn code outcome
-replied_comes m old outcome new ksn code one (step.nothing same quiet) replied = inl (subst (λ world. HasReply world.answers ksn code) same replied)
-replied_comes m old outcome new ksn code one (step.load t iksn given quiet) replied = inl (subst (λ world. HasReply world.answers ksn code) given.rest replied)
-replied_comes m old outcome new ksn code one (step.send t k purchase sent is begins) replied = inl (subst (λ world. HasReply world.answers ksn code) begins.rest replied)
-replied_comes m old outcome new ksn code one (step.terminal t change quiet) replied = inl (subst (λ world. HasReply world.answers ksn code) change.rest replied)
-replied_comes m old outcome new ksn code one (step.accept k n accepted with is up) replied =
+replied_comes m old outcome new ksn code one exchanges gives (step.nothing same quiet) replied = inl (subst (λ world. HasReply world.answers ksn code) same replied)
+replied_comes m old outcome new ksn code one exchanges gives (step.load t iksn given quiet) replied = inl (subst (λ world. HasReply world.answers ksn code) given.rest replied)
+replied_comes m old outcome new ksn code one exchanges gives (step.send t k purchase sent is begins) replied = inl (subst (λ world. HasReply world.answers ksn code) begins.rest replied)
+replied_comes m old outcome new ksn code one exchanges gives (step.terminal t change quiet) replied = inl (subst (λ world. HasReply world.answers ksn code) change.rest replied)
+replied_comes m old outcome new ksn code one exchanges gives (step.accept k n accepted with is up) replied =
     let stands = subst (λ world. Contains world.answers replied.frame) up.answered.rest replied.sent in
     elim (Contains-push_cases old.answers up.frame replied.frame stands) [
       | inl before ↦ inl (record { frame = replied.frame; mac = replied.mac; sent = before; reply = replied.reply })
@@ -75,7 +76,16 @@ replied_comes m old outcome new ksn code one (step.accept k n accepted with is u
           let and : with ≡ code = cc in
           inr (subst (λ outcome. AcceptsWith ksn code outcome) (sym is) (of, and))
     ]
-replied_comes m old outcome new ksn code one (step.refuse k n refused reason is up) replied =
+replied_comes m old outcome new ksn code one exchanges gives (step.repeat k n again with is up) replied =
+    let stands = subst (λ world. Contains world.answers replied.frame) up.answered.rest replied.sent in
+    elim (Contains-push_cases old.answers up.frame replied.frame stands) [
+      | inl before ↦ inl (record { frame = replied.frame; mac = replied.mac; sent = before; reply = replied.reply })
+      | inr same ↦
+          let was = repeat_was_sent m old k n again with new exchanges gives up in
+          let bytes = was.bytes_are ∙ ap (λ (frame : Frame). frame.items) same in
+          inl (record { frame = was.frame; mac = replied.mac; sent = was.sent; reply = subst (λ bytes. IsReply bytes ksn code replied.mac) (sym bytes) replied.reply })
+    ]
+replied_comes m old outcome new ksn code one exchanges gives (step.refuse k n refused reason is up) replied =
     let stands = subst (λ world. Contains world.answers replied.frame) up.answered.rest replied.sent in
     elim (Contains-push_cases old.answers up.frame replied.frame stands) [
       | inl before ↦ inl (record { frame = replied.frame; mac = replied.mac; sent = before; reply = replied.reply })
@@ -84,8 +94,8 @@ replied_comes m old outcome new ksn code one (step.refuse k n refused reason is 
           let read = one up.frame.items (Refusal refused reason) (Reply ksn code replied.mac) up.told reply in
           cc
     ]
-replied_comes m old outcome new ksn code one (step.done k t frame sent with is at change) replied = inl (subst (λ world. HasReply world.answers ksn code) change.rest replied)
-replied_comes m old outcome new ksn code one (step.host touched rest quiet) replied = inl (subst (λ world. HasReply world.answers ksn code) rest replied)
+replied_comes m old outcome new ksn code one exchanges gives (step.done k t frame sent with is at change) replied = inl (subst (λ world. HasReply world.answers ksn code) change.rest replied)
+replied_comes m old outcome new ksn code one exchanges gives (step.host touched rest quiet) replied = inl (subst (λ world. HasReply world.answers ksn code) rest replied)
 
 -- the outcome that completes a number is that a terminal is done
 done_at : {C L I : Type 0} (m : Meanings C L I) (old : WorldOf C L I) (outcome : Outcome) (new : WorldOf C L I) (ksn : Serial)
@@ -135,7 +145,7 @@ still_replied answers outcomes last ksn code came = elim came [
 ]
 
 module _ {C L I : Type 0} (m : Meanings C L I) (terminals : List (TerminalOf C)) (answers : List Frame) (outcomes : List Outcome) (old : WorldOf C L I) (outcome : Outcome) (new : WorldOf C L I)
-    (ended : Ended terminals old.terminals answers old.answers old.requests outcomes) (safe : OwnPending old) (view : View m old outcome new) where
+    (ended : Ended terminals old.terminals answers old.answers old.requests outcomes) (safe : OwnPending old) (gives : HostGivesSent old) (view : View m old outcome new) where
   -- a step completes what the host accepted before
   accepted_on : AcceptedBefore answers (outcomes ++ outcome ∷ [])
   accepted_on earlier later t ksn code is = elim (last_or_before outcomes earlier later outcome (came.Done t ksn code) is) [
@@ -186,21 +196,21 @@ module _ {C L I : Type 0} (m : Meanings C L I) (terminals : List (TerminalOf C))
   ])
 
   -- an accepted reply after a step came to be sent
-  replied_on : OneReading → (ksn : Serial) (code : Code) → HasReply new.answers ksn code → CameToBeReplied answers (outcomes ++ outcome ∷ []) ksn code
-  replied_on one ksn code replied = elim (replied_comes m old outcome new ksn code one view replied) [
+  replied_on : OneReading → ExchangeLaws → (ksn : Serial) (code : Code) → HasReply new.answers ksn code → CameToBeReplied answers (outcomes ++ outcome ∷ []) ksn code
+  replied_on one exchanges ksn code replied = elim (replied_comes m old outcome new ksn code one exchanges gives view replied) [
     | inl before ↦ still_replied answers outcomes outcome ksn code (ended.replied ksn code before)
     | inr accepts ↦ inr (Any-push (AcceptsWith ksn code) outcomes outcome accepts)
   ]
 
   -- with one step more they end so too
-  ended_on : OneReading → BegunIsRequest m.cell → NoneTwice new.requests → Ended terminals new.terminals answers new.answers new.requests (outcomes ++ outcome ∷ [])
-  ended_on one request none = record {
+  ended_on : OneReading → ExchangeLaws → BegunIsRequest m.cell → NoneTwice new.requests → Ended terminals new.terminals answers new.answers new.requests (outcomes ++ outcome ∷ [])
+  ended_on one exchanges request none = record {
     accepted = accepted_on;
     once = once_on;
     over = over_on request none;
     pending = pending_on;
     used = used_on;
-    replied = replied_on one;
+    replied = replied_on one exchanges;
   }
 
 -- the world just before a terminal is done has its reply
@@ -210,14 +220,14 @@ done_has_its_reply m before after event t ksn code step =
     record { pending = told.0; replied = told.1 }
 
 -- the transactions of a call end each once, and by the host's reply
-pub completed_by_call : {C L I : Type 0} (m : Meanings C L I) → OneReading → BegunIsRequest m.cell → ((world : WorldOf C L I) → Reached m world → NoneTwice world.requests) → SentByOwners m
+pub completed_by_call : {C L I : Type 0} (m : Meanings C L I) → OneReading → ExchangeLaws → BegunIsRequest m.cell → ((world : WorldOf C L I) → Reached m world → NoneTwice world.requests) → SentByOwners m
     → (old new : WorldOf C L I) (outcomes : List Outcome) → Reached m old → CallLeads m old outcomes new → Completed m old new.terminals outcomes
-completed_by_call {C} {L} {I} m one request none owners old new outcomes reached leads =
+completed_by_call {C} {L} {I} m one exchanges request none owners old new outcomes reached leads =
     let HasEnded : List Outcome → WorldOf C L I → Type 0 = λ outcomes world. Ended old.terminals world.terminals old.answers world.answers world.requests outcomes in
     let ended = leads_all m HasEnded
     (λ outcomes before after event outcome reached ended step.
-    ended_on m old.terminals old.answers outcomes before outcome after ended (pending_safe m request owners before reached) (step_view m before event outcome after step)
-    one request (none after (reached_step m before after event outcome reached step)))
+    ended_on m old.terminals old.answers outcomes before outcome after ended (pending_safe m request owners before reached) (reached_gives m exchanges before reached) (step_view m before event outcome after step)
+    one exchanges request (none after (reached_step m before after event outcome reached step)))
     (λ outcomes before after reached ended left. subst (λ world. HasEnded outcomes world) (sym left.rest) ended)
     old new outcomes reached (none_ended old.terminals old.answers old.requests) leads in
     record {

@@ -25,7 +25,7 @@ use Rattle.duk_net.specs.World.{Frame, Meanings, WorldOf}
 use Rattle.duk_net.specs.declared.outcome.Outcome.{Outcome}
 use Rattle.duk_net.proofs.AcceptedIsKept.{AnswerLaws, HostKeepsAccepted, KeepsAllAccepted, UsesAll, reached_safe}
 use Rattle.duk_net.proofs.ReachedByMoves.{reached_all}
-use Rattle.duk_net.proofs.StepChanges.{TouchesHost, View, accept, done, host, host_armed, host_restart_refused, host_restarted, left_touches, load, no_answer, nothing, refuse, send, step_view, terminal}
+use Rattle.duk_net.proofs.StepChanges.{TouchesHost, View, accept, done, host, host_armed, host_restart_refused, host_restarted, left_touches, load, no_answer, nothing, refuse, repeat, send, step_view, terminal}
 
 -- each list that a restart of a log may find is one of such numbers
 abbrev pub FindsUsable : StoreState Numbers → Type 0
@@ -112,6 +112,7 @@ view_usable m old outcome new safe usable (send t k purchase ksn is sent) = rw s
 view_usable m old outcome new safe usable (terminal t change quiet) = rw change.rest usable
 view_usable m old outcome new safe usable (done k t frame ksn code is sent change) = rw change.rest usable
 view_usable m old outcome new safe usable (accept k n ksn code is up) = accepts_usable m old.host new.host old.answers up.request.items up.frame.items safe usable up.accepted
+view_usable m old outcome new safe usable (repeat k n ksn code is up) = rw up.repeated.same usable
 view_usable m old outcome new safe usable (refuse k n ksn reason is up) = rw up.refused.same usable
 view_usable m old outcome new safe usable (host touches rest quiet) = touched_usable m old.host new.host old.answers safe usable touches
 

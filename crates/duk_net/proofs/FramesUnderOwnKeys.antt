@@ -1,13 +1,14 @@
 -- The keys of the requests and the accepted replies that were sent, and why a host refuses a request.
 use Rattle.std.proofs.Common.{◌≡◌, ◌⊎◌, ℕ, List, Some, All, inl, inr, refl, sym, ap, subst, ◌∙◌, arith}
-use Rattle.std.specs.List.{slice_get}
+use Rattle.std.specs.List.{Contains, slice_get}
 use Rattle.std.proofs.lemmas.List.Elements.{All-nil, All-push}
 use Rattle.std.proofs.lemmas.Option.{get_or_from_slice_get, slice_get_within}
-use Rattle.duk_frame.specs.Answer.{IsAnswer, IsRefusal}
+use Rattle.duk_frame.specs.Answer.{IsAnswer, IsRefusal, IsReply}
 use Rattle.duk_frame.specs.Payment.{request_of}
 use Rattle.duk_frame.specs.Request.{IsRequest}
 use Rattle.duk_frame.specs.declared.answer.AnswerFrame.{AnswerFrame}
 use Rattle.duk_frame.specs.declared.answer.AnswerFrame.TheVariants.{Refusal, Reply}
+use Rattle.duk_frame.specs.declared.code.Code.{Code}
 use Rattle.duk_frame.specs.declared.request.Request.{Request}
 use Rattle.duk_host.specs.Host.{basis_of}
 use Rattle.duk_host.specs.Judgement.{JudgementBasis, IsAuthentic, IsReplyWith, IsReasonAgainst, IsRefusedRequest, reason_number}
@@ -25,13 +26,14 @@ use Rattle.duk_tree.specs.Serial.{IsSerial, Serial, iksn_prefix_of, prefix_of}
 use Rattle.duk_net.specs.OwnKey.{IsOwnReply, IsOwnRequest, IsRefusedAsUsedOrFull}
 use Rattle.duk_net.specs.Reached.{CallLeads, Moves, Reached}
 use Rattle.duk_net.specs.UnusedKeys.{HoldsOfState, HoldsOfTerminals, OwnsAboveUsed, StandsAboveUsed}
-use Rattle.duk_net.specs.Up.{UpRefused, answer_outcome}
+use Rattle.duk_net.specs.Up.{UpRefused}
 use Rattle.duk_net.specs.World.{Frame, Meanings, WorldOf}
 use Rattle.duk_net.specs.declared.outcome.Outcome.{Outcome}
 use Rattle.duk_net.specs.declared.outcome.Outcome.TheVariants as came
 use Rattle.duk_net.proofs.AboveUsed.{BegunIsRequest}
 use Rattle.duk_net.proofs.AcceptedIsKept.{RepliesAreRead}
 use Rattle.duk_net.proofs.ReachedByMoves.{leads_all, reached_all}
+use Rattle.duk_net.proofs.RepeatsWereSent.{ExchangeLaws, WasSent, reached_gives, repeat_was_sent}
 use Rattle.duk_net.proofs.StepChanges.{IsQuiet, View, left_touches, step_view, touched_keys}
 use Rattle.duk_net.proofs.StepChanges as shape
 
@@ -41,6 +43,7 @@ pub record KeyLaws {C L I : Type 0} (m : Meanings C L I) : Type 0 where
   pub one_request : (bytes : List ℕ) (request other : Request) → IsRequest bytes request → IsRequest bytes other → request ≡ other
   pub one_answer : (bytes : List ℕ) (answer other : AnswerFrame) → IsAnswer bytes answer → IsAnswer bytes other → answer ≡ other
   pub replies : RepliesAreRead
+  pub exchanges : ExchangeLaws
   pub request : BegunIsRequest m.cell
   pub readable : (purchase : Purchase) (before after : TerminalOf C) (frame : List ℕ) → IsBegun m.cell purchase before after frame → IsPinBlock purchase.pin purchase.pan (pin_block purchase.pin purchase.pan)
   pub taken : (initial : List ℕ) (old new : RegisterSet) (key : List ℕ) → IsUsable old.counter → IsTaken old key new → StandsFor initial old → key ≡ transaction_key_of initial old.iksn old.counter
@@ -54,6 +57,10 @@ pub record KeyLaws {C L I : Type 0} (m : Meanings C L I) : Type 0 where
 all_at : {A : Type 0} (P : A → Type 0) (things : List A) (place : ℕ) (thing : A) → All P things → slice_get things place ≡ Some thing → P thing
 all_at P things place thing all is = subst P (get_or_from_slice_get things place thing thing is) (all place thing (slice_get_within things place thing is))
 
+-- and so what holds of each of them holds of any
+all_among : {A : Type 0} (P : A → Type 0) (things : List A) (thing : A) → All P things → Contains things thing → P thing
+all_among P things thing all (place, within, is) = subst P is (all place thing within)
+
 -- against an authentic request there is no reason but that its number is used or that the log is full
 used_or_full : (basis : JudgementBasis) (request : Request) (why : _) → IsAuthentic basis.keys request → IsReasonAgainst basis request why → (reason_number why ≡ 5) ⊎ (reason_number why ≡ 6)
 used_or_full basis request why authentic refuses = grind arith
@@ -66,6 +73,11 @@ quiet_refusal outcome quiet = grind arith
 abbrev IsOwnAnswer : HsmKeys → List ℕ → AnswerFrame → Type 0
 IsOwnAnswer keys bytes (Reply ksn code mac) = IsReplyWith keys ksn code bytes
 IsOwnAnswer keys bytes (Refusal ksn reason) = Unit {0}
+
+-- where an answer is a refusal, it says that the number is used or that the log is full
+abbrev SaysUsedOrFull : AnswerFrame → Type 0
+SaysUsedOrFull (Reply ksn code mac) = Unit {0}
+SaysUsedOrFull (Refusal ksn reason) = (reason ≡ 5) ⊎ (reason ≡ 6)
 
 -- all requests and all accepted replies that were sent are made under the transaction keys of their numbers
 abbrev IsOwn : {C L I : Type 0} → WorldOf C L I → Type 0
@@ -108,6 +120,13 @@ module _ {C L I : Type 0} (m : Meanings C L I) (laws : KeyLaws m) where
   own_reply : (keys : HsmKeys) (frame : Frame) (answer : AnswerFrame) → IsAnswer frame.items answer → IsOwnAnswer keys frame.items answer → IsOwnReply keys frame
   own_reply keys frame answer told own ksn code mac is = subst (IsOwnAnswer keys frame.items) (laws.one_answer frame.items answer (Reply ksn code mac) told is) own
 
+  -- what is given again is made so too, since it was sent
+  own_again : (keys : HsmKeys) (answers : List Frame) (bytes : List ℕ) → All (IsOwnReply keys) answers → WasSent answers bytes
+      → (ksn : Serial) (code : Code) (mac : List ℕ) → IsReply bytes ksn code mac → IsReplyWith keys ksn code bytes
+  own_again keys answers bytes all was =
+      subst (λ bytes. (ksn : Serial) (code : Code) (mac : List ℕ) → IsReply bytes ksn code mac → IsReplyWith keys ksn code bytes) was.bytes_are
+      (all_among (IsOwnReply keys) answers was.frame all was.sent)
+
   -- what a step sends is made under the transaction key of its number, and the host keeps its keys
   step_own : (old new : WorldOf C L I) (outcome : Outcome) → Reached m old → IsOwn old → View m old outcome new → IsOwn new
   step_own old new outcome reached own (shape.nothing same quiet) = rw same own
@@ -122,6 +141,9 @@ module _ {C L I : Type 0} (m : Meanings C L I) (laws : KeyLaws m) where
   step_own old new outcome reached own (shape.accept k n ksn code is up) =
       let reply = up.accepted.accepted.reply.reply in
       rw (up.answered.rest, up.accepted.kept.ends.keys) (own.0, All-push (IsOwnReply old.host.keys) old.answers up.frame own.1 (own_reply old.host.keys up.frame (Reply _ _ _) (laws.replies _ up.request.items up.accepted.request up.frame.items up.accepted.accepted) reply))
+  step_own old new outcome reached own (shape.repeat k n ksn code is up) =
+      let was = repeat_was_sent m old k n ksn code new laws.exchanges (reached_gives m laws.exchanges old reached) up in
+      rw (up.answered.rest, up.repeated.same) (own.0, All-push (IsOwnReply old.host.keys) old.answers up.frame own.1 (own_again old.host.keys old.answers up.frame.items own.1 was))
   step_own old new outcome reached own (shape.refuse k n ksn reason is up) =
       rw (up.answered.rest, up.refused.same) (own.0, All-push (IsOwnReply old.host.keys) old.answers up.frame own.1 (own_reply old.host.keys up.frame (Refusal ksn reason) up.told tt))
   step_own old new outcome reached own (shape.done k t frame ksn code is at change) = rw change.rest own
@@ -148,7 +170,7 @@ module _ {C L I : Type 0} (m : Meanings C L I) (laws : KeyLaws m) where
         | inr refused ↦
             let same = laws.one_request up.request.items own.request refused.request own.is_request refused.is_request in
             let reason_is = used_or_full (basis_of m.host old.host up.refused.running) refused.request refused.reason (subst (IsAuthentic old.host.keys) same own.authentic) refused.refuses in
-            subst (λ answer. IsRefusedAsUsedOrFull (answer_outcome n answer)) (laws.one_answer up.frame.items (Refusal _ _) (Refusal ksn reason) (laws.refusals _ up.request.items up.frame.items refused) up.told) reason_is
+            subst SaysUsedOrFull (laws.one_answer up.frame.items (Refusal _ _) (Refusal ksn reason) (laws.refusals _ up.request.items up.frame.items refused) up.told) reason_is
       ]
 
   -- a step refuses no request that was sent but because its number is used or the log is full
@@ -158,6 +180,7 @@ module _ {C L I : Type 0} (m : Meanings C L I) (laws : KeyLaws m) where
   step_refuses old new outcome reached (shape.send t k purchase ksn is sent) = rw is tt
   step_refuses old new outcome reached (shape.terminal t change quiet) = quiet_refusal outcome quiet
   step_refuses old new outcome reached (shape.accept k n ksn code is up) = rw is tt
+  step_refuses old new outcome reached (shape.repeat k n ksn code is up) = rw is tt
   step_refuses old new outcome reached (shape.refuse k n ksn reason is up) = rw is (request_refused old new k n ksn reason reached up)
   step_refuses old new outcome reached (shape.done k t frame ksn code is at change) = rw is tt
   step_refuses old new outcome reached (shape.host touches same quiet) = quiet_refusal outcome quiet

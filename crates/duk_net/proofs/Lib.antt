@@ -12,6 +12,7 @@ mod LoadStaysAboveUsed
 mod BeginStaysAboveUsed
 mod WorldStaysAboveUsed
 mod UsedKeysAreGone
+mod RepeatsWereSent
 mod AcceptedIsKept
 mod FoundIsUsable
 mod StoreFaults

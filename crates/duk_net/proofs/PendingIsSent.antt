@@ -173,6 +173,7 @@ pending_comes m old outcome new u ksn (step.send t k purchase sent is begins) wa
 ]
 pending_comes m old outcome new u ksn (step.terminal t change quiet) waits = inl (acts_subside t _ old.terminals new.terminals (touches_subsides m) change.terminal u ksn waits)
 pending_comes m old outcome new u ksn (step.accept k n sent code is up) waits = inl (subst (λ terminals. IsPendingAt terminals u ksn) (ap (λ world. world.terminals) up.answered.rest) waits)
+pending_comes m old outcome new u ksn (step.repeat k n sent code is up) waits = inl (subst (λ terminals. IsPendingAt terminals u ksn) (ap (λ world. world.terminals) up.answered.rest) waits)
 pending_comes m old outcome new u ksn (step.refuse k n sent reason is up) waits = inl (subst (λ terminals. IsPendingAt terminals u ksn) (ap (λ world. world.terminals) up.answered.rest) waits)
 pending_comes m old outcome new u ksn (step.done k t frame sent code is at change) waits =
     inl (acts_subside t _ old.terminals new.terminals (λ before after told pending waits. absurd (done_waits frame sent code before after pending told waits)) change.terminal u ksn waits)
@@ -187,6 +188,7 @@ requests_stay m old outcome new frame (step.send t k purchase ksn is begins) sen
     subst (λ world. Contains world.requests frame) (sym begins.rest) (Contains-append_left old.requests (begins.frame ∷ []) frame sent)
 requests_stay m old outcome new frame (step.terminal t change quiet) sent = subst (λ world. Contains world.requests frame) (sym change.rest) sent
 requests_stay m old outcome new frame (step.accept k n ksn code is up) sent = subst (λ world. Contains world.requests frame) (sym up.answered.rest) sent
+requests_stay m old outcome new frame (step.repeat k n ksn code is up) sent = subst (λ world. Contains world.requests frame) (sym up.answered.rest) sent
 requests_stay m old outcome new frame (step.refuse k n ksn reason is up) sent = subst (λ world. Contains world.requests frame) (sym up.answered.rest) sent
 requests_stay m old outcome new frame (step.done k t told ksn code is at change) sent = subst (λ world. Contains world.requests frame) (sym change.rest) sent
 requests_stay m old outcome new frame (step.host touched rest quiet) sent = subst (λ world. Contains world.requests frame) (sym rest) sent
@@ -215,6 +217,7 @@ step_tells m old outcome new (step.load t iksn given quiet) = quiet_tells m old 
 step_tells m old outcome new (step.send t k purchase ksn is begins) = subst (λ outcome. Tells m old outcome new) (sym is) (purchase, begins)
 step_tells m old outcome new (step.terminal t change quiet) = quiet_tells m old outcome new quiet
 step_tells m old outcome new (step.accept k n ksn code is up) = subst (λ outcome. Tells m old outcome new) (sym is) tt
+step_tells m old outcome new (step.repeat k n ksn code is up) = subst (λ outcome. Tells m old outcome new) (sym is) tt
 step_tells m old outcome new (step.refuse k n ksn reason is up) = subst (λ outcome. Tells m old outcome new) (sym is) tt
 step_tells m old outcome new (step.done k t frame ksn code is at change) = subst (λ outcome. Tells m old outcome new) (sym is) (k, frame, at, change)
 step_tells m old outcome new (step.host touched rest quiet) = quiet_tells m old outcome new quiet

@@ -22,7 +22,7 @@ use Rattle.duk_net.specs.Down.{IsToldOf, TakesAnswer}
 use Rattle.duk_net.specs.Load.{IsGiven, TakesLoad}
 use Rattle.duk_net.specs.Restart.{IsHostLeft, RestartsHost, TakesRestart}
 use Rattle.duk_net.specs.Step.{Step}
-use Rattle.duk_net.specs.Up.{UpAccepted, UpRefused, ReachesHost}
+use Rattle.duk_net.specs.Up.{UpAccepted, UpRefused, UpRepeated, ReachesHost}
 use Rattle.duk_net.specs.World.{ChangesOnly, Frame, IsAt, Meanings, ChangesTerminal, WorldOf}
 use Rattle.duk_net.specs.declared.event.End.TheVariants as end
 use Rattle.duk_net.specs.declared.event.Event.{Event}
@@ -34,6 +34,7 @@ use Rattle.duk_net.specs.declared.outcome.Outcome.TheVariants as came
 abbrev pub IsQuiet : Outcome → Type 0
 IsQuiet (came.Sent t k ksn) = ⊥
 IsQuiet (came.Accepted k ksn code) = ⊥
+IsQuiet (came.Repeated k ksn code) = ⊥
 IsQuiet (came.Refused k ksn reason) = ⊥
 IsQuiet (came.Done t ksn code) = ⊥
 IsQuiet _ = Unit {0}
@@ -59,6 +60,7 @@ pub data View {C L I : Type 0} (m : Meanings C L I) (old : WorldOf C L I) (outco
   send : (t k : ℕ) (purchase : Purchase) (ksn : Serial) → outcome ≡ came.Sent t k ksn → IsSent m old t purchase k ksn new → View m old outcome new
   terminal : (t : ℕ) → ChangesTerminal t (Touches m) old new → IsQuiet outcome → View m old outcome new
   accept : (k n : ℕ) (ksn : Serial) (code : Code) → outcome ≡ came.Accepted n ksn code → UpAccepted m old k n ksn code new → View m old outcome new
+  repeat : (k n : ℕ) (ksn : Serial) (code : Code) → outcome ≡ came.Repeated n ksn code → UpRepeated m old k n ksn code new → View m old outcome new
   refuse : (k n : ℕ) (ksn : Serial) (reason : ℕ) → outcome ≡ came.Refused n ksn reason → UpRefused m old k n ksn reason new → View m old outcome new
   done : (k t : ℕ) (frame : Frame) (ksn : Serial) (code : Code) → outcome ≡ came.Done t ksn code → IsAt old.answers k frame
       → ChangesTerminal t (IsToldOf frame ksn (answer.Done code)) old new → View m old outcome new
@@ -97,6 +99,7 @@ quiet_as outcome other is quiet = subst IsQuiet (sym is) quiet
 quiet_load : {C : Type 0} (meaning : CellMeaning C) (t : ℕ) (asked : Loading) (outcome : Outcome) (before after : TerminalOf C) → TakesLoad meaning t asked outcome before after → IsQuiet outcome
 quiet_load meaning at asked (came.Sent t k ksn) before after takes = absurd takes
 quiet_load meaning at asked (came.Accepted k ksn code) before after takes = absurd takes
+quiet_load meaning at asked (came.Repeated k ksn code) before after takes = absurd takes
 quiet_load meaning at asked (came.Refused k ksn reason) before after takes = absurd takes
 quiet_load meaning at asked (came.Done t ksn code) before after takes = absurd takes
 quiet_load meaning at asked _ before after takes = tt
@@ -109,6 +112,7 @@ begin_view m old at purchase _ new begins = absurd begins
 
 up_view : {C L I : Type 0} (m : Meanings C L I) (old : WorldOf C L I) (k : ℕ) (outcome : Outcome) (new : WorldOf C L I) → ReachesHost m old k outcome new → View m old outcome new
 up_view m old which (came.Accepted n ksn code) new ups = accept which n ksn code refl ups
+up_view m old which (came.Repeated n ksn code) new ups = repeat which n ksn code refl ups
 up_view m old which (came.Refused n ksn reason) new ups = refuse which n ksn reason refl ups
 up_view m old which (came.HostFaulted why) new ups = host (no_answer _ why ups.faulted) ups.rest tt
 up_view m old which came.NoSuchFrame new ups = nothing ups.1 tt

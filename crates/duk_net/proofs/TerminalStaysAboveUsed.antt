@@ -1,5 +1,5 @@
 -- A terminal stays safe, whatever happens to it.
-use Rattle.std.proofs.Common.{◌≡◌, ℕ, List, Some, None, inl, inr, refl, sym, ap, subst, ◌∙◌}
+use Rattle.std.proofs.Common.{◌≡◌, ℕ, List, Some, None, inl, inr, refl, sym, subst}
 use Rattle.duk_regs.specs.Registers.{RegisterSet}
 use Rattle.duk_store.specs.Cell.{CellMeaning, Kept, PutFailed}
 use Rattle.duk_store.specs.StoreState.{StoreState}

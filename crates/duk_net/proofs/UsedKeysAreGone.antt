@@ -1,5 +1,5 @@
 -- Registers that stand above every used number hold the key of no used number, nor of an ancestor of one.
-use Rattle.std.proofs.Common.{pow_pos, ◌≡◌, ◌⊎◌, ◌<◌, ◌≤◌, ◌^◌, [], ◌∷◌, ℕ, List, Some, None, length, inl, inr, sym, ap, subst, ◌∙◌, arith}
+use Rattle.std.proofs.Common.{pow_pos, ◌≡◌, ◌⊎◌, ◌<◌, ◌≤◌, ◌^◌, [], ◌∷◌, ℕ, List, Some, None, length, inl, inr, sym, subst, arith}
 use Rattle.duk_regs.specs.Registers.{HoldsNode, RegisterSet, StandsFor, empty_register, register_at}
 use Rattle.duk_store.specs.Cell.{Kept}
 use Rattle.duk_term.specs.Body.{KeepsRegisters, set_of_body}

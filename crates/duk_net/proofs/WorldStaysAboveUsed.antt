@@ -17,7 +17,7 @@ use Rattle.duk_net.proofs.LoadStaysAboveUsed.{MayBeGiven, after_load, load_follo
 use Rattle.duk_net.proofs.OwnersStay.{owner_stays}
 use Rattle.duk_net.proofs.ReachedByMoves.{leads_all, reached_all}
 use Rattle.duk_net.proofs.AboveUsed.{AreOwned, Books, Follows, KeptSafe, StateSafe, TermSafe, WorldLaws, WorldSafe, books_of, term_follows}
-use Rattle.duk_net.proofs.StepChanges.{IsQuiet, View, accept, done, host, left_touches, load, nothing, refuse, send, step_view, terminal, touched_keys}
+use Rattle.duk_net.proofs.StepChanges.{IsQuiet, View, accept, done, host, left_touches, load, nothing, refuse, repeat, send, step_view, terminal, touched_keys}
 use Rattle.duk_net.proofs.TerminalStaysAboveUsed.{done_safe, touched_safe}
 
 -- nothing stands in the empty list
@@ -74,6 +74,9 @@ step_is_safe m old new outcome laws safe (host touches rest quiet) =
 step_is_safe m old new outcome laws safe (accept k n ksn code is up) =
     stays_safe m old new safe (ap (λ world. world.terminals) up.answered.rest)
     (ap (λ world. books_of world) up.answered.rest ∙ ap (λ keys. record { keys = keys; requests = old.requests; owners = old.owners }) up.accepted.kept.ends.keys)
+step_is_safe m old new outcome laws safe (repeat k n ksn code is up) =
+    stays_safe m old new safe (ap (λ world. world.terminals) up.answered.rest)
+    (ap (λ world. books_of world) up.answered.rest ∙ ap (λ host. record { keys = host.keys; requests = old.requests; owners = old.owners }) up.repeated.same)
 step_is_safe m old new outcome laws safe (refuse k n ksn reason is up) =
     stays_safe m old new safe (ap (λ world. world.terminals) up.answered.rest)
     (ap (λ world. books_of world) up.answered.rest ∙ ap (λ host. record { keys = host.keys; requests = old.requests; owners = old.owners }) up.refused.same)
@@ -139,6 +142,7 @@ pub step_owners_stay : {C L I : Type 0} (m : Meanings C L I) (old new : WorldOf 
 step_owners_stay m old new outcome (nothing same quiet) iksn t owned = ap (λ world. owner_of world.owners iksn) same ∙ owned
 step_owners_stay m old new outcome (host touches rest quiet) iksn t owned = ap (λ world. owner_of world.owners iksn) rest ∙ owned
 step_owners_stay m old new outcome (accept k n ksn code is up) iksn t owned = ap (λ world. owner_of world.owners iksn) up.answered.rest ∙ owned
+step_owners_stay m old new outcome (repeat k n ksn code is up) iksn t owned = ap (λ world. owner_of world.owners iksn) up.answered.rest ∙ owned
 step_owners_stay m old new outcome (refuse k n ksn reason is up) iksn t owned = ap (λ world. owner_of world.owners iksn) up.answered.rest ∙ owned
 step_owners_stay m old new outcome (terminal u change quiet) iksn t owned = ap (λ world. owner_of world.owners iksn) change.rest ∙ owned
 step_owners_stay m old new outcome (done k u frame ksn code is sent change) iksn t owned = ap (λ world. owner_of world.owners iksn) change.rest ∙ owned
@@ -155,6 +159,7 @@ step_by_owner : {C L I : Type 0} (m : Meanings C L I) (old new : WorldOf C L I) 
 step_by_owner m old new outcome safe (nothing same quiet) = quiet_by_owner new.owners outcome quiet
 step_by_owner m old new outcome safe (host touches rest quiet) = quiet_by_owner new.owners outcome quiet
 step_by_owner m old new outcome safe (accept k n ksn code is up) = by_owner_as new.owners outcome (came.Accepted n ksn code) is tt
+step_by_owner m old new outcome safe (repeat k n ksn code is up) = by_owner_as new.owners outcome (came.Repeated n ksn code) is tt
 step_by_owner m old new outcome safe (refuse k n ksn reason is up) = by_owner_as new.owners outcome (came.Refused n ksn reason) is tt
 step_by_owner m old new outcome safe (terminal t change quiet) = quiet_by_owner new.owners outcome quiet
 step_by_owner m old new outcome safe (done k t frame ksn code is sent change) = by_owner_as new.owners outcome (came.Done t ksn code) is tt
@@ -190,6 +195,7 @@ step_keys_stay : {C L I : Type 0} (m : Meanings C L I) (old new : WorldOf C L I)
 step_keys_stay m old new outcome (nothing same quiet) = ap (λ world. world.host.keys) same
 step_keys_stay m old new outcome (host touches rest quiet) = touched_keys m old.host new.host touches
 step_keys_stay m old new outcome (accept k n ksn code is up) = up.accepted.kept.ends.keys
+step_keys_stay m old new outcome (repeat k n ksn code is up) = ap (λ host. host.keys) up.repeated.same
 step_keys_stay m old new outcome (refuse k n ksn reason is up) = ap (λ host. host.keys) up.refused.same
 step_keys_stay m old new outcome (terminal t change quiet) = ap (λ world. world.host.keys) change.rest
 step_keys_stay m old new outcome (done k t frame ksn code is sent change) = ap (λ world. world.host.keys) change.rest

@@ -1,10 +1,10 @@
 -- A request reaches the host of a world: this project's own.
 use Rattle.std.specs.Prelude.{◌≡◌, ◌≢◌, ◌+◌, ◌++◌, ◌∷◌, [], ℕ, List, length}
 use Rattle.duk_frame.specs.Answer.{IsRefusal, IsReply}
-use Rattle.duk_frame.specs.declared.answer.AnswerFrame.{AnswerFrame}
-use Rattle.duk_frame.specs.declared.answer.AnswerFrame.TheVariants.{Refusal, Reply}
 use Rattle.duk_frame.specs.declared.code.Code.{Code}
-use Rattle.duk_host.specs.Handle.{AnswersRefusal, AnswersReply, HandleRefused}
+use Rattle.duk_host.specs.Handle.{AnswersRefusal, AnswersRepeat, AnswersReply, HandleRefused}
+use Rattle.duk_host.specs.declared.answered.Verdict.{Verdict}
+use Rattle.duk_host.specs.declared.answered.Verdict.TheVariants.{Accepted, Refused, Repeated}
 use Rattle.duk_host.specs.declared.fault.HostFault.{HostFault}
 use Rattle.duk_host.specs.declared.fault.HostFault.TheVariants.{NoMemory}
 use Rattle.duk_tree.specs.Serial.{Serial}
@@ -12,10 +12,11 @@ use Rattle.duk_net.specs.World.{Frame, HasNone, IsAt, Meanings, WorldOf}
 use Rattle.duk_net.specs.declared.outcome.Outcome.{Outcome}
 use Rattle.duk_net.specs.declared.outcome.Outcome.TheVariants as outcome
 
--- what comes of an answer of the host, the one of this number
-abbrev pub answer_outcome : ℕ → AnswerFrame → Outcome
-answer_outcome n (Reply ksn code mac) = outcome.Accepted n ksn code
-answer_outcome n (Refusal ksn reason) = outcome.Refused n ksn reason
+-- what comes of what the host says of a request, in the answer of this number
+abbrev pub verdict_outcome : ℕ → Verdict → Outcome
+verdict_outcome n (Accepted ksn code) = outcome.Accepted n ksn code
+verdict_outcome n (Repeated ksn code) = outcome.Repeated n ksn code
+verdict_outcome n (Refused ksn reason) = outcome.Refused n ksn reason
 
 -- the host answers, and the answer is sent
 pub record IsAnswered
@@ -33,6 +34,19 @@ pub record UpAccepted
   pub mac : List ℕ
   pub sent : IsAt old.requests k request
   pub accepted : AnswersReply m.host request.items old.host new.host frame.items
+  pub told : IsReply frame.items ksn code mac
+  pub answered : IsAnswered old n frame new
+
+-- the host had accepted the request of this number before, and the answer is the reply that it gave
+-- then, with this code
+pub record UpRepeated
+    {C L I : Type 0} (m : Meanings C L I) (old : WorldOf C L I) (k n : ℕ) (ksn : Serial)
+    (code : Code) (new : WorldOf C L I) : Type 0 where
+  pub request : Frame
+  pub frame : Frame
+  pub mac : List ℕ
+  pub sent : IsAt old.requests k request
+  pub repeated : AnswersRepeat m.host request.items old.host new.host frame.items
   pub told : IsReply frame.items ksn code mac
   pub answered : IsAnswered old n frame new
 
@@ -62,6 +76,7 @@ abbrev pub ReachesHost : {C L I : Type 0} → Meanings C L I → WorldOf C L I �
     → WorldOf C L I → Type 0
 ReachesHost m old k outcome.NoSuchFrame new = HasNone old.requests k × (new ≡ old)
 ReachesHost m old k (outcome.Accepted n ksn code) new = UpAccepted m old k n ksn code new
+ReachesHost m old k (outcome.Repeated n ksn code) new = UpRepeated m old k n ksn code new
 ReachesHost m old k (outcome.Refused n ksn reason) new = UpRefused m old k n ksn reason new
 ReachesHost m old k (outcome.HostFaulted why) new = UpFaulted m old k why new
 ReachesHost m old k _ new = ⊥

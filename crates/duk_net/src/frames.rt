@@ -4,10 +4,11 @@ ghost use Rattle.std.specs.Prelude.{◌≡◌, List, ℕ};
 ghost use Rattle.duk_frame.specs.Answer.{IsAnswer};
 ghost use Rattle.duk_frame.specs.Request.{IsRequest};
 ghost use Rattle.duk_term.specs.Reply.{ksn_in};
-ghost use Rattle.duk_net.specs.Up.{answer_outcome};
+ghost use Rattle.duk_net.specs.Up.{verdict_outcome};
 
 use crate::outcome::Outcome;
 use duk_frame::{AnswerFrame, Frame, Request, read_answer, read_request};
+use duk_host::Verdict;
 use duk_tree::Ksn;
 
 /// The key serial number in a request.
@@ -28,12 +29,13 @@ pub(crate) fn ksn_of_answer(frame: &Frame) -> Ksn
     }
 }
 
-/// What comes of a request that the host answers so, in answer `k`.
-pub(crate) fn outcome_of(k: u64, answer: &AnswerFrame) -> Outcome
-    ensures { result ≡ answer_outcome k answer.now }
+/// What comes of a request of which the host says so, in answer `k`.
+pub(crate) fn outcome_of(k: u64, says: Verdict) -> Outcome
+    ensures { result ≡ verdict_outcome k says }
 {
-    match *answer {
-        AnswerFrame::Reply { ksn, code, .. } => Outcome::Accepted { k, ksn, code },
-        AnswerFrame::Refusal { ksn, reason } => Outcome::Refused { k, ksn, reason },
+    match says {
+        Verdict::Accepted { ksn, code } => Outcome::Accepted { k, ksn, code },
+        Verdict::Repeated { ksn, code } => Outcome::Repeated { k, ksn, code },
+        Verdict::Refused { ksn, reason } => Outcome::Refused { k, ksn, reason },
     }
 }

@@ -87,12 +87,13 @@ pub fn one_acceptance<C: Cell, L: UsedLog, I: Issuer>()
         → AcceptsOnce old.answers outcomes }
 {
     duk_frame::laws::one_reading();
+    duk_host::laws::exchanges();
     duk_host::laws::replies();
 }
 
-/// Each request and each accepted reply is made under the transaction key of its number, from the
-/// terminal's own initial key, and a running host refuses no request that was sent but because its
-/// number is used or the log is full.
+/// Each request and each accepted reply, given for the first time or again, is made under the
+/// transaction key of its number, from the terminal's own initial key, and a running host refuses no
+/// request that was sent but because its number is used or the log is full.
 pub fn own_key<C: Cell, L: UsedLog, I: Issuer>()
     ensures requests { (world : WorldOf C L I)
         → Reached (meanings_of C.meaning L.meaning I.decides) world
@@ -109,6 +110,7 @@ pub fn own_key<C: Cell, L: UsedLog, I: Issuer>()
     duk_regs::laws::transactions();
     duk_term::laws::requests::<C>();
     duk_host::laws::refusals();
+    duk_host::laws::exchanges();
     duk_host::laws::replies();
     duk_frame::laws::one_reading();
     duk_tree::laws::keys();
@@ -126,6 +128,7 @@ pub fn completion_by_host<C: Cell, L: UsedLog, I: Issuer>()
         → Completed (meanings_of C.meaning L.meaning I.decides) old new.terminals outcomes }
 {
     no_number_twice::<C, L, I>();
+    duk_host::laws::exchanges();
     duk_term::laws::requests::<C>();
     duk_frame::laws::one_reading();
 }
@@ -160,6 +163,7 @@ pub fn calm_stores<C: Cell, L: UsedLog, I: Issuer>()
     duk_regs::laws::transactions();
     duk_frame::laws::one_reading();
     duk_tree::laws::bits();
+    duk_host::laws::exchanges();
     duk_host::laws::replies();
 }
 
@@ -193,6 +197,7 @@ pub fn calm_restarts<C: Cell, L: UsedLog, I: Issuer>()
     duk_regs::laws::transactions();
     duk_frame::laws::one_reading();
     duk_tree::laws::bits();
+    duk_host::laws::exchanges();
     duk_host::laws::replies();
 }
 

@@ -34,6 +34,15 @@ pub enum Outcome {
         /// The code of the reply.
         code: Code,
     },
+    /// The host had accepted the same request before, and gave the same reply again.
+    Repeated {
+        /// The number of the answer.
+        k: u64,
+        /// The key serial number of the request.
+        ksn: Ksn,
+        /// The code of the reply.
+        code: Code,
+    },
     /// The host refused a request.
     Refused {
         /// The number of the answer.

@@ -23,6 +23,8 @@ mod paying;
 #[cfg(test)]
 mod reloading;
 #[cfg(test)]
+mod repeating;
+#[cfg(test)]
 mod running;
 #[cfg(test)]
 mod sample;

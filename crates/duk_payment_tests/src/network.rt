@@ -58,10 +58,10 @@ pub fn of_payment() -> Result<[Line; 5], PinFault> {
         ),
         (
             Event::Up { k: 1 },
-            Outcome::Refused {
+            Outcome::Repeated {
                 k: 2,
                 ksn: ksn(1),
-                reason: 5,
+                code: Code::Approved,
             },
         ),
         (

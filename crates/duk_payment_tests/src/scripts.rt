@@ -220,6 +220,14 @@ fn lines_of_the_host(rt: HostRuntime) {
             "answer 18446744073709551615 accepted FFFF9876543210E0000A 00\n",
         ),
         (
+            Outcome::Repeated {
+                k: 4,
+                ksn: ksn(10),
+                code: Code::OverLimit,
+            },
+            "answer 4 repeated FFFF9876543210E0000A 51\n",
+        ),
+        (
             Outcome::Refused {
                 k: 10,
                 ksn: ksn(10),

@@ -7,7 +7,7 @@ use Rattle.duk_frame.specs.Code.{code_text}
 use Rattle.duk_term.specs.declared.answer.Next.{Next}
 use Rattle.duk_term.specs.declared.answer.Next.TheVariants.{Stopped, Empty, Spent, At}
 use Rattle.duk_net.specs.declared.outcome.Outcome.{Outcome}
-use Rattle.duk_net.specs.declared.outcome.Outcome.TheVariants.{Loaded, Sent, Accepted, Refused, Done, GotRefusal, TermNext, HostUsed, Armed, TermFaulted, HostFaulted, IksnElsewhere, NoKeySet, NoSuchTerminal, NoSuchFrame}
+use Rattle.duk_net.specs.declared.outcome.Outcome.TheVariants.{Loaded, Sent, Accepted, Repeated, Refused, Done, GotRefusal, TermNext, HostUsed, Armed, TermFaulted, HostFaulted, IksnElsewhere, NoKeySet, NoSuchTerminal, NoSuchFrame}
 use Rattle.duk_script.specs.FaultText.{term_fault_text, host_fault_text}
 use Rattle.duk_script.specs.Script.{end_name, spaced, terminal_name}
 
@@ -32,6 +32,8 @@ outcome_words (Loaded t iksn) = terminal_name t ∷ codes "loaded" ∷ iksn_text
 outcome_words (Sent t k ksn) = terminal_name t ∷ codes "sent" ∷ decimal k ∷ ksn_text ksn ∷ []
 outcome_words (Accepted k ksn code) =
     codes "answer" ∷ decimal k ∷ codes "accepted" ∷ ksn_text ksn ∷ code_text code ∷ []
+outcome_words (Repeated k ksn code) =
+    codes "answer" ∷ decimal k ∷ codes "repeated" ∷ ksn_text ksn ∷ code_text code ∷ []
 outcome_words (Refused k ksn reason) =
     codes "answer" ∷ decimal k ∷ codes "refused" ∷ ksn_text ksn ∷ decimal reason ∷ []
 outcome_words (Done t ksn code) =

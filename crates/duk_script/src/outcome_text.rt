@@ -27,6 +27,7 @@ fn words_of(outcome: Outcome) -> Line
         Outcome::Loaded { t, iksn } => Line::of_terminal(t).word(b"loaded").iksn(iksn),
         Outcome::Sent { t, k, ksn } => Line::of_terminal(t).word(b"sent").number(k).ksn(ksn),
         Outcome::Accepted { k, ksn, code } => answer_words(k, b"accepted", ksn).code(code),
+        Outcome::Repeated { k, ksn, code } => answer_words(k, b"repeated", ksn).code(code),
         Outcome::Refused { k, ksn, reason } => answer_words(k, b"refused", ksn).number(u64::from(
             reason,
         )),

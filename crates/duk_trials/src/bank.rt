@@ -75,7 +75,7 @@ impl Bank {
             key_sets: random_key_sets(alloc, random)?,
             cards: random_cards(alloc, random)?,
             terminals: TERMINALS,
-            log: random.below(8).saturating_add(1),
+            log: random_capacity(random),
             disk: random.once_in(2),
             lmk: random_key(random),
             long_lmk: random.once_in(4),
@@ -146,6 +146,15 @@ fn code_of(card: &Card, block: u64, amount: u32) -> &'static str {
     }
 }
 
+/// The capacity of a log: of few numbers, or seldom of more than a host keeps the requests of.
+fn random_capacity(random: &mut Random) -> u32 {
+    if random.once_in(10) {
+        80
+    } else {
+        random.below(8).saturating_add(1)
+    }
+}
+
 /// One to three key sets, and one of each prefix at most.
 fn random_key_sets(alloc: Global, random: &mut Random) -> Result<Vec<KeySet>, AllocError> {
     let mut sets = Vec::new(alloc);
@@ -197,6 +206,16 @@ pub fn random_iksn(random: &mut Random) -> Serial {
         0,
         0,
     ]
+}
+
+/// An initial key serial number of the first key set for each terminal.
+pub fn own_iksn(bank: &Bank, t: u32) -> Serial {
+    let mut iksn = [0, 0, 0, 0, 0, 0x32, 0x11, 0x20, 0, 0];
+    for set in bank.key_sets.iter().take(1) {
+        iksn[..5].copy_from_slice(&set.prefix);
+    }
+    iksn[6] = (t % 256) as u8;
+    iksn
 }
 
 /// A line with a key of 16 bytes, or of 24 whose third part is the first.

@@ -1,4 +1,4 @@
-//! What a host is to answer, written once more from docs/FORMATS.md.
+//! What a host is to answer in one run, written once more from docs/FORMATS.md.
 
 use crate::bank::Bank;
 use crate::dukpt::{
@@ -6,14 +6,60 @@ use crate::dukpt::{
     request_mac,
 };
 use crate::standard::{DoubleKey, spelled};
+use crate::tally::{name_of_code, name_of_reason};
 use std::alloc::{AllocError, Global};
 use std::str;
 
-/// The numbers that a host has accepted, and its log's capacity.
+/// How many of the requests that it accepted a host answers again, the last ones.
+pub const KEPT: usize = 64;
+
+/// A request that a host accepted, and its reply.
+#[derive(Drop)]
+struct Exchange {
+    request: Vec<u8>,
+    reply: Vec<u8>,
+}
+
+/// The numbers that a host has accepted, with the requests and their replies, and its log's
+/// capacity.
 #[derive(Drop)]
 pub struct Ledger {
     pub used: Vec<Serial>,
-    pub capacity: usize,
+    exchanges: Vec<Exchange>,
+    capacity: usize,
+}
+
+impl Ledger {
+    /// That of a host which has accepted nothing.
+    pub fn new(alloc: Global, capacity: usize) -> Self {
+        Ledger {
+            used: Vec::new(alloc),
+            exchanges: Vec::new(alloc),
+            capacity,
+        }
+    }
+
+    /// The reply to a frame that is one of the last requests that were accepted.
+    fn reply_given(&self, frame: &[u8]) -> Option<&Vec<u8>> {
+        let gone = self.exchanges.len().saturating_sub(KEPT);
+        for exchange in self.exchanges.iter().skip(gone) {
+            if exchange.request.as_slice() == frame {
+                return Some(&exchange.reply);
+            }
+        }
+        None
+    }
+
+    /// Why a number is refused: 5 or 6.
+    fn reason_against(&self, serial: &Serial) -> Option<u8> {
+        if self.used.contains(serial) {
+            Some(5)
+        } else if self.used.len() >= self.capacity {
+            Some(6)
+        } else {
+            None
+        }
+    }
 }
 
 /// The fields of a request.
@@ -28,7 +74,7 @@ struct Fields<'a> {
 }
 
 /// The ten bytes at the front of some.
-fn serial_in(bytes: &[u8]) -> Option<Serial> {
+pub fn serial_in(bytes: &[u8]) -> Option<Serial> {
     match *bytes {
         [a, b, c, d, e, f, g, h, i, j, ..] => Some([a, b, c, d, e, f, g, h, i, j]),
         _ => None,
@@ -73,8 +119,9 @@ fn fields_of(frame: &[u8]) -> Option<Fields<'_>> {
     })
 }
 
-/// Why a request is refused, from 2 to 6, or the key of its number.
-fn reason_against(bank: &Bank, ledger: &Ledger, request: &Fields) -> Result<DoubleKey, u8> {
+/// The key of a request's number, or why the request is refused before its number is looked at: from
+/// 2 to 4.
+fn key_for(bank: &Bank, request: &Fields) -> Result<DoubleKey, u8> {
     let initial = bank.initial_key_of(&request.serial).ok_or(2u8)?;
     if !is_usable(counter_of(&request.serial)) {
         return Err(3);
@@ -83,28 +130,27 @@ fn reason_against(bank: &Bank, ledger: &Ledger, request: &Fields) -> Result<Doub
     if request_mac(key, request.text) != request.mac {
         return Err(4);
     }
-    if ledger.used.contains(&request.serial) {
-        return Err(5);
-    }
-    if ledger.used.len() >= ledger.capacity {
-        return Err(6);
-    }
     Ok(key)
 }
 
-/// What came of a frame: its answer, and the reason or the code in it.
+/// What came of a frame: its answer, and the name of that.
 #[derive(Drop)]
 pub struct Judged {
     pub answer: Vec<u8>,
-    pub reason: Option<u8>,
-    pub code: Option<&'static str>,
+    pub name: &'static str,
 }
 
 fn refused(alloc: Global, serial: &Serial, reason: u8) -> Result<Judged, AllocError> {
     Ok(Judged {
         answer: refusal_frame(alloc, serial, reason)?,
-        reason: Some(reason),
-        code: None,
+        name: name_of_reason(reason),
+    })
+}
+
+fn repeated(alloc: Global, reply: &[u8]) -> Result<Judged, AllocError> {
+    Ok(Judged {
+        answer: Vec::from_slice(alloc, reply)?,
+        name: "reply given again",
     })
 }
 
@@ -118,20 +164,35 @@ pub fn judge_frame(
     let Some(request) = fields_of(frame) else {
         return refused(alloc, &[0; 10], 1);
     };
-    let key = match reason_against(bank, ledger, &request) {
+    let key = match key_for(bank, &request) {
         Ok(key) => key,
         Err(reason) => return refused(alloc, &request.serial, reason),
     };
+    if let Some(reply) = ledger.reply_given(frame) {
+        return repeated(alloc, reply.as_slice());
+    }
+    if let Some(reason) = ledger.reason_against(&request.serial) {
+        return refused(alloc, &request.serial, reason);
+    }
+    let code = code_for(bank, key, &request);
+    let answer = reply_frame(alloc, key, &request.serial, code)?;
     ledger.used.push(request.serial)?;
+    ledger.exchanges.push(Exchange {
+        request: Vec::from_slice(alloc, frame)?,
+        reply: Vec::from_slice(alloc, answer.as_slice())?,
+    })?;
+    Ok(Judged {
+        answer,
+        name: name_of_code(code),
+    })
+}
+
+/// The code for a request that is accepted.
+fn code_for(bank: &Bank, key: DoubleKey, request: &Fields) -> &'static str {
     let clear = clear_block(key, request.block);
-    let code = if has_pin(clear, request.pan) {
+    if has_pin(clear, request.pan) {
         bank.code_for(request.pan, clear, request.amount)
     } else {
         "30"
-    };
-    Ok(Judged {
-        answer: reply_frame(alloc, key, &request.serial, code)?,
-        reason: None,
-        code: Some(code),
-    })
+    }
 }

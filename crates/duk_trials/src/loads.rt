@@ -8,9 +8,9 @@ use crate::bodies::{
 use crate::dukpt::{
     Payment, Serial, counter_of, key_of, refusal_frame, reply_frame, request_frame, serial_at,
 };
+use crate::frames::right_payment;
 use crate::key_blocks::initial_header;
 use crate::random::Random;
-use crate::services::right_payment;
 use crate::standard::{DoubleKey, key_from};
 use crate::tally::Tally;
 use crate::trouble::{Trouble, demand};

@@ -135,6 +135,7 @@ fn name_of_outcome(outcome: &Outcome) -> Option<&'static str> {
         Outcome::Loaded { .. } => Some("outcome loaded"),
         Outcome::Sent { .. } => Some("outcome sent"),
         Outcome::Accepted { .. } => Some("outcome accepted"),
+        Outcome::Repeated { .. } => Some("outcome repeated"),
         Outcome::Refused { .. } => Some("outcome refused"),
         Outcome::Done { .. } => Some("outcome done"),
         Outcome::GotRefusal { .. } => Some("outcome refusal received"),

@@ -2,12 +2,13 @@
 
 use crate::bank::{Bank, random_iksn};
 use crate::disks::random_filling;
-use crate::dukpt::{Payment, Serial, key_of, request_frame, request_with, serial_at};
+use crate::dukpt::{Serial, serial_at};
+use crate::frames::random_frames;
 use crate::judge::{Ledger, judge_frame};
 use crate::random::Random;
-use crate::steps::random_payment;
+use crate::replies::{Reply, note_replies};
 use crate::streams::{Drip, Tap, WHOLE};
-use crate::tally::{Tally, name_of_code, name_of_reason};
+use crate::tally::Tally;
 use crate::trouble::{Trouble, demand};
 use crate::worlds::{DiskHost, MemoryHost, disk_host, memory_host};
 use duk_host::{HostFault, serve};
@@ -24,75 +25,6 @@ struct Stream {
     used: Vec<Serial>,
 }
 
-/// A number of one of few terminals, with a small counter, a usable one or not.
-fn random_serial(random: &mut Random) -> Serial {
-    let counter = random.one_of(&[0, 1, 2, 3, 4, 5, 6, 0x7FE, 0x7FF, 0x1F_F800]);
-    serial_at(&random_iksn(random), counter.unwrap_or(1))
-}
-
-/// A frame of at most 62 bytes behind its length: mostly a request, or one that is changed.
-fn random_frame(alloc: Global, bank: &Bank, random: &mut Random) -> Result<Vec<u8>, AllocError> {
-    let serial = random_serial(random);
-    let payment = right_payment(bank, random);
-    let Some(initial) = bank.initial_key_of(&serial) else {
-        return unknown_frame(alloc, bank, &serial, &payment);
-    };
-    let key = key_of(initial, &serial);
-    match random.below(8) {
-        0 => request_with(alloc, key, &serial, &payment, random.number()),
-        1 => changed_frame(request_frame(alloc, key, &serial, &payment)?, random),
-        2 => random_bytes(alloc, random),
-        _ => request_frame(alloc, key, &serial, &payment),
-    }
-}
-
-/// A payment at random, in half of all cases with a card as it is.
-pub fn right_payment(bank: &Bank, random: &mut Random) -> Payment {
-    let payment = random_payment(random);
-    match random.one_of(bank.cards.as_slice()) {
-        Some(card) if random.once_in(2) => Payment {
-            pan: card.pan,
-            pin: card.pin,
-            amount: payment.amount,
-        },
-        _ => payment,
-    }
-}
-
-/// A request of a number of which the bank has no key set, under a key of the first one.
-fn unknown_frame(
-    alloc: Global,
-    bank: &Bank,
-    serial: &Serial,
-    payment: &Payment,
-) -> Result<Vec<u8>, AllocError> {
-    match bank.key_sets.first() {
-        Some(set) => request_frame(alloc, set.key, serial, payment),
-        None => request_frame(alloc, bank.lmk, serial, payment),
-    }
-}
-
-/// A frame with a bit turned behind its length.
-fn changed_frame(mut frame: Vec<u8>, random: &mut Random) -> Result<Vec<u8>, AllocError> {
-    let place = 2 + random.below(46) as usize;
-    if let Some(byte) = frame.get_mut(place) {
-        *byte ^= random.one_of(&[1, 2, 16, 128]).unwrap_or(1);
-    }
-    Ok(frame)
-}
-
-/// A frame of bytes at random.
-fn random_bytes(alloc: Global, random: &mut Random) -> Result<Vec<u8>, AllocError> {
-    let length = random.below(63);
-    let mut frame = Vec::new(alloc);
-    frame.push(0)?;
-    frame.push((length % 256) as u8)?;
-    for _ in 0..length {
-        frame.push(random.byte())?;
-    }
-    Ok(frame)
-}
-
 /// A stream at random with its answers.
 fn random_stream(
     alloc: Global,
@@ -102,24 +34,15 @@ fn random_stream(
 ) -> Result<Stream, Trouble> {
     let mut bytes = Vec::new(alloc);
     let mut answers = Vec::new(alloc);
-    let mut ledger = Ledger {
-        used: Vec::new(alloc),
-        capacity: bank.log as usize,
-    };
-    let frames = u64::from(random.below(15));
-    for _ in 0..frames {
-        let frame = random_frame(alloc, bank, random)?;
+    let mut ledger = Ledger::new(alloc, bank.log as usize);
+    let frames = random_frames(alloc, bank, random)?;
+    for frame in &frames {
         let judged = judge_frame(alloc, bank, &mut ledger, frame.as_slice())?;
-        if let Some(reason) = judged.reason {
-            tally.note(name_of_reason(reason))?;
-        }
-        if let Some(code) = judged.code {
-            tally.note(name_of_code(code))?;
-        }
+        tally.note(judged.name)?;
         bytes.extend_from_slice(frame.as_slice())?;
         answers.extend_from_slice(judged.answer.as_slice())?;
     }
-    let told = end_stream(&mut bytes, frames, random)?;
+    let told = end_stream(&mut bytes, frames.len() as u64, random)?;
     Ok(Stream {
         bytes,
         answers,
@@ -285,7 +208,7 @@ fn log_disk(alloc: Global, bank: &Bank, random: &mut Random) -> Result<MemDisk, 
 }
 
 /// Serves a stream again and again over one log on a disk, of which a step fails now and then, and
-/// restarts the host between: no number is accepted twice.
+/// restarts the host between: no number is accepted in two runs.
 fn serve_stopping(
     alloc: Global,
     bank: &Bank,
@@ -297,16 +220,13 @@ fn serve_stopping(
     let mut disk = log_disk(alloc, bank, random)?;
     disk.fail_once(random.below(30));
     let mut host = disk_host(alloc, config, disk)?;
-    let mut accepted = Vec::new(alloc);
-    for _ in 0..6 {
+    let mut replies = Vec::new(alloc);
+    for run in 0..6 {
         if host.restart().is_err() {
             tally.note("host Store Device")?;
             continue;
         }
-        for serial in &accepted {
-            let used = host.is_used(Ksn::from_bytes(*serial));
-            demand(used, "a stopped log forgets a number")?;
-        }
+        demand_used(&host, replies.as_slice())?;
         if random.once_in(2) {
             host.arm(random.below(12));
         }
@@ -314,39 +234,18 @@ fn serve_stopping(
         let mut writer = Tap::new(alloc, 64);
         let told = serve(&mut host, &mut reader, &mut writer);
         note_told(&told, tally)?;
-        add_accepted(writer.held.as_slice(), &mut accepted)?;
+        note_replies(alloc, run, writer.held.as_slice(), &mut replies)?;
     }
     Ok(())
 }
 
-/// Adds the numbers of the accepted replies among answers; none is there twice.
-fn add_accepted(answers: &[u8], accepted: &mut Vec<Serial>) -> Result<(), Trouble> {
-    let mut rest = answers;
-    for _ in 0..answers.len() {
-        if !rest.is_empty() {
-            rest = add_first(rest, accepted)?;
-        }
+/// A host that was brought up uses each number that was replied to.
+fn demand_used(host: &DiskHost, replies: &[Reply]) -> Result<(), Trouble> {
+    for reply in replies {
+        let used = host.is_used(Ksn::from_bytes(reply.serial));
+        demand(used, "a stopped log forgets a number")?;
     }
     Ok(())
-}
-
-/// Adds the number of the first answer, where it is an accepted reply, and gives what is behind it.
-fn add_first<'a>(answers: &'a [u8], accepted: &mut Vec<Serial>) -> Result<&'a [u8], Trouble> {
-    let [0, length, 1, kind, a, b, c, d, e, f, g, h, i, j, ..] = *answers else {
-        return Err(Trouble::Violation("an answer is no frame"));
-    };
-    if kind == 2 {
-        let serial = [a, b, c, d, e, f, g, h, i, j];
-        demand(
-            !accepted.contains(&serial),
-            "a number is accepted again after a stop",
-        )?;
-        accepted.push(serial)?;
-    }
-    match answers.get(2 + usize::from(length)..) {
-        Some(behind) => Ok(behind),
-        None => Err(Trouble::Violation("an answer is no frame")),
-    }
 }
 
 /// A log that kept a number twice is told as damaged.

@@ -1,9 +1,10 @@
 //! Events at random, as this trial knows them and as lines of a script.
 
-use crate::bank::{Bank, PANS, PINS, push_byte, random_amount, random_iksn};
+use crate::bank::{Bank, PANS, PINS, own_iksn, push_byte, random_amount, random_iksn};
 use crate::dukpt::{Payment, Serial};
+use crate::frames::right_payment;
+use crate::judge::KEPT;
 use crate::random::Random;
-use crate::services::right_payment;
 use std::alloc::{AllocError, Global};
 
 /// What may happen.
@@ -69,12 +70,76 @@ pub fn random_steps(
 ) -> Result<Vec<Step>, AllocError> {
     let mut steps = Vec::new(alloc);
     let mut guess = Guess::NOTHING;
+    if !random.once_in(4) {
+        push_loads(bank, &mut guess, &mut steps)?;
+        push_requests(bank, random, &mut guess, &mut steps)?;
+    }
     for _ in 0..random.below(30).saturating_add(20) {
-        let step = random_step(bank, random, &guess);
-        guess.note(&step);
-        steps.push(step)?;
+        if random.once_in(6) {
+            push_payment(bank, random, &mut guess, &mut steps)?;
+        } else {
+            push(random_step(bank, random, &guess), &mut guess, &mut steps)?;
+        }
     }
     Ok(steps)
+}
+
+/// One event more.
+fn push(step: Step, guess: &mut Guess, steps: &mut Vec<Step>) -> Result<(), AllocError> {
+    guess.note(&step);
+    steps.push(step)?;
+    Ok(())
+}
+
+/// The load of each terminal under a number of its own.
+fn push_loads(bank: &Bank, guess: &mut Guess, steps: &mut Vec<Step>) -> Result<(), AllocError> {
+    for t in 1..bank.terminals.saturating_add(1) {
+        let iksn = own_iksn(bank, t);
+        push(Step::Load { t, iksn }, guess, steps)?;
+    }
+    Ok(())
+}
+
+/// Where the log has room for more requests than are kept, more of these than are kept, and then some
+/// of the first again.
+fn push_requests(
+    bank: &Bank,
+    random: &mut Random,
+    guess: &mut Guess,
+    steps: &mut Vec<Step>,
+) -> Result<(), AllocError> {
+    if bank.log as usize <= KEPT {
+        return Ok(());
+    }
+    for _ in 0..KEPT + 5 {
+        let t = random_terminal(bank, random);
+        let payment = right_payment(bank, random);
+        push(Step::Begin { t, payment }, guess, steps)?;
+        push(Step::Up { k: guess.sent }, guess, steps)?;
+    }
+    for k in 1..6 {
+        push(Step::Up { k }, guess, steps)?;
+    }
+    Ok(())
+}
+
+/// A payment from its begin to its answer, as far as nothing fails. Now and then its first answer is
+/// lost, and its request is delivered again.
+fn push_payment(
+    bank: &Bank,
+    random: &mut Random,
+    guess: &mut Guess,
+    steps: &mut Vec<Step>,
+) -> Result<(), AllocError> {
+    let t = random_terminal(bank, random);
+    let payment = right_payment(bank, random);
+    push(Step::Begin { t, payment }, guess, steps)?;
+    push(Step::Up { k: guess.sent }, guess, steps)?;
+    if random.once_in(3) {
+        push(Step::Up { k: guess.sent }, guess, steps)?;
+    }
+    let k = guess.answered;
+    push(Step::Down { k, t }, guess, steps)
 }
 
 /// A terminal that is there, or seldom one that is not.

@@ -11,7 +11,7 @@ pub struct Tally {
 }
 
 /// The names of all that is to come.
-static NAMES: [&str; 67] = [
+static NAMES: [&str; 69] = [
     "event load",
     "event begin",
     "event up",
@@ -23,6 +23,7 @@ static NAMES: [&str; 67] = [
     "outcome loaded",
     "outcome sent",
     "outcome accepted",
+    "outcome repeated",
     "outcome refused",
     "outcome done",
     "outcome refusal received",
@@ -66,6 +67,7 @@ static NAMES: [&str; 67] = [
     "reason 4",
     "reason 5",
     "reason 6",
+    "reply given again",
     "code 00",
     "code 14",
     "code 30",

@@ -1,20 +1,17 @@
 //! The laws of the headline, tried on what came of events: no two requests have one number, the
-//! host accepts each number once and under the terminal's own key, a terminal completes with the
-//! host's reply alone, and no terminal goes back to a used number.
+//! host accepts each number once and under the terminal's own key, and gives a reply again only as it
+//! was, a terminal completes with the host's reply alone, and no terminal goes back to a used number.
 
+mod host;
 mod terminals;
 
 use crate::bank::Bank;
-use crate::dukpt::{
-    Payment, Serial, counter_of, iksn_of, is_usable, key_of, pin_block, refusal_frame, reply_frame,
-    request_frame,
-};
+use crate::dukpt::{Payment, Serial, counter_of, iksn_of, is_usable, key_of, request_frame};
 use crate::played::Played;
 use crate::standard::DoubleKey;
 use crate::steps::Step;
 use crate::trouble::{Trouble, demand};
 use duk_frame::{Code, Frame};
-use duk_host::HostFault;
 use duk_net::Outcome;
 use duk_term::{Next, TermFault};
 use duk_tree::Ksn;
@@ -43,6 +40,8 @@ pub struct Watch<'a> {
     bank: &'a Bank,
     sent: Vec<Sent>,
     accepted: Vec<Accepted>,
+    /// How many of these the host forgot at its last restart.
+    forgotten: usize,
     /// Numbers whose append failed, which the log may keep.
     doubtful: Vec<Serial>,
     done: Vec<Serial>,
@@ -73,6 +72,7 @@ impl<'a> Watch<'a> {
             bank,
             sent: Vec::new(alloc),
             accepted: Vec::new(alloc),
+            forgotten: 0,
             doubtful: Vec::new(alloc),
             done: Vec::new(alloc),
             loaded: Vec::new(alloc),
@@ -194,89 +194,6 @@ impl<'a> Watch<'a> {
         )
     }
 
-    /// The request of a number.
-    fn request(&self, k: u32) -> Option<Sent> {
-        self.sent.get(k.checked_sub(1)? as usize).copied()
-    }
-
-    fn see_up(&mut self, k: u32, outcome: &Outcome) -> Result<(), Trouble> {
-        let Some(sent) = self.request(k) else {
-            return demand(
-                *outcome == Outcome::NoSuchFrame,
-                "what was not sent is delivered",
-            );
-        };
-        match outcome {
-            Outcome::Accepted { k, ksn, code } => {
-                demand(ksn.bytes() == sent.serial, "another number is accepted")?;
-                self.see_accepted(&sent, *k, digits_of(*code))
-            }
-            Outcome::Refused { k, ksn, reason } => {
-                demand(ksn.bytes() == sent.serial, "another number is refused")?;
-                self.see_refused(&sent.serial, *k, *reason)
-            }
-            Outcome::HostFaulted(HostFault::Store(_)) => {
-                self.doubtful.push(sent.serial)?;
-                Ok(())
-            }
-            Outcome::HostFaulted(HostFault::Stopped) => Ok(()),
-            _ => Err(Trouble::Violation("a request comes to something else")),
-        }
-    }
-
-    /// The code with which the host accepted a number, if it did.
-    fn code_of(&self, serial: &Serial) -> Option<&'static str> {
-        for one in &self.accepted {
-            if one.serial == *serial {
-                return Some(one.code);
-            }
-        }
-        None
-    }
-
-    /// A request that was not accepted before, with the code of its payment.
-    fn see_accepted(&mut self, sent: &Sent, k: u64, code: &'static str) -> Result<(), Trouble> {
-        demand(
-            self.code_of(&sent.serial).is_none(),
-            "a number is accepted twice",
-        )?;
-        let block = pin_block(sent.payment.pin, sent.payment.pan);
-        let expected = self
-            .bank
-            .code_for(sent.payment.pan, block, sent.payment.amount);
-        demand(code == expected, "a payment has another code")?;
-        self.accepted.push(Accepted {
-            serial: sent.serial,
-            code,
-        })?;
-        let reply = reply_frame(self.alloc, sent.key, &sent.serial, code)?;
-        self.answers.push(reply)?;
-        demand(
-            k == self.answers.len() as u64,
-            "an answer is counted otherwise",
-        )
-    }
-
-    /// A request is refused only as used or because the log is full.
-    fn see_refused(&mut self, serial: &Serial, k: u64, reason: u8) -> Result<(), Trouble> {
-        let used = self.code_of(serial).is_some() || self.doubtful.contains(serial);
-        let most = self.accepted.len().saturating_add(self.doubtful.len());
-        match reason {
-            5 => demand(used, "an unused number is refused as used")?,
-            6 => demand(
-                most >= self.bank.log as usize,
-                "a log with room is told as full",
-            )?,
-            _ => return Err(Trouble::Violation("a request that was sent is refused")),
-        }
-        self.answers
-            .push(refusal_frame(self.alloc, serial, reason)?)?;
-        demand(
-            k == self.answers.len() as u64,
-            "an answer is counted otherwise",
-        )
-    }
-
     fn see_down(&mut self, t: u32, outcome: &Outcome) -> Result<(), Trouble> {
         match outcome {
             Outcome::Done { t: one, ksn, code } => {
@@ -309,19 +226,6 @@ impl<'a> Watch<'a> {
         self.done.push(*serial)?;
         self.set_pending(t, None);
         Ok(())
-    }
-
-    /// As many numbers are used as were accepted, or more by those whose append failed.
-    fn see_host_restart(&self, outcome: &Outcome) -> Result<(), Trouble> {
-        let least = self.accepted.len() as u64;
-        match outcome {
-            Outcome::HostUsed(used) => demand(
-                least <= *used && *used <= least.saturating_add(self.doubtful.len() as u64),
-                "a restart finds another list",
-            ),
-            Outcome::HostFaulted(HostFault::Store(_)) => Ok(()),
-            _ => Err(Trouble::Violation("a restart of the host comes to something else")),
-        }
     }
 
     /// All frames of a world are those that were to be sent, each under the terminal's own key; and

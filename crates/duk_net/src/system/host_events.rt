@@ -41,7 +41,7 @@ impl<const N: usize, C: Cell, L: UsedLog, I: Issuer> System<N, C, L, I> {
         self.answers.reserve(1)?;
         match self.host.answer(self.requests[sent].as_slice()) {
             Ok(answered) => {
-                let outcome = outcome_of(self.answers.len() as u64 + 1, &answered.says);
+                let outcome = outcome_of(self.answers.len() as u64 + 1, answered.says);
                 push_within(&mut self.answers, answered.frame);
                 Ok(outcome)
             }

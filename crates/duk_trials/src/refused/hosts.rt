@@ -30,6 +30,20 @@ pub fn try_restart(alloc: Global) -> Tried {
     }
 }
 
+/// A second restart, which has the room for exchanges that the first one made. Where it is refused
+/// memory, it leaves what the first one leaves then.
+pub fn try_second_restart(alloc: Global) -> Tried {
+    let mut host = memory_host(alloc, BANK, log_of(alloc, USED.0, USED.1)?)?;
+    if host.restart() != Ok(30) {
+        return Ok(Answer::Before);
+    }
+    match host.restart() {
+        Ok(used) => Ok(Answer::Whole.where_holds(used == 30, "another number of numbers")),
+        Err(HostFault::NoMemory) => Ok(after_refused_restart(&mut host)),
+        Err(_) => Ok(Answer::Wrong("another fault")),
+    }
+}
+
 fn after_refused_restart(host: &mut MemoryHost) -> Answer {
     let stopped = !host.is_used(number(USED.0)) && host.handle(FIRST) == Err(HostFault::Stopped);
     let again = host.restart() == Ok(30) && uses_its_own(host);
@@ -71,6 +85,24 @@ fn after_refused_request(host: &mut MemoryHost) -> Answer {
         .where_holds(same, "the host is changed")
         .where_holds(replied, "the request is not accepted then")
         .where_holds(kept, "the log keeps something else")
+}
+
+/// A request that comes again is given its reply, whether or not memory is left.
+pub fn try_repeat(alloc: Global) -> Tried {
+    let mut host = running_host(alloc)?;
+    if host.handle(FIRST).is_err() {
+        return Ok(Answer::Before);
+    }
+    match host.handle(FIRST) {
+        Ok(frame) => {
+            Ok(Answer::Whole.where_holds(
+                frame.as_slice() == FIRST_REPLY.as_slice(),
+                "another answer",
+            ))
+        }
+        Err(HostFault::NoMemory) => Ok(Answer::Refused),
+        Err(_) => Ok(Answer::Wrong("another fault")),
+    }
 }
 
 /// Two requests, and the answers to them.

@@ -1,19 +1,15 @@
-use Rattle.std.proofs.Common.{rules, inl, inr, ap, ◌∙◌}
-use Rattle.duk_host.specs.Judgement.{refusal_frame}
-use Rattle.duk_host.specs.declared.reason.Reason.TheVariants.{Malformed}
+use Rattle.std.proofs.Common.{◌≡◌, None, rules}
+use Rattle.duk_frame.specs.Request.{IsRequest, request_bytes}
+use Rattle.duk_host.specs.Judgement.{basis_with}
+use Rattle.duk_host.specs.Recent.{reply_given}
+use Rattle.duk_host.proofs.NumberRefuses.{number_refuses}
 use Rattle.duk_host.proofs.judge.judge.Goals as goal
 
-pub returns-in_default-clause-refused : goal.returns-in_default-clause-refused
-returns-in_default-clause-refused g c decides = inl (record {
-  no_request = search rules;
-  frame_is = c.answer.ensures.frame ∙ ap (λ bytes. refusal_frame bytes Malformed) c.from_bytes.ensures.bytes;
-})
-
-pub returns-in-Err-clause-refused : goal.returns-in-Err-clause-refused
-returns-in-Err-clause-refused g c decides = inr (record {
-  request = c.in-Some.request;
-  reason = c.in-Err.reason;
-  is_request = search rules;
-  refuses = c.in-Err.ensures.refused decides;
-  frame_is = c.answer-in-Err.ensures.frame;
-})
+pub returns-in-Err-check_number-clause-settled : goal.returns-in-Err-check_number-clause-settled
+returns-in-Err-check_number-clause-settled g c decides =
+    let running = c.args.running.now in
+    let request = c.in-Some.request in
+    let is_request : IsRequest c.args.bytes.now request = search rules in
+    let no_repeat : reply_given running.recent (request_bytes request) ≡ None = search rules in
+    number_refuses (basis_with c.args.hsm.now running.used running.recent c.args.room decides) c.args.bytes.now c.answer-in-Err-check_number.result.frame.items request c.in-Err-check_number.reason c.answer-in-Err-check_number.result.says
+    is_request c.in-Ok.ensures.authentic no_repeat c.in-Err-check_number.ensures.refused c.answer-in-Err-check_number.ensures.frame c.answer-in-Err-check_number.ensures.told

@@ -22,24 +22,29 @@ is_reply (Refusal ksn reason) = false
 module _ (g : _) (c : After-services g) where
   no_reply : (basis : JudgementBasis) (bytes frame : List ℕ) (ksn : Serial) → IsRefusalFor basis bytes frame → ¬ AcceptsNumber ksn frame
   no_reply basis bytes frame ksn (inl malformed) accepts =
-      false≢true (ap is_reply (c.one_reading.ensures.answer frame (Refusal no_serial 1) (Reply ksn accepts.0 accepts.1) (c.refusals.ensures.malformed bytes frame malformed) accepts.2))
+      false≢true (ap is_reply (c.one_reading.ensures.answer frame (Refusal no_serial 1) (Reply ksn accepts.0 accepts.1.0) (c.refusals.ensures.malformed bytes frame malformed) accepts.1.1))
   no_reply basis bytes frame ksn (inr refused) accepts =
       false≢true
-      (ap is_reply (c.one_reading.ensures.answer frame (Refusal refused.request.ksn (reason_number refused.reason)) (Reply ksn accepts.0 accepts.1) (c.refusals.ensures.request basis bytes frame refused) accepts.2))
+      (ap is_reply (c.one_reading.ensures.answer frame (Refusal refused.request.ksn (reason_number refused.reason)) (Reply ksn accepts.0 accepts.1.0) (c.refusals.ensures.request basis bytes frame refused) accepts.1.1))
 
   answers : AnswerLaws
   answers = record {
-    one_number = λ frame ksn other one two. ap number_of (c.one_reading.ensures.answer frame (Reply ksn one.0 one.1) (Reply other two.0 two.1) one.2 two.2);
+    one_number = λ frame ksn other one two. ap number_of (c.one_reading.ensures.answer frame (Reply ksn one.0 one.1.0) (Reply other two.0 two.1.0) one.1.1 two.1.1);
     refused = no_reply;
+    given = c.exchanges.ensures.given;
+    others = c.exchanges.ensures.others;
     accepted = λ basis bytes request frame accepted.
-        (accepted.reply.code, reply_mac accepted.reply.reply.key request.ksn accepted.reply.code, c.replies.ensures basis bytes request frame accepted);
+        (accepted.reply.code, (reply_mac accepted.reply.reply.key request.ksn accepted.reply.code, c.replies.ensures basis bytes request frame accepted));
   }
 
   services_do : ServiceLaws (host_meaning_of g.L.UsedLog.meaning g.I.Issuer.decides)
   services_do = record { judged = c.services.ensures.judged; restarted = c.services.ensures.restarted }
 
 pub returns-clause-once : goal.returns-clause-once
-returns-clause-once g c keys decides first runs life = (lifetime_sound _ (answers g c) (services_do g c) keys decides _ runs life).once
+returns-clause-once g c keys decides first runs life = (lifetime_sound _ (answers g c) (services_do g c) keys decides _ runs life).alike
+
+pub returns-clause-apart : goal.returns-clause-apart
+returns-clause-apart g c keys decides first runs life = (lifetime_sound _ (answers g c) (services_do g c) keys decides _ runs life).apart
 
 pub returns-clause-own_key : goal.returns-clause-own_key
 returns-clause-own_key g c keys decides first runs life = (lifetime_sound _ (answers g c) (services_do g c) keys decides _ runs life).own

@@ -19,11 +19,11 @@ laws_of g c = record {
 
 pub returns-clause-brought_up : goal.returns-clause-brought_up
 returns-clause-brought_up g c old new events outcomes reached sound calm there run =
-    (all_up _ (laws_of g c) (record { reading = c.one_reading.ensures.answer; replies = c.replies.ensures }) old new events outcomes reached sound calm there run).0
+    (all_up _ (laws_of g c) (record { reading = c.one_reading.ensures.answer; replies = c.replies.ensures; exchanges = record { given = c.exchanges.ensures.given; others = c.exchanges.ensures.others } }) old new events outcomes reached sound calm there run).0
 
 pub returns-clause-calm : goal.returns-clause-calm
 returns-clause-calm g c old new events outcomes reached sound calm there run =
-    (all_up _ (laws_of g c) (record { reading = c.one_reading.ensures.answer; replies = c.replies.ensures }) old new events outcomes reached sound calm there run).1
+    (all_up _ (laws_of g c) (record { reading = c.one_reading.ensures.answer; replies = c.replies.ensures; exchanges = record { given = c.exchanges.ensures.given; others = c.exchanges.ensures.others } }) old new events outcomes reached sound calm there run).1
 
 pub returns-clause-sound : goal.returns-clause-sound
 returns-clause-sound g c old new events outcomes reached sound run =

@@ -18,16 +18,16 @@ laws_of g c = record {
 
 pub returns-clause-sound : goal.returns-clause-sound
 returns-clause-sound g c old new outcomes reached sound leads =
-    (leads_sound _ (laws_of g c) (record { reading = c.one_reading.ensures.answer; replies = c.replies.ensures }) old new outcomes reached sound leads).0
+    (leads_sound _ (laws_of g c) (record { reading = c.one_reading.ensures.answer; replies = c.replies.ensures; exchanges = record { given = c.exchanges.ensures.given; others = c.exchanges.ensures.others } }) old new outcomes reached sound leads).0
 
 pub returns-clause-no_damage : goal.returns-clause-no_damage
 returns-clause-no_damage g c old new outcomes reached sound leads =
-    (leads_sound _ (laws_of g c) (record { reading = c.one_reading.ensures.answer; replies = c.replies.ensures }) old new outcomes reached sound leads).1
+    (leads_sound _ (laws_of g c) (record { reading = c.one_reading.ensures.answer; replies = c.replies.ensures; exchanges = record { given = c.exchanges.ensures.given; others = c.exchanges.ensures.others } }) old new outcomes reached sound leads).1
 
 pub returns-clause-calm : goal.returns-clause-calm
 returns-clause-calm g c end old new outcomes reached calm leads =
-    (leads_calm _ (laws_of g c) (record { reading = c.one_reading.ensures.answer; replies = c.replies.ensures }) end old new outcomes reached calm leads).0
+    (leads_calm _ (laws_of g c) (record { reading = c.one_reading.ensures.answer; replies = c.replies.ensures; exchanges = record { given = c.exchanges.ensures.given; others = c.exchanges.ensures.others } }) end old new outcomes reached calm leads).0
 
 pub returns-clause-once_armed : goal.returns-clause-once_armed
 returns-clause-once_armed g c end old new outcomes reached calm leads =
-    (leads_calm _ (laws_of g c) (record { reading = c.one_reading.ensures.answer; replies = c.replies.ensures }) end old new outcomes reached calm leads).1
+    (leads_calm _ (laws_of g c) (record { reading = c.one_reading.ensures.answer; replies = c.replies.ensures; exchanges = record { given = c.exchanges.ensures.given; others = c.exchanges.ensures.others } }) end old new outcomes reached calm leads).1

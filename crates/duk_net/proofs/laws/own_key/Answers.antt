@@ -12,6 +12,7 @@ laws_of g c = record {
   one_answer = c.one_reading.ensures.answer;
   refusals = c.refusals.ensures.request;
   replies = c.replies.ensures;
+  exchanges = record { given = c.exchanges.ensures.given; others = c.exchanges.ensures.others };
   request = c.requests.ensures.request;
   readable = c.requests.ensures.pin_block;
   taken = c.transactions.ensures.key;

@@ -10,6 +10,12 @@ returns-in-Accepted-clause-text c =
     (fifth_word (codes "answer") (decimal c.in-Accepted.k) (codes "accepted") (ksn_text c.in-Accepted.ksn) (code_text c.in-Accepted.code)
     c.answer_words.result.text.items c.code.result.text.items c.answer_words.ensures.text c.code.ensures.text)
 
+pub returns-in-Repeated-clause-text : goal.returns-in-Repeated-clause-text
+returns-in-Repeated-clause-text c =
+    rw c.in-Repeated.is
+    (fifth_word (codes "answer") (decimal c.in-Repeated.k) (codes "repeated") (ksn_text c.in-Repeated.ksn) (code_text c.in-Repeated.code)
+    c.answer_words-in-Repeated.result.text.items c.code-in-Repeated.result.text.items c.answer_words-in-Repeated.ensures.text c.code-in-Repeated.ensures.text)
+
 pub returns-in-IksnElsewhere-clause-text : goal.returns-in-IksnElsewhere-clause-text
 returns-in-IksnElsewhere-clause-text c =
     rw c.in-IksnElsewhere.is

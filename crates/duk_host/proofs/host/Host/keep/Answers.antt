@@ -21,13 +21,16 @@ pub returns-clause-kept : goal.returns-clause-kept
 returns-clause-kept g c =
     let one_more : IsOneMore c.in-Some.field-0.used c.args.ksn c.insert.new.self = c.in_ok-insert.ensures.added in
     rw (← c.self.view_is) (record {
-      before = c.in-Some.field-0;
-      after = record { used = c.insert.new.self };
-      was_running = c.in-Some.is;
-      ends = record { keys = refl; issuer = refl };
-      appended = c.in_default-append.ensures.appended;
-      counted = c.in_default-append.ensures.counted;
-      capacity = c.in_default-append.ensures.capacity;
-      runs = refl;
-      one_more = one_more;
+      recent = refl;
+      kept = record {
+        before = c.in-Some.field-0;
+        after = record { used = c.insert.new.self; recent = c.in-Some.field-0.recent };
+        was_running = c.in-Some.is;
+        ends = record { keys = refl; issuer = refl };
+        appended = c.in_default-append.ensures.appended;
+        counted = c.in_default-append.ensures.counted;
+        capacity = c.in_default-append.ensures.capacity;
+        runs = refl;
+        one_more = one_more;
+      };
     })

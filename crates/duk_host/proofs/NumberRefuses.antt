@@ -1,0 +1,30 @@
+-- A request that is refused for its number.
+use Rattle.std.proofs.Common.{◌≡◌, ℕ, List, inr}
+use Rattle.duk_frame.specs.Request.{IsRequest}
+use Rattle.duk_frame.specs.declared.request.Request.{Request}
+use Rattle.duk_tree.specs.Serial.{serial_bytes}
+use Rattle.duk_host.specs.Handle.{IsSettled, IsToldRefusal}
+use Rattle.duk_host.specs.Judgement.{IsAuthentic, IsNoRepeat, IsReasonAgainst, IsReasonAgainstNumber, JudgementBasis, refusal_frame}
+use Rattle.duk_host.specs.declared.answered.Verdict.{Verdict}
+use Rattle.duk_host.specs.declared.answered.Verdict.TheVariants.{Accepted, Refused, Repeated}
+use Rattle.duk_host.specs.declared.reason.Reason.{Reason}
+use Rattle.duk_host.specs.declared.reason.Reason.TheVariants as reason
+
+-- a reason against the number of a request that is no repeat is the least against the request
+against : (basis : JudgementBasis) (request : Request) (why : Reason) → IsAuthentic basis.keys request → IsNoRepeat basis request → IsReasonAgainstNumber basis.used basis.room request.ksn why → IsReasonAgainst basis request why
+against basis request reason.Malformed authentic no_repeat number = absurd number
+against basis request reason.UnknownKeySet authentic no_repeat number = absurd number
+against basis request reason.BadCounter authentic no_repeat number = absurd number
+against basis request reason.BadMac authentic no_repeat number = absurd number
+against basis request reason.Used authentic no_repeat number = record { authentic = authentic; no_repeat = no_repeat; used = number }
+against basis request reason.LogFull authentic no_repeat number = record { authentic = authentic; no_repeat = no_repeat; fresh = number.fresh; full = number.full }
+
+-- so it is refused for it
+pub number_refuses :
+    (basis : JudgementBasis) (bytes frame : List ℕ) (request : Request) (why : Reason) (says : Verdict)
+    → IsRequest bytes request → IsAuthentic basis.keys request → IsNoRepeat basis request → IsReasonAgainstNumber basis.used basis.room request.ksn why
+    → frame ≡ refusal_frame (serial_bytes request.ksn) why → IsToldRefusal frame says → IsSettled basis bytes frame says
+number_refuses basis bytes frame request why (Accepted ksn code) is_request authentic no_repeat number frame_is told = absurd told
+number_refuses basis bytes frame request why (Repeated ksn code) is_request authentic no_repeat number frame_is told = absurd told
+number_refuses basis bytes frame request why (Refused ksn reason) is_request authentic no_repeat number frame_is told =
+    inr (record { request = request; reason = why; is_request = is_request; refuses = against basis request why authentic no_repeat number; frame_is = frame_is })
