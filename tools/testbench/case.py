@@ -1,0 +1,81 @@
+"""The base of each test of the bench."""
+from __future__ import annotations
+
+import random
+import shutil
+import tempfile
+import unittest
+from pathlib import Path
+from typing import Any, ClassVar, Optional
+
+from .program import Ended, Program, built, demand_built, short
+
+
+class Case(unittest.TestCase):
+    """A test. What is random in it comes of `chance`, which the seed of the run determines; what it
+    `tells` stands in its line of the report."""
+
+    seed: ClassVar[int] = 0
+    # How many times as much a test tries as in the gate: of worlds, kills and the like.
+    times: ClassVar[int] = 1
+    maxDiff = 2000
+
+    def setUp(self) -> None:
+        self.chance = random.Random(f"{self.seed} {self.id()}")
+        self.told: list[str] = []
+
+    def tells(self, text: str) -> None:
+        self.told.append(text)
+
+    def folder(self) -> Path:
+        """A new folder, which goes with the test."""
+        made = tempfile.mkdtemp(prefix="dukpt-test-")
+        self.addCleanup(shutil.rmtree, made, ignore_errors=True)
+        return Path(made)
+
+
+class ProgramCase(Case):
+    """A test of a built program: it runs once for each program that is tried."""
+
+    program: Program
+
+    def assert_ended(
+        self,
+        ended: Ended,
+        status: int,
+        output: bytes,
+        faults: bytes,
+        what: str = "",
+    ) -> None:
+        """That a run ended with exactly this."""
+        wanted = Ended(status, output, faults)
+        if ended != wanted:
+            self.fail(f"{what}: {first_difference(ended, wanted)}")
+
+
+class DriverCase(Case):
+    """A test of what only the library shows, through the program `duk_driver`."""
+
+    driver: Program
+
+    def setUp(self) -> None:
+        super().setUp()
+        self.driver = built("duk_driver")[0]
+        demand_built(self.driver)
+
+
+def first_difference(ended: Ended, wanted: Ended) -> str:
+    for what in ("status", "faults", "output"):
+        is_, should = getattr(ended, what), getattr(wanted, what)
+        if is_ != should:
+            return f"{what} is {about(is_, should)}, and not {about(should, is_)} ({ended.status}, "\
+                f"{short(ended.faults)})"
+    return "no difference"
+
+
+def about(one: Any, other: Any) -> str:
+    """The part of a value near the place where it differs from another one."""
+    if not isinstance(one, bytes) or len(one) <= 160:
+        return repr(one)
+    at = next((at for at, (a, b) in enumerate(zip(one, other)) if a != b), min(len(one), len(other)))
+    return f"[{len(one)} bytes, from {max(0, at - 60)}] {one[max(0, at - 60) : at + 100]!r}"
