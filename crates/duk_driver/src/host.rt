@@ -1,0 +1,126 @@
+//! A host by itself, over a log on a disk.
+
+ghost use Rattle.std.specs.Prelude.{◌≡◌, IfOk, IsSome, None};
+
+use crate::disks::{Habit, disk_of, new_log};
+use crate::streams::{Drip, Tap, streams_of};
+use crate::texts::{Told, bytes, done, fault, number, serial, with_bytes, yes_or_no};
+use crate::trouble::Trouble;
+use duk_config::{Config, open_hsm, read_config};
+use duk_host::{Host, TableIssuer, serve};
+use duk_hsm::Hsm;
+use duk_store::{DiskLog, MemDisk};
+use duk_tdes::KeyBytes;
+use std::alloc::Global;
+
+/// A host over a log on a disk. Its local master key has 16 bytes.
+pub type DiskHost = Host<16, DiskLog<MemDisk>, TableIssuer>;
+
+/// The security module of a configuration, which holds its zone key, and its issuer.
+pub fn module_and_issuer(alloc: Global, config: &[u8]) -> Result<(Hsm<16>, TableIssuer), Trouble>
+    ensures { IfOk result (λ made. IsSome made.0.zone) }
+{
+    let config = read_config(alloc, config)?;
+    let hsm = module_of(&config)?;
+    if !hsm.has_zone() {
+        return Err(Trouble::NotAStep);
+    }
+    Ok((hsm, TableIssuer::new(config.zone, config.cards)))
+}
+
+/// The security module of a configuration.
+fn module_of(config: &Config) -> Result<Hsm<16>, Trouble> {
+    let KeyBytes::Double(lmk) = &config.lmk else {
+        return Err(Trouble::NotAStep);
+    };
+    match open_hsm(lmk, config) {
+        Ok(hsm) => Ok(hsm),
+        Err(_) => Err(Trouble::NotAStep),
+    }
+}
+
+/// A stopped host of a configuration over a log.
+pub fn new_host(alloc: Global, config: &[u8], log: DiskLog<MemDisk>) -> Result<DiskHost, Trouble>
+    ensures log { IfOk result (λ host. host.log ≡ log) }
+    ensures stopped { IfOk result (λ host. host.state ≡ None) }
+{
+    let (hsm, issuer) = module_and_issuer(alloc, config)?;
+    Ok(Host::new(alloc, hsm, issuer, log))
+}
+
+/// Makes a host, over a new log of so many records or over a disk that holds bytes, or does something
+/// with it.
+pub fn take_host_step(
+    alloc: Global,
+    config: &[u8],
+    host: &mut Option<DiskHost>,
+    step: &str,
+) -> Told {
+    let words: Vec<&str> = step.split(' ').collect(alloc)?;
+    match words.as_slice() {
+        ["new", filling, passes, room] => {
+            let log = new_log(alloc, number(room)?, Habit::of_words(filling, passes)?)?;
+            *host = Some(new_host(alloc, config, log)?);
+            done(alloc, "ready")
+        }
+        ["over", filling, passes, held] => {
+            let held = bytes(alloc, held)?;
+            let disk = disk_of(alloc, held.as_slice(), Habit::of_words(filling, passes)?)?;
+            *host = Some(new_host(alloc, config, DiskLog::new(disk))?);
+            done(alloc, "ready")
+        }
+        words => act(alloc, host.as_mut().ok_or(Trouble::NotAStep)?, words),
+    }
+}
+
+/// Does something with a host.
+fn act(alloc: Global, host: &mut DiskHost, words: &[&str]) -> Told {
+    match words {
+        ["restart"] => match host.restart() {
+            Ok(used) => Ok(format!(in alloc; "used {used}")?),
+            Err(why) => fault(alloc, &why),
+        },
+        ["arm", passes] => {
+            host.arm(number(passes)?);
+            done(alloc, "armed")
+        }
+        ["is-used", ksn] => yes_or_no(alloc, host.is_used(serial(ksn)?)),
+        ["handle", frame] => handle(alloc, host, frame),
+        ["serve", most, reads, writes, frames] => {
+            let frames = bytes(alloc, frames)?;
+            let (mut reader, mut writer) = streams_of(
+                alloc,
+                most,
+                reads,
+                writes,
+                frames.as_slice(),
+            )?;
+            serve_stream(alloc, host, &mut reader, &mut writer)
+        }
+        _ => Err(Trouble::NotAStep),
+    }
+}
+
+/// Gives a host a frame.
+fn handle(alloc: Global, host: &mut DiskHost, frame: &str) -> Told {
+    let frame = bytes(alloc, frame)?;
+    match host.handle(frame.as_slice()) {
+        Ok(answer) => with_bytes(alloc, "answer", answer.as_slice()),
+        Err(why) => fault(alloc, &why),
+    }
+}
+
+/// Lets a host serve a stream, and tells how many frames there were, or the fault, and then what was
+/// written.
+fn serve_stream(
+    alloc: Global,
+    host: &mut DiskHost,
+    reader: &mut Drip<'_>,
+    writer: &mut Tap,
+) -> Told {
+    let told = match serve(host, reader, writer) {
+        Ok(frames) => format!(in alloc; "served {frames}")?,
+        Err(why) => fault(alloc, &why)?,
+    };
+    with_bytes(alloc, told.as_str(), writer.held.as_slice())
+}

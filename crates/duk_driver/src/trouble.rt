@@ -1,0 +1,65 @@
+//! Why the program ends before its last step.
+
+use duk_script::ScriptFault;
+use duk_store::StoreFault;
+use hex::FromHexError;
+use std::alloc::{AllocError, AllocFailed};
+use std::{io, str};
+use thiserror::Error;
+
+/// Why the program ends.
+#[derive(Debug, Drop, Error)]
+pub enum Trouble {
+    /// Memory was refused.
+    #[error("out of memory")]
+    Memory,
+    /// A line is no step, or one of something that was not made.
+    #[error("not a step")]
+    NotAStep,
+    /// What came cannot be written.
+    #[error("cannot write")]
+    CannotWrite,
+}
+
+impl From<AllocError> for Trouble {
+    fn from(_refused: AllocError) -> Trouble {
+        Trouble::Memory
+    }
+}
+
+impl<T: Drop> From<AllocFailed<T>> for Trouble {
+    fn from(_refused: AllocFailed<T>) -> Trouble {
+        Trouble::Memory
+    }
+}
+
+/// Of a disk that is made, or written before any of its steps is to fail.
+impl From<StoreFault> for Trouble {
+    fn from(_refused: StoreFault) -> Trouble {
+        Trouble::Memory
+    }
+}
+
+impl From<FromHexError> for Trouble {
+    fn from(_refused: FromHexError) -> Trouble {
+        Trouble::NotAStep
+    }
+}
+
+impl From<ScriptFault> for Trouble {
+    fn from(_refused: ScriptFault) -> Trouble {
+        Trouble::NotAStep
+    }
+}
+
+impl From<str::Utf8Error> for Trouble {
+    fn from(_refused: str::Utf8Error) -> Trouble {
+        Trouble::NotAStep
+    }
+}
+
+impl From<io::Error> for Trouble {
+    fn from(_failed: io::Error) -> Trouble {
+        Trouble::CannotWrite
+    }
+}
