@@ -1,0 +1,9 @@
+//! Tests of the program's commands, over writers, logs and files of this crate's own.
+#![tactic(auto)]
+
+#[cfg(test)]
+mod commands;
+#[cfg(test)]
+mod files;
+#[cfg(test)]
+mod services;

@@ -1,0 +1,11 @@
+//! What the tests of several crates use: the sample keys and numbers of ANSI X9.24-1; frames, images
+//! and files of a bank and a terminal with them; readers and writers that give and take little or
+//! fail; and a look at what values print.
+#![tactic(auto)]
+
+pub mod files;
+pub mod frames;
+pub mod images;
+pub mod printed;
+pub mod sample;
+pub mod streams;
