@@ -1,6 +1,6 @@
 # Completions of dukpt for bash, read by: . completions/dukpt.bash
 
-# What may stand behind each command. A word in capitals stands for a value. tools/check-words
+# What may stand behind each command. A word in capitals stands for a value. The test bench
 # compares these words with the program's help.
 declare -gA _dukpt_words=(
     [derive]="BDK KSN -h --help"

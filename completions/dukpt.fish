@@ -1,5 +1,5 @@
 # Completions of dukpt for fish: put this file into ~/.config/fish/completions. What stands before
-# the colon of a description are words for values. tools/check-words compares all words with the
+# the colon of a description are words for values. The test bench compares all words with the
 # program's help.
 
 complete -c dukpt -f

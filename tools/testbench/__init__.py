@@ -1,15 +1,18 @@
 """The test bench: what is seen at the built program from outside, judged by a model of its own.
 
-`tools/test` runs it. It needs Python 3.9 or later, bash for the examples, and Linux. What a part
-needs beyond that stands in `needed.txt`, a Debian package a line.
+`tools/test` runs it. It needs Linux and Python 3.11 or later; what it needs beyond that stands in
+`needed.txt`, a Debian package a line.
 
 | module | what it is |
 |---|---|
-| `program` | finding a program, and running it once within limits |
-| `service` | a program that runs on while it is given frames: pipes, pieces, kills |
+| `program`, `service` | a built program, run to its end within limits, or while it is given frames |
 | `case`, `runner` | the base of each test; the command |
-| `des`, `client`, `key_blocks` | the standards, and the terminals' side of payments |
-| `log_file`, `images` | what stands in a log, in a cell and on its disk |
-| `model` | terminals, stores, network and host, as an executable model |
-| `test_*` | the tests, a subject each |
+| `des`, `macs`, `dukpt`, `pin_blocks`, `key_blocks`, `frames` | the standards, and the frames |
+| `client` | the terminals' side of many payments at once |
+| `configuration`, `script`, `bank` | readers of configurations and scripts; the sample ones |
+| `images`, `log_file` | what stands in a cell, on its disk and in a log |
+| `model`, `model_terminal`, `model_host`, `model_stores` | terminals, network, host and stores |
+| `worlds`, `scenes`, `streams`, `outcomes`, `commands`, `spoiled` | what is drawn at random |
+| `driver..` | the program `duk_driver`, and what it is asked |
+| `test_..` | the tests, a subject each |
 """

@@ -1,76 +1,33 @@
-#!/usr/bin/env python3
-"""The terminals' side of payments, written apart from the program that it tries.
+"""The terminals' side of payments: requests, and the answers that a host owes them.
 
-usage: tools/terminal_side.py payments COUNT         a line each: the request, the accepted reply
-       tools/terminal_side.py refused                a line each: the request, the refusal
-       tools/terminal_side.py files COUNT FOLDER     the payments as files of bytes
-       tools/terminal_side.py keys COUNTER..         the lines of `dukpt derive`
+It is written from the public standards and docs/FORMATS.md alone: DES (NIST SP 800-67), the retail
+MAC (ANSI X9.19), PIN blocks of format 0 (ISO 9564-1) and the keys of DUKPT (ANSI X9.24-1:2009
+annex A), under the sample keys of that standard and for the card of rows/bank.toml.
 
-Request frames and the replies that belong to them, from the public standards and docs/FORMATS.md
-alone: DES (NIST SP 800-67), the retail MAC (ANSI X9.19), PIN blocks of format 0 (ISO 9564-1) and
-the keys of DUKPT (ANSI X9.24-1:2009 annex A), under the sample keys of that standard. Counters are
-decimal. It is for trying a service, and not for payments: it takes no care of the keys that it
-leaves in memory.
-
-All payments go through DES at once. A value of 64 bits that each of them has is a list of 64
-integers, the most significant first: integer i holds bit i of every payment's value.
+All payments go through DES at once. A value that each of them has is a list of columns, one for
+each of its bits, the most significant first: column i is an integer that holds bit i of every
+payment's value. `every` has a one for each payment.
 """
-import os
-import sys
+from __future__ import annotations
+
 from collections import deque
+from dataclasses import dataclass
+from functools import lru_cache
+from typing import Iterable, Optional, Sequence
 
-INITIAL_PERMUTATION = """
-58 50 42 34 26 18 10 2 60 52 44 36 28 20 12 4 62 54 46 38 30 22 14 6 64 56 48 40 32 24 16 8
-57 49 41 33 25 17 9 1 59 51 43 35 27 19 11 3 61 53 45 37 29 21 13 5 63 55 47 39 31 23 15 7"""
-EXPANSION = """
-32 1 2 3 4 5 4 5 6 7 8 9 8 9 10 11 12 13 12 13 14 15 16 17
-16 17 18 19 20 21 20 21 22 23 24 25 24 25 26 27 28 29 28 29 30 31 32 1"""
-PERMUTATION = """
-16 7 20 21 29 12 28 17 1 15 23 26 5 18 31 10 2 8 24 14 32 27 3 9 19 13 30 6 22 11 4 25"""
-CHOICE_1 = """
-57 49 41 33 25 17 9 1 58 50 42 34 26 18 10 2 59 51 43 35 27 19 11 3 60 52 44 36
-63 55 47 39 31 23 15 7 62 54 46 38 30 22 14 6 61 53 45 37 29 21 13 5 28 20 12 4"""
-CHOICE_2 = """
-14 17 11 24 1 5 3 28 15 6 21 10 23 19 12 4 26 8 16 7 27 20 13 2
-41 52 31 37 47 55 30 40 51 45 33 48 44 49 39 56 34 53 46 42 50 36 29 32"""
-ROTATIONS = "1 1 2 2 2 2 2 2 1 2 2 2 2 2 2 1"
-BOXES = """
-14 4 13 1 2 15 11 8 3 10 6 12 5 9 0 7 0 15 7 4 14 2 13 1 10 6 12 11 9 5 3 8
-4 1 14 8 13 6 2 11 15 12 9 7 3 10 5 0 15 12 8 2 4 9 1 7 5 11 3 14 10 0 6 13
-15 1 8 14 6 11 3 4 9 7 2 13 12 0 5 10 3 13 4 7 15 2 8 14 12 0 1 10 6 9 11 5
-0 14 7 11 10 4 13 1 5 8 12 6 9 3 2 15 13 8 10 1 3 15 4 2 11 6 7 12 0 5 14 9
-10 0 9 14 6 3 15 5 1 13 12 7 11 4 2 8 13 7 0 9 3 4 6 10 2 8 5 14 12 11 15 1
-13 6 4 9 8 15 3 0 11 1 2 12 5 10 14 7 1 10 13 0 6 9 8 7 4 15 14 3 11 5 2 12
-7 13 14 3 0 6 9 10 1 2 8 5 11 12 4 15 13 8 11 5 6 15 0 3 4 7 2 12 1 10 14 9
-10 6 9 0 12 11 7 13 15 1 3 14 5 2 8 4 3 15 0 6 10 1 13 8 9 4 5 11 12 7 2 14
-2 12 4 1 7 10 11 6 8 5 3 15 13 0 14 9 14 11 2 12 4 7 13 1 5 0 15 10 3 9 8 6
-4 2 1 11 10 13 7 8 15 9 12 5 6 3 0 14 11 8 12 7 1 14 2 13 6 15 0 9 10 4 5 3
-12 1 10 15 9 2 6 8 0 13 3 4 14 7 5 11 10 15 4 2 7 12 9 5 6 1 13 14 0 11 3 8
-9 14 15 5 2 8 12 3 7 0 4 10 1 13 11 6 4 3 2 12 9 5 15 10 11 14 1 7 6 0 8 13
-4 11 2 14 15 0 8 13 3 12 9 7 5 10 6 1 13 0 11 7 4 9 1 10 14 3 5 12 2 15 8 6
-1 4 11 13 12 3 7 14 10 15 6 8 0 5 9 2 6 11 13 8 1 4 10 7 9 5 0 15 14 2 3 12
-13 2 8 4 6 15 11 1 10 9 3 14 5 0 12 7 1 15 13 8 10 3 7 4 12 5 6 11 0 14 9 2
-7 11 4 1 9 12 14 2 0 6 10 13 15 3 5 8 2 1 14 7 4 10 8 13 15 12 9 0 3 5 6 11"""
+from .des import BOX, FIRST, KEY_BITS, LAST, MIXED, ROUND_BITS, SPREAD, TURNS
+
+Columns = list[int]
 
 
-def numbers(text):
-    return [int(word) for word in text.split()]
-
-
-FIRST, SPREAD, MIXED = (numbers(x) for x in (INITIAL_PERMUTATION, EXPANSION, PERMUTATION))
-LAST = [FIRST.index(place) + 1 for place in range(1, 65)]
-KEY_BITS, ROUND_BITS, TURNS = (numbers(x) for x in (CHOICE_1, CHOICE_2, ROTATIONS))
-BOX = numbers(BOXES)
-
-
-def columns(values):
-    """Values of equal length, one of each payment, as a list of integers: one for each bit."""
+def columns(values: Sequence[bytes]) -> Columns:
+    """The columns of values of equal length, one of each payment."""
     width = 8 * len(values[0])
     text = bin(int.from_bytes(b"\x01" + b"".join(values), "big"))[3:]
     return [int(text[at::width], 2) for at in range(width)]
 
 
-def values(bits, count):
+def values(bits: Columns, count: int) -> list[bytes]:
     """The values of so many payments of which these are the columns."""
     rows = [bin(1 << count | column)[3:] for column in bits]
     text, size = "".join(map("".join, zip(*rows))), len(bits) // 8
@@ -78,28 +35,31 @@ def values(bits, count):
     return [data[at : at + size] for at in range(0, len(data), size)]
 
 
-def picked(bits, places):
+def picked(bits: Columns, places: Sequence[int]) -> Columns:
     """The bits at these places, counted from 1 at the left."""
     return [bits[place - 1] for place in places]
 
 
-def xor(one, other):
+def xor(one: Columns, other: Columns) -> Columns:
     return [a ^ b for a, b in zip(one, other)]
 
 
-def masked(bits, mask, every):
-    """The bits, each turned where the mask has a one; `every` has a one for each payment."""
+def masked(bits: Columns, mask: str, every: int) -> Columns:
+    """The bits, each turned where the mask, in hexadecimal, has a one."""
     ones = bin(1 << len(bits) | int(mask, 16))[3:]
     return [bit ^ every if one == "1" else bit for bit, one in zip(bits, ones)]
 
 
-def substituted(box, six, every):
+# DES and the retail MAC
+
+
+def substituted(box: int, six: Columns, every: int) -> Columns:
     """The four bits that a box has for six."""
     entries = BOX[64 * box : 64 * box + 64]
     # For each value of the six bits, the payments that have it.
     holders = [every]
     for bit in six:
-        holders = [x for held in holders for x in (held & ~bit, held & bit)]
+        holders = [part for held in holders for part in (held & ~bit, held & bit)]
     four = [0, 0, 0, 0]
     for value, held in enumerate(holders):
         row, column = value >> 4 & 2 | value & 1, value >> 1 & 15
@@ -110,7 +70,7 @@ def substituted(box, six, every):
     return four
 
 
-def round_keys(key):
+def round_keys(key: Columns) -> list[Columns]:
     halves = picked(key, KEY_BITS)
     left, right, rounds = halves[:28], halves[28:], []
     for count in TURNS:
@@ -119,8 +79,8 @@ def round_keys(key):
     return rounds
 
 
-def des(rounds, block, every):
-    """A block of each payment, through sixteen rounds: the schedule, or the schedule reversed."""
+def des(rounds: list[Columns], block: Columns, every: int) -> Columns:
+    """A block of each payment behind sixteen rounds: those of a key, or the same backwards."""
     state = picked(block, FIRST)
     left, right = state[:32], state[32:]
     for key in rounds:
@@ -131,12 +91,12 @@ def des(rounds, block, every):
     return picked(right + left, LAST)
 
 
-def triple_des(key, block, every):
+def triple_des(key: Columns, block: Columns, every: int) -> Columns:
     left, right = round_keys(key[:64]), round_keys(key[64:])
     return des(left, des(right[::-1], des(left, block, every), every), every)
 
 
-def retail_mac(key, text, every):
+def retail_mac(key: Columns, text: Columns, every: int) -> Columns:
     left, right = round_keys(key[:64]), round_keys(key[64:])
     text = text + [0] * (-len(text) % 64)
     block = [0] * 64
@@ -155,26 +115,27 @@ REQUEST_VARIANT = "000000000000FF00" * 2
 RESPONSE_VARIANT = "00000000FF000000" * 2
 
 
-def number_of(counter):
+def number_of(counter: int) -> bytes:
     """The key serial number of a counter."""
     return (IKSN + counter).to_bytes(10, "big")
 
 
-def initial_key():
+def usable(counter: int) -> bool:
+    return 1 <= bin(counter).count("1") <= 10
+
+
+def initial_key() -> bytes:
     key, first = columns([BDK]), columns([number_of(0)[:8]])
-    return values(triple_des(key, first, 1) + triple_des(masked(key, MASK, 1), first, 1), 1)[0]
+    halves = triple_des(key, first, 1) + triple_des(masked(key, MASK, 1), first, 1)
+    return values(halves, 1)[0]
 
 
-def half_step(key, block, every):
+def half_step(key: Columns, block: Columns, every: int) -> Columns:
     right = key[64:]
     return xor(des(round_keys(key[:64]), xor(block, right), every), right)
 
 
-def usable(counter):
-    return 1 <= bin(counter).count("1") <= 10
-
-
-def keys_of(counters):
+def keys_of(counters: Sequence[int]) -> dict[int, bytes]:
     """The keys of counters, of those that they come from, and of 0: from level to level."""
     wanted = set(counters)
     for counter in counters:
@@ -196,136 +157,172 @@ def keys_of(counters):
     return keys
 
 
+def key_lines(counters: Sequence[int]) -> list[str]:
+    """Of each counter the three lines of keys that `dukpt derive` prints."""
+    made, lines = keys_of(counters), []
+    for counter in counters:
+        pin_key = values(masked(columns([made[counter]]), PIN_VARIANT, 1), 1)[0]
+        for name, key in (("initial", made[0]), ("key", made[counter]), ("pin", pin_key)):
+            lines.append(f"{name} {key.hex().upper()}")
+    return lines
+
+
 # Frames
 
 
-def framed(body):
+@dataclass(frozen=True)
+class Exchange:
+    """The bytes of a frame, and what a host answers to them: a request of a number that it accepts
+    once, with the reply to it, or bytes with no number here that it refuses whenever they come."""
+
+    frame: bytes
+    answer: bytes
+    number: Optional[bytes] = None
+
+
+@dataclass(frozen=True)
+class Purchase:
+    pan: str
+    # None stands for a PIN block of eight zero bytes, which is no PIN's.
+    pin: Optional[str]
+    amount: int
+    # What the reply says to it.
+    code: str
+
+
+# The card of rows/bank.toml has this PAN and PIN, and the limit 10,000.
+PAN, PIN = "4012345678909", "1234"
+# They come in turn.
+PURCHASES = (
+    Purchase(PAN, PIN, 1, "00"),
+    Purchase(PAN, PIN, 10000, "00"),
+    Purchase(PAN, PIN, 10001, "51"),
+    Purchase(PAN, "4321", 1, "55"),
+    Purchase("5012345678909", PIN, 1, "14"),
+    Purchase(PAN, None, 1, "30"),
+)
+# How many of the requests that it accepted a host answers again, the last ones of its run.
+KEPT = 64
+# How many payments are made at least, and kept for whoever asks for so many.
+AT_ONCE = 2000
+
+
+def framed(body: bytes) -> bytes:
     return len(body).to_bytes(2, "big") + body
 
 
-def pin_block(pin, pan):
-    of_pin = ("0%X%s" % (len(pin), pin)).ljust(16, "F")
+def pin_block(pin: str, pan: str) -> bytes:
+    of_pin = f"0{len(pin):X}{pin}".ljust(16, "F")
     of_account = "0000" + pan[:-1][-12:].rjust(12, "0")
     return (int(of_pin, 16) ^ int(of_account, 16)).to_bytes(8, "big")
 
 
-def requests(keys, purchases, every):
+def clear_request(number: bytes, it: Purchase) -> tuple[bytes, bytes]:
+    """A request's body up to its PIN block, and that block in clear."""
+    body = b"\x01\x01" + number + bytes([len(it.pan)]) + it.pan.encode()
+    block = bytes(8) if it.pin is None else pin_block(it.pin, it.pan)
+    return body + it.amount.to_bytes(4, "big"), block
+
+
+def requests(keys: Columns, clear: Iterable[tuple[bytes, bytes]], every: int) -> list[bytes]:
     """Requests of clear PIN blocks, under the transaction keys; all PANs have one length."""
-    bodies, blocks = zip(*purchases)
+    bodies, blocks = zip(*clear)
     enciphered = triple_des(masked(keys, PIN_VARIANT, every), columns(blocks), every)
     text = columns(bodies) + enciphered
     mac = retail_mac(masked(keys, REQUEST_VARIANT, every), text, every)
     return [framed(body) for body in values(text + mac, len(bodies))]
 
 
-def replies(keys, bodies, every):
+def replies(keys: Columns, bodies: Sequence[bytes], every: int) -> list[bytes]:
     text = columns(bodies)
     mac = retail_mac(masked(keys, RESPONSE_VARIANT, every), text, every)
     return [framed(body) for body in values(text + mac, len(bodies))]
 
 
-def refusal(number, reason):
+def refusal(number: bytes, reason: int) -> bytes:
     return framed(b"\x01\x03" + number + bytes([reason]))
 
 
-# How many of the requests that it accepted a host answers again, the last ones of its run.
-KEPT = 64
-
-
-class Payment:
-    """A request that a host accepts once, with its number and the reply to it."""
-
-    def __init__(self, frame, number, answer):
-        self.frame, self.number, self.answer = frame, number, answer
-
-
-class Refused:
-    """Bytes of one frame that a host refuses whenever they come, and the refusal."""
-
-    number = None
-
-    def __init__(self, frame, answer):
-        self.frame, self.answer = frame, answer
-
-
-# Purchases in turn: the PAN, the PIN, the amount, and the code of the reply.
-PURCHASES = [
-    ("4012345678909", "1234", 1, "00"),
-    ("4012345678909", "1234", 10000, "00"),
-    ("4012345678909", "1234", 10001, "51"),
-    ("4012345678909", "4321", 1, "55"),
-    ("5012345678909", "1234", 1, "14"),
-    ("4012345678909", None, 1, "30"),
-]
-
-
-def payments_of(counters, purchases):
-    """A payment of each counter; one with no PIN has a block that is that of no PIN."""
+def payments_of(counters: Sequence[int], purchases: Sequence[Purchase]) -> list[Exchange]:
+    """The payment of each purchase under the counter beside it."""
     made, every = keys_of(counters), (1 << len(counters)) - 1
-    keys = columns([made[counter] for counter in counters])
-    asked, told = [], []
-    for counter, (pan, pin, amount, code) in zip(counters, purchases):
-        number = number_of(counter)
-        body = b"\x01\x01" + number + bytes([len(pan)]) + pan.encode()
-        block = bytes(8) if pin is None else pin_block(pin, pan)
-        asked.append((body + amount.to_bytes(4, "big"), block))
-        told.append(b"\x01\x02" + number + code.encode())
-    frames, answers = requests(keys, asked, every), replies(keys, told, every)
-    return [Payment(frame, number_of(counter), answer)
-            for frame, counter, answer in zip(frames, counters, answers)]
+    keys, numbers = columns([made[it] for it in counters]), [number_of(it) for it in counters]
+    asked = [clear_request(number, it) for number, it in zip(numbers, purchases)]
+    bodies = [b"\x01\x02" + number + it.code.encode() for number, it in zip(numbers, purchases)]
+    frames, answers = requests(keys, asked, every), replies(keys, bodies, every)
+    return [Exchange(*it) for it in zip(frames, answers, numbers)]
 
 
-def payments(count):
-    """The payments of the first so many usable counters, with the purchases in turn."""
-    counters, counter = [], 0
+def first_counters(count: int) -> list[int]:
+    """The first so many usable counters."""
+    counters: list[int] = []
+    counter = 0
     while len(counters) < count:
         counter += 1
         if usable(counter):
             counters.append(counter)
-    return payments_of(counters, [PURCHASES[x % len(PURCHASES)] for x in counters])
+    return counters
 
 
-def refused_requests():
+@lru_cache(2)
+def made_payments(count: int) -> tuple[Exchange, ...]:
+    counters = first_counters(count)
+    return tuple(payments_of(counters, [PURCHASES[it % len(PURCHASES)] for it in counters]))
+
+
+def payments(count: int) -> tuple[Exchange, ...]:
+    """The payments of the first so many usable counters, with the purchases in turn."""
+    # Many at once take little more time than a few.
+    return made_payments(max(count, AT_ONCE))[:count]
+
+
+@lru_cache(1)
+def refused_requests() -> tuple[Exchange, ...]:
     """Frames that are refused with each of the reasons 1 to 4."""
-    good = payments(1)[0]
+    good = payments_of([1], PURCHASES[1:2])[0]
+    assert good.number is not None
+    body = good.frame[2:]
+    malformed = [b"", b"\x01", body[:-1], body + b"\x00", bytes(62), b"\x02" + body[1:],
+                 good.answer[2:], body[:12] + b"\x0b" + body[13:]]
+    # A key set that nobody has, and counters of eleven one bits and of none.
+    renumbered = [(b"\x00" + good.number[1:], 2), (number_of(0x7FF), 3), (number_of(0), 3)]
     wrong_mac = good.frame[:-1] + bytes([good.frame[-1] ^ 1])
     wrong_amount = good.frame[:31] + bytes([good.frame[31] ^ 1]) + good.frame[32:]
-    foreign = b"\x00" + good.number[1:]
-    nobody = bytes(10)
-    malformed = [b"", b"\x01", good.frame[2:-1], good.frame[2:] + b"\x00", bytes(62),
-                 b"\x02" + good.frame[3:], good.answer[2:], good.frame[2:14] + b"\x0b"
-                 + good.frame[15:]]
-    # Counters of eleven one bits and of none.
-    renumbered = [(foreign, 2), (number_of(0x7FF), 3), (number_of(0), 3)]
     return (
-        [Refused(framed(body), refusal(nobody, 1)) for body in malformed]
-        + [Refused(good.frame[:4] + number + good.frame[14:], refusal(number, reason))
-           for number, reason in renumbered]
-        + [Refused(frame, refusal(good.number, 4)) for frame in (wrong_mac, wrong_amount)]
+        *(Exchange(framed(it), refusal(bytes(10), 1)) for it in malformed),
+        *(Exchange(good.frame[:4] + number + good.frame[14:], refusal(number, reason))
+          for number, reason in renumbered),
+        *(Exchange(it, refusal(good.number, 4)) for it in (wrong_mac, wrong_amount)),
     )
 
 
-def answered(given, used, room):
-    """The answer to each request in turn, in one run of a service, and the used numbers behind the
-    last. A request that is one of the last that were accepted is given the same reply again."""
-    listed, known, answers = list(used), set(used), []
-    recent = deque(maxlen=KEPT)
-    for one in given:
-        if one.number is None or one.frame in recent:
-            answers.append(one.answer)
-        elif one.number in known:
-            answers.append(refusal(one.number, 5))
+# The host's side
+
+
+def answered(
+    given: Iterable[Exchange], used: Iterable[bytes], room: int
+) -> tuple[list[bytes], list[bytes]]:
+    """The answer to each request in turn in one run of a service whose log has room for so many
+    numbers and keeps the used ones, and the numbers that it keeps in the end."""
+    listed, answers = list(used), []
+    known = set(listed)
+    recent: deque[bytes] = deque(maxlen=KEPT)
+    for it in given:
+        if it.number is None or it.frame in recent:
+            answers.append(it.answer)
+        elif it.number in known:
+            answers.append(refusal(it.number, 5))
         elif len(listed) == room:
-            answers.append(refusal(one.number, 6))
+            answers.append(refusal(it.number, 6))
         else:
-            listed.append(one.number)
-            known.add(one.number)
-            recent.append(one.frame)
-            answers.append(one.answer)
+            listed.append(it.number)
+            known.add(it.number)
+            recent.append(it.frame)
+            answers.append(it.answer)
     return answers, listed
 
 
-def split(stream):
+def split(stream: bytes) -> tuple[list[bytes], bytes]:
     """The whole frames at the front of a stream, and the bytes behind them."""
     frames, at = [], 0
     while at + 2 <= len(stream):
@@ -335,46 +332,3 @@ def split(stream):
         frames.append(stream[at:end])
         at = end
     return frames, stream[at:]
-
-
-# From a shell
-
-
-def print_frames(made):
-    for one in made:
-        print(one.frame.hex().upper(), one.answer.hex().upper())
-
-
-def write_files(made, folder):
-    """The requests, the accepted replies, and the records that a log keeps of them."""
-    for name, pieces in (("requests", [one.frame for one in made]),
-                         ("replies", [one.answer for one in made]),
-                         ("records", [b"\x01" + one.number + bytes(5) for one in made])):
-        with open(os.path.join(folder, name), "wb") as it:
-            it.write(b"".join(pieces))
-
-
-def print_keys(counters):
-    made = keys_of(counters)
-    for counter in counters:
-        pin_key = values(masked(columns([made[counter]]), PIN_VARIANT, 1), 1)[0]
-        for name, key in (("initial", made[0]), ("key", made[counter]), ("pin", pin_key)):
-            print(name, key.hex().upper())
-
-
-def main():
-    command, *words = sys.argv[1:] or [""]
-    if command == "payments":
-        print_frames(payments(int(words[0])))
-    elif command == "refused":
-        print_frames(refused_requests())
-    elif command == "files":
-        write_files(payments(int(words[0])), words[1])
-    elif command == "keys":
-        print_keys([int(word) for word in words])
-    else:
-        sys.exit(__doc__)
-
-
-if __name__ == "__main__":
-    main()

@@ -32,8 +32,9 @@ class Ended:
 class Limits:
     """Limits of a process, set in it before the program starts.
 
-    `memory` is bytes of address space. No file grows beyond `file_size` bytes: a write there fails,
-    or, where its signal is not ignored, that ends the process.
+    `memory` is bytes of its data: what it asks for, and not its stack, whose growth no program is
+    told to be refused. No file grows beyond `file_size` bytes: a write there fails, or, where its
+    signal is not ignored, that ends the process.
     """
 
     memory: Optional[int] = None
@@ -47,7 +48,7 @@ class Limits:
         def set_limits() -> None:
             resource.setrlimit(resource.RLIMIT_CORE, (0, 0))
             if self.memory is not None:
-                resource.setrlimit(resource.RLIMIT_AS, (self.memory, self.memory))
+                resource.setrlimit(resource.RLIMIT_DATA, (self.memory, self.memory))
             if self.file_size is not None:
                 way = signal.SIG_IGN if self.ignores_file_signal else signal.SIG_DFL
                 signal.signal(signal.SIGXFSZ, way)
@@ -80,23 +81,25 @@ class Program:
         folder: Optional[os.PathLike] = None,
         limits: Limits = NO_LIMITS,
         output: int = subprocess.PIPE,
+        faults: int = subprocess.PIPE,
         seconds: float = SECONDS,
     ) -> Ended:
-        """Runs it to its end. `given` is its input, or a file descriptor that is; `output` may be
-        one too. A run that does not end in so many seconds is an error of the test."""
+        """Runs it to its end. `given` is its input, or a file descriptor that is; `output` and
+        `faults` may be such too. A run that does not end in so many seconds is an error of the
+        test."""
         feeds = {"input": given} if isinstance(given, bytes) else {"stdin": given}
         done = subprocess.run(
             ["dukpt", *map(os.fspath, words)],
             executable=str(self.path),
             cwd=folder,
             stdout=output,
-            stderr=subprocess.PIPE,
+            stderr=faults,
             timeout=seconds,
             check=False,
             preexec_fn=limits.prepare(),
             **feeds,
         )
-        return Ended(done.returncode, done.stdout or b"", done.stderr)
+        return Ended(done.returncode, done.stdout or b"", done.stderr or b"")
 
 
 def built(crate: str) -> list[Program]:

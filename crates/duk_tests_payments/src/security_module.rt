@@ -80,13 +80,16 @@ fn an_initial_key(rt: HostRuntime) {
 
 /// What comes of the MAC of the request of 500, at this number.
 fn verify_at(number: Ksn) -> Result<(), HsmFault> {
-    let text = &REQUEST_OF_500[2..40];
-    module_without_zone()?.verify(number, text, array_of(&REQUEST_OF_500[40..48]))
+    let request = REQUEST_OF_500.as_slice();
+    let mac = array_of(&request[40..48]);
+    module_without_zone()?.verify(number, &request[2..40], mac)
 }
 
 /// The MAC of the reply to the first number, as the module makes it.
-fn reply_mac() -> Result<[u8; 8], HsmFault> {
-    module_without_zone()?.reply_mac(ksn(1), &FIRST_REPLY[2..16])
+fn reply_mac() -> Result<u64, HsmFault> {
+    let reply = FIRST_REPLY.as_slice();
+    let mac = module_without_zone()?.reply_mac(ksn(1), &reply[2..16])?;
+    Ok(u64::from_be_bytes(mac))
 }
 
 #[test]
@@ -96,7 +99,7 @@ fn macs(rt: HostRuntime) {
     assert_eq!(rt; verify_at(ksn(2)), Err(HsmFault::BadMac));
     assert_eq!(rt; verify_at(ksn(0x7FF)), Err(HsmFault::BadCounter));
     assert_eq!(rt; verify_at(unknown), Err(HsmFault::NoKeySet));
-    assert_eq!(rt; reply_mac(), Ok(array_of(&FIRST_REPLY[16..24])));
+    assert_eq!(rt; reply_mac(), Ok(0x591B_50E0_CA98_FE70));
 }
 
 /// The PIN block under the zone key that one at the first number is translated to.
