@@ -50,7 +50,7 @@ class TestHosts(DriverCase):
 
     def test_streams(self) -> None:
         """Streams whole and in pieces, or frame by frame, over every filling, with restarts."""
-        for drive, bank, stream in self.streams(40):
+        for drive, bank, stream in self.streams(100):
             host = DrivenHost(drive, bank, Habit(random_filling(self.chance)),
                               bytes(RECORD * bank.says.log))
             if self.chance.random() < 0.8:

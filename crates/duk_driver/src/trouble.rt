@@ -47,8 +47,11 @@ impl From<FromHexError> for Trouble {
 }
 
 impl From<ScriptFault> for Trouble {
-    fn from(_refused: ScriptFault) -> Trouble {
-        Trouble::NotAStep
+    fn from(refused: ScriptFault) -> Trouble {
+        match refused {
+            ScriptFault::NoMemory => Trouble::Memory,
+            _ => Trouble::NotAStep,
+        }
     }
 }
 
