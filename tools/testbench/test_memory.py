@@ -43,7 +43,7 @@ CALLS = {
     "Host::handle": Growths(28, 48, 1),
     "Host::handle-again": Growths(28, 48, 0),
     "serve": Growths(30, 54, 1),
-    "run": Growths(36, 54, 4),
+    "run": Growths(86, 106, 4),
     "read_config": Growths(1, 36, 20),
     "parse_script": Growths(1, 5, 3),
     "run_script": Growths(1, 56, 40),
