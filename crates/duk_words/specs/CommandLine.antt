@@ -6,6 +6,8 @@ use Rattle.clap.specs.declared.builder.action.ArgAction.TheVariants.{SetTrue}
 use Rattle.clap.specs.declared.builder.arg.Arg.{Arg}
 use Rattle.clap.specs.declared.builder.command.Command.{Command}
 use Rattle.clap.specs.declared.builder.command.Command.TheViews.{out-Command as fields_of}
+use Rattle.duk_words.specs.declared.commands.Word.{Word}
+use Rattle.duk_words.specs.declared.commands.Word.TheVariants as word
 
 -- NAME: a word that has to be there
 abbrev pub word_rule : Text → Rule
@@ -18,6 +20,12 @@ option_rule name = record (new_rule name) { long = Some name; value_names = 1 }
 -- [--name]: an option that is there or not
 abbrev pub flag_rule : Text → Rule
 flag_rule name = record (new_rule name) { long = Some name; action = Some SetTrue }
+
+-- the rule of a word of the code
+abbrev pub rule_of_word : Word → Rule
+rule_of_word (word.Needed name help) = word_rule name.now
+rule_of_word (word.Valued name value help) = option_rule name.now
+rule_of_word (word.Flag name help) = flag_rule name.now
 
 -- a command of this name, and what stands behind it
 abbrev pub command : Text → List Rule → Shape

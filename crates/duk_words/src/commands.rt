@@ -1,12 +1,12 @@
 //! The commands and their words, as `clap` reads them.
 
-ghost use Rattle.std.specs.Prelude.{◌≡◌, ◌∷◌, [], IfOk, codes};
-ghost use Rattle.clap.specs.Words.{app_of};
+ghost use Rattle.std.specs.Prelude.{◌≡◌, ◌∷◌, [], IfOk, codes, map};
+ghost use Rattle.clap.specs.Words.{Shape, app_of, with_subcommand};
 ghost use Rattle.duk_words.specs.CommandLine.{IsArgument, IsCommand, command, command_line};
 ghost use Rattle.duk_words.specs.CommandLine.{derive_command, flag_rule, option_rule, pin_command};
 ghost use Rattle.duk_words.specs.CommandLine.{program_of, program_shape, run_command};
 ghost use Rattle.duk_words.specs.CommandLine.{serve_command};
-ghost use Rattle.duk_words.specs.CommandLine.{unwrap_command};
+ghost use Rattle.duk_words.specs.CommandLine.{rule_of_word, unwrap_command};
 ghost use Rattle.duk_words.specs.CommandLine.{walk_command, word_rule, wrap_command};
 
 use crate::help;
@@ -16,13 +16,23 @@ use std::alloc::{AllocError, Global};
 /// What `--version` prints after the program's name.
 const VERSION: &str = "0.1.0";
 
+/// What may stand behind a command.
+#[derive(Clone, Copy)]
+enum Word<'a> {
+    /// A word that has to be there: its name, and its help.
+    Needed(&'a str, &'a str),
+    /// An option that has a value: its name, that of the value, and its help.
+    Valued(&'a str, &'a str, &'a str),
+    /// An option that is there or not: its name, and its help.
+    Flag(&'a str, &'a str),
+}
+
 /// The program's commands.
 pub fn program<'a>(alloc: Global) -> Result<Command<'a>, AllocError>
     ensures { IfOk result (λ made. app_of made ≡ command_line) }
 {
-    secret_commands(alloc)?
-        .subcommand(run_words(alloc)?)?
-        .subcommand(serve_words(alloc)?)
+    let program = with_command(secret_commands(alloc)?, run_words(alloc))?;
+    with_command(program, serve_words(alloc))
 }
 
 /// The commands over keys, PINs and key blocks.
@@ -31,9 +41,8 @@ fn secret_commands<'a>(alloc: Global) -> Result<Command<'a>, AllocError>
         app_of made ≡ program_of (derive_command ∷ walk_command ∷ pin_command
         ∷ wrap_command ∷ unwrap_command ∷ [])) }
 {
-    key_commands(alloc)?
-        .subcommand(wrap_words(alloc)?)?
-        .subcommand(unwrap_words(alloc)?)
+    let program = with_command(key_commands(alloc)?, wrap_words(alloc))?;
+    with_command(program, unwrap_words(alloc))
 }
 
 /// The commands over keys and PINs.
@@ -41,10 +50,20 @@ fn key_commands<'a>(alloc: Global) -> Result<Command<'a>, AllocError>
     ensures { IfOk result (λ made.
         app_of made ≡ program_of (derive_command ∷ walk_command ∷ pin_command ∷ [])) }
 {
-    bare_program(alloc)
-        .subcommand(derive_words(alloc)?)?
-        .subcommand(walk_words(alloc)?)?
-        .subcommand(pin_words(alloc)?)
+    let program = with_command(bare_program(alloc), derive_words(alloc))?;
+    let program = with_command(program, walk_words(alloc))?;
+    with_command(program, pin_words(alloc))
+}
+
+/// The program with one command more, where memory was there for the command's words.
+fn with_command<'a>(
+    program: Command<'a>,
+    words: Result<Command<'a>, AllocError>,
+) -> Result<Command<'a>, AllocError>
+    ensures { IfOk result (λ made. (shape : Shape) → IfOk words.entry (IsCommand shape)
+        → app_of made ≡ with_subcommand (app_of program.entry) shape) }
+{
+    program.subcommand(words?)
 }
 
 /// The program, before it has commands. Where no words are given, it answers with its help.
@@ -62,159 +81,177 @@ fn bare_program<'a>(alloc: Global) -> Command<'a>
 fn derive_words<'a>(alloc: Global) -> Result<Command<'a>, AllocError>
     ensures { IfOk result (IsCommand derive_command) }
 {
-    Command::new(alloc, "derive")
-        .about("Prints the initial key, the transaction key and the PIN key of a key serial number")
-        .after_help(help::DERIVE)
-        .arg(bdk_word(alloc))?
-        .arg(word(alloc, "KSN", "The key serial number, 20 hexadecimal digits"))
+    command_of(
+        alloc,
+        "derive",
+        "Prints the initial key, the transaction key and the PIN key of a key serial number",
+        help::DERIVE,
+        &[
+            bdk_word(),
+            Word::Needed("KSN", "The key serial number, 20 hexadecimal digits"),
+        ],
+    )
 }
 
 fn walk_words<'a>(alloc: Global) -> Result<Command<'a>, AllocError>
     ensures { IfOk result (IsCommand walk_command) }
 {
-    let skip = "Skips K numbers before printing";
-    counted_words(alloc)?
-        .arg(value(alloc, "skip", "K", skip))?
-        .arg(flag(alloc, "ksn", "Prints the key serial numbers alone"))
-}
-
-/// The words of a walk that have to be there.
-fn counted_words<'a>(alloc: Global) -> Result<Command<'a>, AllocError>
-    ensures { IfOk result (IsCommand (command (codes "walk")
-        (word_rule (codes "BDK") ∷ word_rule (codes "IKSN") ∷ word_rule (codes "COUNT") ∷ []))) }
-{
-    Command::new(alloc, "walk")
-        .about("Walks a terminal through its numbers and prints the key of each")
-        .after_help(help::WALK)
-        .arg(bdk_word(alloc))?
-        .arg(word(
-            alloc,
-            "IKSN",
-            "The initial key serial number, 20 hexadecimal digits",
-        ))?
-        .arg(word(alloc, "COUNT", "How many numbers to print, at most 1048576"))
+    command_of(
+        alloc,
+        "walk",
+        "Walks a terminal through its numbers and prints the key of each",
+        help::WALK,
+        &[
+            bdk_word(),
+            Word::Needed(
+                "IKSN",
+                "The initial key serial number, 20 hexadecimal digits",
+            ),
+            Word::Needed("COUNT", "How many numbers to print, at most 1048576"),
+            Word::Valued("skip", "K", "Skips K numbers before printing"),
+            Word::Flag("ksn", "Prints the key serial numbers alone"),
+        ],
+    )
 }
 
 fn pin_words<'a>(alloc: Global) -> Result<Command<'a>, AllocError>
     ensures { IfOk result (IsCommand pin_command) }
 {
-    Command::new(alloc, "pin")
-        .about("Prints the PIN block of a PIN and a PAN, and the block enciphered")
-        .after_help(help::PIN)
-        .arg(word(alloc, "PIN", "The PIN, 4 to 12 digits"))?
-        .arg(word(
-            alloc,
-            "PAN",
-            "The PAN, 12 to 19 digits with its check digit",
-        ))?
-        .arg(value(
-            alloc,
-            "key",
-            "KEY",
-            "Enciphers the block under this key, 32 hexadecimal digits",
-        ))
+    command_of(
+        alloc,
+        "pin",
+        "Prints the PIN block of a PIN and a PAN, and the block enciphered",
+        help::PIN,
+        &[
+            Word::Needed("PIN", "The PIN, 4 to 12 digits"),
+            Word::Needed("PAN", "The PAN, 12 to 19 digits with its check digit"),
+            Word::Valued(
+                "key",
+                "KEY",
+                "Enciphers the block under this key, 32 hexadecimal digits",
+            ),
+        ],
+    )
 }
 
 fn wrap_words<'a>(alloc: Global) -> Result<Command<'a>, AllocError>
     ensures { IfOk result (IsCommand wrap_command) }
 {
-    header_words(alloc)?
-        .arg(word(alloc, "KEY", "The key, 32 or 48 hexadecimal digits"))?
-        .arg(word(
-            alloc,
-            "PAD",
-            "The padding in hexadecimal, which should be random",
-        ))
-}
-
-/// The words of `wrap` that stand before the key.
-fn header_words<'a>(alloc: Global) -> Result<Command<'a>, AllocError>
-    ensures { IfOk result (IsCommand (command (codes "wrap")
-        (word_rule (codes "KBPK") ∷ word_rule (codes "FIELDS") ∷ []))) }
-{
-    Command::new(alloc, "wrap")
-        .about("Prints the key block of a key")
-        .after_help(help::WRAP)
-        .arg(kbpk_word(alloc))?
-        .arg(word(
-            alloc,
-            "FIELDS",
-            "The header fields, 7 bytes: usage, algorithm, mode, version and exportability",
-        ))
+    command_of(
+        alloc,
+        "wrap",
+        "Prints the key block of a key",
+        help::WRAP,
+        &[
+            kbpk_word(),
+            Word::Needed(
+                "FIELDS",
+                "The header fields, 7 bytes: usage, algorithm, mode, version and exportability",
+            ),
+            Word::Needed("KEY", "The key, 32 or 48 hexadecimal digits"),
+            Word::Needed("PAD", "The padding in hexadecimal, which should be random"),
+        ],
+    )
 }
 
 fn unwrap_words<'a>(alloc: Global) -> Result<Command<'a>, AllocError>
     ensures { IfOk result (IsCommand unwrap_command) }
 {
-    Command::new(alloc, "unwrap")
-        .about("Prints the header fields and the key of a key block")
-        .after_help(help::UNWRAP)
-        .arg(kbpk_word(alloc))?
-        .arg(word(alloc, "BLOCK", "The key block"))
+    command_of(
+        alloc,
+        "unwrap",
+        "Prints the header fields and the key of a key block",
+        help::UNWRAP,
+        &[kbpk_word(), Word::Needed("BLOCK", "The key block")],
+    )
 }
 
 fn run_words<'a>(alloc: Global) -> Result<Command<'a>, AllocError>
     ensures { IfOk result (IsCommand run_command) }
 {
-    Command::new(alloc, "run")
-        .about("Runs a script of events, and prints what comes of each")
-        .after_help(help::RUN)
-        .arg(word(alloc, "CONFIG", "The file of the configuration, in TOML"))?
-        .arg(word(
-            alloc,
-            "SCRIPT",
-            "The file of the script, an event on each line",
-        ))
+    command_of(
+        alloc,
+        "run",
+        "Runs a script of events, and prints what comes of each",
+        help::RUN,
+        &[
+            Word::Needed("CONFIG", "The file of the configuration, in TOML"),
+            Word::Needed("SCRIPT", "The file of the script, an event on each line"),
+        ],
+    )
 }
 
 fn serve_words<'a>(alloc: Global) -> Result<Command<'a>, AllocError>
     ensures { IfOk result (IsCommand serve_command) }
 {
-    Command::new(alloc, "serve")
-        .about("Answers the request frames of standard input on standard output")
-        .after_help(help::SERVE)
-        .arg(word(
-            alloc,
-            "CONFIG",
-            "The file of the host's configuration, in TOML",
-        ))?
-        .arg(value(
-            alloc,
-            "log",
-            "FILE",
-            "Keeps the used numbers in this file, which has to be there, and not in memory",
-        ))
-}
-
-fn bdk_word<'a>(alloc: Global) -> Arg<'a>
-    ensures { IsArgument (word_rule (codes "BDK")) result }
-{
-    word(
+    let log = "Keeps the used numbers in this file, which has to be there, and not in memory";
+    command_of(
         alloc,
-        "BDK",
-        "The base derivation key, 32 hexadecimal digits",
+        "serve",
+        "Answers the request frames of standard input on standard output",
+        help::SERVE,
+        &[
+            Word::Needed("CONFIG", "The file of the host's configuration, in TOML"),
+            Word::Valued("log", "FILE", log),
+        ],
     )
 }
 
-fn kbpk_word<'a>(alloc: Global) -> Arg<'a>
-    ensures { IsArgument (word_rule (codes "KBPK")) result }
+fn bdk_word<'a>() -> Word<'a>
+    ensures { rule_of_word result ≡ word_rule (codes "BDK") }
 {
-    word(
-        alloc,
+    Word::Needed("BDK", "The base derivation key, 32 hexadecimal digits")
+}
+
+fn kbpk_word<'a>() -> Word<'a>
+    ensures { rule_of_word result ≡ word_rule (codes "KBPK") }
+{
+    Word::Needed(
         "KBPK",
         "The key block protection key, 32 or 48 hexadecimal digits",
     )
 }
 
+/// A command of this name, with its help: what it is about, and what stands at the end. These words
+/// stand behind it, in their order.
+fn command_of<'a>(
+    alloc: Global,
+    name: &'a str,
+    about: &'a str,
+    after_help: &'a str,
+    words: &[Word<'a>],
+) -> Result<Command<'a>, AllocError>
+    ensures { IfOk result (IsCommand (command name.entry.now (map rule_of_word words.now))) }
+{
+    let mut command = Command::new(alloc, name)
+        .about(about)
+        .after_help(after_help);
+    for word in words {
+        command = command.arg(argument(alloc, *word))?;
+    }
+    Ok(command)
+}
+
+/// A word as `clap` has it.
+fn argument<'a>(alloc: Global, word: Word<'a>) -> Arg<'a>
+    ensures { IsArgument (rule_of_word word.entry) result }
+{
+    match word {
+        Word::Needed(name, help) => needed(alloc, name, help),
+        Word::Valued(name, value, help) => valued(alloc, name, value, help),
+        Word::Flag(name, help) => flag(alloc, name, help),
+    }
+}
+
 /// A word that has to be there.
-fn word<'a>(alloc: Global, name: &'a str, help: &'a str) -> Arg<'a>
+fn needed<'a>(alloc: Global, name: &'a str, help: &'a str) -> Arg<'a>
     ensures { IsArgument (word_rule name.entry.now) result }
 {
     Arg::new(alloc, name).required(true).help(help)
 }
 
 /// An option that has a value.
-fn value<'a>(alloc: Global, name: &'a str, value: &'a str, help: &'a str) -> Arg<'a>
+fn valued<'a>(alloc: Global, name: &'a str, value: &'a str, help: &'a str) -> Arg<'a>
     ensures { IsArgument (option_rule name.entry.now) result }
 {
     Arg::new(alloc, name)

@@ -2,14 +2,14 @@
 
 ghost use Rattle.std.specs.Prelude.{◌≡◌, [], IfErr, IfOk, IfSome, IsSome, codes};
 ghost use Rattle.clap.specs.Values.{kind_of};
-ghost use Rattle.clap.specs.Words.{fault_of, found_of, rows_of, subcommand_rows_of};
+ghost use Rattle.clap.specs.Words.{app_of, fault_of, found_of, rows_of, subcommand_rows_of};
 ghost use Rattle.duk_words.specs.Asked.{Asks, AsksBehind, AsksFor, IsToldAs, MayFailBy};
 ghost use Rattle.duk_words.specs.Asked.{StandsFor, texts_of};
 ghost use Rattle.duk_words.specs.CommandLine.{command_line};
 
 use crate::commands::program;
 use clap::error::ErrorKind;
-use clap::{ArgMatches, Error};
+use clap::{ArgMatches, Command, Error};
 use std::alloc::{AllocError, Global};
 
 /// What the words ask for.
@@ -109,8 +109,18 @@ fn match_words<'a>(alloc: Global, words: &'a [String]) -> Result<Request<'a>, Er
     ensures fails { IfErr result (λ error. MayFailBy (texts_of words.now) (kind_of error)) }
 {
     let mut program = program(alloc)?;
-    let matches = program.try_get_matches_from_mut(words)?;
-    match request_of(&matches) {
+    match_by(&mut program, words)
+}
+
+/// The request that `clap` finds in the words by this program, or its error.
+fn match_by<'a>(program: &mut Command<'a>, words: &'a [String]) -> Result<Request<'a>, Error>
+    requires { app_of program.old ≡ command_line }
+    ensures asks { IfOk result (Asks (texts_of words.now)) }
+    ensures taken { IfOk result (λ _. fault_of command_line (texts_of words.now) ≡ []) }
+    ensures fails { IfErr result (λ error. MayFailBy (texts_of words.now) (kind_of error)) }
+{
+    let found = request_of(&program.try_get_matches_from_mut(words)?);
+    match found {
         Some(request) => Ok(request),
         None => Err(program.error(ErrorKind::MissingSubcommand, "a command is required")?),
     }

@@ -6,47 +6,47 @@ use Rattle.duk_words.specs.Asked.{AskForNothing, AsksBehind, MayFailBy, texts_of
 use Rattle.clap.specs.declared.error.kind.ErrorKind.TheVariants.{MissingSubcommand}
 use Rattle.duk_words.specs.CommandLine.{command_line}
 use Rattle.duk_words.proofs.Failures.{command_found, is_told_of, may_fail}
-use Rattle.duk_words.proofs.request.match_words.Goals as goal
+use Rattle.duk_words.proofs.request.match_by.Goals as goal
 
 true_is_not_false : false ≡ true → ⊥
 true_is_not_false same = grind arith
 
-pub returns-in_err-matches-clause-fails : goal.returns-in_err-matches-clause-fails
-returns-in_err-matches-clause-fails c =
-    let made : app_of c.in_ok-program.program ≡ command_line = c.in_ok-program.ensures in
+pub returns-in_err-try_get_matches_from_mut-clause-fails : goal.returns-in_err-try_get_matches_from_mut-clause-fails
+returns-in_err-try_get_matches_from_mut-clause-fails c =
+    let made : app_of c.args.program.now ≡ command_line = c.requires in
     let told : HasKind (fault_of command_line (texts_of c.args.words.now))
-    c.in_err-matches.field-0.0 =
+    c.in_err-try_get_matches_from_mut.field-0.0 =
     subst (λ (app : App). HasKind (fault_of app (texts_of c.args.words.now))
-    c.in_err-matches.field-0.0) made
-    (c.in_err-matches.ensures.kinds (ap is_simple_and_free made ∙ is_told_of)) in
-    let fails : MayFailBy (texts_of c.args.words.now) (kind_of c.in_err-matches.field-0.0) =
-    may_fail (texts_of c.args.words.now) (kind_of c.in_err-matches.field-0.0) told in
+    c.in_err-try_get_matches_from_mut.field-0.0) made
+    (c.in_err-try_get_matches_from_mut.ensures.kinds (ap is_simple_and_free made ∙ is_told_of)) in
+    let fails : MayFailBy (texts_of c.args.words.now) (kind_of c.in_err-try_get_matches_from_mut.field-0.0) =
+    may_fail (texts_of c.args.words.now) (kind_of c.in_err-try_get_matches_from_mut.field-0.0) told in
     search rules
 
 pub returns-in-Some-clause-asks : goal.returns-in-Some-clause-asks
 returns-in-Some-clause-asks c =
-    let made : app_of c.in_ok-program.program ≡ command_line = c.in_ok-program.ensures in
-    let found : subcommand_rows_of c.in_ok-matches.matches
+    let made : app_of c.args.program.now ≡ command_line = c.requires in
+    let found : subcommand_rows_of c.in_ok-try_get_matches_from_mut.field-0
     ≡ subcommand_of command_line (texts_of c.args.words.now) =
-    command_found _ _ c.in_ok-matches.matches made c.in_ok-matches.ensures.ok.2 in
+    command_found _ _ c.in_ok-try_get_matches_from_mut.field-0 made c.in_ok-try_get_matches_from_mut.ensures.ok.2 in
     subst (λ (used : Option (Text × List Row)). AsksBehind used c.in-Some.request) found c.in-Some.ensures.asks
 
 pub returns-in-Some-clause-taken : goal.returns-in-Some-clause-taken
 returns-in-Some-clause-taken c =
-    let made : app_of c.in_ok-program.program ≡ command_line = c.in_ok-program.ensures in
+    let made : app_of c.args.program.now ≡ command_line = c.requires in
     sym (ap (λ (app : App). fault_of app (texts_of c.args.words.now)) made)
-    ∙ c.in_ok-matches.ensures.kinds (ap is_simple_and_free made ∙ is_told_of)
+    ∙ c.in_ok-try_get_matches_from_mut.ensures.kinds (ap is_simple_and_free made ∙ is_told_of)
 
-pub returns-clause-fails : goal.returns-clause-fails
-returns-clause-fails c =
-    let made : app_of c.in_ok-program.program ≡ command_line = c.in_ok-program.ensures in
+pub returns-in_ok-error-in-None-clause-fails : goal.returns-in_ok-error-in-None-clause-fails
+returns-in_ok-error-in-None-clause-fails c =
+    let made : app_of c.args.program.now ≡ command_line = c.requires in
     let none : fault_of command_line (texts_of c.args.words.now) ≡ [] =
     sym (ap (λ (app : App). fault_of app (texts_of c.args.words.now)) made)
-    ∙ c.in_ok-matches.ensures.kinds (ap is_simple_and_free made ∙ is_told_of) in
+    ∙ c.in_ok-try_get_matches_from_mut.ensures.kinds (ap is_simple_and_free made ∙ is_told_of) in
     let missing : kind_of c.in_ok-error-in-None.field-0 ≡ MissingSubcommand = search rules in
-    let found : subcommand_rows_of c.in_ok-matches.matches
+    let found : subcommand_rows_of c.in_ok-try_get_matches_from_mut.field-0
     ≡ subcommand_of command_line (texts_of c.args.words.now) =
-    command_found _ _ c.in_ok-matches.matches made c.in_ok-matches.ensures.ok.2 in
+    command_found _ _ c.in_ok-try_get_matches_from_mut.field-0 made c.in_ok-try_get_matches_from_mut.ensures.ok.2 in
     let asks : AskForNothing (texts_of c.args.words.now) = λ request asked.
     true_is_not_false (c.in-None.ensures.all request
     (subst (λ (used : Option (Text × List Row)). AsksBehind used request) (sym found) asked)) in
