@@ -5,7 +5,7 @@ use Rattle.std.proofs.lemmas.List.{get_or_append_left}
 use Rattle.std.proofs.Math.Seq.{get_or-append_seam}
 use Rattle.std.proofs.lemmas.Option.{same_Some}
 use Rattle.std.specs.List.{AllPairs, AllZip, Any, list_all}
-use Rattle.duk_host.specs.declared.table.Card.{Card}
+use Rattle.duk_pin.specs.declared.card.Card.{Card}
 use Rattle.toml.specs.Data.{Data, Members, table}
 use Rattle.duk_config.specs.BaseKeys.{BaseKey, key_of, prefix_of}
 use Rattle.duk_config.specs.declared.fault.ConfigKey.{ConfigKey}

@@ -1,6 +1,6 @@
 -- Why a table of TOML is no configuration: this project's own.
 use Rattle.std.specs.Prelude.{◌≡◌, ◌<◌, ℕ, true, List, Some, None, IsSome, codes, string_bytes}
-use Rattle.duk_host.specs.declared.table.Card.{Card}
+use Rattle.duk_pin.specs.declared.card.Card.{Card}
 use Rattle.toml.specs.Data.{Data, Members}
 use Rattle.duk_config.specs.BaseKeys.{BaseKey}
 use Rattle.duk_config.specs.declared.fault.ConfigKey.{ConfigKey}

@@ -2,7 +2,7 @@
 use Rattle.std.specs.Prelude.{◌≡◌, ◌&&◌, nat_le, ℕ, Bool, true, false, List, [], Option, Some, None, codes, length, if◌then◌else◌}
 use Rattle.std.specs.Option.{option_and_then, option_map}
 use Rattle.std.specs.Str.{bytes_eq}
-use Rattle.duk_host.specs.declared.table.Card.{Card}
+use Rattle.duk_pin.specs.declared.card.Card.{Card}
 use Rattle.toml.specs.Data.{Data, Members, as_array, as_str, get_member}
 use Rattle.duk_config.specs.BaseKeys.{BaseKey}
 use Rattle.duk_config.specs.ConfigKeys.{is_config_key}

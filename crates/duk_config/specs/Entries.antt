@@ -3,7 +3,7 @@ use Rattle.std.specs.Prelude.{◌≡◌, ◌⊎◌, ◌+◌, ℕ, List, [], ◌�
 use Rattle.std.specs.List.{All, AllZip}
 use Rattle.duk_pin.specs.Pan.{IsPan}
 use Rattle.duk_pin.specs.Pin.{IsPin}
-use Rattle.duk_host.specs.declared.table.Card.{Card}
+use Rattle.duk_pin.specs.declared.card.Card.{Card}
 use Rattle.toml.specs.Data.{Data, Members, table, Items, no_items, item}
 use Rattle.duk_config.specs.BaseKeys.{BaseKey, key_of, prefix_of}
 use Rattle.duk_config.specs.ConfigKeys.{is_bdk_key, is_card_key}

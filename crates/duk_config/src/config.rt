@@ -1,6 +1,6 @@
 //! What a configuration says.
 
-use duk_host::Card;
+use duk_pin::Card;
 use duk_tdes::{Key, KeyBytes};
 use std::marker::Model;
 

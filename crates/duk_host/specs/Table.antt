@@ -6,7 +6,7 @@ use Rattle.duk_frame.specs.declared.code.Code.{Code}
 use Rattle.duk_frame.specs.declared.code.Code.TheVariants.{Approved, NoCard, WrongPin, OverLimit, Unreadable}
 use Rattle.duk_pin.specs.PinBlock.{pin_in_block}
 use Rattle.duk_tdes.specs.Tdes.{tdes_decrypted}
-use Rattle.duk_host.specs.declared.table.Card.{Card}
+use Rattle.duk_pin.specs.declared.card.Card.{Card}
 
 -- the cards that an issuer knows, and the zone key under which PIN blocks come to it
 pub record CardTable : Type 0 where

@@ -25,8 +25,9 @@ mod table;
 mod used;
 
 pub use answered::{Answered, Verdict};
+pub use duk_pin::Card;
 pub use fault::HostFault;
 pub use host::Host;
 pub use issuer::Issuer;
 pub use service::serve;
-pub use table::{Card, TableIssuer};
+pub use table::TableIssuer;

@@ -6,20 +6,9 @@ ghost use Rattle.duk_host.specs.Table.{card_code, card_of, table_decision};
 
 use crate::issuer::Issuer;
 use duk_frame::Code;
-use duk_pin::{Pan, Pin, decode};
+use duk_pin::{Card, Pan, Pin, decode};
 use duk_tdes::KeyBytes;
 use std::marker::Model;
-
-/// A card. It has no `Debug`, so that no PIN is printed by chance.
-#[derive(Clone, Copy)]
-pub struct Card {
-    /// Its account number.
-    pub pan: Pan,
-    /// Its PIN.
-    pub pin: Pin,
-    /// The greatest amount of a payment, in the smallest unit of the currency.
-    pub limit: u32,
-}
 
 /// An issuer with a table of cards, to which PIN blocks come under a zone key.
 #[derive(Drop)]
@@ -61,23 +50,21 @@ impl Issuer for TableIssuer {
             return Code::NoCard;
         };
         match decode(self.zone.decrypt(block), pan) {
-            Some(pin) => card.judge(&pin, amount),
+            Some(pin) => code_of(&card, &pin, amount),
             None => Code::Unreadable,
         }
     }
 }
 
-impl Card {
-    /// The code for a PIN that was entered and an amount.
-    fn judge(&self, pin: &Pin, amount: u32) -> Code
-        ensures { result ≡ card_code self.now pin.now amount }
-    {
-        if self.pin != *pin {
-            Code::WrongPin
-        } else if amount > self.limit {
-            Code::OverLimit
-        } else {
-            Code::Approved
-        }
+/// The code of a card for a PIN that was entered and an amount.
+fn code_of(card: &Card, pin: &Pin, amount: u32) -> Code
+    ensures { result ≡ card_code card.now pin.now amount }
+{
+    if card.pin != *pin {
+        Code::WrongPin
+    } else if amount > card.limit {
+        Code::OverLimit
+    } else {
+        Code::Approved
     }
 }

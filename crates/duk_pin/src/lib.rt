@@ -1,4 +1,4 @@
-//! PINs, PANs and the PIN blocks of ISO 9564-1 format 0.
+//! PINs, PANs, cards and the PIN blocks of ISO 9564-1 format 0.
 //!
 //! A PIN block hides a PIN of 4 to 12 digits behind the PAN of its card: 8 bytes, the exclusive or
 //! of a PIN field and an account field. It is no encryption: whoever knows the PAN and the block
@@ -8,6 +8,7 @@
 #![tactic(auto)]
 
 mod block;
+mod card;
 mod digits;
 mod fault;
 mod field;
@@ -17,6 +18,7 @@ mod pan;
 mod pin;
 
 pub use block::{decode, encode};
+pub use card::Card;
 pub use fault::PinFault;
 pub use pan::Pan;
 pub use pin::Pin;

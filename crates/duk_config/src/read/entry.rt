@@ -7,8 +7,7 @@ ghost use Rattle.duk_config.specs.Entries.{HaveOnePan, HaveOnePrefix, StatesBase
 
 use super::names::{has_only_bdk_keys, has_only_card_keys};
 use super::value::{double_key_at, number_at, prefix_at, text_at};
-use duk_host::Card;
-use duk_pin::{Pan, Pin};
+use duk_pin::{Card, Pan, Pin};
 use duk_tdes::Key;
 use toml::Value;
 

@@ -14,7 +14,7 @@ use super::entries::read_entries;
 use super::names::unknown_key;
 use super::value::{double_key_at, number_at, tdes_key_at};
 use crate::fault::{ConfigKey, ScriptFault};
-use duk_host::Card;
+use duk_pin::Card;
 use duk_tdes::{Key, KeyBytes};
 use std::alloc::Global;
 use toml::{Table, Value};
