@@ -12,9 +12,9 @@ use Rattle.duk_tree.specs.Serial.{IsIksn, Serial, serial_bytes, serial_of_bytes,
 use Rattle.duk_regs.specs.Registers.{HaveSixteenBytes, IsRegisterSet, RegisterSet, LeavesEmpty, register_at, empty_register}
 use Rattle.duk_tree.specs.Path.{IsUsable}
 use Rattle.duk_tree.specs.Next.{spent_counter}
-use Rattle.duk_regs.specs.Image.{IsImage, IsPastPart, IsPresentPart, counter_in, image_bytes, image_bytes_of_version_1, past_bytes, past_count_in, past_in, present_bytes, registers_in, serial_in, set_in}
+use Rattle.duk_regs.specs.Image.{IsImage, IsPastPart, IsPresentPart, counted_past_in, counter_in, image_bytes, image_bytes_of_version_1, past_bytes, past_count_in, past_in, present_bytes, registers_in, serial_in, set_in}
 use Rattle.duk_regs.proofs.PiecesInARow.{concat-push, length-concat, length-put_mid, piece_found, pieces_from, take-add}
-use Rattle.duk_regs.proofs.PastWrittenAndRead.{HasPast, IsPastPart-written, length-past_bytes, length-past_of, no_past, past_found}
+use Rattle.duk_regs.proofs.PastWrittenAndRead.{HasPast, IsPastPart-written, counted_past, length-past_bytes, length-past_of, no_past, past_found}
 
 -- ---- written
 
@@ -144,6 +144,9 @@ length_of_version_1 image known version = elim known [ inl one ↦ one.0 | inr t
 pub length_of_version_2 : (image : List ℕ) → HasVersion image → get_or image 0 0 ≢ 1 → length image ≡ 431
 length_of_version_2 image known other = elim known [ inl one ↦ absurd (other one.1) | inr two ↦ two.0 ]
 
+pub is_version_2 : (image : List ℕ) → HasVersion image → get_or image 0 0 ≢ 1 → get_or image 0 0 ≡ 2
+is_version_2 image known other = elim known [ inl one ↦ absurd (other one.1) | inr two ↦ two.1 ]
+
 -- what was read, part by part
 pub parts_read : (image : List ℕ) (iksn counter : ℕ) (registers : List (List ℕ)) (past : List ℕ)
     → iksn ≡ (serial_in image).iksn → counter ≡ counter_in image → registers ≡ registers_in image → past ≡ past_in image
@@ -158,9 +161,9 @@ pub length-registers_in : (image : List ℕ) → length (registers_in image) ≡
 unfolding registers_in
 length-registers_in image = length-map-range_with_len (λ (place : ℕ). take 16 (drop (14 + 16 * place) image)) 0 21
 
-pub set_of_version_1 : (image : List ℕ) → IsPresentPart image → IsIksn (serial_in image).iksn → length image ≡ 350 → IsRegisterSet (set_in image)
-set_of_version_1 image present is_iksn is_350 =
-    let none : length (past_in image) ≡ 0 = ap (λ (past : List ℕ). length past) (no_past image is_350) in
+pub set_of_version_1 : (image : List ℕ) → IsPresentPart image → IsIksn (serial_in image).iksn → get_or image 0 0 ≡ 1 → IsRegisterSet (set_in image)
+set_of_version_1 image present is_iksn version =
+    let none : length (past_in image) ≡ 0 = ap (λ (past : List ℕ). length past) (no_past image version) in
     record {
       iksn_is = is_iksn;
       counter_is = present.counter_is;
@@ -172,8 +175,8 @@ set_of_version_1 image present is_iksn is_350 =
       iksn_is_not_past = λ found. absurd (omega (arith, found.1));
     }
 
-pub set_of_version_2 : (image : List ℕ) → IsPresentPart image → IsIksn (serial_in image).iksn → IsPastPart image → All IsIksn (past_in image) → IsRegisterSet (set_in image)
-set_of_version_2 image present is_iksn part iksns = record {
+pub set_of_version_2 : (image : List ℕ) → IsPresentPart image → IsIksn (serial_in image).iksn → IsPastPart image → All IsIksn (counted_past_in image) → get_or image 0 0 ≡ 2 → IsRegisterSet (set_in image)
+set_of_version_2 image present is_iksn part iksns version = subst (λ (past : List ℕ). IsRegisterSet (record { iksn = (serial_in image).iksn; counter = counter_in image; registers = registers_in image; past = past })) (sym (counted_past image version)) (record {
   iksn_is = is_iksn;
   counter_is = present.counter_is;
   are_21 = length-registers_in image;
@@ -182,7 +185,7 @@ set_of_version_2 image present is_iksn part iksns = record {
   past_are_at_most_8 = omega (arith, length-past_of image (past_count_in image), part.are_at_most_8);
   past_are_different = part.are_different;
   iksn_is_not_past = part.iksn_is_not_past;
-}
+})
 
 -- ---- written and read
 
@@ -294,9 +297,7 @@ length-image_bytes_of_version_1 set writable = omega (arith, length-present_byte
 
 pub set_in-image_bytes_of_version_1 : (set : RegisterSet) → IsWritable set → set.past ≡ [] → set_in (image_bytes_of_version_1 set) ≡ set
 set_in-image_bytes_of_version_1 set writable none =
-    let same = with_nothing set in
-    let is_350 : length (image_with 1 set []) ≡ 350 = ap (λ (image : List ℕ). length image) same ∙ length-image_bytes_of_version_1 set writable in
-    ap set_in (sym same) ∙ set_found 1 set [] writable (no_past (image_with 1 set []) is_350 ∙ sym none)
+    ap set_in (sym (with_nothing set)) ∙ set_found 1 set [] writable (sym none)
 
 pub IsImage-image_bytes_of_version_1 : (set : RegisterSet) → IsWritable set → IsImage (image_bytes_of_version_1 set)
 IsImage-image_bytes_of_version_1 set writable =

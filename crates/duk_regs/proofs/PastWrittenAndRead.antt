@@ -1,12 +1,12 @@
 -- The bytes of past initial key serial numbers, written and read.
 use Rattle.std.proofs.Common.{◌≡◌, ◌≢◌, ℕ, ◌+◌, ◌-◌, ◌*◌, ◌<◌, ◌≤◌, List, [], ◌∷◌, ◌++◌, All, AllPairs, Contains, length, take, drop, map, replicate, get_or, refl, sym, ap, subst, ◌∙◌, arith}
-use Rattle.std.proofs.lemmas.List.{drop_at, drop-drop, drop-replicate, drop_more, get_or-drop, get_or-map, get_or_past, length-append, length-drop, length-map, length-replicate, map_more, take-append-drop, take_rest}
+use Rattle.std.proofs.lemmas.List.{drop_at, drop-drop, drop-replicate, drop_more, get_or-drop, get_or-map, length-append, length-drop, length-map, length-replicate, map_more, take-append-drop, take_rest}
 use Rattle.std.proofs.lemmas.List.FromFn.{fill_by_all, get_or-map-range_with_len, length-map-range_with_len, map-range_with_len_more}
 use Rattle.std.proofs.lemmas.Slice.{drop-put_mid, take-put_mid}
 use Rattle.std.specs.List.{concat}
 use borrow.Rule.Slice.PartMut.{put_mid}
 use Rattle.duk_tree.specs.Serial.{IsIksn, Serial, iksn_bytes, serial_bytes, serial_of_bytes}
-use Rattle.duk_regs.specs.Image.{IsPastPart, past_bytes, past_count_in, past_in, past_of, past_serial_in, serial_in}
+use Rattle.duk_regs.specs.Image.{IsPastPart, counted_past_in, past_bytes, past_count_in, past_in, past_of, past_serial_in, serial_in}
 use Rattle.duk_regs.proofs.PiecesInARow.{concat-push, length-concat, piece_found, pieces_from}
 
 each_is_10 : (past : List ℕ) → ((iksn : ℕ) → length (iksn_bytes iksn) ≡ 10) → (k : ℕ) → k < length past → length (get_or (map iksn_bytes past) k []) ≡ 10
@@ -69,9 +69,12 @@ pub past_of_none : (image : List ℕ) → past_of image 0 ≡ []
 unfolding past_of
 past_of_none image = refl
 
--- version 1 ends before them
-pub no_past : (image : List ℕ) → length image ≡ 350 → past_in image ≡ []
-no_past image is_350 = ap (past_of image) (get_or_past image 350 0 (omega arith)) ∙ past_of_none image
+-- version 1 has none, and version 2 those that it counts
+pub no_past : (image : List ℕ) → get_or image 0 0 ≡ 1 → past_in image ≡ []
+no_past image version = rw version refl
+
+pub counted_past : (image : List ℕ) → get_or image 0 0 ≡ 2 → past_in image ≡ counted_past_in image
+counted_past image version = rw version refl
 
 -- each of these key serial numbers is written as it was read
 abbrev pub AreWrittenAgain : List ℕ → Type 0
@@ -105,10 +108,10 @@ unused_zeros image count is_431 at_most_8 zeros =
     sym whole ∙ zeros ∙ ap (λ n. replicate n 0) (ap (λ (bytes : List ℕ). length bytes) whole ∙ length-drop from image ∙ size)
 
 -- numbers that were read are written again as they were
-pub past_bytes-past_in : (image : List ℕ) → length image ≡ 431 → AreWrittenAgain image → IsPastPart image → past_bytes (past_in image) ≡ drop 350 image
-past_bytes-past_in image is_431 again part =
+pub past_bytes-counted_past_in : (image : List ℕ) → length image ≡ 431 → AreWrittenAgain image → IsPastPart image → past_bytes (counted_past_in image) ≡ drop 350 image
+past_bytes-counted_past_in image is_431 again part =
     let count = past_count_in image in
-    let past = past_in image in
+    let past = counted_past_in image in
     ap (λ n. n ∷ (concat (map iksn_bytes past) ++ replicate (10 * (8 - n)) 0)) (length-past_of image count)
     ∙ ap (λ front. count ∷ (front ++ replicate (10 * (8 - count)) 0)) (places_written image count again part.are_at_most_8 part.counter_bits_are_zero)
     ∙ ap (λ rest. count ∷ (take (10 * count) (drop 351 image) ++ rest)) (sym part.unused_are_zero ∙ sym (drop-drop (10 * count) 351 image))
@@ -140,7 +143,7 @@ past_serial_found image past place has within =
     ∙ ap serial_of_bytes (piece_found 10 (map iksn_bytes past) (replicate (10 * (8 - length past)) 0) place [] (are_10 image past has) inside ∙ get_or-map iksn_bytes past place 0 [] within)
     ∙ has.found (get_or past place 0) (has.iksns place 0 within)
 
-pub past_found : (image past : List ℕ) → HasPast image past → past_in image ≡ past
+pub past_found : (image past : List ℕ) → HasPast image past → counted_past_in image ≡ past
 unfolding past_of
 past_found image past has =
     ap (past_of image) (count_found image past has)
@@ -156,7 +159,7 @@ unused_found image past has =
 pub IsPastPart-written : (image past : List ℕ) → HasPast image past → length past ≤ 8 → AllPairs (λ one other. one ≢ other) past → ¬ Contains past (serial_in image).iksn → IsPastPart image
 IsPastPart-written image past has at_most_8 different not_past =
     let count = count_found image past has in
-    let same : past ≡ past_in image = sym (past_found image past has) in
+    let same : past ≡ counted_past_in image = sym (past_found image past has) in
     record {
       are_at_most_8 = omega arith;
       counter_bits_are_zero = λ place within. ap (λ (serial : Serial). serial.counter) (past_serial_found image past place has (omega arith));

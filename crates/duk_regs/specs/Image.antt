@@ -1,6 +1,6 @@
 -- The image of a terminal: version 2, of 431 bytes, and version 1, of 350, which is read but not
 -- written any more. Formats of this project's own.
-use Rattle.std.specs.Prelude.{◌≡◌, ◌≢◌, ◌⊎◌, ◌<◌, ◌≤◌, ◌+◌, ◌-◌, ◌*◌, ℕ, List, AllPairs, Contains, ◌∷◌, ◌++◌, length, take, drop, map, replicate, slice_index}
+use Rattle.std.specs.Prelude.{◌≡◌, ◌≢◌, ◌⊎◌, ◌<◌, ◌≤◌, ◌+◌, ◌-◌, ◌*◌, ◌==◌, if◌then◌else◌, ℕ, List, AllPairs, Contains, [], ◌∷◌, ◌++◌, length, take, drop, map, replicate, slice_index}
 use Rattle.std.specs.List.{concat, range_with_len}
 use Rattle.byteorder.specs.Endian.{big_bytes, big_number}
 use Rattle.duk_tree.specs.Serial.{Serial, serial_of_bytes, iksn_bytes}
@@ -39,7 +39,7 @@ counter_in image = big_number 3 (take 3 (drop 11 image))
 unfoldable pub registers_in : List ℕ → List (List ℕ)
 registers_in image = map (λ place. take 16 (drop (14 + 16 * place) image)) (range_with_len 0 21)
 
--- how many past initial key serial numbers are in them: none in version 1, which ends before
+-- how many past initial key serial numbers an image of version 2 counts
 abbrev pub past_count_in : List ℕ → ℕ
 past_count_in image = slice_index image 350
 
@@ -51,9 +51,13 @@ past_serial_in image place = serial_of_bytes (take 10 (drop (351 + 10 * place) i
 unfoldable pub past_of : List ℕ → ℕ → List ℕ
 past_of image count = map (λ place. (past_serial_in image place).iksn) (range_with_len 0 count)
 
--- the past initial key serial numbers in them
+-- those that an image of version 2 counts
+abbrev pub counted_past_in : List ℕ → List ℕ
+counted_past_in image = past_of image (past_count_in image)
+
+-- the past initial key serial numbers in an image, by its version: in version 1 none is past
 abbrev pub past_in : List ℕ → List ℕ
-past_in image = past_of image (past_count_in image)
+past_in image = if slice_index image 0 == 1 then [] else counted_past_in image
 
 -- what a terminal with this image keeps
 abbrev pub set_in : List ℕ → RegisterSet
@@ -76,8 +80,8 @@ pub record IsPastPart (image : List ℕ) : Type 0 where
   pub are_at_most_8 : past_count_in image ≤ 8
   pub counter_bits_are_zero : (place : ℕ) → place < past_count_in image
       → (past_serial_in image place).counter ≡ 0
-  pub are_different : AllPairs (λ one other. one ≢ other) (past_in image)
-  pub iksn_is_not_past : ¬ Contains (past_in image) (serial_in image).iksn
+  pub are_different : AllPairs (λ one other. one ≢ other) (counted_past_in image)
+  pub iksn_is_not_past : ¬ Contains (counted_past_in image) (serial_in image).iksn
   pub unused_are_zero : drop (351 + 10 * past_count_in image) image
       ≡ replicate (10 * (8 - past_count_in image)) 0
 

@@ -7,6 +7,10 @@ ghost use Rattle.duk_tree.specs.Derivation.{step_of, transaction_key_of};
 ghost use Rattle.duk_tree.specs.Serial.{low_bytes};
 ghost use Rattle.duk_regs.specs.Registers.{HaveSixteenBytes, RegisterSet, IsRegisterSet, StandsFor, IsTaken, HoldsNode, register_at, empty_register};
 ghost use Rattle.duk_regs.specs.Image.{IsImage, image_bytes, image_bytes_of_version_1, set_in};
+ghost use Rattle.duk_regs.specs.declared.past.Past.TheInside as past;
+ghost use Rattle.duk_regs.specs.declared.past.Past.TheView as past_view;
+ghost use Rattle.duk_regs.specs.declared.registers.Registers.TheInside as registers;
+ghost use Rattle.duk_regs.specs.declared.registers.Registers.TheView as registers_view;
 
 /// Registers with the keys of the powers of two stand for the initial key at the first number.
 pub fn first()
@@ -98,3 +102,13 @@ pub fn images()
     duk_tree::laws::serials();
     duk_tree::laws::bits();
 }
+
+/// Nothing is hidden beside what contracts see: registers that are equal to them are equal in each
+/// field.
+pub fn nothing_else()
+    ensures registers { (one other : registers.Inside)
+        → registers_view.view one ≡ registers_view.view other → one ≡ other }
+    ensures past { (one other : past.Inside)
+        → past_view.invariant one → past_view.invariant other
+        → past_view.view one ≡ past_view.view other → one ≡ other }
+{}

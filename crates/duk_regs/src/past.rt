@@ -8,7 +8,8 @@ use std::marker::Model;
 /// How many initial key serial numbers are past at most.
 pub(crate) const MOST_PAST: usize = 8;
 
-/// The initial key serial numbers that a terminal had before, in order of their loading.
+/// The initial key serial numbers that a terminal had before, in order of their loading. The places
+/// behind them are zero.
 #[derive(Drop)]
 pub(crate) struct Past {
     iksns: [Iksn; MOST_PAST],
@@ -16,13 +17,14 @@ pub(crate) struct Past {
 }
 
 impl Model for Past {
-    ghost use Rattle.std.specs.Prelude.{ℕ, ◌≤◌, List, take};
+    ghost use Rattle.std.specs.Prelude.{ℕ, List, take};
+    ghost use Rattle.duk_regs.specs.Past.{ArePadded};
 
     ghost Value = { List ℕ };
 
     ghost view = { λ past. take past.count past.iksns };
 
-    ghost invariant = { λ past. past.count ≤ 8 };
+    ghost invariant = { λ past. ArePadded past.iksns past.count };
 }
 
 impl Past {

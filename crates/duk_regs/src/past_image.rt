@@ -2,7 +2,7 @@
 
 ghost use Rattle.std.specs.Prelude.{◌≡◌, ◌↔◌, ◌<◌, ◌≤◌, ℕ, All, IfSome, IsSome, IsTrue, drop, length, replicate};
 ghost use Rattle.duk_tree.specs.Serial.{IsIksn};
-ghost use Rattle.duk_regs.specs.Image.{IsPastPart, past_bytes, past_count_in, past_in, past_of, past_serial_in, serial_in};
+ghost use Rattle.duk_regs.specs.Image.{IsPastPart, counted_past_in, past_bytes, past_count_in, past_of, past_serial_in, serial_in};
 
 use crate::past::{MOST_PAST, Past, are_different};
 use duk_tdes::array_of;
@@ -40,7 +40,7 @@ pub(crate) fn read_past(image: &[u8], iksn: Iksn) -> Option<Past>
     requires size { length image.now ≡ 431 }
     requires iksn { iksn ≡ (serial_in image.now).iksn }
     ensures found { IsSome result ↔ IsPastPart image.now }
-    ensures past { IfSome result (λ past. past ≡ past_in image.now) }
+    ensures past { IfSome result (λ past. past ≡ counted_past_in image.now) }
     ensures iksns { IfSome result (All IsIksn) }
     ensures written { IfSome result (λ past. past_bytes past ≡ drop 350 image.now) }
 {

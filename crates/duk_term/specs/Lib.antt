@@ -5,3 +5,4 @@ pub mod Restart
 pub mod Load
 pub mod Begin
 pub mod Reply
+pub mod View

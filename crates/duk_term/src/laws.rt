@@ -1,6 +1,6 @@
 //! Laws of terminals, each the contract of a function that does nothing.
 
-ghost use Rattle.std.specs.Prelude.{ℕ, List};
+ghost use Rattle.std.specs.Prelude.{◌≡◌, ℕ, List};
 ghost use Rattle.duk_frame.specs.Payment.{request_of};
 ghost use Rattle.duk_frame.specs.Request.{IsRequest};
 ghost use Rattle.duk_pin.specs.PinBlock.{IsPinBlock, pin_block};
@@ -9,6 +9,8 @@ ghost use Rattle.duk_tdes.specs.Key.{IsKey};
 ghost use Rattle.duk_term.specs.Begin.{IsBegun, TakesNumber};
 ghost use Rattle.duk_term.specs.Body.{IsFoundAgain};
 ghost use Rattle.duk_term.specs.Terminal.{TerminalOf, serial_of};
+ghost use Rattle.duk_term.specs.View.{terminal_view};
+ghost use Rattle.duk_term.specs.declared.terminal.Terminal.TheInside.{Inside};
 
 use crate::purchase::Purchase;
 use duk_store::Cell;
@@ -45,3 +47,9 @@ pub fn requests<C: Cell>()
     duk_frame::laws::payments();
     duk_pin::laws::one_block();
 }
+
+/// Nothing is hidden beside what contracts see: terminals that are equal to them are equal in each
+/// field.
+pub fn nothing_else<C: Cell>()
+    ensures { (one other : Inside C) → terminal_view one ≡ terminal_view other → one ≡ other }
+{}

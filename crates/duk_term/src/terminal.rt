@@ -38,7 +38,9 @@ impl<C: Cell> Model for Terminal<C> {
 
     ghost Value = { TerminalOf C };
 
-    ghost view = { λ terminal. record { cell = terminal.cell; state = terminal.state } };
+    ghost use Rattle.duk_term.specs.View.{terminal_view};
+
+    ghost view = { terminal_view };
 
     ghost invariant = { λ terminal. Agrees (C.meaning.state_of terminal.cell) terminal.state };
 }

@@ -1,4 +1,4 @@
-use Rattle.std.proofs.Common.{Some, None, sym, subst}
+use Rattle.std.proofs.Common.{sym, subst}
 use Rattle.duk_term.specs.Terminal.{Agrees}
 use Rattle.duk_term.proofs.BodyIsFoundAgain.{if_read}
 use Rattle.duk_term.proofs.terminal.Terminal.restart.Goals as goal
