@@ -10,3 +10,4 @@ pub mod Handle
 pub mod Serve
 pub mod Served
 pub mod Lifetime
+pub mod View

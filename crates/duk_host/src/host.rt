@@ -46,12 +46,9 @@ impl<const N: usize, L: UsedLog, I: Issuer> Model for Host<N, L, I> {
 
     ghost Value = { HostOf L I };
 
-    ghost view = { λ host. record {
-      keys = host.hsm;
-      issuer = host.issuer;
-      log = host.log;
-      state = host.state;
-    } };
+    ghost use Rattle.duk_host.specs.View.{host_view};
+
+    ghost view = { host_view };
 
     ghost invariant = { λ host. AgreesWithLog host.hsm (L.meaning.state_of host.log) host.state };
 }

@@ -13,7 +13,13 @@ ghost use Rattle.duk_host.specs.Restart.{IsHostRestarted};
 ghost use Rattle.duk_host.specs.Serve.{IsReadUp, IsServed, Serves, Service, ServiceFailed, Supply};
 ghost use Rattle.duk_host.specs.Served.{AreJudged, IsServedStream, JudgesBy, WroteAllOf, WroteFirstOf};
 ghost use Rattle.duk_host.specs.Used.{AreUsable};
+ghost use Rattle.duk_host.specs.View.{HaveOneRoom, host_view};
 ghost use Rattle.duk_host.specs.declared.fault.HostFault.{HostFault};
+ghost use Rattle.duk_host.specs.declared.host.Host.TheInside as host;
+ghost use Rattle.duk_host.specs.declared.recent.EmptyRing.TheInside as ring;
+ghost use Rattle.duk_host.specs.declared.recent.EmptyRing.TheView as ring_view;
+ghost use Rattle.duk_host.specs.declared.recent.Recent.TheInside as recent;
+ghost use Rattle.duk_host.specs.declared.recent.Recent.TheView as recent_view;
 ghost use Rattle.duk_host.specs.Judgement.{Decision, IsAccepted, IsAnswerTo, IsMalformed, IsRefusedRequest, JudgementBasis, basis_with, no_serial, reason_number};
 
 use crate::issuer::Issuer;
@@ -165,4 +171,17 @@ pub fn service_runs<L: UsedLog, I: Issuer>()
         → ServiceFailed (host_meaning_of L.meaning I.decides) old new input left why
         → (answers : List (List ℕ))
         × IsServiceRun (host_meaning_of L.meaning I.decides) made answers new.host }
+{}
+
+/// Nothing is hidden beside what contracts see, but for the allocator and the spare room: hosts, and
+/// the latest exchanges, that are equal to them are equal in each field.
+pub fn nothing_else<const N: usize, L: UsedLog, I: Issuer>()
+    ensures host { (one other : host.Inside N L I) → HaveOneRoom one other
+        → host_view one ≡ host_view other → one ≡ other }
+    ensures recent { (one other : recent.Inside)
+        → recent_view.invariant one → recent_view.invariant other
+        → recent_view.view one ≡ recent_view.view other → one ≡ other }
+    ensures ring { (one other : ring.Inside)
+        → ring_view.invariant one → ring_view.invariant other
+        → ring_view.view one ≡ ring_view.view other → one ≡ other }
 {}

@@ -2,3 +2,4 @@ pub mod Keys
 pub mod Load
 pub mod Commands
 pub mod Opened
+pub mod View

@@ -9,6 +9,7 @@
 mod fault;
 mod hsm;
 mod key_set;
+pub mod laws;
 mod pin_block;
 mod transaction;
 
