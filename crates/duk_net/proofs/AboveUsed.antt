@@ -9,7 +9,7 @@ use Rattle.duk_hsm.specs.Keys.{HsmKeys}
 use Rattle.duk_regs.specs.Registers.{IsRegisterSet, IsSpentIksn, IsTaken, RegisterSet, StandsFor}
 use Rattle.duk_store.specs.Cell.{CellMeaning, Kept}
 use Rattle.duk_term.specs.Begin.{IsBegun, TakesNumber}
-use Rattle.duk_term.specs.Body.{IsFoundAgain, KeepsRegisters}
+use Rattle.duk_term.specs.Body.{IsFoundAgain, body_bytes}
 use Rattle.duk_term.specs.Loading.{WrapsInitialKey}
 use Rattle.duk_term.specs.Terminal.{TerminalOf, serial_of}
 use Rattle.duk_term.specs.declared.purchase.Purchase.{Purchase}
@@ -21,7 +21,7 @@ use Rattle.duk_tree.specs.Next.{ComesAfter}
 use Rattle.duk_tree.specs.Path.{IsUsable, path_of}
 use Rattle.duk_tree.specs.Serial.{Serial}
 use Rattle.duk_net.specs.InitialKey.{IsInitialKeyOf}
-use Rattle.duk_net.specs.UsedNumbers.{HasNumber, IsUsedNumber, NoneTwice}
+use Rattle.duk_net.specs.UsedNumbers.{AreOwned, HasNumber, IsUsedNumber, NoneTwice}
 use Rattle.duk_net.specs.Owner.{owner_of}
 use Rattle.duk_net.specs.UnusedKeys.{RemembersUsed, StandsAboveUsed}
 use Rattle.duk_net.specs.World.{Frame, IsAt, Meanings, WorldOf}
@@ -55,9 +55,10 @@ StateSafe books t Stopped = Unit {0}
 StateSafe books t Empty = HasSentNothing books t
 StateSafe books t (Loaded set pending) = SetSafe books t set
 
+-- a body is that of safe registers, in version 2
 pub record BodySafe (books : Books) (t : ℕ) (body : List ℕ) : Type 0 where
   pub set : RegisterSet
-  pub keeps : KeepsRegisters body set
+  pub body_is : body ≡ body_bytes set
   pub safe : SetSafe books t set
 
 abbrev pub KeptSafe : Books → ℕ → Kept → Type 0
@@ -70,12 +71,12 @@ pub record TermSafe {C : Type 0} (cell : CellMeaning C) (books : Books) (t : ℕ
   pub kept : (kept : Kept) → (cell.state_of terminal.cell).found kept → KeptSafe books t kept
 
 -- each used number is owned
-abbrev pub AreOwned : Books → Type 0
-AreOwned books = (ksn : Serial) → IsUsedNumber books.requests ksn → (t : ℕ) × (owner_of books.owners ksn.iksn ≡ Some t)
+abbrev pub BooksOwned : Books → Type 0
+BooksOwned books = AreOwned books.requests books.owners
 
 pub record WorldSafe {C L I : Type 0} (m : Meanings C L I) (world : WorldOf C L I) : Type 0 where
   pub terminals : (t : ℕ) (terminal : TerminalOf C) → IsAt world.terminals t terminal → TermSafe m.cell (books_of world) t terminal
-  pub owned : AreOwned (books_of world)
+  pub owned : BooksOwned (books_of world)
   pub none_twice : NoneTwice world.requests
 
 -- where the books are others, but what is safe in the old ones is so in the new ones, a terminal stays safe
@@ -90,7 +91,7 @@ state_follows old t new (Loaded set pending) follows safe = follows.set set safe
 
 pub kept_follows : (old : Books) (t : ℕ) (new : Books) (kept : Kept) → Follows old t new → KeptSafe old t kept → KeptSafe new t kept
 kept_follows old t new None follows safe = follows.nothing safe
-kept_follows old t new (Some body) follows safe = record { set = safe.set; keeps = safe.keeps; safe = follows.set safe.set safe.safe }
+kept_follows old t new (Some body) follows safe = record { set = safe.set; body_is = safe.body_is; safe = follows.set safe.set safe.safe }
 
 pub term_follows : {C : Type 0} (cell : CellMeaning C) (old : Books) (t : ℕ) (new : Books) (terminal : TerminalOf C) → Follows old t new → TermSafe cell old t terminal → TermSafe cell new t terminal
 term_follows cell old t new terminal follows safe = record {
@@ -101,7 +102,7 @@ term_follows cell old t new terminal follows safe = record {
 
 -- owners that stay, and no request more
 pub owners_follow : (old : Books) (t : ℕ) (new : Books) → new.keys ≡ old.keys → new.requests ≡ old.requests
-    → ((iksn u : ℕ) → owner_of old.owners iksn ≡ Some u → owner_of new.owners iksn ≡ Some u) → AreOwned old → Follows old t new
+    → ((iksn u : ℕ) → owner_of old.owners iksn ≡ Some u → owner_of new.owners iksn ≡ Some u) → BooksOwned old → Follows old t new
 owners_follow old t new keys requests stays owned =
     -- a used number that the terminal owns now was its own before
     let owned_before : (ksn : Serial) → IsUsedNumber old.requests ksn → owner_of new.owners ksn.iksn ≡ Some t → owner_of old.owners ksn.iksn ≡ Some t = λ ksn was owner.

@@ -13,7 +13,7 @@ use Rattle.duk_net.specs.UsedNumbers.{HasNumber, HasUsableNumber, HaveOtherNumbe
 use Rattle.duk_net.specs.Owner.{owner_of}
 use Rattle.duk_net.specs.World.{Frame}
 use Rattle.duk_net.proofs.OwnersStay.{one_owner}
-use Rattle.duk_net.proofs.AboveUsed.{AreOwned, BegunIsRequest, Books, Follows, OneRequest, SetSafe, StateSafe, TermSafe, WorldLaws, left_is_safe, one_number, used_before}
+use Rattle.duk_net.proofs.AboveUsed.{BooksOwned, BegunIsRequest, Books, Follows, OneRequest, SetSafe, StateSafe, TermSafe, WorldLaws, left_is_safe, one_number, used_before}
 use Rattle.duk_net.proofs.TerminalStaysAboveUsed.{safe_body, taken_from_safe}
 
 -- the books after a request is sent
@@ -84,7 +84,7 @@ begin_follows books t u frame new reading number owned other = record {
 }
 
 -- each used number stays owned
-pub begin_owned : (books : Books) (t : ℕ) (frame : Frame) (new : Serial) → OneRequest → HasNumber frame new → owner_of books.owners new.iksn ≡ Some t → AreOwned books → AreOwned (after_begin books frame)
+pub begin_owned : (books : Books) (t : ℕ) (frame : Frame) (new : Serial) → OneRequest → HasNumber frame new → owner_of books.owners new.iksn ≡ Some t → BooksOwned books → BooksOwned (after_begin books frame)
 begin_owned books t frame new reading number owned are ksn used = elim (used_then books frame new ksn reading number used) [
   | inl before ↦ are ksn before
   | inr is ↦ (t, ap (λ ksn. owner_of books.owners ksn.iksn) is ∙ owned)

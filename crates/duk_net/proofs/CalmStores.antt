@@ -50,7 +50,7 @@ pub record KnownStores {C L I : Type 0} (m : Meanings C L I) (world : WorldOf C 
 -- what is safe to find is a body, where it is anything
 kept_body : (books : _) (t : ℕ) (kept : Kept) → KeptSafe books t kept → IsKeptBody kept
 kept_body books t None safe = tt
-kept_body books t (Some body) safe = safe.safe.again.is_body body safe.keeps
+kept_body books t (Some body) safe = safe.safe.again.is_body body (inl safe.body_is)
 
 -- so it is in every world that is reached
 pub reached_stores : {C L I : Type 0} (m : Meanings C L I) → WorldLaws m.cell → AnswerLaws → (world : WorldOf C L I) → Reached m world → KnownStores m world
@@ -96,7 +96,7 @@ sound_at : {C L I : Type 0} (m : Meanings C L I) (world : WorldOf C L I) → Has
 sound_at m world sound t terminal at = All-contains (HasSoundCell m) world.terminals terminal sound.cells (at_contains world.terminals t terminal at)
 
 -- what holds of each terminal by its number holds of all
-all_at : {C : Type 0} (P : TerminalOf C → Type 0) (terminals : List (TerminalOf C)) → ((t : ℕ) (terminal : TerminalOf C) → IsAt terminals t terminal → P terminal) → All P terminals
+pub all_at : {C : Type 0} (P : TerminalOf C → Type 0) (terminals : List (TerminalOf C)) → ((t : ℕ) (terminal : TerminalOf C) → IsAt terminals t terminal → P terminal) → All P terminals
 all_at P terminals each place default within =
     each (place + 1) (get_or terminals place default) (record { place = place; number_is = refl; thing_is = slice_get-get_or terminals place default within })
 

@@ -20,4 +20,5 @@ mod FramesUnderOwnKeys
 mod PendingIsSent
 mod CompletedByHost
 mod CalmStores
+mod ImagesOfVersion2
 mod CalmRestarts

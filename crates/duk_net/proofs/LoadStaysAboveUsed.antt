@@ -3,10 +3,10 @@ use Rattle.std.proofs.Common.{◌≡◌, ◌≢◌, ◌++◌, ◌∷◌, [], ℕ
 use Rattle.std.specs.List.{Contains}
 use Rattle.std.proofs.lemmas.List.Elements.{Contains-append_left, Contains-push}
 use Rattle.duk_regs.specs.Registers.{IsSpentIksn, RegisterSet}
-use Rattle.duk_store.specs.Cell.{CellMeaning, Kept}
+use Rattle.duk_store.specs.Cell.{CellMeaning}
 use Rattle.duk_store.specs.declared.fault.StoreFault.{StoreFault}
 use Rattle.duk_term.specs.Body.{body_bytes}
-use Rattle.duk_term.specs.Load.{IsFirstSet, IsTerminalLoaded, KeepsState, LoadStopped, Loading, MayTake}
+use Rattle.duk_term.specs.Load.{IsFirstSet, IsTerminalLoaded, LoadStopped, Loading, MayTake}
 use Rattle.duk_term.specs.Loading.{WrapsInitialKey}
 use Rattle.duk_term.specs.Terminal.{TerminalOf}
 use Rattle.duk_term.specs.declared.fault.TermFault.TheVariants as fault
@@ -20,22 +20,22 @@ use Rattle.duk_net.specs.UsedNumbers.{IsUsedNumber}
 use Rattle.duk_net.specs.declared.outcome.Outcome.{Outcome}
 use Rattle.duk_net.specs.declared.outcome.Outcome.TheVariants as came
 use Rattle.duk_net.proofs.OwnersStay.{one_owner, owner_stays, owns_loaded}
-use Rattle.duk_net.proofs.AboveUsed.{AreOwned, Books, Follows, KeptSafe, RegisterLaws, SetSafe, StateSafe, TermSafe, kept_follows, owners_follow}
-use Rattle.duk_net.proofs.TerminalStaysAboveUsed.{put_failed_honest, safe_body, safe_registers}
+use Rattle.duk_net.proofs.AboveUsed.{BooksOwned, Books, Follows, RegisterLaws, SetSafe, StateSafe, TermSafe, kept_follows, owners_follow}
+use Rattle.duk_net.proofs.TerminalStaysAboveUsed.{put_failed_honest, put_failed_within, safe_body}
 
 -- what a terminal is asked to load is its own initial key, and no other terminal owns the initial key serial number
 pub record MayBeGiven (books : Books) (t iksn : ℕ) (asked : Loading) : Type 0 where
   pub not_elsewhere : ¬ IsElsewhere books.owners iksn t
   pub iksn_is : asked.iksn ≡ iksn
   pub own_key : (initial : List ℕ) → WrapsInitialKey asked.loading_key asked.block initial → IsInitialKeyOf books.keys iksn initial
-  pub owned : AreOwned books
+  pub owned : BooksOwned books
 
 -- the books after a load
 abbrev pub after_load : Books → Outcome → ℕ → ℕ → Books
 after_load books outcome iksn t = record books { owners = owners_after_load outcome books.owners iksn t }
 
 -- what was safe before a load is safe after it
-pub load_follows : (books : Books) (t iksn u : ℕ) (outcome : Outcome) → AreOwned books → Follows books u (after_load books outcome iksn t)
+pub load_follows : (books : Books) (t iksn u : ℕ) (outcome : Outcome) → BooksOwned books → Follows books u (after_load books outcome iksn t)
 load_follows books t iksn u outcome owned =
     owners_follow books u (after_load books outcome iksn t) refl refl (λ iksn' u'. owner_stays outcome books.owners iksn t iksn' u') owned
 
@@ -99,12 +99,6 @@ loaded_safe cell books t iksn asked v loaded before after laws given safe is =
       kept = λ kept found. safe_body now t is.set kept set ((is.kept.settles.finds safe.honest kept).0 found);
     }
 
--- what the cell of a safe terminal keeps is safe
-kept_state : (books : Books) (t : ℕ) (state : State) (kept : Kept) → StateSafe books t state → KeepsState state kept → KeptSafe books t kept
-kept_state books t Stopped kept safe keeps = absurd keeps
-kept_state books t Empty kept safe none = subst (λ kept. KeptSafe books t kept) (sym none) safe
-kept_state books t (Loaded set pending) kept safe keeps = safe_registers books t set kept safe keeps
-
 stopped_safe : {C : Type 0} (cell : CellMeaning C) (books : Books) (t iksn : ℕ) (asked : Loading) (v : ℕ) (why : StoreFault) (before after : TerminalOf C) → RegisterLaws → MayBeGiven books t iksn asked → TermSafe cell books t before
     → LoadStopped cell asked before after why → TermSafe cell (after_load books (came.TermFaulted v (fault.Store why)) iksn t) t after
 stopped_safe cell books t iksn asked v why before after laws given safe is =
@@ -114,8 +108,8 @@ stopped_safe cell books t iksn asked v why before after laws given safe is =
     record {
       honest = put_failed_honest cell before.cell after.cell (body_bytes is.set) why is.stops.not_kept safe.honest;
       state = subst (λ state. StateSafe now t state) (sym is.stops.stopped) tt;
-      kept = λ kept found. elim (is.stops.within safe.honest kept found) [
-        | inl had ↦ kept_follows books t now kept follows (kept_state books t before.state kept safe.state had)
+      kept = λ kept found. elim (put_failed_within cell before.cell after.cell (body_bytes is.set) why is.stops.not_kept safe.honest kept found) [
+        | inl had ↦ kept_follows books t now kept follows (safe.kept kept had)
         | inr some ↦ safe_body now t is.set kept set some
       ];
     }

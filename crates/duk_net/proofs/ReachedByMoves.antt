@@ -49,10 +49,15 @@ run_all m P steps old new (event ∷ events) before (outcome ∷ outcomes) reach
     (steps before old run.0 event outcome reached holds run.1) run.2 in
     (next.0, subst (λ list. P list new) (append_assoc before (outcome ∷ []) outcomes) next.1)
 
+-- a run leads from a world that was reached to another one
+pub reached_run : {C L I : Type 0} (m : Meanings C L I) (old new : WorldOf C L I) (events : List Event) (outcomes : List Outcome) → Reached m old → Run m old events outcomes new → Reached m new
+reached_run m old new events outcomes reached run =
+    (run_all m (λ outcomes world. Unit {0}) (λ outcomes old new event outcome reached holds step. tt) old new events [] outcomes reached tt run).0
+
 -- a call leads from a world that was reached to another one
 pub reached_leads : {C L I : Type 0} (m : Meanings C L I) (old new : WorldOf C L I) (outcomes : List Outcome) → Reached m old → CallLeads m old outcomes new → Reached m new
 reached_leads m old new outcomes reached leads =
-    let mid = (run_all m (λ outcomes world. Unit {0}) (λ outcomes old new event outcome reached holds step. tt) old leads.mid leads.events [] outcomes reached tt leads.run).0 in
+    let mid = reached_run m old leads.mid leads.events outcomes reached leads.run in
     elim leads.left [
       | inl same ↦ subst (λ world. Reached m world) (sym same) mid
       | inr left ↦ (suc mid.0, (leads.mid, mid.1, inr left))

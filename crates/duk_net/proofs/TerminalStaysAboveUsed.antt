@@ -1,7 +1,7 @@
 -- A terminal stays safe, whatever happens to it.
 use Rattle.std.proofs.Common.{◌≡◌, ℕ, List, Some, None, inl, inr, refl, sym, subst}
 use Rattle.duk_regs.specs.Registers.{RegisterSet}
-use Rattle.duk_store.specs.Cell.{CellMeaning, Kept, PutFailed}
+use Rattle.duk_store.specs.Cell.{CellMeaning, Kept, OldOrNew, PutFailed}
 use Rattle.duk_store.specs.StoreState.{StoreState}
 use Rattle.duk_store.specs.Restart.{Restarted}
 use Rattle.duk_store.specs.declared.fault.StoreFault.{StoreFault}
@@ -10,7 +10,7 @@ use Rattle.duk_term.specs.Begin.{BeginRefused, BeginStopped, TakesFrom}
 use Rattle.duk_term.specs.Body.{body_bytes}
 use Rattle.duk_term.specs.Reply.{completed}
 use Rattle.duk_term.specs.Restart.{IsTerminalRestarted, Opens, TerminalRestartRefused, TerminalRestartStopped}
-use Rattle.duk_term.specs.Terminal.{HasRegistersIn, TerminalOf}
+use Rattle.duk_term.specs.Terminal.{TerminalOf}
 use Rattle.duk_term.specs.declared.fault.TermFault.{TermFault}
 use Rattle.duk_term.specs.declared.fault.TermFault.TheVariants as fault
 use Rattle.duk_term.specs.declared.state.State.{State}
@@ -29,17 +29,22 @@ put_failed_honest cell old new body store_fault.Stopped failed honest = failed.s
 put_failed_honest cell old new body store_fault.Worn failed honest = failed.stays.nature.honest.0 honest
 put_failed_honest cell old new body _ failed honest = absurd failed
 
+-- what it leaves to find was to be found before, or is the body that was to be kept
+pub put_failed_within :
+    {C : Type 0} (cell : CellMeaning C) (old new : C) (body : List ℕ) (why : StoreFault)
+    → PutFailed cell old new body why → (cell.state_of old).honest → (kept : Kept) → (cell.state_of new).found kept → OldOrNew (cell.state_of old) body kept
+put_failed_within cell old new body store_fault.Device failed honest kept found = failed.stops.within honest kept found
+put_failed_within cell old new body store_fault.Stopped failed honest kept found = inl ((failed.stays.found honest kept).0 found)
+put_failed_within cell old new body store_fault.Worn failed honest kept found = inl ((failed.stays.found honest kept).0 found)
+put_failed_within cell old new body _ failed honest kept found = absurd failed
+
 -- the registers of a state from which a number is taken are safe
 pub taken_from_safe : (books : Books) (t : ℕ) (state : State) (set left : RegisterSet) (key : List ℕ) → TakesFrom state set key left → StateSafe books t state → SetSafe books t set
 taken_from_safe books t state set left key takes safe = subst (λ state. StateSafe books t state) takes.had safe
 
--- a body that keeps safe registers is safe to find
-pub safe_registers : (books : Books) (t : ℕ) (set : RegisterSet) (kept : Kept) → SetSafe books t set → HasRegistersIn set kept → KeptSafe books t kept
-safe_registers books t set kept safe (body, some, keeps) = subst (λ kept. KeptSafe books t kept) (sym some) (record { set = set; keeps = keeps; safe = safe })
-
--- so is their own body
+-- the body of safe registers is safe to find
 pub safe_body : (books : Books) (t : ℕ) (set : RegisterSet) (kept : Kept) → SetSafe books t set → kept ≡ Some (body_bytes set) → KeptSafe books t kept
-safe_body books t set kept safe is = safe_registers books t set kept safe (body_bytes set, is, inl refl)
+safe_body books t set kept safe is = subst (λ kept. KeptSafe books t kept) (sym is) (record { set = set; body_is = refl; safe = safe })
 
 begin_stopped_safe : {C : Type 0} (cell : CellMeaning C) (books : Books) (t : ℕ) (before after : TerminalOf C) (why : StoreFault) → RegisterLaws → TermSafe cell books t before → BeginStopped cell before after why → TermSafe cell books t after
 begin_stopped_safe cell books t before after why laws safe stopped =
@@ -48,8 +53,8 @@ begin_stopped_safe cell books t before after why laws safe stopped =
     record {
       honest = put_failed_honest cell before.cell after.cell (body_bytes stopped.left) why stopped.stops.not_kept safe.honest;
       state = subst (λ state. StateSafe books t state) (sym stopped.stops.stopped) tt;
-      kept = λ kept found. elim (stopped.stops.within safe.honest kept found) [
-        | inl had ↦ safe_registers books t stopped.set kept set had
+      kept = λ kept found. elim (put_failed_within cell before.cell after.cell (body_bytes stopped.left) why stopped.stops.not_kept safe.honest kept found) [
+        | inl had ↦ safe.kept kept had
         | inr is ↦ safe_body books t stopped.left kept left is
       ];
     }
@@ -70,7 +75,7 @@ restarted_kept old new books t value kept is honest safe found =
 opened_safe : (books : Books) (t : ℕ) (kept : Kept) (state : State) → Opens kept state → KeptSafe books t kept → StateSafe books t state
 opened_safe books t None state opens safe = subst (λ state. StateSafe books t state) (sym opens) safe
 opened_safe books t (Some body) state opens safe =
-    let same = safe.safe.again.same body safe.keeps in
+    let same = safe.safe.again.same body (inl safe.body_is) in
     subst (λ state. StateSafe books t state) (sym opens.1) (subst (λ set. SetSafe books t set) (sym same) safe.safe)
 
 restarted_safe : {C : Type 0} (cell : CellMeaning C) (books : Books) (t : ℕ) (before after : TerminalOf C) → TermSafe cell books t before → IsTerminalRestarted cell before after → TermSafe cell books t after

@@ -22,10 +22,11 @@ state_holds books t P (Loaded set pending) follows safe = follows set safe
 kept_holds : (books : Books) (t : ℕ) (P : RegisterSet → Type 0) (kept : Kept) → ((set : RegisterSet) → SetSafe books t set → P set) → KeptSafe books t kept → HoldsOfKept P kept
 kept_holds books t P None follows safe = tt
 kept_holds books t P (Some body) follows safe =
-    let same : set_of_body body ≡ safe.set = safe.safe.again.same body safe.keeps in
+    let keeps : KeepsRegisters body safe.set = inl safe.body_is in
+    let same : set_of_body body ≡ safe.set = safe.safe.again.same body keeps in
     record {
-      is_body = safe.safe.again.is_body body safe.keeps;
-      keeps = subst (KeepsRegisters body) (sym same) safe.keeps;
+      is_body = safe.safe.again.is_body body keeps;
+      keeps = subst (KeepsRegisters body) (sym same) keeps;
       holds = subst P (sym same) (follows safe.set safe.safe);
     }
 

@@ -7,6 +7,7 @@ use Rattle.duk_net.specs.First.{IsFirst, IsNewTerminal}
 use Rattle.duk_net.specs.UsedNumbers.{HasUsableNumber, IsSentByOwner, IsUsedNumber, NoneTwice}
 use Rattle.duk_net.specs.Owner.{owner_of}
 use Rattle.duk_net.specs.Reached.{CallLeads, Reached}
+use Rattle.duk_net.specs.Sent.{SentByOwners}
 use Rattle.duk_net.specs.World.{ChangesOnly, IsAt, Meanings, WorldOf}
 use Rattle.duk_net.specs.declared.outcome.Outcome.{Outcome}
 use Rattle.duk_net.specs.declared.outcome.Outcome.TheVariants as came
@@ -15,8 +16,8 @@ use Rattle.duk_net.proofs.TerminalsAfterwards.{after_acts, at_contains, before_a
 use Rattle.duk_net.proofs.BeginStaysAboveUsed.{after_begin, begin_follows, begin_none_twice, begin_owned, begin_safe, begun_number, begun_safe}
 use Rattle.duk_net.proofs.LoadStaysAboveUsed.{MayBeGiven, after_load, load_follows, load_safe}
 use Rattle.duk_net.proofs.OwnersStay.{owner_stays}
-use Rattle.duk_net.proofs.ReachedByMoves.{leads_all, reached_all}
-use Rattle.duk_net.proofs.AboveUsed.{AreOwned, Books, Follows, KeptSafe, StateSafe, TermSafe, WorldLaws, WorldSafe, books_of, term_follows}
+use Rattle.duk_net.proofs.ReachedByMoves.{leads_all, reached_all, reached_run}
+use Rattle.duk_net.proofs.AboveUsed.{BooksOwned, Books, Follows, KeptSafe, StateSafe, TermSafe, WorldLaws, WorldSafe, books_of, term_follows}
 use Rattle.duk_net.proofs.StepChanges.{IsQuiet, View, accept, done, host, left_touches, load, nothing, refuse, repeat, send, step_view, terminal, touched_keys}
 use Rattle.duk_net.proofs.TerminalStaysAboveUsed.{done_safe, touched_safe}
 
@@ -44,7 +45,7 @@ first_is_safe m world first =
 stays_safe : {C L I : Type 0} (m : Meanings C L I) (old new : WorldOf C L I) → WorldSafe m old → new.terminals ≡ old.terminals → books_of new ≡ books_of old → WorldSafe m new
 stays_safe m old new safe terminals books = record {
   terminals = λ t terminal at. subst (λ books. TermSafe m.cell books t terminal) (sym books) (safe.terminals t terminal (subst (λ list. IsAt list t terminal) terminals at));
-  owned = subst AreOwned (sym books) safe.owned;
+  owned = subst BooksOwned (sym books) safe.owned;
   none_twice = subst NoneTwice (sym (ap (λ books. books.requests) books)) safe.none_twice;
 }
 
@@ -52,7 +53,7 @@ stays_safe m old new safe terminals books = record {
 acts_safe : {C L I : Type 0} (m : Meanings C L I) (old new : WorldOf C L I) (t : ℕ) (P : TerminalOf C → TerminalOf C → Type 0) (acts : ChangesOnly t P old.terminals new.terminals) → WorldSafe m old
     → (TermSafe m.cell (books_of old) t acts.before → TermSafe m.cell (books_of new) t acts.after)
     → ((u : ℕ) → u ≢ t → Follows (books_of old) u (books_of new))
-    → AreOwned (books_of new) → NoneTwice new.requests → WorldSafe m new
+    → BooksOwned (books_of new) → NoneTwice new.requests → WorldSafe m new
 acts_safe m old new t P acts safe change others owned none = record {
   terminals = λ u terminal at. elim (after_acts t P old.terminals new.terminals acts u terminal at) [
     | inl same ↦ subst (λ u. TermSafe m.cell (books_of new) u terminal) (sym same.0) (subst (λ terminal. TermSafe m.cell (books_of new) t terminal) (sym same.1) (change (safe.terminals t acts.before (before_acts t P old.terminals new.terminals acts))))
@@ -85,13 +86,13 @@ step_is_safe m old new outcome laws safe (terminal t change quiet) =
     acts_safe m old new t _ change.terminal safe
     (λ before. subst (λ books. TermSafe m.cell books t change.terminal.after) (sym books) (touched_safe m (books_of old) t change.terminal.before change.terminal.after laws.registers before change.terminal.changed))
     (λ u other. subst (λ books. Follows (books_of old) u books) (sym books) (same_books_follow (books_of old) u))
-    (subst AreOwned (sym books) safe.owned) (subst NoneTwice (sym (ap (λ books. books.requests) books)) safe.none_twice)
+    (subst BooksOwned (sym books) safe.owned) (subst NoneTwice (sym (ap (λ books. books.requests) books)) safe.none_twice)
 step_is_safe m old new outcome laws safe (done k t frame ksn code is sent change) =
     let books : books_of new ≡ books_of old = ap (λ world. books_of world) change.rest in
     acts_safe m old new t _ change.terminal safe
     (λ before. subst (λ books. TermSafe m.cell books t change.terminal.after) (sym books) (done_safe m.cell (books_of old) t change.terminal.before change.terminal.after before change.terminal.changed.after_is))
     (λ u other. subst (λ books. Follows (books_of old) u books) (sym books) (same_books_follow (books_of old) u))
-    (subst AreOwned (sym books) safe.owned) (subst NoneTwice (sym (ap (λ books. books.requests) books)) safe.none_twice)
+    (subst BooksOwned (sym books) safe.owned) (subst NoneTwice (sym (ap (λ books. books.requests) books)) safe.none_twice)
 step_is_safe m old new outcome laws safe (load t iksn given quiet) =
     let asked_is = given.issued.asked_is in
     let may : MayBeGiven (books_of old) t iksn given.asked = record {
@@ -104,7 +105,7 @@ step_is_safe m old new outcome laws safe (load t iksn given quiet) =
     acts_safe m old new t _ given.terminal safe
     (λ before. subst (λ books. TermSafe m.cell books t given.terminal.after) (sym books) (load_safe m.cell (books_of old) t iksn given.asked outcome given.terminal.before given.terminal.after laws.registers may before given.terminal.changed))
     (λ u other. subst (λ books. Follows (books_of old) u books) (sym books) (load_follows (books_of old) t iksn u outcome safe.owned))
-    (subst AreOwned (sym books) (λ ksn used. let had = safe.owned ksn used in (had.0, owner_stays outcome old.owners iksn t ksn.iksn had.0 had.1)))
+    (subst BooksOwned (sym books) (λ ksn used. let had = safe.owned ksn used in (had.0, owner_stays outcome old.owners iksn t ksn.iksn had.0 had.1)))
     (subst NoneTwice (sym (ap (λ books. books.requests) books)) safe.none_twice)
 step_is_safe m old new outcome laws safe (send t k purchase ksn is sent) =
     let acts = sent.terminal in
@@ -116,7 +117,7 @@ step_is_safe m old new outcome laws safe (send t k purchase ksn is sent) =
     acts_safe m old new t _ acts safe
     (λ before. subst (λ books. TermSafe m.cell books t acts.after) (sym books) (begin_safe m.cell (books_of old) t purchase frame acts.before acts.after laws before begun))
     (λ u other. subst (λ books. Follows (books_of old) u books) (sym books) (begin_follows (books_of old) t u frame (serial_of begun.set) laws.reading number set.owned other))
-    (subst AreOwned (sym books) (begin_owned (books_of old) t frame (serial_of begun.set) laws.reading number set.owned safe.owned))
+    (subst BooksOwned (sym books) (begin_owned (books_of old) t frame (serial_of begun.set) laws.reading number set.owned safe.owned))
     (subst NoneTwice (sym (ap (λ books. books.requests) books))
     (begin_none_twice (books_of old) t frame begun.set laws.reading number (record { ksn = serial_of begun.set; number = number; usable = begun.takes.takes.usable }) set safe.none_twice))
 
@@ -154,20 +155,20 @@ sent_stays : (before after : List Owner) → ((iksn t : ℕ) → owner_of before
 sent_stays before after stays (came.Sent t k ksn) owned = stays ksn.iksn t owned
 sent_stays before after stays _ owned = tt
 
--- what a step sends is sent by an owner
-step_by_owner : {C L I : Type 0} (m : Meanings C L I) (old new : WorldOf C L I) (outcome : Outcome) → WorldSafe m old → View m old outcome new → IsSentByOwner new.owners outcome
-step_by_owner m old new outcome safe (nothing same quiet) = quiet_by_owner new.owners outcome quiet
-step_by_owner m old new outcome safe (host touches rest quiet) = quiet_by_owner new.owners outcome quiet
-step_by_owner m old new outcome safe (accept k n ksn code is up) = by_owner_as new.owners outcome (came.Accepted n ksn code) is tt
-step_by_owner m old new outcome safe (repeat k n ksn code is up) = by_owner_as new.owners outcome (came.Repeated n ksn code) is tt
-step_by_owner m old new outcome safe (refuse k n ksn reason is up) = by_owner_as new.owners outcome (came.Refused n ksn reason) is tt
-step_by_owner m old new outcome safe (terminal t change quiet) = quiet_by_owner new.owners outcome quiet
-step_by_owner m old new outcome safe (done k t frame ksn code is sent change) = by_owner_as new.owners outcome (came.Done t ksn code) is tt
-step_by_owner m old new outcome safe (load t iksn given quiet) = quiet_by_owner new.owners outcome quiet
+-- what a step sends is sent by one who was an owner before
+step_by_owner : {C L I : Type 0} (m : Meanings C L I) (old new : WorldOf C L I) (outcome : Outcome) → WorldSafe m old → View m old outcome new → IsSentByOwner old.owners outcome
+step_by_owner m old new outcome safe (nothing same quiet) = quiet_by_owner old.owners outcome quiet
+step_by_owner m old new outcome safe (host touches rest quiet) = quiet_by_owner old.owners outcome quiet
+step_by_owner m old new outcome safe (accept k n ksn code is up) = by_owner_as old.owners outcome (came.Accepted n ksn code) is tt
+step_by_owner m old new outcome safe (repeat k n ksn code is up) = by_owner_as old.owners outcome (came.Repeated n ksn code) is tt
+step_by_owner m old new outcome safe (refuse k n ksn reason is up) = by_owner_as old.owners outcome (came.Refused n ksn reason) is tt
+step_by_owner m old new outcome safe (terminal t change quiet) = quiet_by_owner old.owners outcome quiet
+step_by_owner m old new outcome safe (done k t frame ksn code is sent change) = by_owner_as old.owners outcome (came.Done t ksn code) is tt
+step_by_owner m old new outcome safe (load t iksn given quiet) = quiet_by_owner old.owners outcome quiet
 step_by_owner m old new outcome safe (send t k purchase ksn is sent) =
     let acts = sent.terminal in
     let set = begun_safe m.cell (books_of old) t purchase sent.frame acts.before acts.after acts.changed.begun (safe.terminals t acts.before (before_acts t _ old.terminals new.terminals acts)) in
-    by_owner_as new.owners outcome (came.Sent t k ksn) is (ap (λ world. owner_of world.owners ksn.iksn) sent.rest ∙ ap (λ ksn. owner_of old.owners ksn.iksn) acts.changed.ksn_is ∙ set.owned)
+    by_owner_as old.owners outcome (came.Sent t k ksn) is (ap (λ ksn. owner_of old.owners ksn.iksn) acts.changed.ksn_is ∙ set.owned)
 
 -- what a call sends is sent by owners
 pub leads_by_owner : {C L I : Type 0} (m : Meanings C L I) (old new : WorldOf C L I) (outcomes : List Outcome) → WorldLaws m.cell → Reached m old → CallLeads m old outcomes new → All (IsSentByOwner new.owners) outcomes
@@ -177,9 +178,14 @@ leads_by_owner m old new outcomes laws reached leads =
     let view = step_view m old event outcome new step in
     All-push (IsSentByOwner new.owners) outcomes outcome
     (λ k d within. sent_stays old.owners new.owners (step_owners_stay m old new outcome view) (get_or outcomes k d) (holds k d within))
-    (step_by_owner m old new outcome (reached_is_safe m old laws reached) view))
+    (sent_stays old.owners new.owners (step_owners_stay m old new outcome view) outcome (step_by_owner m old new outcome (reached_is_safe m old laws reached) view)))
     (λ outcomes old new reached holds left. subst (λ owners. All (IsSentByOwner owners) outcomes) (sym (ap (λ world. world.owners) left.rest)) holds)
     old new outcomes reached (All-nil (IsSentByOwner old.owners)) leads
+
+-- whatever runs lead to a world just before a terminal's request is sent, that terminal owns its initial key serial number there
+pub sent_by_owners : {C L I : Type 0} (m : Meanings C L I) (old : WorldOf C L I) (outcomes : List Outcome) → WorldLaws m.cell → Reached m old → SentByOwners m old outcomes
+sent_by_owners m old outcomes laws reached earlier later t k ksn is events event before after run step =
+    step_by_owner m before after (came.Sent t k ksn) (reached_is_safe m before laws (reached_run m old before events earlier reached run)) (step_view m before event (came.Sent t k ksn) after step)
 
 -- a call takes no owner away
 pub leads_owners_stay : {C L I : Type 0} (m : Meanings C L I) (old new : WorldOf C L I) (outcomes : List Outcome) → Reached m old → CallLeads m old outcomes new

@@ -14,7 +14,9 @@ pub mod InMemory
 pub mod Reached
 pub mod Gained
 pub mod UsedNumbers
+pub mod Sent
 pub mod UnusedKeys
+pub mod Images
 pub mod Accepted
 pub mod OwnKey
 pub mod Completed

@@ -1,6 +1,6 @@
 -- The numbers of transactions: this project's own, over the key serial numbers of ANSI X9.24-1:2009
 -- annex A.
-use Rattle.std.specs.Prelude.{◌≡◌, List, Some, All, AllPairs, Contains}
+use Rattle.std.specs.Prelude.{◌≡◌, ℕ, List, Some, All, AllPairs, Contains}
 use Rattle.duk_frame.specs.Request.{IsRequest}
 use Rattle.duk_frame.specs.declared.request.Request.{Request}
 use Rattle.duk_tree.specs.Path.{IsUsable}
@@ -38,6 +38,12 @@ HaveOtherNumbers one other = (ksn : Serial) → HasNumber one ksn → ¬ HasNumb
 pub record NoneTwice (requests : List Frame) : Type 0 where
   pub usable : All HasUsableNumber requests
   pub different : AllPairs HaveOtherNumbers requests
+
+-- each used number is owned: its initial key serial number has an owner
+abbrev pub AreOwned : List Frame → List Owner → Type 0
+AreOwned requests owners =
+    (ksn : Serial) → IsUsedNumber requests ksn
+    → (t : ℕ) × (owner_of owners ksn.iksn ≡ Some t)
 
 -- where a request was sent, the terminal owns the initial key serial number
 abbrev pub IsSentByOwner : List Owner → Outcome → Type 0

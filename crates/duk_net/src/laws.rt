@@ -12,12 +12,14 @@ ghost use Rattle.duk_net.specs.Completed.{Completed};
 ghost use Rattle.duk_net.specs.declared.event.End.{End};
 ghost use Rattle.duk_net.specs.declared.event.Event.{Event};
 ghost use Rattle.duk_net.specs.declared.outcome.Outcome.{Outcome};
+ghost use Rattle.duk_net.specs.Images.{FindVersion2};
 ghost use Rattle.duk_net.specs.InitialKey.{IsInitialKeyOf};
-ghost use Rattle.duk_net.specs.UsedNumbers.{IsSentByOwner, NoneTwice};
+ghost use Rattle.duk_net.specs.UsedNumbers.{AreOwned, IsSentByOwner, NoneTwice};
 ghost use Rattle.duk_net.specs.Owner.{owner_of};
 ghost use Rattle.duk_net.specs.OwnKey.{IsOwnReply, IsOwnRequest, IsRefusedAsUsedOrFull};
 ghost use Rattle.duk_net.specs.Reached.{CallLeads, Reached};
 ghost use Rattle.duk_net.specs.Run.{Run};
+ghost use Rattle.duk_net.specs.Sent.{SentByOwners};
 ghost use Rattle.duk_net.specs.UnusedKeys.{HoldNoUsedKey, HoldsOfTerminals, OwnsAboveUsed};
 ghost use Rattle.duk_net.specs.World.{WorldOf, meanings_of};
 
@@ -34,12 +36,19 @@ pub fn own_initial_key()
     duk_block::laws::one_reading();
 }
 
-/// No two transactions use one number, and a terminal sends none but under an initial key serial
-/// number that it owns.
+/// No two transactions use one number, the initial key serial number of each has an owner, and a
+/// terminal sends none but under one that it owned just before, and owns for good.
 pub fn no_number_twice<C: Cell, L: UsedLog, I: Issuer>()
     ensures none_twice { (world : WorldOf C L I)
         → Reached (meanings_of C.meaning L.meaning I.decides) world
         → NoneTwice world.requests }
+    ensures owned { (world : WorldOf C L I)
+        → Reached (meanings_of C.meaning L.meaning I.decides) world
+        → AreOwned world.requests world.owners }
+    ensures owned_before { (old new : WorldOf C L I) (outcomes : List Outcome)
+        → Reached (meanings_of C.meaning L.meaning I.decides) old
+        → CallLeads (meanings_of C.meaning L.meaning I.decides) old outcomes new
+        → SentByOwners (meanings_of C.meaning L.meaning I.decides) old outcomes }
     ensures by_owner { (old new : WorldOf C L I) (outcomes : List Outcome)
         → Reached (meanings_of C.meaning L.meaning I.decides) old
         → CallLeads (meanings_of C.meaning L.meaning I.decides) old outcomes new
@@ -54,7 +63,7 @@ pub fn no_number_twice<C: Cell, L: UsedLog, I: Issuer>()
 }
 
 /// No register and no image that a terminal's cell may find holds the key of a used number or of an
-/// ancestor of one.
+/// ancestor of one. Each such image is of version 2.
 pub fn no_used_key<C: Cell, L: UsedLog, I: Issuer>()
     ensures above { (world : WorldOf C L I)
         → Reached (meanings_of C.meaning L.meaning I.decides) world
@@ -64,6 +73,9 @@ pub fn no_used_key<C: Cell, L: UsedLog, I: Issuer>()
         → Reached (meanings_of C.meaning L.meaning I.decides) world
         → HoldsOfTerminals (meanings_of C.meaning L.meaning I.decides)
         (λ t. HoldNoUsedKey world.host.keys world.requests) world.terminals }
+    ensures version_2 { (world : WorldOf C L I)
+        → Reached (meanings_of C.meaning L.meaning I.decides) world
+        → FindVersion2 (meanings_of C.meaning L.meaning I.decides) world.terminals }
 {
     own_initial_key();
     duk_term::laws::requests::<C>();

@@ -6,10 +6,12 @@ ghost use Rattle.duk_net.specs.Calm.{FailsOnceArmed, HasSoundStores, IsCalmAt, S
 ghost use Rattle.duk_net.specs.Completed.{Completed};
 ghost use Rattle.duk_net.specs.declared.event.End.{End};
 ghost use Rattle.duk_net.specs.Gained.{EachGained, HoldsOfGained};
-ghost use Rattle.duk_net.specs.UsedNumbers.{IsSentByOwner, NoneTwice};
+ghost use Rattle.duk_net.specs.Images.{FindVersion2};
+ghost use Rattle.duk_net.specs.UsedNumbers.{AreOwned, IsSentByOwner, NoneTwice};
 ghost use Rattle.duk_net.specs.Owner.{owner_of};
 ghost use Rattle.duk_net.specs.OwnKey.{IsOwnReply, IsOwnRequest, IsRefusedAsUsedOrFull};
 ghost use Rattle.duk_net.specs.Run.{IsRefusedMemory, IsRun, IsStepInto, RunRefused};
+ghost use Rattle.duk_net.specs.Sent.{SentByOwners};
 ghost use Rattle.duk_net.specs.Step.{Step};
 ghost use Rattle.duk_net.specs.UnusedKeys.{HoldNoUsedKey, HoldsOfTerminals, OwnsAboveUsed};
 ghost use Rattle.duk_net.specs.World.{meanings_of};
@@ -62,8 +64,13 @@ pub fn run<const N: usize, C: Cell, L: UsedLog, I: Issuer>(
     ensures owners_stay { (iksn t : ℕ)
         → owner_of world.old.owners iksn ≡ Some t → owner_of world.new.owners iksn ≡ Some t }
     ensures keys_stay { world.new.host.keys ≡ world.old.host.keys }
-    // No two transactions use one number.
+    // No two transactions use one number, and each is sent by the terminal that owned its initial
+    // key serial number just before, and owns it at the end.
     ensures none_twice { NoneTwice world.new.requests }
+    ensures owned { AreOwned world.new.requests world.new.owners }
+    ensures owned_before { HoldsOfGained
+        (SentByOwners (meanings_of C.meaning L.meaning I.decides) world.old)
+        out.old.items out.new.items }
     ensures by_owner { EachGained (IsSentByOwner world.new.owners) out.old.items out.new.items }
     // The host accepts each number at most once.
     ensures accepted_once { HoldsOfGained
@@ -77,12 +84,16 @@ pub fn run<const N: usize, C: Cell, L: UsedLog, I: Issuer>(
     ensures completed { HoldsOfGained
         (Completed (meanings_of C.meaning L.meaning I.decides) world.old world.new.terminals)
         out.old.items out.new.items }
-    // No terminal holds the key of a used number or of its ancestors, nor finds it after a stop.
+    // No terminal holds the key of a used number or of its ancestors, nor finds it after a stop. Its
+    // registers remember each initial key serial number under which it sent, its present one or a
+    // past one, so that a load of one of these is refused. All images are of version 2.
     ensures above_used { HoldsOfTerminals (meanings_of C.meaning L.meaning I.decides)
         (OwnsAboveUsed world.new.host.keys world.new.requests world.new.owners)
         world.new.terminals }
     ensures no_used_key { HoldsOfTerminals (meanings_of C.meaning L.meaning I.decides)
         (λ t. HoldNoUsedKey world.new.host.keys world.new.requests) world.new.terminals }
+    ensures version_2 { FindVersion2
+        (meanings_of C.meaning L.meaning I.decides) world.new.terminals }
     // Sound stores tell no damage, and calm ones fail only once they were armed.
     ensures sound { HasSoundStores (meanings_of C.meaning L.meaning I.decides) world.old
         → HasSoundStores (meanings_of C.meaning L.meaning I.decides) world.new }

@@ -3,7 +3,8 @@
 ghost use Rattle.std.specs.Prelude.{◌≡◌, All};
 ghost use Rattle.duk_net.specs.Accepted.{KeepsAccepted};
 ghost use Rattle.duk_net.specs.First.{IsNewHost, IsNewTerminal, first_world};
-ghost use Rattle.duk_net.specs.UsedNumbers.{NoneTwice};
+ghost use Rattle.duk_net.specs.Images.{FindVersion2};
+ghost use Rattle.duk_net.specs.UsedNumbers.{AreOwned, NoneTwice};
 ghost use Rattle.duk_net.specs.OwnKey.{IsOwnReply, IsOwnRequest};
 ghost use Rattle.duk_net.specs.UnusedKeys.{HoldNoUsedKey, HoldsOfTerminals, OwnsAboveUsed};
 ghost use Rattle.duk_net.specs.World.{meanings_of};
@@ -52,6 +53,7 @@ impl<const N: usize, C: Cell, L: UsedLog, I: Issuer> World<N, C, L, I> {
             terminals.items }
         ensures first { result ≡ first_world host loading terminals.items }
         ensures none_twice { NoneTwice result.requests }
+        ensures owned { AreOwned result.requests result.owners }
         ensures accepted_is_kept { KeepsAccepted
             (meanings_of C.meaning L.meaning I.decides) result }
         ensures own_requests { All (IsOwnRequest result.host.keys) result.requests }
@@ -60,6 +62,8 @@ impl<const N: usize, C: Cell, L: UsedLog, I: Issuer> World<N, C, L, I> {
             (OwnsAboveUsed result.host.keys result.requests result.owners) result.terminals }
         ensures no_used_key { HoldsOfTerminals (meanings_of C.meaning L.meaning I.decides)
             (λ t. HoldNoUsedKey result.host.keys result.requests) result.terminals }
+        ensures version_2 { FindVersion2
+            (meanings_of C.meaning L.meaning I.decides) result.terminals }
     {
         laws::no_number_twice::<C, L, I>();
         laws::no_used_key::<C, L, I>();

@@ -1,4 +1,4 @@
-use Rattle.duk_net.proofs.WorldStaysAboveUsed.{leads_by_owner, reached_is_safe}
+use Rattle.duk_net.proofs.WorldStaysAboveUsed.{leads_by_owner, reached_is_safe, sent_by_owners}
 use Rattle.duk_net.proofs.AboveUsed.{WorldLaws}
 use Rattle.duk_net.proofs.laws.no_number_twice.Goals as goal
 use Rattle.duk_net.proofs.laws.no_number_twice.Goals.{After-bits}
@@ -18,6 +18,12 @@ laws_of g c = record {
 
 pub returns-clause-none_twice : goal.returns-clause-none_twice
 returns-clause-none_twice g c world reached = (reached_is_safe _ world (laws_of g c) reached).none_twice
+
+pub returns-clause-owned : goal.returns-clause-owned
+returns-clause-owned g c world reached = (reached_is_safe _ world (laws_of g c) reached).owned
+
+pub returns-clause-owned_before : goal.returns-clause-owned_before
+returns-clause-owned_before g c old new outcomes reached leads = sent_by_owners _ old outcomes (laws_of g c) reached
 
 pub returns-clause-by_owner : goal.returns-clause-by_owner
 returns-clause-by_owner g c old new outcomes reached leads = leads_by_owner _ old new outcomes (laws_of g c) reached leads

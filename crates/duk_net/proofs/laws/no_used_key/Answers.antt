@@ -1,4 +1,5 @@
 use Rattle.duk_net.proofs.AboveUsed.{books_of}
+use Rattle.duk_net.proofs.ImagesOfVersion2.{reached_finds_version_2}
 use Rattle.duk_net.proofs.UsedKeysAreGone.{hold_no_used_key, terminals_hold}
 use Rattle.duk_net.proofs.AboveUsed.{WorldLaws}
 use Rattle.duk_net.proofs.laws.no_used_key.Goals as goal
@@ -25,3 +26,6 @@ pub returns-clause-no_used_key : goal.returns-clause-no_used_key
 returns-clause-no_used_key g c world reached =
     terminals_hold _ world _ (laws_of g c) reached
     (λ t set safe. hold_no_used_key (books_of world) t set c.bits.ensures.usable c.frontier.ensures.none_used c.uniqueness.ensures.register safe)
+
+pub returns-clause-version_2 : goal.returns-clause-version_2
+returns-clause-version_2 g c world reached = reached_finds_version_2 _ world (laws_of g c) reached

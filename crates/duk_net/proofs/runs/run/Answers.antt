@@ -19,6 +19,13 @@ invariant_of-world g c = reached g c
 pub returns-clause-none_twice : goal.returns-clause-none_twice
 returns-clause-none_twice g c = c.no_number_twice.ensures.none_twice c.run_system.new.system (reached g c)
 
+pub returns-clause-owned : goal.returns-clause-owned
+returns-clause-owned g c = c.no_number_twice.ensures.owned c.run_system.new.system (reached g c)
+
+pub returns-clause-owned_before : goal.returns-clause-owned_before
+returns-clause-owned_before g c =
+    rw (← c.world.view_is) (gained_so _ _ c.args.out.now.items c.run_system.new.out.items (λ outcomes. c.no_number_twice.ensures.owned_before c.world.inside.system c.run_system.new.system outcomes c.world.invariant) (leads g c))
+
 pub returns-clause-by_owner : goal.returns-clause-by_owner
 returns-clause-by_owner g c =
     gained_so _ _ c.args.out.now.items c.run_system.new.out.items (λ outcomes. c.no_number_twice.ensures.by_owner c.world.inside.system c.run_system.new.system outcomes c.world.invariant) (leads g c)
@@ -49,6 +56,9 @@ returns-clause-above_used g c = c.no_used_key.ensures.above c.run_system.new.sys
 
 pub returns-clause-no_used_key : goal.returns-clause-no_used_key
 returns-clause-no_used_key g c = c.no_used_key.ensures.no_used_key c.run_system.new.system (reached g c)
+
+pub returns-clause-version_2 : goal.returns-clause-version_2
+returns-clause-version_2 g c = c.no_used_key.ensures.version_2 c.run_system.new.system (reached g c)
 
 pub returns-clause-owners_stay : goal.returns-clause-owners_stay
 returns-clause-owners_stay g c =

@@ -13,3 +13,7 @@ returns-clause-above_used g c =
 pub returns-clause-no_used_key : goal.returns-clause-no_used_key
 returns-clause-no_used_key g c =
     rw c.new.ensures.items (c.no_used_key.ensures.no_used_key (first_world c.args.host c.args.loading c.args.terminals.items) (starts _ c.args.host c.args.loading c.args.terminals.items c.requires.host c.requires.terminals))
+
+pub returns-clause-version_2 : goal.returns-clause-version_2
+returns-clause-version_2 g c =
+    c.no_used_key.ensures.version_2 (first_world c.args.host c.args.loading c.args.terminals.items) (starts _ c.args.host c.args.loading c.args.terminals.items c.requires.host c.requires.terminals)
