@@ -1,8 +1,11 @@
 -- A service over its whole life, in as many runs as it takes: this project's own.
 use Rattle.std.specs.Prelude.{◌≡◌, ◌⊎◌, ◌++◌, ℕ, List, [], ◌∷◌, Contains}
+use Rattle.std.specs.List.{concat}
 use Rattle.duk_frame.specs.declared.code.Code.{Code}
 use Rattle.duk_frame.specs.declared.request.Request.{Request}
 use Rattle.duk_hsm.specs.Keys.{HsmKeys}
+use Rattle.duk_io.specs.Known.{Known}
+use Rattle.duk_io.specs.Sink.{IsCut, IsWritten}
 use Rattle.duk_store.specs.Log.{Numbers}
 use Rattle.duk_store.specs.StoreState.{FindsWithin}
 use Rattle.duk_tree.specs.Serial.{Serial}
@@ -13,6 +16,7 @@ use Rattle.duk_host.specs.Recent.{IsReplyWithCode}
 use Rattle.duk_host.specs.Restart.{HostRestartRefused, IsHostRestarted}
 use Rattle.duk_host.specs.Serve.{Serves}
 use Rattle.duk_host.specs.declared.fault.HostFault.{HostFault}
+use Rattle.duk_host.specs.declared.fault.HostFault.TheVariants as fault
 
 -- the frame is an accepted reply to the transaction of this number
 abbrev pub AcceptsNumber : Serial → List ℕ → Type 0
@@ -80,6 +84,21 @@ abbrev pub IsServiceRun : {L I : Type 0} → HostMeaning L I → HostOf L I → 
     → HostOf L I → Type 0
 IsServiceRun meaning made answers last =
     IsRefusedRun meaning made answers last ⊎ IsBroughtUpRun meaning made answers last
+
+-- a writer got all of these answers but the last whole, and a write failed in the last
+pub record IsCutInLast (old new : Known) (answers : List (List ℕ)) : Type 0 where
+  pub first : List (List ℕ)
+  pub last : List ℕ
+  pub mid : Known
+  pub all_are : answers ≡ first ++ last ∷ []
+  pub written : IsWritten old mid (concat first)
+  pub cut : IsCut mid new last
+
+-- what a writer got of the answers of a run that failed: each of them whole, and where a write
+-- failed, each but the last
+abbrev pub AreWrittenTo : Known → Known → List (List ℕ) → HostFault → Type 0
+AreWrittenTo old new answers fault.Write = IsCutInLast old new answers
+AreWrittenTo old new answers why = IsWritten old new (concat answers)
 
 -- the answers of all runs, in their order
 abbrev pub all_answers : List (List (List ℕ)) → List (List ℕ)

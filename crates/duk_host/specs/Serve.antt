@@ -1,5 +1,5 @@
 -- A host that serves a stream of frames: this project's own.
-use Rattle.std.specs.Prelude.{◌≡◌, ◌<◌, ◌≤◌, ◌⊎◌, ◌++◌, ℕ, List, [], ◌∷◌, Option, Some, None, length, take}
+use Rattle.std.specs.Prelude.{◌≡◌, ◌+◌, ◌<◌, ◌≤◌, ◌⊎◌, ◌++◌, ℕ, List, [], ◌∷◌, Option, Some, None, length, take}
 use Rattle.std.specs.List.{concat}
 use Rattle.std.specs.Io.KnownBytes.{IsAtEnd}
 use Rattle.duk_frame.specs.Feeder.{Feeding}
@@ -131,6 +131,18 @@ IsPieceTried meaning old new before after piece (Some taken) =
 IsPieceTried meaning old new before after piece None =
     IsPieceHeld meaning old new before after piece
 
+-- the reads that one run makes at most
+abbrev pub most_reads : ℕ
+most_reads = 1000000
+
+-- the last of the reads gave no byte of these, and no more were made before it than there are bytes.
+-- They are at most as many as one run makes
+pub record IsLastRead (input left : Supply) (bytes : List ℕ) : Type 0 where
+  pub before : ℕ
+  pub no_more : before ≤ length bytes
+  pub within : before < most_reads
+  pub made : AreReadsMade input.reads left.reads (before + 1)
+
 -- the input is read to its end, and its frames are served, but for a part of one behind them
 pub record IsReadUp
     {L I : Type 0} (meaning : HostMeaning L I) (old new : Service L I) (input left : Supply)
@@ -138,6 +150,7 @@ pub record IsReadUp
   pub bytes : List ℕ
   pub read : AreBytesRead input.known left.known bytes
   pub end : IsAtEnd left.known.contents
+  pub last : IsLastRead input left bytes
   pub served : IsServed meaning old new bytes rest count
   pub is_part : IsPart rest
 
@@ -150,17 +163,20 @@ pub record IsTruncated
   pub read_up : IsReadUp meaning old new input left rest count
   pub inside : 0 < length rest
 
--- the reads that one run makes at most
-abbrev pub most_reads : ℕ
-most_reads = 1000000
-
--- these bytes were read, by as many reads as one run makes
+-- these bytes were read, by as many reads as one run makes, and these are no more than the bytes: the
+-- last of them gave some too
 pub record AreAllReads (input left : Supply) (bytes : List ℕ) : Type 0 where
   pub read : AreBytesRead input.known left.known bytes
   pub made : AreReadsMade input.reads left.reads most_reads
+  pub no_more : most_reads ≤ length bytes
+
+-- these bytes were read, and the last of the reads failed
+pub record IsReadBroken (input left : Supply) (bytes : List ℕ) : Type 0 where
+  pub broken : IsBroken input.known left.known bytes
+  pub last : IsLastRead input left bytes
 
 -- the frames of what was read are served, and no more is read: a read failed, or as many were made
--- as one run makes
+-- as one run makes, the last of which was not the end
 pub record IsUnread
     {L I : Type 0} (meaning : HostMeaning L I) (old new : Service L I)
     (input left : Supply) : Type 0 where
@@ -169,7 +185,7 @@ pub record IsUnread
   pub count : ℕ
   pub served : IsServed meaning old new bytes rest count
   pub is_part : IsPart rest
-  pub cause : IsBroken input.known left.known bytes ⊎ AreAllReads input left bytes
+  pub cause : IsReadBroken input left bytes ⊎ AreAllReads input left bytes
 
 -- what was read is not served
 pub record IsUnserved

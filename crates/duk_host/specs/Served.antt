@@ -1,16 +1,21 @@
 -- The answers to frames in turn, by the judgement of each: this project's own.
-use Rattle.std.specs.Prelude.{◌≡◌, ◌↔◌, ◌-◌, ◌⊎◌, ◌++◌, ℕ, List, [], ◌∷◌, Some, length}
+use Rattle.std.specs.Prelude.{◌≡◌, ◌↔◌, ◌-◌, ◌⊎◌, ◌++◌, ℕ, List, [], ◌∷◌, Some, None, length}
 use Rattle.std.specs.List.{concat}
-use Rattle.duk_frame.specs.Stream.{Splits}
+use Rattle.duk_frame.specs.Request.{IsRequest}
+use Rattle.duk_frame.specs.Stream.{BeginsWith, IsFrame, Splits}
 use Rattle.duk_frame.specs.declared.request.Request.{Request}
-use Rattle.duk_io.specs.Sink.{IsWritten}
-use Rattle.duk_store.specs.StoreState.{FindsOnly}
+use Rattle.duk_io.specs.Known.{Known}
+use Rattle.duk_io.specs.Sink.{IsCut, IsWritten}
+use Rattle.duk_store.specs.Log.{Numbers}
+use Rattle.duk_store.specs.StoreState.{FindsOnly, FindsWithin}
 use Rattle.duk_tree.specs.Serial.{Serial}
 use Rattle.duk_host.specs.Host.{HostMeaning, HostOf}
-use Rattle.duk_host.specs.Judgement.{IsAccepted, IsRefusalFor, IsRepeated, JudgementBasis, basis_with}
+use Rattle.duk_host.specs.Judgement.{IsAcceptable, IsAccepted, IsRefusalFor, IsRepeated, JudgementBasis, basis_with}
 use Rattle.duk_host.specs.Recent.{Exchange, exchange, with_exchange}
 use Rattle.duk_host.specs.Serve.{Service}
 use Rattle.duk_host.specs.Used.{IsUsed}
+use Rattle.duk_host.specs.declared.fault.HostFault.{HostFault}
+use Rattle.duk_host.specs.declared.fault.HostFault.TheVariants as fault
 use Rattle.duk_host.specs.declared.running.Running.{Running}
 
 -- one more number is used, at the end of the list, its exchange is the latest, and there is room for
@@ -91,11 +96,87 @@ pub record WroteAllOf
   pub written : IsWritten old.writer new.writer (concat answers)
   pub judges : JudgesBy meaning new.host after
 
--- a service wrote the first of these answers
+-- a service wrote the first of these answers, those to the first frames of a stream, and its host
+-- judges by what these left
 pub record WroteFirstOf
-    {L I : Type 0} (old new : Service L I) (all : List (List ℕ)) (count : ℕ) : Type 0 where
+    {L I : Type 0} (meaning : HostMeaning L I) (basis : JudgementBasis) (old new : Service L I)
+    (bytes : List ℕ) (all : List (List ℕ)) (count : ℕ) : Type 0 where
+  pub frames : List (List ℕ)
+  pub rest : List ℕ
   pub first : List (List ℕ)
   pub others : List (List ℕ)
+  pub after : JudgementBasis
+  pub begins : BeginsWith bytes frames rest
+  pub judged : AreJudged basis frames first after
   pub counted : length first ≡ count
   pub all_are : all ≡ first ++ others
   pub written : IsWritten old.writer new.writer (concat first)
+  pub judges : JudgesBy meaning new.host after
+
+-- the answer to a frame was cut, and the host judges by what that frame left
+pub record IsCutOn
+    {L I : Type 0} (meaning : HostMeaning L I) (basis : JudgementBasis) (writer : Known)
+    (new : Service L I) (frame : List ℕ) : Type 0 where
+  pub answer : List ℕ
+  pub after : JudgementBasis
+  pub judged : IsJudgedOn basis frame answer after
+  pub cut : IsCut writer new.writer answer
+  pub judges : JudgesBy meaning new.host after
+
+-- the frame is a request that is to be accepted
+abbrev pub IsToAcceptOn : JudgementBasis → List ℕ → Serial → Type 0
+IsToAcceptOn basis frame ksn =
+    (request : Request) × IsRequest frame request × IsAcceptable basis request × (request.ksn ≡ ksn)
+
+-- a request that is to be accepted was refused memory, and the host judges as before it
+pub record LacksMemoryOn
+    {L I : Type 0} (meaning : HostMeaning L I) (basis : JudgementBasis) (writer : Known)
+    (new : Service L I) (frame : List ℕ) : Type 0 where
+  pub ksn : Serial
+  pub to_accept : IsToAcceptOn basis frame ksn
+  pub unwritten : new.writer ≡ writer
+  pub judges : JudgesBy meaning new.host basis
+
+-- the used numbers, or these and one more at their end
+abbrev pub AtMostOneMore : Numbers → Serial → Numbers → Type 0
+AtMostOneMore used ksn numbers = (numbers ≡ used) ⊎ (numbers ≡ used ++ ksn ∷ [])
+
+-- the log failed at the number of a request that is to be accepted: the host is stopped, and a
+-- restart of its log finds the used numbers, or these and that one
+pub record IsStoppedOn
+    {L I : Type 0} (meaning : HostMeaning L I) (basis : JudgementBasis) (writer : Known)
+    (new : Service L I) (frame : List ℕ) : Type 0 where
+  pub ksn : Serial
+  pub to_accept : IsToAcceptOn basis frame ksn
+  pub unwritten : new.writer ≡ writer
+  pub stopped : new.host.state ≡ None
+  pub keys : basis.keys ≡ new.host.keys
+  pub decides : basis.decides ≡ meaning.decides new.host.issuer
+  pub finds : (meaning.log.state_of new.host.log).honest
+      → FindsWithin (meaning.log.state_of new.host.log) (AtMostOneMore basis.used ksn)
+
+-- what is left where a service fails at a frame that is judged by this, by its fault
+abbrev pub IsLeftBy : {L I : Type 0} → HostMeaning L I → JudgementBasis → Known → Service L I
+    → List ℕ → HostFault → Type 0
+IsLeftBy meaning basis writer new frame fault.Write = IsCutOn meaning basis writer new frame
+IsLeftBy meaning basis writer new frame fault.NoMemory =
+    LacksMemoryOn meaning basis writer new frame
+IsLeftBy meaning basis writer new frame (fault.Store why) =
+    IsStoppedOn meaning basis writer new frame
+IsLeftBy meaning basis writer new frame _ = ⊥
+
+-- a service wrote the answers to the first frames of a stream, and failed at the frame behind them
+pub record FailedBehind
+    {L I : Type 0} (meaning : HostMeaning L I) (basis : JudgementBasis) (old new : Service L I)
+    (bytes : List ℕ) (why : HostFault) : Type 0 where
+  pub frames : List (List ℕ)
+  pub frame : List ℕ
+  pub rest : List ℕ
+  pub answers : List (List ℕ)
+  pub after : JudgementBasis
+  pub writer : Known
+  pub begins : BeginsWith bytes frames (frame ++ rest)
+  pub is_frame : IsFrame frame
+  pub judged : AreJudged basis frames answers after
+  pub written : IsWritten old.writer writer (concat answers)
+  pub left : IsLeftBy meaning after writer new frame why

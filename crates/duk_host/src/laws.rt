@@ -1,17 +1,19 @@
 //! Laws of hosts, each the contract of a function that does nothing.
 
 ghost use Rattle.std.specs.Prelude.{◌≡◌, ◌-◌, ◌⊎◌, ◌≤◌, [], ℕ, List, Some, All, AllPairs, Contains, length};
+ghost use Rattle.std.specs.List.{concat};
 ghost use Rattle.duk_hsm.specs.Keys.{HsmKeys};
 ghost use Rattle.duk_frame.specs.Answer.{IsRefusal, IsReply};
 ghost use Rattle.duk_frame.specs.Payment.{reply_mac};
 ghost use Rattle.duk_frame.specs.Stream.{BeginsTooLong, IsPart};
 ghost use Rattle.duk_frame.specs.declared.request.Request.{Request};
+ghost use Rattle.duk_io.specs.Sink.{IsWritten};
 ghost use Rattle.duk_host.specs.Host.{HostOf, host_meaning_of};
-ghost use Rattle.duk_host.specs.Lifetime.{AcceptOtherNumbers, AcceptsAlike, IsLifetime, IsServiceRun, IsUnderOwnKey, all_answers};
+ghost use Rattle.duk_host.specs.Lifetime.{AcceptOtherNumbers, AcceptsAlike, AreWrittenTo, IsLifetime, IsServiceRun, IsUnderOwnKey, all_answers};
 ghost use Rattle.duk_host.specs.Recent.{Exchange, exchange, most_exchanges, reply_given, with_exchange};
 ghost use Rattle.duk_host.specs.Restart.{IsHostRestarted};
-ghost use Rattle.duk_host.specs.Serve.{IsReadUp, IsServed, Serves, Service, ServiceFailed, Supply};
-ghost use Rattle.duk_host.specs.Served.{AreJudged, IsServedStream, JudgesBy, WroteAllOf, WroteFirstOf};
+ghost use Rattle.duk_host.specs.Serve.{FailsAtFrame, IsReadUp, IsServed, Serves, Service, ServiceFailed, Supply};
+ghost use Rattle.duk_host.specs.Served.{AreJudged, FailedBehind, IsServedStream, JudgesBy, WroteAllOf, WroteFirstOf};
 ghost use Rattle.duk_host.specs.Used.{AreUsable};
 ghost use Rattle.duk_host.specs.View.{HaveOneRoom, host_view};
 ghost use Rattle.duk_host.specs.declared.fault.HostFault.{HostFault};
@@ -109,7 +111,8 @@ pub fn services<L: UsedLog, I: Issuer>()
 
 /// What a service writes by both lists and the bytes that it read: all answers to their frames, where
 /// it served these up to a part of one or a length above 62; and else the first of them, as many as
-/// it served frames.
+/// it served frames. By what its host then judges, or what its log finds where that stopped it, is
+/// told too, also where it fails at the frame behind those.
 pub fn served_streams<L: UsedLog, I: Issuer>()
     ensures all { (old new : Service L I) (basis : JudgementBasis) (bytes rest : List ℕ)
         → (count : ℕ)
@@ -122,7 +125,12 @@ pub fn served_streams<L: UsedLog, I: Issuer>()
         → JudgesBy (host_meaning_of L.meaning I.decides) old.host basis
         → IsServed (host_meaning_of L.meaning I.decides) old new bytes rest count
         → IsServedStream basis bytes answers after
-        → WroteFirstOf old new answers count }
+        → WroteFirstOf (host_meaning_of L.meaning I.decides) basis old new bytes answers count }
+    ensures failed { (old new : Service L I) (basis : JudgementBasis) (bytes : List ℕ)
+        → (why : HostFault)
+        → JudgesBy (host_meaning_of L.meaning I.decides) old.host basis
+        → FailsAtFrame (host_meaning_of L.meaning I.decides) old new bytes why
+        → FailedBehind (host_meaning_of L.meaning I.decides) basis old new bytes why }
 {
     duk_frame::laws::one_reading();
     duk_frame::laws::streams();
@@ -157,20 +165,23 @@ pub fn lifetimes<L: UsedLog, I: Issuer>()
 }
 
 /// What `serve` does behind a restart is a run of a service, however it ends: at the end of its
-/// input, or with any fault.
+/// input, or with any fault. The answers of that run are those which the writer got, the last of them
+/// cut where a write failed.
 pub fn service_runs<L: UsedLog, I: Issuer>()
     ensures ended { (made : HostOf L I) (old new : Service L I) (input left : Supply)
         → (rest : List ℕ) (found count : ℕ)
         → IsHostRestarted L.meaning made old.host found
         → IsReadUp (host_meaning_of L.meaning I.decides) old new input left rest count
         → (answers : List (List ℕ))
-        × IsServiceRun (host_meaning_of L.meaning I.decides) made answers new.host }
+        × IsServiceRun (host_meaning_of L.meaning I.decides) made answers new.host
+        × IsWritten old.writer new.writer (concat answers) × (length answers ≡ count) }
     ensures failed { (made : HostOf L I) (old new : Service L I) (input left : Supply)
         → (found : ℕ) (why : HostFault)
         → IsHostRestarted L.meaning made old.host found
         → ServiceFailed (host_meaning_of L.meaning I.decides) old new input left why
         → (answers : List (List ℕ))
-        × IsServiceRun (host_meaning_of L.meaning I.decides) made answers new.host }
+        × IsServiceRun (host_meaning_of L.meaning I.decides) made answers new.host
+        × AreWrittenTo old.writer new.writer answers why }
 {}
 
 /// Nothing is hidden beside what contracts see, but for the allocator and the spare room: hosts, and

@@ -1,5 +1,5 @@
 use Rattle.duk_host.specs.Host.{host_meaning_of}
-use Rattle.duk_host.proofs.JudgedInTurn.{wrote_all, wrote_first}
+use Rattle.duk_host.proofs.JudgedInTurn.{failed_behind, wrote_all, wrote_first}
 use Rattle.duk_host.proofs.laws.served_streams.Goals as goal
 
 pub returns-clause-all : goal.returns-clause-all
@@ -7,3 +7,6 @@ returns-clause-all g c = wrote_all (host_meaning_of g.L.UsedLog.meaning g.I.Issu
 
 pub returns-clause-first : goal.returns-clause-first
 returns-clause-first g c = wrote_first (host_meaning_of g.L.UsedLog.meaning g.I.Issuer.decides) c.one_reading.ensures.request c.one_pin.ensures c.streams.ensures.first
+
+pub returns-clause-failed : goal.returns-clause-failed
+returns-clause-failed g c = failed_behind (host_meaning_of g.L.UsedLog.meaning g.I.Issuer.decides)
