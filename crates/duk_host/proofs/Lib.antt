@@ -12,3 +12,6 @@ mod ReadAndServed
 mod JudgedInTurn
 mod LifetimeOfRuns
 mod RunsOfServices
+mod Decided
+mod DecidedRequests
+mod SomeAnswer

@@ -1,6 +1,6 @@
 //! Laws of hosts, each the contract of a function that does nothing.
 
-ghost use Rattle.std.specs.Prelude.{◌≡◌, ◌-◌, ◌⊎◌, ◌≤◌, [], ℕ, List, Some, All, AllPairs, Contains, length};
+ghost use Rattle.std.specs.Prelude.{◌≡◌, ◌-◌, ◌⊎◌, ◌≤◌, [], ℕ, List, Some, IsSome, All, AllPairs, Contains, length};
 ghost use Rattle.std.specs.List.{concat};
 ghost use Rattle.duk_hsm.specs.Keys.{HsmKeys};
 ghost use Rattle.duk_frame.specs.Answer.{IsRefusal, IsReply};
@@ -36,6 +36,19 @@ pub fn one_answer()
 {
     duk_frame::laws::one_reading();
     duk_pin::laws::one_pin();
+}
+
+/// By keys with a zone key, any bytes have an answer, and the frames of any stream have their answers.
+pub fn some_answer()
+    ensures bytes { (basis : JudgementBasis) (bytes : List ℕ) → IsSome basis.keys.zone
+        → (frame : List ℕ) × IsAnswerTo basis bytes frame }
+    ensures stream { (basis : JudgementBasis) (bytes : List ℕ) → IsSome basis.keys.zone
+        → (answers : List (List ℕ)) × (after : JudgementBasis)
+        × IsServedStream basis bytes answers after }
+{
+    duk_tree::laws::paths();
+    duk_tree::laws::bits();
+    duk_frame::laws::streams();
 }
 
 /// The frame of a refusal is read as that refusal, with the key serial number of the request, or,
