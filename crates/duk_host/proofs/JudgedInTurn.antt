@@ -306,18 +306,18 @@ answers_counted meaning old new [] (answer ∷ answers) serves = absurd serves
 answers_counted meaning old new (frame ∷ frames) [] serves = absurd serves
 answers_counted meaning old new (frame ∷ frames) (answer ∷ answers) serves = omega (arith, answers_counted meaning serves.0 new frames answers serves.2)
 
--- the first frames have the first answers
-first_answers :
+-- the first frames have the first answers, and the others are judged by what these left
+pub first_answers :
     OneRequest → OnePin → (basis mid after : JudgementBasis) (frames others answers all : List (List ℕ))
-    → AreJudged basis frames answers mid → AreJudged basis (frames ++ others) all after → (more : List (List ℕ)) × (all ≡ answers ++ more)
-first_answers one_request one_pin basis mid after [] others [] all one two = (all, refl)
+    → AreJudged basis frames answers mid → AreJudged basis (frames ++ others) all after → (more : List (List ℕ)) × (all ≡ answers ++ more) × AreJudged mid others more after
+first_answers one_request one_pin basis mid after [] others [] all one two = (all, refl, subst (λ basis. AreJudged basis others all after) (sym one) two)
 first_answers one_request one_pin basis mid after [] others (answer ∷ answers) all one two = absurd one
 first_answers one_request one_pin basis mid after (frame ∷ frames) others [] all one two = absurd one
 first_answers one_request one_pin basis mid after (frame ∷ frames) others (answer ∷ answers) [] one two = absurd two
 first_answers one_request one_pin basis mid after (frame ∷ frames) others (answer ∷ answers) (again ∷ all) one two =
     let step = one_step basis one.0 two.0 frame answer again one_request one_pin one.1 two.1 in
     let rest = first_answers one_request one_pin two.0 mid after frames others answers all (subst (λ basis. AreJudged basis frames answers mid) step.1 one.2) two.2 in
-    (rest.0, ap (λ answer. answer ∷ all) (sym step.0) ∙ ap (λ all. answer ∷ all) rest.1)
+    (rest.0, ap (λ answer. answer ∷ all) (sym step.0) ∙ ap (λ all. answer ∷ all) rest.1, rest.2)
 
 -- all frames of a stream are served
 pub wrote_all :

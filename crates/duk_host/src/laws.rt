@@ -1,6 +1,6 @@
 //! Laws of hosts, each the contract of a function that does nothing.
 
-ghost use Rattle.std.specs.Prelude.{◌≡◌, ◌-◌, ◌⊎◌, ◌≤◌, [], ℕ, List, Some, IsSome, All, AllPairs, Contains, length};
+ghost use Rattle.std.specs.Prelude.{◌≡◌, ◌-◌, ◌⊎◌, ◌≤◌, ◌++◌, [], ℕ, List, Some, IsSome, All, AllPairs, Contains, length};
 ghost use Rattle.std.specs.List.{concat};
 ghost use Rattle.duk_hsm.specs.Keys.{HsmKeys};
 ghost use Rattle.duk_frame.specs.Answer.{IsRefusal, IsReply};
@@ -85,12 +85,17 @@ pub fn exchanges()
 {}
 
 /// The frames of a stream have one list of answers, and leave one list of used numbers and one of
-/// exchanges.
+/// exchanges. The first of frames in turn have the first of their answers, and the others are judged
+/// by what these left.
 pub fn one_service()
-    ensures { (basis after other : JudgementBasis) (bytes : List ℕ)
+    ensures all { (basis after other : JudgementBasis) (bytes : List ℕ)
         → (answers others : List (List ℕ))
         → IsServedStream basis bytes answers after → IsServedStream basis bytes others other
         → (answers ≡ others) × (after ≡ other) }
+    ensures first { (basis mid after : JudgementBasis)
+        → (frames others answers all : List (List ℕ))
+        → AreJudged basis frames answers mid → AreJudged basis (frames ++ others) all after
+        → (more : List (List ℕ)) × (all ≡ answers ++ more) × AreJudged mid others more after }
 {
     duk_frame::laws::one_reading();
     duk_frame::laws::streams();
