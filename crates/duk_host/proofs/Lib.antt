@@ -10,6 +10,7 @@ mod OneAnswer
 mod ServedInTurn
 mod ReadAndServed
 mod JudgedInTurn
+mod FailedAtFrame
 mod LifetimeOfRuns
 mod RunsOfServices
 mod Decided

@@ -22,11 +22,11 @@ const PIECE: usize = 4096;
 /// Handles each frame of the input, writes its answer, and tells how many frames there were when
 /// the input has ended.
 ///
-/// Refused with the first of these: `Read`, where a read failed or 1,000,000 were made, and
-/// `Truncated`, where the input ends inside a frame, each after all whole frames are answered;
-/// `TooLong`, where a length above 62 stands in the place of a frame, after all before it are; what
-/// `handle` refuses, and that frame and what is behind it have no answer; `Write`, where a write
-/// failed or took no byte.
+/// Refused with the first of these: `Read`, where a read failed or 1,000,000 were made, none of
+/// which gave the end, and `Truncated`, where the input ends inside a frame, each after all whole
+/// frames are answered; `TooLong`, where a length above 62 stands in the place of a frame, after all
+/// before it are; what `handle` refuses, and that frame and what is behind it have no answer;
+/// `Write`, where a write failed or took no byte.
 pub fn serve<const N: usize, L: UsedLog, I: Issuer, R: Source, W: Sink>(
     host: &mut Host<N, L, I>,
     reader: &mut R,

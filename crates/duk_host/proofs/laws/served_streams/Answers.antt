@@ -1,5 +1,6 @@
 use Rattle.duk_host.specs.Host.{host_meaning_of}
-use Rattle.duk_host.proofs.JudgedInTurn.{failed_behind, wrote_all, wrote_first}
+use Rattle.duk_host.proofs.FailedAtFrame.{failed_behind}
+use Rattle.duk_host.proofs.JudgedInTurn.{wrote_all, wrote_first}
 use Rattle.duk_host.proofs.laws.served_streams.Goals as goal
 
 pub returns-clause-all : goal.returns-clause-all
