@@ -1,4 +1,5 @@
-//! Tests of the security module, the host and its service, and of worlds over disks that fail.
+//! Tests of the security module, the host, its issuer and its service, and of worlds over disks that
+//! fail.
 #![tactic(auto)]
 
 #[cfg(test)]
@@ -8,7 +9,11 @@ mod failing_streams;
 #[cfg(test)]
 mod hosts;
 #[cfg(test)]
+mod issuer;
+#[cfg(test)]
 mod names;
+#[cfg(test)]
+mod recorded_logs;
 #[cfg(test)]
 mod repeating;
 #[cfg(test)]

@@ -1,6 +1,9 @@
-//! Tests of stores: what a stop at each of their steps leaves, and where a disk fails.
+//! Tests of stores: the calls that they make on a disk, what a stop at each of their steps leaves, and
+//! where a disk fails.
 #![tactic(auto)]
 
+#[cfg(test)]
+mod calls;
 #[cfg(test)]
 mod cells;
 #[cfg(test)]

@@ -7,7 +7,7 @@ use duk_tree::Ksn;
 use std::alloc::Global;
 
 /// Appends a number where there is room. A full log is told as worn.
-fn append<L: UsedLog>(log: &mut L, number: Ksn) -> Result<(), StoreFault> {
+pub fn append<L: UsedLog>(log: &mut L, number: Ksn) -> Result<(), StoreFault> {
     if log.room() == 0 {
         return Err(StoreFault::Worn);
     }
