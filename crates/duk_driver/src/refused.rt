@@ -17,6 +17,8 @@ const REFUSED_AT: u32 = 4000;
 pub enum Answer {
     /// The call answered want of memory, and left what it is to leave.
     Refused,
+    /// It did so behind some events that it had done.
+    Midway,
     /// The call was done.
     Whole,
     /// Something else came.
@@ -24,6 +26,15 @@ pub enum Answer {
 }
 
 impl Answer {
+    /// Want of memory, behind some events or behind none.
+    pub fn refused_behind(has_events: bool) -> Answer {
+        if has_events {
+            Answer::Midway
+        } else {
+            Answer::Refused
+        }
+    }
+
     /// This answer where something holds, and else what is wrong.
     pub fn where_holds(self, holds: bool, why: &'static str) -> Answer {
         if holds { self } else { Answer::Wrong(why) }
@@ -44,6 +55,7 @@ pub fn told_of_call(alloc: Global, name: &str, growth: u32) -> &'static str {
         Err(Trouble::Memory) => "before",
         Err(_) => "what the call needs is refused",
         Ok(Answer::Refused) => "refused",
+        Ok(Answer::Midway) => "midway",
         Ok(Answer::Whole) => "whole",
         Ok(Answer::Wrong(why)) => why,
     }
@@ -63,6 +75,7 @@ fn try_call(alloc: Global, name: &str) -> Tried {
         "read_config" => files::try_read_config(alloc),
         "parse_script" => files::try_parse_script(alloc),
         "run_script" => files::try_run_script(alloc),
+        "run_status" => files::try_run_status(alloc),
         "command" => files::try_command(alloc),
         _ => Ok(Answer::Wrong("no such call")),
     }

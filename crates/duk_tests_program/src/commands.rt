@@ -16,7 +16,7 @@ pub fn words_of(alloc: Global, command: &[&str]) -> Result<Vec<String>, AllocErr
     Ok(words)
 }
 
-const DERIVE: [&str; 3] = [
+pub const DERIVE: [&str; 3] = [
     "derive",
     "0123456789ABCDEFFEDCBA9876543210",
     "FFFF9876543210E00001",

@@ -6,4 +6,6 @@ mod commands;
 #[cfg(test)]
 mod files;
 #[cfg(test)]
+mod flushes;
+#[cfg(test)]
 mod services;

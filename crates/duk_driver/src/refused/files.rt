@@ -6,9 +6,11 @@ use crate::disks::Habit;
 use crate::trouble::Trouble;
 use crate::world::{DiskWorld, new_world};
 use duk_net::{Event, NetFault, Outcome, run};
-use duk_program::{Todo, command};
+use duk_program::{Todo, command, run_status};
 use duk_script::{ScriptFault, outcome_line, parse_script, read_config, run_script};
 use std::alloc::Global;
+use std::io;
+use std::io::Write;
 
 pub fn try_read_config(alloc: Global) -> Tried {
     match read_config(alloc, BANK.as_bytes()) {
@@ -26,6 +28,12 @@ pub fn try_parse_script(alloc: Global) -> Tried {
     }
 }
 
+/// Whether these are some of the script's lines, from the first on, and not all.
+fn are_first_lines(lines: &[u8]) -> bool {
+    let are_whole = lines.is_empty() || lines.ends_with(b"\n");
+    are_whole && LINES.as_bytes().starts_with(lines) && lines.len() < LINES.len()
+}
+
 /// A script that is refused memory has written the lines of the first events.
 pub fn try_run_script(alloc: Global) -> Tried {
     let mut written = Vec::with_capacity(alloc, 1000)?;
@@ -34,12 +42,56 @@ pub fn try_run_script(alloc: Global) -> Tried {
     match told {
         Ok(()) => Ok(Answer::Whole.where_holds(lines == LINES.as_bytes(), "other lines")),
         Err(ScriptFault::NoMemory) => {
-            let whole = lines.is_empty() || lines.ends_with(b"\n");
-            let first = whole && LINES.as_bytes().starts_with(lines) && lines.len() < LINES.len();
-            Ok(Answer::Refused.where_holds(first, "other lines before"))
+            let refused = Answer::refused_behind(!lines.is_empty());
+            Ok(refused.where_holds(are_first_lines(lines), "other lines before"))
         }
         Err(_) => Ok(Answer::Wrong("another fault")),
     }
+}
+
+/// A writer that holds back what it is given, up to its room, until it is flushed.
+#[derive(Drop)]
+struct Holding {
+    held: Vec<u8>,
+    handed_on: usize,
+}
+
+impl Write for Holding {
+    fn write(&mut self, bytes: &[u8]) -> io::Result<usize> {
+        self.held.extend_from_slice(bytes)?;
+        Ok(bytes.len())
+    }
+
+    fn flush(&mut self) -> io::Result<()> {
+        self.handed_on = self.held.len();
+        Ok(())
+    }
+}
+
+/// A run that is refused memory hands on the lines of the events before.
+pub fn try_run_status(alloc: Global) -> Tried {
+    let held = Vec::with_capacity(alloc, 1000)?;
+    let mut output = Holding { held, handed_on: 0 };
+    let mut fault = Vec::with_capacity(alloc, 100)?;
+    let mut script = SCRIPT.as_bytes();
+    let status = run_status(alloc, BANK.as_bytes(), &mut script, &mut output, &mut fault);
+    let is_handed_on = output.handed_on == output.held.len();
+    if status == 0 {
+        let lines = output.held.as_slice() == LINES.as_bytes() && fault.is_empty();
+        return Ok(
+            Answer::Whole
+                .where_holds(lines, "other lines")
+                .where_holds(is_handed_on, "lines are held back"),
+        );
+    }
+    let told = status == 1 && fault.as_slice() == b"out of memory\n".as_slice();
+    let lines = output.held.as_slice();
+    Ok(
+        Answer::refused_behind(!lines.is_empty())
+            .where_holds(told, "another fault")
+            .where_holds(are_first_lines(lines), "other lines before")
+            .where_holds(is_handed_on, "lines are held back"),
+    )
 }
 
 /// A world whose host and first terminal were brought up.
@@ -82,7 +134,7 @@ pub fn try_run(alloc: Global) -> Tried {
             let again = run(&mut world, rest, &mut outcomes).is_ok();
             let whole = outcomes.len() == 15 && have_first_lines(outcomes.as_slice());
             Ok(
-                Answer::Refused
+                Answer::refused_behind(done > 0)
                     .where_holds(before, "other outcomes before")
                     .where_holds(again && whole, "other outcomes behind"),
             )
