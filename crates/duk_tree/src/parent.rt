@@ -18,7 +18,6 @@ const HALF_MASK: u64 = 0xC0C0_C0C0_0000_0000;
 /// `Debug` nor `==`, so that no key is printed or compared by chance.
 #[derive(Drop)]
 pub struct Parent {
-    key: Key<16>,
     left: Des,
     right: Key<8>,
     masked_left: Des,
@@ -26,16 +25,17 @@ pub struct Parent {
 }
 
 impl Model for Parent {
-    ghost use Rattle.std.specs.Prelude.{ℕ, List};
+    ghost use Rattle.std.specs.Prelude.{ℕ, List, ◌++◌};
     ghost use Rattle.duk_tdes.specs.Key.{xor_bytes};
     ghost use Rattle.duk_tree.specs.Derivation.{AreHalves, derivation_mask};
 
     ghost Value = { List ℕ };
 
-    ghost view = { λ parent. parent.key };
+    ghost view = { λ parent. parent.left ++ parent.right };
 
-    ghost invariant = { λ parent. AreHalves parent.key parent.left parent.right
-        × AreHalves (xor_bytes parent.key derivation_mask)
+    ghost invariant = { λ parent.
+        AreHalves (parent.left ++ parent.right) parent.left parent.right
+        × AreHalves (xor_bytes (parent.left ++ parent.right) derivation_mask)
         parent.masked_left parent.masked_right };
 }
 
@@ -44,11 +44,11 @@ impl Parent {
     pub fn new(key: &Key<16>) -> Self
         ensures { result ≡ key.now }
     {
+        duk_tdes::laws::tdes_key(key);
         let (left, right) = key.halves();
         let left = Des::new(&left.bytes());
         let mask = HALF_MASK.to_be_bytes();
         Parent {
-            key: *key,
             masked_left: left.under_mask(&mask),
             masked_right: right.xor(&mask),
             left,
