@@ -13,6 +13,8 @@
 | `images`, `log_file` | what stands in a cell, on its disk and in a log |
 | `model`, `model_terminal`, `model_host`, `model_stores` | terminals, network, host and stores |
 | `worlds`, `scenes`, `streams`, `outcomes`, `commands`, `spoiled` | what is drawn at random |
+| `cut_disk`, `user_files`, `cut_file` | a log on a file system in user space, whose power can be lost |
+| `lives`, `stand_in` | lives of a service on such a log, and their judge; what shows that it judges |
 | `driver..` | the program `duk_driver`, and what it is asked |
 | `test_..` | the tests, a subject each |
 """

@@ -40,9 +40,8 @@ def records_of(image: bytes) -> list[bytes]:
     return [image[at : at + RECORD] for at in range(0, len(image), RECORD)]
 
 
-def read_log(path: Path, room: int) -> list[bytes]:
+def numbers_in(image: bytes, room: int) -> list[bytes]:
     """The numbers that a log with room for so many keeps; what is damaged is an error."""
-    image = path.read_bytes()
     if len(image) != RECORD * room:
         raise DamagedLog(f"the log has {len(image)} bytes, and not {RECORD * room}")
     gates = [one[0] == OPEN for one in records_of(image)]
@@ -56,3 +55,8 @@ def read_log(path: Path, room: int) -> list[bytes]:
     if len(set(numbers)) < len(numbers):
         raise DamagedLog("the log has a number twice")
     return numbers
+
+
+def read_log(path: Path, room: int) -> list[bytes]:
+    """The same of a file."""
+    return numbers_in(path.read_bytes(), room)

@@ -1,0 +1,63 @@
+"""The calls of the service on its log, in their order, as the system sees them."""
+from __future__ import annotations
+
+import re
+import shutil
+from pathlib import Path
+
+from .client import payments
+from .log_file import RECORD, log_image
+from .program import Program
+from .service_case import ServiceCase, answers_to, numbers_of, stream_of
+
+# One line of strace: the process, the call, its arguments and what it gave.
+LINE = re.compile(r"^\d+ +(\w+)\((.*)\) += (-?\d+)", re.MULTILINE)
+# What of the ways to open a file says whether it is read, written, made, cut or begun anew.
+CHANGES = re.compile(r"O_(?:RDONLY|WRONLY|RDWR|CREAT|EXCL|TRUNC|APPEND)")
+STEPS = ("openat", "flock", "pwrite64", "fdatasync", "write")
+OPENED = "openat(log, O_RDWR)"
+LOCKED = "flock(log, LOCK_EX|LOCK_NB)"
+SYNCED = "fdatasync(log)"
+REPLIED = "write(1)"
+
+
+def steps_of(trace: str) -> list[str]:
+    """The calls on the log and on the output, without what they wrote."""
+    steps, log = [], ""
+    for call, words, gave in LINE.findall(trace):
+        if call == "openat" and '"log"' in words:
+            log = gave
+            steps.append(f"openat(log, {'|'.join(CHANGES.findall(words))})")
+        elif call == "pwrite64" and log and words.startswith(f"{log}, "):
+            count, at = words.split(", ")[-2:]
+            steps.append(f"pwrite64(log, {count} bytes at {at})")
+        elif call in ("flock", "fdatasync") and log and words.split(", ")[0] == log:
+            steps.append(f"{call}({words.replace(log, 'log', 1)})")
+        elif call == "write" and words.startswith("1, "):
+            steps.append(REPLIED)
+    return steps
+
+
+def acceptance(place: int) -> list[str]:
+    """The body is written and synced, and then the gate; then the reply goes out."""
+    gate = RECORD * place
+    return [f"pwrite64(log, {RECORD - 1} bytes at {gate + 1})", SYNCED,
+            f"pwrite64(log, 1 bytes at {gate})", SYNCED, REPLIED]
+
+
+class Calls(ServiceCase):
+    def test_two_acceptances(self) -> None:
+        strace = shutil.which("strace")
+        self.assertIsNotNone(strace, "strace is not installed: apt-get install strace")
+        first, second = payments(2)
+        self.make_log(3)
+        trace = self.home / "trace"
+        # A request that comes again costs nothing but its reply.
+        words = ["-f", "-e", f"trace={','.join(STEPS)}", "-o", trace, self.program.path,
+                 "serve", "bank.toml", "--log", "log"]
+        requests = [first, first, second]
+        ended = Program(Path(strace or "")).run(*words, given=stream_of(requests), folder=self.home)
+        self.assert_ended(ended, 0, answers_to(requests), b"", "under strace")
+        self.assertEqual(self.log.read_bytes(), log_image(numbers_of([first, second]), 3))
+        wanted = [OPENED, LOCKED, SYNCED, *acceptance(0), REPLIED, *acceptance(1)]
+        self.assertEqual(steps_of(trace.read_text()), wanted)
