@@ -28,6 +28,7 @@ class Way(Enum):
     REWRITES = "the record before is written again with the body"
     GOES_ON = "a sync that failed is tried again"
     IN_MEMORY = "numbers are in memory alone"
+    GROWS = "a file that was cut short is written to all the same"
 
 
 class Log:
@@ -60,6 +61,8 @@ class Log:
 
     def append(self, number: bytes) -> None:
         at, body = RECORD * len(self.numbers), number + bytes(5)
+        if self.way is not Way.GROWS and os.fstat(self.file).st_size != RECORD * self.room:
+            raise OSError("the file has another size now")
         if self.way is Way.ONE_WRITE:
             self.put(at, b"\x01" + body)
         elif self.way is Way.GATE_FIRST:

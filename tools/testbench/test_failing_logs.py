@@ -1,18 +1,20 @@
-"""A log that fails while the service has it open: in a sync or a write.
+"""A log that fails while the service has it open: a sync or a write, or a file that is cut short.
 
 Behind the first call that fails nothing is acknowledged any more, whatever later calls would
 answer.
 """
 from __future__ import annotations
 
+import os
 from typing import Sequence
 
 from .client import Exchange, payments
 from .cut_disk import Failure, Lost, Plan
 from .cut_file import CutFile
-from .log_file import log_image, numbers_in
+from .log_file import RECORD, log_image, numbers_in
 from .program import Word
-from .service_case import LOG_FAILED, ON_LOG, ServiceCase, answers_to, numbers_of, stream_of
+from .service_case import (
+    LOG_FAILED, ON_LOG, ServiceCase, answers_to, frames_of, numbers_of, stream_of)
 
 PAYMENTS, ROOM = 6, 8
 # The writes and syncs of an acceptance, behind the sync at the start.
@@ -63,3 +65,24 @@ class FailedCalls(ServiceCase):
         self.assertEqual(kept, numbers_of(requests)[: len(kept)], what)
         self.assertIn(len(kept) - len(accepted), (0, 1), what)
         self.check_requests(words, requests, kept, ROOM, what=f"behind {what}")
+
+
+class CutShort(ServiceCase):
+    """The file loses bytes at its end while a service has it open."""
+
+    def test_cut_short(self) -> None:
+        """The next acceptance fails, wherever the end is now."""
+        size, next_record = ROOM * RECORD, 3 * RECORD
+        for left in (0, 1, RECORD, next_record - 1, next_record, next_record + 1,
+                     next_record + RECORD, size - RECORD, size - 1):
+            self.cut_to(left)
+
+    def cut_to(self, left: int) -> None:
+        requests, what = payments(PAYMENTS), f"a log that is cut to {left} bytes"
+        self.make_log(ROOM)
+        service = self.start(*ON_LOG)
+        service.ask(frames_of(requests[:3]))
+        os.truncate(self.log, left)
+        service.talk(frames_of(requests[:1] + requests[3:]))
+        answers = answers_to(requests[:3] + requests[:1])
+        self.assert_output(service.end(), answers, LOG_FAILED, what)
