@@ -8,11 +8,12 @@ import signal
 import subprocess
 from typing import Iterator
 
-from .client import PURCHASES, Exchange, payments, payments_of
+from .client import PURCHASES, Exchange, number_of, payments, payments_of
 from .log_file import RECORD, log_image, record, records_of
 from .program import ROWS, SECONDS, Ended
 from .service_case import (
     CANNOT_OPEN, LOG_FAILED, ON_LOG, ServiceCase, answers_to, frames_of, numbers_of)
+from .streams import LAST
 
 LOGS = ROWS / "logs"
 REFUSED = ("empty", "of_31_bytes", "of_33_bytes", "open_behind_closed", "bytes_at_the_end",
@@ -128,6 +129,21 @@ class Logs(ServiceCase):
         self.make_log(3, [foreign])
         listed = self.check_requests(ON_LOG, requests, [foreign])
         self.assert_image(listed, "a number of no key set")
+
+    def test_the_last_number_of_a_terminal(self) -> None:
+        """Its counter has ten one bits in front. It is used as any."""
+        first, second = payments(2)
+        last = payments_of([LAST], PURCHASES[:1])[0]
+        self.make_log(4)
+        used = self.check_requests(ON_LOG, [first, last, last])
+        self.assert_image(numbers_of([first, last]), "the last number")
+        used = self.check_requests(ON_LOG, [last, first, second, last], used)
+        self.assert_image(numbers_of([first, last, second]), "behind the last number")
+        # Beside those of other terminals, and of the greatest key serial number that there is.
+        kept = [last.number, number_of(LAST + (2 << 21)), b"\xff" * 8 + b"\xf8\x00"]
+        self.make_log(4, kept)
+        used = self.check_requests(ON_LOG, [last, first, last, second], kept)
+        self.assert_image([*kept, first.number], "last numbers alone")
 
     def test_closed_records(self) -> None:
         """Any gate but 01 is closed, whatever stands behind it."""
