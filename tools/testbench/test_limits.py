@@ -5,7 +5,10 @@ import os
 import threading
 
 from .bank import BANK, CARD, FRONT, LINES, LONGEST, SCRIPT, BankCase
-from .client import payments, refusal
+from .client import first_counters, payments, refusal
+from .dukpt import derive
+from .frames import write_reply, write_request
+from .log_file import log_image
 
 # Where a configuration may have the most of something.
 KEY_SETS = 8
@@ -74,6 +77,13 @@ class LongFiles(BankCase):
         os.close(reader)
         feeder.join()
         self.assert_ended(ended, 0, LINES, b"", "a byte per read")
+
+    def test_the_number_of_the_last_line(self) -> None:
+        """Each LF counts, the last one too, whether or not a CR stands before it."""
+        for end in (b"\n", b"\r\n"):
+            count = (LONGEST - 4) // len(end)
+            for last in (b"up", b"up" + end):
+                self.play(end * count + last, fault=f"line {count + 1}: not an event")
 
     def test_the_script_of_most_events(self) -> None:
         count = LONGEST // len(b"up 0\n")
@@ -149,6 +159,21 @@ def greatest_script() -> tuple[str, str]:
     return script + "restart host\n", lines + f"host used {sent}\n"
 
 
+def greatest_stream() -> tuple[list[bytes], list[bytes], list[bytes]]:
+    """Of each key set a request of each of these payments, with the replies and the numbers."""
+    frames, answers, numbers = [], [], []
+    for key_set in range(KEY_SETS):
+        base = bytes.fromhex(f"{key_set:032X}")
+        for counter, (payment, code) in enumerate(PAYMENTS, 1):
+            pan, pin, amount = payment.split()
+            serial = int(f"FFFF98765{key_set}321000000{counter}", 16)
+            key = derive(base, serial)
+            frames.append(write_request(key, serial, pan, pin, int(amount)))
+            answers.append(write_reply(key, serial, code))
+            numbers.append(serial.to_bytes(10, "big"))
+    return frames, answers, numbers
+
+
 def first_of(terminal: int) -> bytes:
     """The first number of one of many terminals of a key set."""
     return bytes.fromhex("FFFF987655") + (terminal << 21 | 1).to_bytes(5, "big")
@@ -167,6 +192,55 @@ class Greatest(BankCase):
             self.write("greatest.toml", text)
             self.check(("run", "greatest.toml", "greatest.script"), lines.encode())
         self.tells(f"{lines.count(' accepted ')} payments over each kind of store")
+
+    def test_a_service(self) -> None:
+        """Over a log in memory, and over one on a file that is used up but for its requests."""
+        frames, answers, numbers = greatest_stream()
+        self.write("greatest.toml", greatest_configuration("memory"))
+        words, given, log = ("serve", "greatest.toml"), b"".join(frames), self.home / "log"
+        self.check(words, b"".join(answers), given=given)
+        used = [first_of(terminal) for terminal in range(LOG - len(numbers))]
+        log.write_bytes(log_image(used, LOG))
+        words = (*words, "--log", "log")
+        self.check(words, b"".join(answers), given=given)
+        self.assertEqual(log.read_bytes(), log_image([*used, *numbers], LOG))
+        self.check(words, b"".join(refusal(it, 5) for it in numbers), given=given)
+        self.tells(f"{len(numbers)} payments of {KEY_SETS} key sets")
+
+    def test_the_script_of_most_answers(self) -> None:
+        """Of one request, which is accepted once and then repeated: more than the log has room
+        for."""
+        script = b"load t1 FFFF9876543210000000\nbegin t1 000000000499 1234 0\n"
+        count = (LONGEST - len(script)) // len(b"up 1\n")
+        self.assertGreater(count, LOG + 1)
+        lines = b"t1 loaded FFFF9876543210000000\nt1 sent 1 FFFF9876543210000001\n"
+        lines += b"answer 1 accepted FFFF9876543210000001 00\n" + b"".join(
+            b"answer %d repeated FFFF9876543210000001 00\n" % it for it in range(2, count + 1))
+        self.play(script + b"up 1\n" * count, lines)
+        self.tells(f"{count} answers")
+
+    def test_the_script_of_most_requests(self) -> None:
+        """Of the shortest lines, each is accepted. There is no place for more in a script."""
+        events, counters = [b"load t1 FFFF9876543210000000\n"], first_counters(30_000)
+        lines, room = [b"t1 loaded FFFF9876543210000000\n"], LONGEST - len(events[0])
+        for sent, counter in enumerate(counters, 1):
+            event = b"begin t1 000000000499 1234 0\nup %d\n" % sent
+            room -= len(event)
+            if room < 0:
+                break
+            number = b"FFFF9876543210%06X" % counter
+            events.append(event)
+            lines.append(b"t1 sent %d %b\n" % (sent, number))
+            lines.append(b"answer %d accepted %b 00\n" % (sent, number))
+        self.assertLess(room, 0)
+        self.play(b"".join(events), b"".join(lines))
+        self.tells(f"{len(events) - 1} requests")
+
+    def play(self, script: bytes, lines: bytes) -> None:
+        self.write("most.script", script)
+        for stores in ("memory", "disk"):
+            self.write("greatest.toml", greatest_configuration(stores))
+            self.check(("run", "greatest.toml", "most.script"), lines)
 
     def test_one_more(self) -> None:
         text = greatest_configuration("memory")

@@ -30,8 +30,9 @@ class Speed(ServiceCase):
                    f"{peak} KiB at most")
 
     def test_in_memory(self) -> None:
-        """As many different numbers as a log in memory has room for at most."""
-        self.measure("a log in memory", ["serve", "wide.toml"], payments(AMPLE))
+        """As many different numbers as a log in memory has room for at most, and one more, which is
+        refused."""
+        self.measure("a log in memory", ["serve", "wide.toml"], payments(AMPLE + 1))
 
     def test_on_a_file(self) -> None:
         requests = payments(2000)
