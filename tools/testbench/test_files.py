@@ -2,9 +2,13 @@
 from __future__ import annotations
 
 import os
+import shutil
+import subprocess
+from pathlib import Path
 
 from .bank import BANK, BDK, FRONT, LINES, BankCase
-from .program import spoken
+from .case import Case
+from .program import ROOT, SECONDS, Ended, spoken
 
 BASE = "0123456789ABCDEFFEDCBA9876543210"
 SERIAL = "FFFF9876543210E00001"
@@ -35,11 +39,14 @@ COMMANDS = [
     (("wrap", PROTECTION, "P0TE00E", ZONE, "0000000000"), b"", "PadLength"),
 ]
 
-# Words that are refused, some because they are no UTF-8.
+# Words that are refused, and those that are because one is no UTF-8.
 REFUSED_WORDS = [
     ("run", "bank.toml"), ("derive", BASE, SERIAL, SERIAL), ("serve",), ("",), ("--", "-x"),
+]
+NO_UTF8 = [
     ("derive", b"\xff", SERIAL), ("run", "bank.toml", b"all.script\xff"),
-    (b"derive\xc3", BASE, SERIAL),
+    (b"derive\xc3", BASE, SERIAL), ("serve", "bank.toml", b"--log=\xed\xa0\x80"), (b"\x80",),
+    ("pin", "1234", b"401234567890\xb9"), ("--help", b"\xf8"), ("nothing", "of", b"this\xc0\xaf"),
 ]
 
 # Configurations that are refused, and their faults.
@@ -72,6 +79,12 @@ class Streams(BankCase):
                 ended = self.program.run(*words, folder=self.home)
                 self.assertEqual((ended.status, ended.output), (2, b""))
                 self.assertTrue(ended.faults.startswith(b"error: "), ended)
+
+    def test_words_that_are_no_utf8(self) -> None:
+        """Wherever one stands."""
+        for words in NO_UTF8:
+            ended = self.program.run(*words, folder=self.home)
+            self.assert_ended(ended, 2, b"", b"error: a word is not UTF-8\n", spoken(words))
 
     def test_help(self) -> None:
         """Where there are no words the help is on standard error."""
@@ -116,3 +129,71 @@ class Files(BankCase):
             self.write("refused.toml", text)
             for script in ("pipe.script", "missing"):
                 self.check(("run", "refused.toml", script), fault=f"config: {fault}")
+
+
+# A kit that notes its calls and makes a program that prints its words, and one that makes nothing.
+MAKES = """#!/bin/sh
+echo "$*" >>"$NOTED"
+[ "$1" = run ] || exit 0
+mkdir -p out
+printf '#!/bin/sh\necho "$@"\nexit 3\n' >out/dukpt
+chmod +x out/dukpt
+"""
+MAKES_NOTHING = """#!/bin/sh
+echo "no proof"
+exit 1
+"""
+SYSTEM = "/usr/bin:/bin"
+
+
+class StartScript(Case):
+    """The script `dukpt`, over two crates and a kit that stands in for the true one."""
+
+    def setUp(self) -> None:
+        super().setUp()
+        self.home = self.folder()
+        shutil.copy(ROOT / "dukpt", self.home)
+        (self.home / "crates.txt").write_text("# A comment.\nduk_one: hex\ndukpt: duk_one\n")
+        for crate in ("duk_one", "dukpt"):
+            for part in ("src", "specs", "proofs"):
+                (self.home / "crates" / crate / part).mkdir(parents=True)
+
+    def run_script(self, *words: str, kit: str = "") -> Ended:
+        if kit:
+            (self.home / "rt").write_text(kit)
+            (self.home / "rt").chmod(0o755)
+        path = f"{self.home}:{SYSTEM}" if kit else SYSTEM
+        done = subprocess.run([self.home / "dukpt", *words], capture_output=True, timeout=SECONDS,
+                              env={"PATH": path, "NOTED": str(self.noted)}, check=False)
+        return Ended(done.returncode, done.stdout, done.stderr)
+
+    @property
+    def noted(self) -> Path:
+        return self.home / "noted"
+
+    def test_no_kit(self) -> None:
+        self.assertIsNone(shutil.which("rt", path=SYSTEM), "the kit is among the system's programs")
+        fault = b"dukpt: the program is not built, and there is no rt on PATH to build it\n"
+        self.assertEqual(self.run_script("derive"), Ended(125, b"", fault))
+
+    def test_not_built(self) -> None:
+        ended = self.run_script("derive", kit=MAKES_NOTHING)
+        self.assertEqual((ended.status, ended.output), (125, b""))
+        self.assertTrue(ended.faults.endswith(b"no proof\ndukpt: the program could not be built\n"))
+
+    def test_built(self) -> None:
+        """Once, and again where a source is newer. Words and status are those of the program."""
+        ended = self.run_script("pin", "a  b", kit=MAKES)
+        self.assertEqual((ended.status, ended.output), (3, b"pin a  b\n"))
+        self.assertRegex(ended.faults, rb"(?s)\Adukpt: proving .*\ndukpt: built, after 0 min\n\Z")
+        calls = "lib\nrun -- --help\n"
+        self.assertEqual(self.noted.read_text(), calls)
+        self.assertEqual(self.run_script("", kit=MAKES), Ended(3, b"\n", b""))
+        self.assertEqual(self.run_script("x"), Ended(3, b"x\n", b""))
+        self.assertEqual(self.noted.read_text(), calls)
+        source = self.home / "crates" / "duk_one" / "src" / "lib.rt"
+        source.write_text("")
+        later = os.stat(self.home / "crates" / "dukpt" / "out" / "dukpt").st_mtime + 10
+        os.utime(source, (later, later))
+        self.assertEqual(self.run_script("x", kit=MAKES).output, b"x\n")
+        self.assertEqual(self.noted.read_text(), calls * 2)

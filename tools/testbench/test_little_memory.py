@@ -8,6 +8,8 @@ from .little_memory import AMPLE, OUT_OF_MEMORY, PAGE, least_to_start
 from .program import Ended, Limits, Word, spoken
 from .test_lost_output import WRITERS
 
+# Of the bytes of a word that a system takes.
+LONGEST_WORD = 100_000
 # How near the two sizes are between which a search ends.
 NEAR = 4 * PAGE
 
@@ -71,6 +73,23 @@ class LittleMemory(BankCase):
         for words, output in WRITERS:
             written = self.try_sizes(words, output, 5)
             self.assertFalse(any(written), f"{spoken(words)}: written in part")
+
+
+    def test_long_words(self) -> None:
+        """The words are read before anything is said of them."""
+        words = ("derive", *("0" * LONGEST_WORD for _ in range(10)))
+        ample = self.program.run(*words)
+        self.assertEqual((ample.status, ample.output), (2, b""))
+        least, told = least_to_start(self.program), 0
+        for size in (least, least + 2 * LONGEST_WORD, least + 5 * LONGEST_WORD):
+            ended = self.program.run(*words, limits=Limits(memory=size))
+            self.assert_ended(ended, 1, b"", OUT_OF_MEMORY, f"with {size >> 10} KiB")
+        for _ in range(10 * self.times):
+            size = least + self.chance.randrange(30 * LONGEST_WORD)
+            ended = self.program.run(*words, limits=Limits(memory=size))
+            self.assertIn(ended, (ample, Ended(1, b"", OUT_OF_MEMORY)), f"with {size >> 10} KiB")
+            told += ended != ample
+        self.tells(f"out of memory {told} times more")
 
 
 def lines_of_begins(count: int) -> bytes:

@@ -138,6 +138,18 @@ class Scripts(BankCase):
             self.play(line.removesuffix(b"\n") + b"\nup\n", fault="line 2: not an event")
         self.tells(f"{len(EVENTS)} lines")
 
+    def test_numbers_of_lines(self) -> None:
+        """Each line ends with CR LF, or some do. A line behind the last LF has its number too."""
+        for ends in ((b"\r\n",), (b"\n",), (b"\r\n", b"\n"), (b"\n", b"\r\n")):
+            for before in range(6):
+                lines = [b"up 1", b"", b"# up", b"up 2"] * 2
+                front = b"".join(lines[at] + ends[at % len(ends)] for at in range(before))
+                for last in (b"up", b"up\r", b"up 1\r", b"up\n", b"up\r\n", b"up\r\nup\r\n"):
+                    self.play(front + last, fault=f"line {before + 1}: not an event")
+                self.play(front + b"\r\nup 01\r\n", fault=f"line {before + 2}: not an event")
+                events = sum(it.startswith(b"up") for it in lines[:before])
+                self.play(front, b"no such frame\n" * events)
+
     def test_what_events_say(self) -> None:
         self.write("cards.toml", CARDS)
         self.write("disk.toml", b'stores = "disk"\n' + CARDS)
