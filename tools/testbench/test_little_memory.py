@@ -91,6 +91,29 @@ class LittleMemory(BankCase):
             told += ended != ample
         self.tells(f"out of memory {told} times more")
 
+    def test_a_run_whose_lines_are_lost(self) -> None:
+        """Where lines were to be written before memory was refused, and could not be, that is
+        told."""
+        words, count = ("run", "bank.toml", "begins.script"), 20_000
+        script = b"load t1 FFFF9876543210E00000\n" + b"begin t1 4012345678909 1234 1\n" * count
+        self.write("begins.script", script)
+        output, tried = lines_of_begins(count), 0
+        least = least_to_start(self.program)
+        with open("/dev/full", "wb") as full:
+            for size in range(least, least + (16 << 20), 64 * PAGE):
+                written = self.try_size(words, output, size)
+                if written is None:
+                    break
+                if written < len(output) // 8 and size > least:
+                    continue
+                ended = self.program.run(*words, folder=self.home, output=full.fileno(),
+                                         limits=Limits(memory=size))
+                fault = b"script: write failed\n" if written else OUT_OF_MEMORY
+                self.assert_ended(ended, 1, b"", fault, f"behind {written} bytes, {size >> 10} KiB")
+                tried += written > 0
+        self.assertGreater(tried, 0, "no line was written before memory was refused")
+        self.tells(f"{tried} sizes")
+
 
 def lines_of_begins(count: int) -> bytes:
     """A terminal sends so many requests, with one usable counter after the other."""

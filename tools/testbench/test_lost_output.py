@@ -93,6 +93,24 @@ class LostOutput(BankCase):
                 ended = self.program.run(*words, folder=self.home, output=full.fileno())
                 self.assert_ended(ended, 1, b"", fault, f"{spoken(words)} >/dev/full")
 
+    def test_a_service_on_a_full_device(self) -> None:
+        """At its end, and before each fault: an answer that is lost is told in its place."""
+        payment, cut = payments(1)[0].frame, b"\x00\x2e\x01"
+        (self.home / "no log").write_bytes(b"")
+        on_no_log = ("serve", "bank.toml", "--log", "no log")
+        lost = b"serve: write failed\n"
+        with open("/dev/full", "wb") as full:
+            for given, fault in ((payment, lost), (payment + cut, lost), (b"\x00\x00", lost),
+                                 (payment + b"\x00\x3f", lost),
+                                 (cut, b"serve: input ends in a frame\n"),
+                                 (b"\x00\x3f", b"serve: frame too long\n")):
+                ended = self.program.run("serve", "bank.toml", given=given, folder=self.home,
+                                         output=full.fileno())
+                self.assert_ended(ended, 1, b"", fault, f"{given.hex()} >/dev/full")
+            ended = self.program.run(*on_no_log, given=payment, folder=self.home,
+                                     output=full.fileno())
+            self.assert_ended(ended, 1, b"", b"log: failed\n", "no log >/dev/full")
+
     def test_a_full_device_of_nothing(self) -> None:
         """What has nothing to write is done."""
         self.write("empty.script", b"# nothing\n")
