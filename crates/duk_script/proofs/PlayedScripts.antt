@@ -1,21 +1,19 @@
 -- What a script does, from what its parts do.
-use Rattle.std.proofs.Common.{◌≡◌, ◌⊎◌, ◌++◌, [], ℕ, true, false, List, Result, Ok, Err, OnOk, IfErr, take, inl, inr, sym, ap, subst, ◌∙◌}
+use Rattle.std.proofs.Common.{◌≡◌, ◌⊎◌, ◌++◌, [], ℕ, Bool, List, Result, Ok, Err, OnOk, IfErr, take, inl, inr, sym, ap, subst, ◌∙◌}
 use Rattle.duk_config.specs.Settings.{Settings}
 use Rattle.duk_config.specs.declared.fault.ScriptFault.{ScriptFault}
 use Rattle.duk_config.specs.declared.fault.ScriptFault.TheVariants as fault
 use Rattle.duk_io.specs.Known.{Known}
 use Rattle.duk_io.specs.Sink.{IsCut, IsUntouched}
-use Rattle.duk_net.specs.InMemory.{MemoryWorld, in_memory}
 use Rattle.duk_net.specs.Run.{IsRun, Run, RunRefused}
 use Rattle.duk_net.specs.World.{Meanings, WorldOf}
 use Rattle.duk_net.specs.declared.event.Event.{Event}
 use Rattle.duk_net.specs.declared.outcome.Outcome.{Outcome}
 use Rattle.duk_net.specs.declared.runs.NetFault.{NetFault}
 use Rattle.duk_net.specs.declared.runs.NetFault.TheVariants as net
-use Rattle.duk_script.specs.OnDisk.{DiskWorld, on_disk}
 use Rattle.duk_script.specs.Opening.{IsOpened, StartsCalm}
 use Rattle.duk_script.specs.OutcomeText.{lines_of}
-use Rattle.duk_script.specs.Play.{ArePlayed, ArePlayedIn, ArePlayedInPart, ArePlayedOn, HaveOutcomes, IsPlayed, IsPlayedUpTo, PlayRefused, Playing, new_disk_world, new_memory_world}
+use Rattle.duk_script.specs.Play.{ArePlayed, ArePlayedIn, ArePlayedInPart, ArePlayedOn, HaveOutcomes, IsPlayed, IsPlayedUpTo, PlayRefused, Playing}
 use Rattle.duk_script.specs.Script.{IsNoScript}
 use Rattle.duk_script.specs.Session.{AreEventsRead, IsQuietSession, IsScriptRefused, Session}
 use Rattle.duk_script.specs.WholeText.{IsReadWhole, ReadRefused}
@@ -89,16 +87,10 @@ pub played_from : {C L I : Type 0} (m : Meanings C L I) (first start : WorldOf C
     → (events : List Event) (outcomes : List Outcome) → HaveOutcomes m start events outcomes → ArePlayedIn m first events outcomes
 played_from m first start starts opened events outcomes (last, run) = record { start = start; last = last; starts = starts; opened = opened; run = run }
 
--- so are those that are done over the stores that a configuration names
-pub played_on_disk : (config : Settings) (start : DiskWorld) → config.disk ≡ true → StartsCalm on_disk (new_disk_world config) → IsOpened on_disk (new_disk_world config) start
-    → (events : List Event) (outcomes : List Outcome) → HaveOutcomes on_disk start events outcomes → ArePlayed config events outcomes
-played_on_disk config start named starts opened events outcomes have =
-    subst (λ disk. ArePlayedOn disk config events outcomes) (sym named) (played_from on_disk (new_disk_world config) start starts opened events outcomes have)
-
-pub played_in_memory : (config : Settings) (start : MemoryWorld) → config.disk ≡ false → StartsCalm in_memory (new_memory_world config) → IsOpened in_memory (new_memory_world config) start
-    → (events : List Event) (outcomes : List Outcome) → HaveOutcomes in_memory start events outcomes → ArePlayed config events outcomes
-played_in_memory config start named starts opened events outcomes have =
-    subst (λ disk. ArePlayedOn disk config events outcomes) (sym named) (played_from in_memory (new_memory_world config) start starts opened events outcomes have)
+-- what may come over the stores that a configuration names is what may come under it
+pub named_stores : (config : Settings) (disk : Bool) → config.disk ≡ disk
+    → (events : List Event) (outcomes : List Outcome) → ArePlayedOn disk config events outcomes → ArePlayed config events outcomes
+named_stores config disk named events outcomes have = subst (λ disk. ArePlayedOn disk config events outcomes) (sym named) have
 
 -- the script is not read
 pub unread : (config : Settings) (s : Session) (why : ScriptFault) → ReadRefused s.reader_before s.reader_after why → IsQuietSession s → IsScriptRefused config s why

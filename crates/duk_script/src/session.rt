@@ -1,10 +1,10 @@
 //! A script, from its bytes to the lines of its outcomes.
 
-ghost use Rattle.std.specs.Prelude.{◌≡◌, ◌⊎◌, OnOk, IfErr};
+ghost use Rattle.std.specs.Prelude.{◌≡◌, ◌⊎◌, false, true, OnOk, IfErr};
 ghost use Rattle.duk_io.specs.Sink.{IsCut, IsWritten};
 ghost use Rattle.duk_net.specs.World.{meanings_of};
 ghost use Rattle.duk_script.specs.OutcomeText.{lines_of};
-ghost use Rattle.duk_script.specs.Play.{ArePlayed, HaveOutcomes, IsPlayed, PlayRefused};
+ghost use Rattle.duk_script.specs.Play.{ArePlayed, ArePlayedOn, HaveOutcomes, IsPlayed, PlayRefused};
 ghost use Rattle.duk_script.specs.Session.{IsRunDone, IsRunRefused, IsScriptDone, IsScriptRefused, session};
 ghost use Rattle.duk_tdes.specs.KeyBytes.{bytes_of};
 ghost use Rattle.duk_tdes.specs.Tdes.{IsTdesLength};
@@ -108,12 +108,48 @@ fn play_under<const N: usize, W: Sink>(
         (PlayRefused (ArePlayed config) events.now (W.known writer.old) (W.known writer.new)) }
 {
     if config.disk {
-        let mut world = open_on_disk(alloc, lmk, config)?;
-        play_in(alloc, &mut world, events, writer)
+        play_on_disk(alloc, lmk, config, events, writer)
     } else {
-        let mut world = open_in_memory(alloc, lmk, config)?;
-        play_in(alloc, &mut world, events, writer)
+        play_in_memory(alloc, lmk, config, events, writer)
     }
+}
+
+/// Plays events in the world of a configuration over stores on disks.
+fn play_on_disk<const N: usize, W: Sink>(
+    alloc: Global,
+    lmk: &Key<N>,
+    config: Config,
+    events: &[Event],
+    writer: &mut W,
+) -> Result<(), ScriptFault>
+    requires length { IsTdesLength N }
+    requires lmk { lmk.now ≡ bytes_of config.lmk }
+    ensures done { OnOk result (IsPlayed (ArePlayedOn true config) events.now
+        (W.known writer.old) (W.known writer.new)) }
+    ensures refused { IfErr result (PlayRefused (ArePlayedOn true config) events.now
+        (W.known writer.old) (W.known writer.new)) }
+{
+    let mut world = open_on_disk(alloc, lmk, config)?;
+    play_in(alloc, &mut world, events, writer)
+}
+
+/// Plays events in the world of a configuration over stores in memory.
+fn play_in_memory<const N: usize, W: Sink>(
+    alloc: Global,
+    lmk: &Key<N>,
+    config: Config,
+    events: &[Event],
+    writer: &mut W,
+) -> Result<(), ScriptFault>
+    requires length { IsTdesLength N }
+    requires lmk { lmk.now ≡ bytes_of config.lmk }
+    ensures done { OnOk result (IsPlayed (ArePlayedOn false config) events.now
+        (W.known writer.old) (W.known writer.new)) }
+    ensures refused { IfErr result (PlayRefused (ArePlayedOn false config) events.now
+        (W.known writer.old) (W.known writer.new)) }
+{
+    let mut world = open_in_memory(alloc, lmk, config)?;
+    play_in(alloc, &mut world, events, writer)
 }
 
 /// Plays events in a world, and writes what comes of them.
