@@ -16,4 +16,5 @@ pub mod MemoryLog
 pub mod DiskDevice
 pub mod MemoryDisk
 pub mod Medium
+pub mod FileMedium
 pub mod MediumDisk

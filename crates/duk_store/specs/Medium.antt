@@ -1,5 +1,5 @@
 -- What a medium means, as a file under a disk: this project's own.
-use Rattle.std.specs.Prelude.{◌≤◌, ◌+◌, ℕ, List, [], ⊤, length}
+use Rattle.std.specs.Prelude.{◌≡◌, ◌≤◌, ◌+◌, ℕ, List, [], ⊤, length}
 use Rattle.duk_store.specs.Disk.{DiskState}
 
 -- what may be said of a medium
@@ -8,6 +8,8 @@ pub record MediumState : Type 1 where
   pub honest : Type 0
   -- no call of it fails
   pub calm : Type 0
+  -- a write or a sync of it has failed since it was opened
+  pub failed : Type 0
   -- the bytes that a read gives
   pub reads : List ℕ
   -- the bytes that a stop could leave
@@ -15,7 +17,7 @@ pub record MediumState : Type 1 where
 
 -- a medium that tells nothing: nothing is known of its bytes, and each call of it may fail
 abbrev pub untold : MediumState
-untold = record { honest = ⊥; calm = ⊥; reads = []; may_leave = λ bytes. ⊥ }
+untold = record { honest = ⊥; calm = ⊥; failed = ⊥; reads = []; may_leave = λ bytes. ⊥ }
 
 -- a medium as a disk that is never armed and counts no failure
 abbrev pub as_disk : MediumState → DiskState
@@ -32,3 +34,7 @@ as_disk medium = record {
 -- a range lies inside a medium that tells its bytes
 abbrev pub IsInside : MediumState → ℕ → ℕ → Type 0
 IsInside medium at count = medium.honest → at + count ≤ length medium.reads
+
+-- these are all bytes of a medium that tells them
+abbrev pub IsSizeOf : ℕ → MediumState → Type 0
+IsSizeOf size medium = medium.honest → length medium.reads ≡ size

@@ -21,10 +21,6 @@ pub record IsHonestOver (medium : MediumState) (size : ℕ) : Type 0 where
   pub medium_honest : medium.honest
   pub size_is : length medium.reads ≡ size
 
--- these are all bytes of a medium that tells them
-abbrev pub IsSizeOf : ℕ → MediumState → Type 0
-IsSizeOf size medium = medium.honest → length medium.reads ≡ size
-
 -- neither the medium nor the device fails
 pub record IsCalmOver (medium : MediumState) (device : DiskDevice) : Type 0 where
   pub medium_calm : medium.calm

@@ -1,21 +1,24 @@
 //! A disk over a file.
 
-ghost use Rattle.std.specs.Prelude.{◌≡◌, IfErr, IfOk};
+ghost use Rattle.std.specs.Prelude.{◌≡◌, ⊤, IfErr, IfOk};
 ghost use Rattle.duk_store.specs.DiskDevice.{new_disk_device};
 ghost use Rattle.duk_store.specs.Medium.{untold};
 
 use crate::fault::StoreFault;
-use crate::medium::Medium;
+use crate::file_medium::FileMedium;
 use crate::medium_disk::MediumDisk;
+use crate::open_file::OpenFile;
 use std::fs::{File, OpenOptions};
 use std::io;
 use std::os::unix::fs::FileExt;
 use std::rt::Files;
 
-/// No contract says what a real file holds, so these three bodies rest on being read: each makes
-/// one call on the open file, which loops until the whole range is read or written.
-impl Medium for File {
+/// No contract says what a real file holds, so these four bodies rest on being read: each makes one
+/// call on the open file. That of a read or a write loops until the whole range is read or written.
+impl OpenFile for File {
     ghost state = { λ _. untold };
+
+    ghost has_length = { λ _ _. ⊤ };
 
     ghost reads_may_stay = { λ _ honest. honest };
 
@@ -32,17 +35,22 @@ impl Medium for File {
     fn sync_writes(&mut self) -> io::Result<()> {
         self.sync_data()
     }
+
+    fn length(&self) -> io::Result<u64> {
+        Ok(self.metadata()?.len())
+    }
 }
 
 /// A disk over a file, which is open and locked as long as the disk lives. Its restart goes on with
-/// the open file.
+/// the open file. So once a write or a sync of the file has failed, each later step fails, until the
+/// file is opened anew.
 ///
 /// That the file is a disk is a premise: the operating system and the hardware have to keep to the
-/// model. Besides, the opening and the three bodies of `Medium` for `File` rest on being read; all
-/// else is proved of a disk over any medium.
-pub type FileDisk = MediumDisk<File>;
+/// model. Besides, the opening and the four bodies of `OpenFile` for `File` rest on being read; all
+/// else is proved of a medium over any file, and of a disk over any medium.
+pub type FileDisk = MediumDisk<FileMedium<File>>;
 
-impl MediumDisk<File> {
+impl MediumDisk<FileMedium<File>> {
     /// A disk over the file under a path, of the size that the file has now. The file is opened for
     /// reading and writing and never made.
     ///
@@ -56,7 +64,7 @@ impl MediumDisk<File> {
         ensures refused { IfErr result (λ fault. fault ≡ StoreFault.Device) }
     {
         match open_locked(rt, path) {
-            Ok((file, size)) => Ok(MediumDisk::over(file, size)),
+            Ok((file, size)) => Ok(MediumDisk::over(FileMedium::over(file, size), size)),
             Err(_) => Err(StoreFault::Device),
         }
     }
@@ -66,6 +74,6 @@ impl MediumDisk<File> {
 fn open_locked<R: Files<File = File>>(rt: &R, path: &str) -> io::Result<(File, u64)> {
     let file = OpenOptions::new().read(true).write(true).open(rt, path)?;
     file.try_lock()?;
-    let size = file.metadata()?.len();
+    let size = file.length()?;
     Ok((file, size))
 }

@@ -1,6 +1,6 @@
 //! What a disk asks of the medium below it.
 
-ghost use Rattle.std.specs.Prelude.{◌≡◌, length, OnOk, OnErr};
+ghost use Rattle.std.specs.Prelude.{◌≡◌, length, IsErr, OnOk, OnErr};
 ghost use Rattle.duk_store.specs.Disk.{DiffersWithin, IsSynced, KeepsBytes, KeepsDisk, LeavesChanged, LeavesItsSize, LeavesWithin, ReadsMayStay, range_of, written};
 ghost use Rattle.duk_store.specs.Medium.{IsInside, MediumState, as_disk};
 
@@ -9,7 +9,8 @@ use std::io;
 /// A medium of bytes, as a file, which may tell which bytes it holds. Where it tells nothing it is
 /// not honest. Places are in bytes and count from 0.
 ///
-/// Its calls may fail for any cause. What it tells of its bytes keeps to the model of a disk.
+/// Its calls may fail for any cause. What it tells of its bytes keeps to the model of a disk. Once a
+/// write or a sync has failed, each later call fails, until the medium is opened anew.
 pub trait Medium: Drop {
     /// What the medium is known to be.
     ghost state: { Self → MediumState };
@@ -28,7 +29,9 @@ pub trait Medium: Drop {
         ensures read { OnOk result ((state self.old).honest
             → bytes.new ≡ range_of at (length bytes.old) (state self.old).reads) }
         ensures failed { OnErr result (¬ (state self.old).calm) }
-        ensures length { length bytes.new ≡ length bytes.old };
+        ensures length { length bytes.new ≡ length bytes.old }
+        ensures refused { (state self.old).failed → IsErr result }
+        ensures stays_failed { (state self.old).failed → (state self.new).failed };
 
     /// Writes all of `bytes` from place `at` on. The range is inside the medium, and until a
     /// `sync_writes` has succeeded a stop may leave any bytes in it, also where the write failed.
@@ -39,13 +42,20 @@ pub trait Medium: Drop {
             (as_disk (state self.old)) (as_disk (state self.new)) }
         ensures written { OnOk result ((state self.old).honest
             → (state self.new).reads ≡ written (state self.old).reads at bytes.now) }
-        ensures failed { OnErr result (¬ (state self.old).calm) };
+        ensures failed { OnErr result (¬ (state self.old).calm) }
+        ensures refused { (state self.old).failed → IsErr result }
+        ensures kept { OnErr result (state self.new).failed };
 
     /// Makes sure of all that was written: where this succeeds, a stop leaves what a read gives.
+    ///
+    /// One that failed is never forgotten: each later call fails. Linux reports once that a write
+    /// did not reach the disk, and a later sync succeeds although the bytes are lost.
     fn sync_writes(&mut self) -> io::Result<()>
         ensures nature { KeepsDisk (as_disk (state self.old)) (as_disk (state self.new)) }
         ensures within { LeavesWithin (as_disk (state self.old)) (as_disk (state self.new)) }
         ensures synced { OnOk result ((state self.old).honest
             → IsSynced (as_disk (state self.old)) (as_disk (state self.new))) }
-        ensures failed { OnErr result (¬ (state self.old).calm) };
+        ensures failed { OnErr result (¬ (state self.old).calm) }
+        ensures refused { (state self.old).failed → IsErr result }
+        ensures kept { OnErr result (state self.new).failed };
 }

@@ -1,9 +1,10 @@
 //! A disk over a medium.
 
-ghost use Rattle.std.specs.Prelude.{◌≡◌, ◌+◌, ◌≤◌, length, IsOk, IfErr, OnErr, OnOk};
+ghost use Rattle.std.specs.Prelude.{◌≡◌, ◌+◌, ◌≤◌, ◌⊎◌, length, IsErr, IsOk, IfErr, OnErr, OnOk};
 ghost use Rattle.duk_store.specs.Disk.{DiffersWithin, HasFailed, IsSynced, KeepsBytes, KeepsDisk, LeavesChanged, LeavesWithin, StaysArmed, range_of, written};
-ghost use Rattle.duk_store.specs.DiskDevice.{HasFailedStep, HasPassed, disarmed_device};
-ghost use Rattle.duk_store.specs.MediumDisk.{IsSizeOf, medium_disk_meaning, medium_disk_state, new_medium_disk};
+ghost use Rattle.duk_store.specs.DiskDevice.{HasFailedStep, HasPassed, IsDue, disarmed_device};
+ghost use Rattle.duk_store.specs.MediumDisk.{medium_disk_meaning, medium_disk_state, new_medium_disk};
+ghost use Rattle.duk_store.specs.Medium.{IsSizeOf};
 
 use crate::disk::Disk;
 use crate::disk_device::DiskDevice;
@@ -15,7 +16,8 @@ use std::marker::Model;
 /// medium is: whatever the medium tells of itself holds of the disk.
 ///
 /// Each call of the medium that fails, for whatever cause, is told as `Device` and counted once. A
-/// step that fails by arming does not come to the medium.
+/// step that fails by arming does not come to the medium. Once a write or a sync of the medium has
+/// failed, each later step fails, and a restart does not change that.
 #[derive(Drop)]
 pub struct MediumDisk<M: Medium> {
     medium: M,
@@ -24,7 +26,8 @@ pub struct MediumDisk<M: Medium> {
 }
 
 impl<M: Medium> Model for MediumDisk<M> {
-    ghost use Rattle.duk_store.specs.MediumDisk.{IsSizeOf, MediumDiskOf};
+    ghost use Rattle.duk_store.specs.Medium.{IsSizeOf};
+    ghost use Rattle.duk_store.specs.MediumDisk.{MediumDiskOf};
 
     ghost Value = { MediumDiskOf M };
 
@@ -82,6 +85,10 @@ impl<M: Medium> Disk for MediumDisk<M> {
         ensures length { length bytes.new ≡ length bytes.old }
         ensures passed { OnOk result (HasPassed self.old.device self.new.device) }
         ensures counted { OnErr result (HasFailedStep self.old.device self.new.device) }
+        ensures refused { (M.state self.old.medium).failed → IsErr result }
+        ensures stays_failed { (M.state self.old.medium).failed
+            → (M.state self.new.medium).failed }
+        ensures not_read { IsDue self.old.device → self.new.medium ≡ self.old.medium }
     {
         self.device.step()?;
         match self.medium.read_range(at, bytes) {
@@ -106,6 +113,11 @@ impl<M: Medium> Disk for MediumDisk<M> {
             (medium_disk_state M.state self.new)) }
         ensures passed { OnOk result (HasPassed self.old.device self.new.device) }
         ensures counted { OnErr result (HasFailedStep self.old.device self.new.device) }
+        ensures refused { (M.state self.old.medium).failed → IsErr result }
+        ensures kept { OnErr result (IsDue self.old.device ⊎ (M.state self.new.medium).failed) }
+        ensures stays_failed { (M.state self.old.medium).failed
+            → (M.state self.new.medium).failed }
+        ensures not_written { IsDue self.old.device → self.new.medium ≡ self.old.medium }
     {
         self.device.step()?;
         match self.medium.write_range(at, bytes) {
@@ -129,6 +141,11 @@ impl<M: Medium> Disk for MediumDisk<M> {
             (medium_disk_state M.state self.new)) }
         ensures passed { OnOk result (HasPassed self.old.device self.new.device) }
         ensures counted { OnErr result (HasFailedStep self.old.device self.new.device) }
+        ensures refused { (M.state self.old.medium).failed → IsErr result }
+        ensures kept { OnErr result (IsDue self.old.device ⊎ (M.state self.new.medium).failed) }
+        ensures stays_failed { (M.state self.old.medium).failed
+            → (M.state self.new.medium).failed }
+        ensures not_synced { IsDue self.old.device → self.new.medium ≡ self.old.medium }
     {
         self.device.step()?;
         match self.medium.sync_writes() {

@@ -1,21 +1,23 @@
 //! Disks over a medium: what they give back, and where they fail.
 
-ghost use Rattle.std.specs.Prelude.{◌+◌, ◌≤◌, IfOk, refl};
+ghost use Rattle.std.specs.Prelude.{◌≡◌, ◌+◌, ◌≤◌, ⊤, length, IfOk, refl};
 ghost use Rattle.duk_store.specs.Medium.{untold};
 ghost use Rattle.duk_store.specs.MemoryDisk.{CouldLeave, IsHonestDisk, MemoryDisk};
 
-use duk_store::{Disk, Medium, MediumDisk, MemDisk, StoreFault};
+use duk_store::{Disk, FileMedium, Medium, MediumDisk, MemDisk, OpenFile, StoreFault};
 use std::alloc::Global;
 use std::io;
 use std::marker::Model;
 use std::test::Fail;
 
-/// Eight bytes in memory that tell nothing of themselves.
+/// A file of eight bytes in memory, which tells nothing of itself. It forgets that a call failed.
 #[derive(Drop)]
-struct SmallMedium {
+struct SmallFile {
     held: [u8; 8],
     /// How many calls pass before one fails.
     passes: u8,
+    /// The length that it tells.
+    length: u64,
 }
 
 /// Why a call fails.
@@ -23,7 +25,7 @@ fn refusal() -> io::Error {
     io::Error::from(io::ErrorKind::Other)
 }
 
-impl SmallMedium {
+impl SmallFile {
     /// Where a range of so many bytes begins, if it is inside the eight and this call passes.
     fn start(&mut self, at: u64, count: usize) -> io::Result<usize>
         ensures { IfOk result (λ start. start + count ≤ 8) }
@@ -37,8 +39,10 @@ impl SmallMedium {
     }
 }
 
-impl Medium for SmallMedium {
+impl OpenFile for SmallFile {
     ghost state = { λ _. untold };
+
+    ghost has_length = { λ _ _. ⊤ };
 
     ghost reads_may_stay = { λ _ honest. honest };
 
@@ -60,6 +64,10 @@ impl Medium for SmallMedium {
         self.start(0, 0)?;
         Ok(())
     }
+
+    fn length(&self) -> io::Result<u64> {
+        Ok(self.length)
+    }
 }
 
 /// Writes three bytes into a disk of eight.
@@ -80,61 +88,85 @@ fn passing<M: Medium>(disk: &mut MediumDisk<M>) -> [bool; 3] {
     [writes, syncs, holds_all(disk)]
 }
 
-/// What passes over a medium whose call behind so many fails, where the disk is armed with so many
-/// steps; and what passes behind a restart.
-fn passing_twice(passes: u8, steps: u32) -> [[bool; 3]; 2] {
-    let medium = SmallMedium {
-        held: [0; 8],
-        passes,
-    };
-    let mut disk = MediumDisk::over(medium, 8);
+/// What passes over a file, where the disk is armed with so many steps; and what passes behind a
+/// restart.
+fn passing_twice(file: SmallFile, steps: u32) -> [[bool; 3]; 2] {
+    let mut disk = MediumDisk::over(FileMedium::over(file, 8), 8);
     disk.arm(steps);
     let first = passing(&mut disk);
     let _ = disk.restart();
     [first, passing(&mut disk)]
 }
 
+/// What passes over a file whose call behind so many fails.
+fn passing_over(passes: u8, steps: u32) -> [[bool; 3]; 2] {
+    let file = SmallFile {
+        held: [0; 8],
+        passes,
+        length: 8,
+    };
+    passing_twice(file, steps)
+}
+
 const ALL: [bool; 3] = [true; 3];
 
-/// Each step is one call of the medium, and one that fails is told. An armed disk fails from some
-/// step on until its restart, and such a step does not come to the medium: what it did not write is
-/// not there.
+const NONE: [bool; 3] = [false; 3];
+
+/// Each step is one call of the file, and one that fails is told. Once a write or a sync has
+/// failed, no step passes, also behind a restart. An armed disk fails from some step on until its
+/// restart, and such a step does not come to the file: what it did not write is not there.
 #[test]
-fn failing_media(rt: HostRuntime) {
+fn failing_files(rt: HostRuntime) {
     for (passes, steps, first, second) in [
         (99, 99, ALL, ALL),
-        (0, 99, [false, true, false], ALL),
-        (1, 99, [true, false, true], ALL),
+        (0, 99, NONE, NONE),
+        (1, 99, [true, false, false], NONE),
         (2, 99, [true, true, false], ALL),
-        (3, 99, ALL, [false, true, true]),
-        (99, 0, [false; 3], ALL),
+        (3, 99, ALL, NONE),
+        (99, 0, NONE, ALL),
         (99, 1, [true, false, false], ALL),
         (99, 2, [true, true, false], ALL),
-        (1, 1, [true, false, false], [false, true, true]),
+        (1, 1, [true, false, false], NONE),
     ] {
-        assert_eq!(rt; passing_twice(passes, steps), [first, second]);
+        assert_eq!(rt; passing_over(passes, steps), [first, second]);
     }
 }
 
-/// A disk in memory as a medium that tells its bytes: what is asked of an honest one can be had.
+/// A sync fails where the file has another length than when it was opened, and then all fails.
+#[test]
+fn files_of_another_length(rt: HostRuntime) {
+    for length in [7, 9] {
+        let file = SmallFile {
+            held: [0; 8],
+            passes: 99,
+            length,
+        };
+        assert_eq!(rt; passing_twice(file, 99), [[true, false, false], NONE]);
+    }
+}
+
+/// A disk in memory as a file that tells its bytes: what is asked of an honest one can be had.
 #[derive(Drop)]
-struct ToldMedium {
+struct ToldFile {
     disk: MemDisk,
 }
 
-impl Model for ToldMedium {
+impl Model for ToldFile {
     ghost Value = { MemoryDisk };
 
-    ghost view = { λ medium. medium.disk };
+    ghost view = { λ file. file.disk };
 }
 
-impl Medium for ToldMedium {
+impl OpenFile for ToldFile {
     ghost state = { λ disk. record {
       honest = IsHonestDisk disk;
       calm = ⊥;
+      failed = ⊥;
       reads = disk.reads;
       may_leave = CouldLeave disk;
     } };
+
+    ghost has_length = { λ disk told. told ≡ length disk.reads };
 
     ghost reads_may_stay = { λ disk honest. record {
       same_length = refl;
@@ -171,17 +203,22 @@ impl Medium for ToldMedium {
             Err(_) => Err(refusal()),
         }
     }
+
+    fn length(&self) -> io::Result<u64> {
+        Ok(self.disk.size())
+    }
 }
 
-/// What passes over such a medium.
-fn of_told_medium(alloc: Global) -> Result<[bool; 3], StoreFault> {
+/// What passes over such a file.
+fn of_told_file(alloc: Global) -> Result<[bool; 3], StoreFault> {
     let disk = MemDisk::new(alloc, 8)?;
     let size = disk.size();
-    Ok(passing(&mut MediumDisk::over(ToldMedium { disk }, size)))
+    let medium = FileMedium::over(ToldFile { disk }, size);
+    Ok(passing(&mut MediumDisk::over(medium, size)))
 }
 
 #[test]
-fn a_medium_that_tells_its_bytes(rt: HostRuntime) -> Result<(), Fail> {
-    assert_eq!(rt; of_told_medium(rt.alloc())?, ALL);
+fn a_file_that_tells_its_bytes(rt: HostRuntime) -> Result<(), Fail> {
+    assert_eq!(rt; of_told_file(rt.alloc())?, ALL);
     Ok(())
 }
