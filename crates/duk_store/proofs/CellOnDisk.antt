@@ -8,7 +8,7 @@ use Rattle.duk_store.specs.MemoryDisk.{memory_disk_state, new_disk}
 use Rattle.duk_store.specs.Cell.{IsPut, Kept, OldOrNew, PutFailed}
 use Rattle.duk_store.specs.Disk.{DiskMeaning, DiskState, KeepsDisk, LeavesChanged, LeavesReads, ReadsMayStay, StaysButArmed}
 use Rattle.duk_store.specs.Restart.{RestartFailed, Restarted}
-use Rattle.duk_store.specs.SlotCell.{CellReplaceFailed, IsBlankDisk, IsZeroDisk, LeavesOneBody, RunsWithBody, IsBroughtUp, IsCellReplaced, IsDamagedDisk, IsNextOf, IsPutNext, IsReadyFor, IsReplaced, IsRestored, IsSoundDisk, IsWorn, Knows, MayFind, RecoveryFailed, ReplaceFailed, SlotCellOf, StandsAlone, is_running, slot_cell_meaning, slot_cell_state}
+use Rattle.duk_store.specs.SlotCell.{CellReplaceFailed, IsBlankDisk, IsZeroDisk, LeavesOneBody, RunsWithBody, IsBroughtUp, IsCellReplaced, IsDamagedDisk, IsInItsSlot, IsNextOf, IsPutNext, IsReadyFor, IsReplaced, IsRestored, IsSoundDisk, IsWorn, Knows, MayFind, RecoveryFailed, ReplaceFailed, SlotCellOf, StandsAlone, is_running, slot_cell_meaning, slot_cell_state}
 use Rattle.duk_store.specs.Slots.{HoldsAlone, IsEmpty, IsOpen, Keeps, cell_disk_size, other_than, sequence_of, slot_at}
 use Rattle.duk_store.specs.StoreState.{FindsSome, FindsWithin, IsNew, KeepsNothing, StaysButCalm}
 use Rattle.duk_store.specs.declared.fault.StoreFault.{StoreFault}
@@ -309,14 +309,17 @@ module _ {D : Type 0} (meaning : DiskMeaning D) (old new : SlotCellOf D) (body :
     body_next target target_is done =
         on_ok_weaker result (λ done. record { place = target; sequence = sequence + 1; is_next = subst (λ s. IsNextOf s target (sequence + 1)) (sym is) (target_is, refl); replaced = done }) done
 
+-- nothing is kept on an empty disk
+not_empty : (disk : DiskState) → Knows disk state.Empty → (body : List ℕ) → MayFind disk (Some body) → disk.honest → ⊥
+not_empty disk knows body found h =
+    let holds = knows.1 h in
+    let is : found.0 ≡ disk.reads = (holds.0 found.0).0 found.1 in
+    (holds.1 found.2.0).closed (subst (λ bytes. IsOpen (slot_at found.2.0 bytes)) is found.2.1.is_open)
+
 -- the body of a running cell stands alone on its disk
 pub runs_alone : (disk : DiskState) (was : SlotState) → Knows disk was → (body : List ℕ) → RunsWithBody disk was body → StandsAlone disk body
 runs_alone disk state.Stopped knows body runs h = absurd (false≢true runs.runs)
-runs_alone disk state.Empty knows body runs h =
-    let holds = knows.1 h in
-    let found = runs.kept in
-    let is : found.0 ≡ disk.reads = (holds.0 found.0).0 found.1 in
-    absurd ((holds.1 found.2.0).closed (subst (λ bytes. IsOpen (slot_at found.2.0 bytes)) is found.2.1.is_open))
+runs_alone disk state.Empty knows body runs h = absurd (not_empty disk knows body runs.kept h)
 runs_alone disk (state.Holds place sequence) knows body runs h =
     let holds = knows.1 h in
     let kept = holds.1.0 in
@@ -325,6 +328,23 @@ runs_alone disk (state.Holds place sequence) knows body runs h =
     let is : kept ≡ body = cc in
     subst (λ body. ((other : Kept) → MayFind disk other ↔ (other ≡ Some body)) × LeavesOneBody disk body) is
     (finds, record { image = disk.reads; leaves = holds.0; place = place; sequence = sequence; alone = holds.1.1 })
+
+-- and that in the slot of the cell's state
+pub runs_in_its_slot : (disk : DiskState) (was : SlotState) → Knows disk was → (body : List ℕ) → RunsWithBody disk was body → disk.honest → IsInItsSlot disk was body
+runs_in_its_slot disk state.Stopped knows body runs h = absurd (false≢true runs.runs)
+runs_in_its_slot disk state.Empty knows body runs h = absurd (not_empty disk knows body runs.kept h)
+runs_in_its_slot disk (state.Holds place sequence) knows body runs h =
+    let holds = knows.1 h in
+    let kept = holds.1.0 in
+    let finds = finds_only disk disk.reads (Some kept) holds.0 (alone_keeps place sequence kept disk.reads holds.1.1) in
+    let same = (finds (Some body)).0 runs.kept in
+    let is : kept ≡ body = cc in
+    record {
+      place = place;
+      sequence = sequence;
+      state_is = refl;
+      alone = λ bytes left. subst (λ bytes. HoldsAlone place sequence body bytes) (sym ((holds.0 bytes).0 left)) (subst (λ body. HoldsAlone place sequence body disk.reads) is holds.1.1);
+    }
 
 -- a new disk in memory is blank
 pub new_disk_is_blank : IsBlankDisk (memory_disk_state (new_disk 1024))

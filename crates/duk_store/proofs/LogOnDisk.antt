@@ -150,6 +150,11 @@ counted_up old mid new fault.Stopped opened failed = absurd failed.cause
 counted_up old mid new fault.Worn opened failed = absurd failed.cause
 counted_up old mid new fault.NoMemory opened failed = absurd failed.cause
 
+-- nothing is written in that
+pub up_within : (old new : DiskState) (count : ℕ) → IsLogUp old new count → LeavesWithin old new
+up_within old new count up h bytes left =
+    subst (λ bytes. old.may_leave bytes) (sym (((up.knows.holds (up.nature.honest.0 h)).leaves bytes).0 left)) (up.found h)
+
 module _ {D : Type 0} (meaning : DiskMeaning D) (old new : DiskLogOf D) where
   abbrev before : DiskState
   before = meaning.state_of old.disk

@@ -74,6 +74,14 @@ abbrev pub StandsAlone : DiskState → List ℕ → Type 0
 StandsAlone disk body =
     disk.honest → ((kept : Kept) → MayFind disk kept ↔ (kept ≡ Some body)) × LeavesOneBody disk body
 
+-- whatever a stop leaves of an honest disk, the slot of this state has this body, with the state's
+-- sequence, and the other one is closed and zero
+pub record IsInItsSlot (disk : DiskState) (state : SlotState) (body : List ℕ) : Type 0 where
+  pub place : Place
+  pub sequence : ℕ
+  pub state_is : state ≡ Holds place sequence
+  pub alone : (bytes : List ℕ) → disk.may_leave bytes → HoldsAlone place sequence body bytes
+
 -- a cell of the last sequence takes no further body
 abbrev pub IsWorn : SlotState → Type 0
 IsWorn (Holds place sequence) = sequence ≡ 2 ^ 64 - 1

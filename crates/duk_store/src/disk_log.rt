@@ -1,6 +1,7 @@
 //! A log of used numbers on a disk.
 
 ghost use Rattle.std.specs.Prelude.{◌≡◌, ◌+◌, ◌<◌, [], true, IfErr, IfOk};
+ghost use Rattle.duk_store.specs.Disk.{LeavesWithin, StaysArmed};
 ghost use Rattle.duk_store.specs.DiskLog.{IsBlankLogDisk, IsLogUp, IsZeroLogDisk, LogUpFailed, disk_log_meaning, disk_log_state, new_disk_log};
 ghost use Rattle.duk_store.specs.Log.{AppendFailed, IsAppended, IsReadAt, LogRestarted, ReadFailed};
 ghost use Rattle.duk_store.specs.Restart.{RestartFailed};
@@ -70,6 +71,8 @@ impl<D: Disk> UsedLog for DiskLog<D> {
             (RestartFailed ((disk_log_meaning D.meaning).state_of self.old)
             ((disk_log_meaning D.meaning).state_of self.new)) }
         ensures disarmed { (disk_log_meaning D.meaning).disarmed self.new }
+        ensures restored { LeavesWithin (D.meaning.state_of self.old.disk)
+            (D.meaning.state_of self.new.disk) }
     {
         self.kept = None;
         let count = bring_up(&mut self.disk)?;
@@ -103,6 +106,8 @@ impl<D: Disk> UsedLog for DiskLog<D> {
             → (disk_log_meaning D.meaning).disarmed self.new }
         ensures failed { IfErr result
             (ReadFailed (disk_log_meaning D.meaning) self.old self.new) }
+        ensures arming { StaysArmed (D.meaning.state_of self.old.disk)
+            (D.meaning.state_of self.new.disk) }
     {
         let Some(_count) = self.kept else {
             return Err(StoreFault::Stopped);
@@ -128,6 +133,8 @@ impl<D: Disk> UsedLog for DiskLog<D> {
             ≡ (disk_log_meaning D.meaning).capacity self.old }
         ensures failed { IfErr result
             (AppendFailed (disk_log_meaning D.meaning) self.old self.new number) }
+        ensures arming { StaysArmed (D.meaning.state_of self.old.disk)
+            (D.meaning.state_of self.new.disk) }
     {
         let Some(count) = self.kept else {
             return Err(StoreFault::Stopped);

@@ -1,6 +1,7 @@
 //! The steps of a log on its disk.
 
 ghost use Rattle.std.specs.Prelude.{◌≡◌, ◌<◌, ◌≤◌, ◌^◌, ◌↔◌, true, IfErr, IfOk, OnOk};
+ghost use Rattle.duk_store.specs.Disk.{StaysArmed};
 ghost use Rattle.duk_store.specs.DiskLog.{ChangesRecord, CountFailed, HasRecord, IsCounted, IsLogOpen, IsRecordRead, IsRecordTorn, IsRecordWritten, OpenFailed, RecordUnread};
 ghost use Rattle.duk_store.specs.Records.{IsLogSize};
 ghost use Rattle.duk_tree.specs.Serial.{IsSerial};
@@ -44,6 +45,7 @@ pub fn read_record<D: Disk>(disk: &mut D, place: u64) -> Result<Record, StoreFau
         (IsRecordRead place (D.meaning.state_of disk.old) (D.meaning.state_of disk.new)) }
     ensures failed { IfErr result
         (RecordUnread (D.meaning.state_of disk.old) (D.meaning.state_of disk.new)) }
+    ensures arming { StaysArmed (D.meaning.state_of disk.old) (D.meaning.state_of disk.new) }
 {
     let mut bytes = [0; RECORD_LENGTH];
     disk.read_at(RECORD_LENGTH as u64 * place, &mut bytes)?;
@@ -98,6 +100,7 @@ pub fn write_record<D: Disk>(disk: &mut D, place: u64, number: Ksn) -> Result<()
     ensures failed { IfErr result (IsStepFailed (ChangesRecord place (IsRecordTorn number))
         (D.meaning.state_of disk.old) (D.meaning.state_of disk.new)) }
     ensures serial { IsSerial number }
+    ensures arming { StaysArmed (D.meaning.state_of disk.old) (D.meaning.state_of disk.new) }
 {
     let gate = RECORD_LENGTH as u64 * place;
     write_through(disk, gate + 1, &number_bytes(number))?;

@@ -4,7 +4,7 @@ ghost use Rattle.std.specs.Prelude.{◌≡◌, ℕ, List, IfErr, IfOk, None, OnO
 ghost use Rattle.duk_store.specs.Cell.{IsPut, PutFailed};
 ghost use Rattle.duk_store.specs.Disk.{LeavesChanged, StaysArmed};
 ghost use Rattle.duk_store.specs.Restart.{RestartFailed, Restarted};
-ghost use Rattle.duk_store.specs.SlotCell.{CellReplaceFailed, IsBlankDisk, IsCellReplaced, IsPutNext, IsReadyFor, IsRestored, IsZeroDisk, RunsWithBody, StandsAlone, new_slot_cell, slot_cell_meaning};
+ghost use Rattle.duk_store.specs.SlotCell.{CellReplaceFailed, IsBlankDisk, IsCellReplaced, IsInItsSlot, IsPutNext, IsReadyFor, IsRestored, IsZeroDisk, RunsWithBody, StandsAlone, new_slot_cell, slot_cell_meaning};
 ghost use Rattle.duk_store.specs.Slots.{cell_disk_size};
 ghost use Rattle.duk_store.specs.StoreState.{IsNew, KeepsNothing, StaysButCalm};
 
@@ -54,13 +54,17 @@ impl<D: Disk> SlotCell<D> {
         }
     }
 
-    /// While the cell runs with a body kept, a stop leaves one image of the disk: one slot is open
-    /// and has that body, and the other is closed, with zeros behind its gate. This says so, and
-    /// does nothing.
+    /// While the cell runs with a body kept, a stop leaves one image of the disk: the slot of the
+    /// cell's own state is open and has that body, with the state's own sequence, and the other is
+    /// closed, with zeros behind its gate. This says so, and does nothing.
     pub fn one_body(&self)
-        ensures { (body : List ℕ)
+        ensures alone { (body : List ℕ)
             → RunsWithBody (D.meaning.state_of self.now.disk) self.now.state body
             → StandsAlone (D.meaning.state_of self.now.disk) body }
+        ensures in_its_slot { (body : List ℕ)
+            → RunsWithBody (D.meaning.state_of self.now.disk) self.now.state body
+            → (D.meaning.state_of self.now.disk).honest
+            → IsInItsSlot (D.meaning.state_of self.now.disk) self.now.state body }
     {
         let _state = &self.state;
     }
