@@ -1,4 +1,5 @@
 mod BodyReplaced
+mod CallsInTurn
 mod CellOnDisk
 mod MemoryDiskBytes
 mod MemoryDiskMeaning

@@ -1,6 +1,7 @@
 pub mod StoreState
 pub mod Restart
 pub mod Cell
+pub mod CellCalls
 pub mod Log
 pub mod Disk
 pub mod Slots
