@@ -14,7 +14,7 @@ use Rattle.duk_io.specs.Known.{Known}
 use Rattle.duk_io.specs.Sink.{IsTried}
 use Rattle.duk_program.specs.Configured.{IsConfigFaultTold}
 use Rattle.duk_program.specs.Files.{FileKnown}
-use Rattle.duk_program.specs.LogFiles.{DiskKnown, file_disk_meaning}
+use Rattle.duk_program.specs.LogFiles.{DiskKnown}
 use Rattle.duk_program.specs.RunFiles.{FileRun, HasToldFault, script_line}
 use Rattle.duk_program.specs.Serve.{HasNotServed, Serving, over_log, serve_line}
 use Rattle.duk_program.specs.ServeFiles.{FileService, HasNotServedFiles, IsUnservedOver, unopened_line}
@@ -22,6 +22,7 @@ use Rattle.duk_program.specs.Told.{IsLineTold}
 use Rattle.duk_program.specs.declared.file_system.FileFault.{FileFault}
 use Rattle.duk_program.specs.declared.file_system.FileFault.TheVariants as file
 use Rattle.duk_script.specs.FaultLine.{fault_line}
+use Rattle.duk_store.specs.Disk.{DiskMeaning}
 use Rattle.duk_store.specs.DiskLog.{disk_log_meaning}
 use Rattle.duk_store.specs.MemoryLog.{memory_log_meaning}
 
@@ -73,17 +74,17 @@ service_told meaning made s old new (inl refused) = elim refused.tells [
 ]
 service_told meaning made s old new (inr lost) = host_told old new host.Write lost.tells.line
 
-over_told : (log_file : Option DiskKnown) (config : Settings) (s : Serving) (old new : Known)
-    → IsUnservedOver log_file config s old new → IsLineTold old new
-over_told None config s old new failed = service_told (over_log memory_log_meaning) _ s old new failed
-over_told (Some known) config s old new (inl none) =
+over_told : {D : Type 0} (meaning : DiskMeaning D) (log_file : Option (DiskKnown D)) (config : Settings) (s : Serving)
+    (old new : Known) → IsUnservedOver meaning log_file config s old new → IsLineTold old new
+over_told meaning None config s old new failed = service_told (over_log memory_log_meaning) _ s old new failed
+over_told meaning (Some known) config s old new (inl none) =
     record { line = unopened_line; line_is = inr (inr (inr (inr refl))); told = none.line }
-over_told (Some known) config s old new (inr failed) =
-    service_told (over_log (disk_log_meaning file_disk_meaning)) _ s old new failed.failed
+over_told meaning (Some known) config s old new (inr failed) =
+    service_told (over_log (disk_log_meaning meaning)) _ s old new failed.failed
 
 -- where a service over files ends with status 1, a line is told
-pub unserved_told : (r : FileService) → HasNotServedFiles r
+pub unserved_told : {D : Type 0} (meaning : DiskMeaning D) (r : FileService D) → HasNotServedFiles meaning r
     → IsLineTold r.fault_before r.fault_after
-unserved_told r (inl none) = config_told r.config_held r.fault_before r.fault_after none.tells
-unserved_told r (inr failed) =
-    over_told r.log_file failed.config r.streams r.fault_before r.fault_after failed.failed
+unserved_told meaning r (inl none) = config_told r.config_held r.fault_before r.fault_after none.tells
+unserved_told meaning r (inr failed) =
+    over_told meaning r.log_file failed.config r.streams r.fault_before r.fault_after failed.failed

@@ -1,3 +1,4 @@
+mod Answered
 mod FaultIsTold
 mod Results
 mod WrittenStaysWritten

@@ -19,7 +19,7 @@ stayed_still None b c first second = tt
 stayed_still (Some n) None c first second = cc first
 stayed_still (Some n) (Some m) c first second = second ∙ first
 
-written_still : (a b c : Known) (text : List ℕ) → IsWritten a b text → IsUntouched b c → IsWritten a c text
+pub written_still : (a b c : Known) (text : List ℕ) → IsWritten a b text → IsUntouched b c → IsWritten a c text
 written_still a b c text written kept = record {
   bytes = appended_still a.contents b.contents c.contents text written.bytes kept.bytes;
   unfailed = stayed_still a.failures b.failures c.failures written.unfailed kept.unfailed;
@@ -40,7 +40,7 @@ done_still bytes reader reader' writer written writer' run kept =
       };
     }
 
-untouched_still : (a b c : Known) → IsUntouched a b → IsUntouched b c → IsUntouched a c
+pub untouched_still : (a b c : Known) → IsUntouched a b → IsUntouched b c → IsUntouched a c
 untouched_still a b c first second = record {
   bytes = Keeps-trans a.contents b.contents c.contents first.bytes second.bytes;
   unfailed = stayed_still a.failures b.failures c.failures first.unfailed second.unfailed;

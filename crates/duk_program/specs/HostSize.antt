@@ -3,6 +3,8 @@ use Rattle.std.specs.Mem.{FitsInMemory}
 use Rattle.duk_host.specs.contracts.host.Host as host
 use Rattle.duk_host.specs.contracts.table.TableIssuer as issuer
 use Rattle.duk_host.specs.contracts.table.TableIssuerIssuer.TheImpl as deciding
+use Rattle.duk_store.specs.contracts.disk_log.DiskLog as log
+use Rattle.duk_store.specs.declared.disk.Disk as disk
 use Rattle.duk_store.specs.declared.log.UsedLog.{Ghosts}
 use denote.Param.{number}
 use denote.RattleType.{RattleType}
@@ -16,3 +18,7 @@ HostFits key_length Log log =
 -- where it has 16 or 24
 abbrev pub HostsFit : (Log : RattleType) → Ghosts Log.Denot → Type 0
 HostsFit Log log = HostFits (number 16) Log log × HostFits (number 24) Log log
+
+-- a log on a disk of this type
+abbrev pub log_on : (D : RattleType) → disk.Ghosts D.Denot → RattleType
+log_on D meaning = log.the_row D meaning

@@ -1,7 +1,9 @@
+pub mod Commands
 pub mod Configured
 pub mod Files
 pub mod HostSize
 pub mod LogFiles
+pub mod Program
 pub mod Run
 pub mod RunFiles
 pub mod Serve

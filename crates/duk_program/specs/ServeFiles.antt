@@ -5,9 +5,10 @@ use Rattle.duk_io.specs.Known.{Known}
 use Rattle.duk_io.specs.Sink.{IsTried, IsUntouched}
 use Rattle.duk_program.specs.Configured.{IsConfigFaultTold, IsConfigured}
 use Rattle.duk_program.specs.Files.{FileKnown}
-use Rattle.duk_program.specs.LogFiles.{DiskKnown, DiskOfFile, IsDisk, IsNoDisk, file_disk_meaning}
+use Rattle.duk_program.specs.LogFiles.{DiskKnown, IsDisk, IsNoDisk}
 use Rattle.duk_program.specs.Serve.{HasNotServed, HasServed, IsIdle, Serving, over_log}
 use Rattle.duk_script.specs.Opening.{new_host_of}
+use Rattle.duk_store.specs.Disk.{DiskMeaning}
 use Rattle.duk_store.specs.DiskLog.{disk_log_meaning, new_disk_log}
 use Rattle.duk_store.specs.MemoryLog.{memory_log_meaning, new_log}
 
@@ -17,14 +18,15 @@ unopened_line = codes "log: cannot open\n"
 
 -- what the file of a configuration holds, which disk there is under the path of a log, where one is
 -- given, and what the reader of frames and the writers of answers and of faults make known
-pub record FileService : Type 0 where
+pub record FileService (D : Type 0) : Type 0 where
   pub config_held : FileKnown
-  pub log_file : Option DiskKnown
+  pub log_file : Option (DiskKnown D)
   pub streams : Serving
   pub fault_before : Known
   pub fault_after : Known
 
-abbrev pub file_service : FileKnown → Option DiskKnown → Serving → Known → Known → FileService
+abbrev pub file_service : {D : Type 0} → FileKnown → Option (DiskKnown D) → Serving → Known → Known
+    → FileService D
 file_service config_held log_file streams fault_before fault_after = record {
   config_held = config_held;
   log_file = log_file;
@@ -35,21 +37,25 @@ file_service config_held log_file streams fault_before fault_after = record {
 
 -- the disk of a log's file is opened, and a host of the configuration over it served to the end of
 -- the input
-pub record IsServedOnDisk (known : DiskKnown) (config : Settings) (s : Serving) : Type 0 where
-  pub disk : DiskOfFile
+pub record IsServedOnDisk
+    {D : Type 0} (meaning : DiskMeaning D) (known : DiskKnown D) (config : Settings) (s : Serving)
+    : Type 0 where
+  pub disk : D
   pub opened : IsDisk known disk
-  pub served : HasServed (over_log (disk_log_meaning file_disk_meaning))
+  pub served : HasServed (over_log (disk_log_meaning meaning))
       (new_host_of config (new_disk_log disk)) s
 
 -- the host of a configuration served to the end of the input, over the log of the file that is
 -- given, or, where none is, over one in memory with the room that the configuration says
-abbrev pub IsServedOver : Option DiskKnown → Settings → Serving → Type 0
-IsServedOver None config s =
+abbrev pub IsServedOver : {D : Type 0} → DiskMeaning D → Option (DiskKnown D) → Settings → Serving
+    → Type 0
+IsServedOver meaning None config s =
     HasServed (over_log memory_log_meaning) (new_host_of config (new_log config.log)) s
-IsServedOver (Some known) config s = IsServedOnDisk known config s
+IsServedOver meaning (Some known) config s = IsServedOnDisk meaning known config s
 
 -- no disk can be opened for the log's file, nothing is read or written, and that is told
-pub record HasNoDisk (known : DiskKnown) (s : Serving) (told told' : Known) : Type 0 where
+pub record HasNoDisk {D : Type 0} (known : DiskKnown D) (s : Serving) (told told' : Known)
+    : Type 0 where
   pub unopened : IsNoDisk known
   pub idle : IsIdle s
   pub line : IsTried told told' unopened_line
@@ -57,43 +63,48 @@ pub record HasNoDisk (known : DiskKnown) (s : Serving) (told told' : Known) : Ty
 -- the disk of a log's file is opened, and there is no host over it, or it did not serve to the end
 -- of the input, or its answers could not be handed on, and that is told
 pub record HasDisk
-    (known : DiskKnown) (config : Settings) (s : Serving) (told told' : Known) : Type 0 where
-  pub disk : DiskOfFile
+    {D : Type 0} (meaning : DiskMeaning D) (known : DiskKnown D) (config : Settings) (s : Serving)
+    (told told' : Known) : Type 0 where
+  pub disk : D
   pub opened : IsDisk known disk
-  pub failed : HasNotServed (over_log (disk_log_meaning file_disk_meaning))
+  pub failed : HasNotServed (over_log (disk_log_meaning meaning))
       (new_host_of config (new_disk_log disk)) s told told'
 
 -- the input is not served to its end over the log of a file, and that is told: the first of these
-abbrev pub IsUnservedOnDisk : DiskKnown → Settings → Serving → Known → Known → Type 0
-IsUnservedOnDisk known config s told told' =
-    HasNoDisk known s told told' ⊎ HasDisk known config s told told'
+abbrev pub IsUnservedOnDisk : {D : Type 0} → DiskMeaning D → DiskKnown D → Settings → Serving
+    → Known → Known → Type 0
+IsUnservedOnDisk meaning known config s told told' =
+    HasNoDisk known s told told' ⊎ HasDisk meaning known config s told told'
 
 -- the same over that log or over one in memory
-abbrev pub IsUnservedOver : Option DiskKnown → Settings → Serving → Known → Known → Type 0
-IsUnservedOver None config s told told' =
+abbrev pub IsUnservedOver : {D : Type 0} → DiskMeaning D → Option (DiskKnown D) → Settings → Serving
+    → Known → Known → Type 0
+IsUnservedOver meaning None config s told told' =
     HasNotServed (over_log memory_log_meaning) (new_host_of config (new_log config.log)) s told told'
-IsUnservedOver (Some known) config s told told' =
-    IsUnservedOnDisk known config s told told'
+IsUnservedOver meaning (Some known) config s told told' =
+    IsUnservedOnDisk meaning known config s told told'
 
 -- status 0: the configuration's file states one, and a host of it served to the end of the input,
 -- and nothing was told as a fault
-pub record HasServedFiles (r : FileService) : Type 0 where
+pub record HasServedFiles {D : Type 0} (meaning : DiskMeaning D) (r : FileService D)
+    : Type 0 where
   pub config : Settings
   pub configured : IsConfigured r.config_held config
-  pub served : IsServedOver r.log_file config r.streams
+  pub served : IsServedOver meaning r.log_file config r.streams
   pub no_fault : IsUntouched r.fault_before r.fault_after
 
 -- the configuration's file states none, and that is told
-pub record HasNoConfig (r : FileService) : Type 0 where
+pub record HasNoConfig {D : Type 0} (r : FileService D) : Type 0 where
   pub idle : IsIdle r.streams
   pub tells : IsConfigFaultTold r.config_held r.fault_before r.fault_after
 
 -- the configuration's file states one, and the input is not served to its end, and that is told
-pub record HasFailedService (r : FileService) : Type 0 where
+pub record HasFailedService {D : Type 0} (meaning : DiskMeaning D) (r : FileService D)
+    : Type 0 where
   pub config : Settings
   pub configured : IsConfigured r.config_held config
-  pub failed : IsUnservedOver r.log_file config r.streams r.fault_before r.fault_after
+  pub failed : IsUnservedOver meaning r.log_file config r.streams r.fault_before r.fault_after
 
 -- status 1: the first of these
-abbrev pub HasNotServedFiles : FileService → Type 0
-HasNotServedFiles r = HasNoConfig r ⊎ HasFailedService r
+abbrev pub HasNotServedFiles : {D : Type 0} → DiskMeaning D → FileService D → Type 0
+HasNotServedFiles meaning r = HasNoConfig r ⊎ HasFailedService meaning r

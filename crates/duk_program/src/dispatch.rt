@@ -1,12 +1,15 @@
 //! One run of the program over its words.
 
-ghost use Rattle.std.specs.Prelude.{◌≡◌, ◌⊎◌};
+ghost use Rattle.std.specs.Prelude.{◌≡◌, ◌⊎◌, ℕ, List};
 ghost use Rattle.std.specs.Io.KnownBytes.{Keeps};
+ghost use Rattle.duk_commands.specs.Answer.{IsDone, IsNotDone, streams};
 ghost use Rattle.duk_commands.specs.Fault.{line_telling, IsFaultTold};
 ghost use Rattle.duk_commands.specs.declared.fault.Fault.{Fault};
 ghost use Rattle.duk_io.specs.Sink.{IsUntouched, IsTried};
+ghost use Rattle.duk_program.specs.Commands.{HasShown, IsAnswered, IsNotShown, IsUnanswered, command_for};
+ghost use Rattle.duk_program.specs.Run.{IsFlushLost};
 ghost use Rattle.duk_program.specs.Status.{EndsWith, IsLeftToDo, IsStatus, IsToRun, RunsAsked, RunsRequest};
-ghost use Rattle.duk_words.specs.Asked.{texts_of};
+ghost use Rattle.duk_words.specs.Asked.{AreRefused, StandsFor, texts_of};
 
 use duk_commands::{
     Fault, derive_command, pin_command, tell, unwrap_command, walk_command, wrap_command,
@@ -54,9 +57,16 @@ pub fn command<'a, W: Sink, F: Sink>(
     ensures fault { EndsWith result 1 → IsFaultTold (F.known fault.old) (F.known fault.new) }
     ensures refused { EndsWith result 2
         → Keeps (W.known output.old).contents (W.known output.new).contents }
+    ensures words_refused { EndsWith result 2 → AreRefused (texts_of words.now) }
+    ensures done { EndsWith result 0 → IsAnswered (texts_of words.now)
+        (streams (W.known output.old) (W.known output.new)
+        (F.known fault.old) (F.known fault.new)) }
+    ensures not_done { EndsWith result 1 → IsUnanswered (texts_of words.now)
+        (streams (W.known output.old) (W.known output.new)
+        (F.known fault.old) (F.known fault.new)) }
     ensures asked { RunsAsked (texts_of words.now) result }
-    ensures quiet { IsToRun result → IsUntouched (W.known output.old) (W.known output.new) }
-    ensures silent { IsToRun result → IsUntouched (F.known fault.old) (F.known fault.new) }
+    ensures quiet { IsToRun result → W.known output.new ≡ W.known output.old }
+    ensures silent { IsToRun result → F.known fault.new ≡ F.known fault.old }
 {
     duk_io::laws::writes();
     match answer_words(alloc, words, output, fault) {
@@ -77,9 +87,16 @@ fn answer_words<'a, W: Sink, F: Sink>(
     ensures fault { EndsWith result 1 → IsFaultTold (F.known fault.old) (F.known fault.new) }
     ensures refused { EndsWith result 2
         → Keeps (W.known output.old).contents (W.known output.new).contents }
+    ensures words_refused { EndsWith result 2 → AreRefused (texts_of words.now) }
+    ensures done { EndsWith result 0 → IsAnswered (texts_of words.now)
+        (streams (W.known output.old) (W.known output.new)
+        (F.known fault.old) (F.known fault.new)) }
+    ensures not_done { EndsWith result 1 → IsUnanswered (texts_of words.now)
+        (streams (W.known output.old) (W.known output.new)
+        (F.known fault.old) (F.known fault.new)) }
     ensures asked { RunsAsked (texts_of words.now) result }
-    ensures quiet { IsToRun result → IsUntouched (W.known output.old) (W.known output.new) }
-    ensures silent { IsToRun result → IsUntouched (F.known fault.old) (F.known fault.new) }
+    ensures quiet { IsToRun result → W.known output.new ≡ W.known output.old }
+    ensures silent { IsToRun result → F.known fault.new ≡ F.known fault.old }
 {
     match read_request(alloc, words) {
         Ok(request) => do_request(request, output, fault),
@@ -93,9 +110,15 @@ fn do_request<'a, W: Sink, F: Sink>(request: Request<'a>, output: &mut W, fault:
     ensures no_fault { EndsWith result 0 → IsUntouched (F.known fault.old) (F.known fault.new) }
     ensures fault { EndsWith result 1 → IsFaultTold (F.known fault.old) (F.known fault.new) }
     ensures not_refused { ¬ EndsWith result 2 }
+    ensures done { EndsWith result 0 → IsDone (command_for request.entry)
+        (streams (W.known output.old) (W.known output.new)
+        (F.known fault.old) (F.known fault.new)) }
+    ensures not_done { EndsWith result 1 → IsNotDone (command_for request.entry)
+        (streams (W.known output.old) (W.known output.new)
+        (F.known fault.old) (F.known fault.new)) }
     ensures asked { RunsRequest request.entry result }
-    ensures quiet { IsToRun result → IsUntouched (W.known output.old) (W.known output.new) }
-    ensures silent { IsToRun result → IsUntouched (F.known fault.old) (F.known fault.new) }
+    ensures quiet { IsToRun result → W.known output.new ≡ W.known output.old }
+    ensures silent { IsToRun result → F.known fault.new ≡ F.known fault.old }
 {
     match request {
         Request::Derive { bdk, ksn } => Todo::Exit(derive_command(bdk, ksn, output, fault)),
@@ -126,7 +149,16 @@ fn show<W: Sink, F: Sink>(answer: &NoRequest, output: &mut W, fault: &mut F) -> 
     ensures fault { result ≡ 1 → IsFaultTold (F.known fault.old) (F.known fault.new) }
     ensures refused { result ≡ 2
         → Keeps (W.known output.old).contents (W.known output.new).contents }
+    ensures words_refused { (words : List (List ℕ)) → StandsFor words answer.now → result ≡ 2
+        → AreRefused words }
+    ensures shown { (words : List (List ℕ)) → StandsFor words answer.now → result ≡ 0
+        → HasShown words (streams (W.known output.old) (W.known output.new)
+        (F.known fault.old) (F.known fault.new)) }
+    ensures not_shown { (words : List (List ℕ)) → StandsFor words answer.now → result ≡ 1
+        → IsNotShown words (streams (W.known output.old) (W.known output.new)
+        (F.known fault.old) (F.known fault.new)) }
 {
+    duk_io::laws::writes();
     match answer {
         NoRequest::NoMemory => tell(fault, Fault::OutOfMemory),
         NoRequest::Refused(text) => {
@@ -147,7 +179,8 @@ fn flush<W: Sink, F: Sink>(output: &mut W, fault: &mut F) -> u8
     ensures no_fault { result ≡ 0 → IsUntouched (F.known fault.old) (F.known fault.new) }
     ensures fault { result ≡ 1
         → IsTried (F.known fault.old) (F.known fault.new) (line_telling Fault.WriteFailed) }
-    ensures output { Keeps (W.known output.old).contents (W.known output.new).contents }
+    ensures kept { result ≡ 0 → IsUntouched (W.known output.old) (W.known output.new) }
+    ensures lost { result ≡ 1 → IsFlushLost (W.known output.old) (W.known output.new) }
 {
     match output.flush() {
         Ok(()) => 0,

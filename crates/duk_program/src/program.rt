@@ -2,9 +2,13 @@
 
 ghost use Rattle.std.specs.Prelude.{◌≡◌};
 ghost use Rattle.std.specs.Io.KnownBytes.{Keeps};
+ghost use Rattle.duk_host.specs.Serve.{supply};
 ghost use Rattle.duk_io.specs.Sink.{IsUntouched};
+ghost use Rattle.duk_program.specs.Program.{IsProgramDone, IsProgramNotDone, scene};
+ghost use Rattle.duk_program.specs.Serve.{serving};
 ghost use Rattle.duk_program.specs.Status.{IsStatus};
 ghost use Rattle.duk_program.specs.Told.{IsLineTold};
+ghost use Rattle.duk_words.specs.Asked.{AreRefused, texts_of};
 
 use crate::dispatch::{Todo, command};
 use crate::file_system::FileSystem;
@@ -32,6 +36,19 @@ pub fn run_words<S: FileSystem + LogFiles, R: Source, W: Sink, F: Sink>(
     ensures fault { result ≡ 1 → IsLineTold (F.known fault.old) (F.known fault.new) }
     ensures refused { result ≡ 2
         → Keeps (W.known output.old).contents (W.known output.new).contents }
+    ensures words_refused { result ≡ 2 → AreRefused (texts_of words.now) }
+    ensures done { result ≡ 0 → IsProgramDone S.Disk.meaning (texts_of words.now)
+        (scene (S.held files.now) (S.disks files.now)
+        (serving (supply (R.known input.old) (R.reads input.old))
+        (supply (R.known input.new) (R.reads input.new))
+        (W.known output.old) (W.known output.new))
+        (F.known fault.old) (F.known fault.new)) }
+    ensures not_done { result ≡ 1 → IsProgramNotDone S.Disk.meaning (texts_of words.now)
+        (scene (S.held files.now) (S.disks files.now)
+        (serving (supply (R.known input.old) (R.reads input.old))
+        (supply (R.known input.new) (R.reads input.new))
+        (W.known output.old) (W.known output.new))
+        (F.known fault.old) (F.known fault.new)) }
 {
     duk_io::laws::writes();
     match command(alloc, words, output, fault) {

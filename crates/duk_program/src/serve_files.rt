@@ -35,13 +35,13 @@ pub(crate) fn serve_files<S: FileSystem + LogFiles, R: Source, W: Sink, F: Sink>
     fault: &mut F,
 ) -> u8
     ensures status { (result ≡ 0) ⊎ (result ≡ 1) }
-    ensures done { result ≡ 0 → HasServedFiles
+    ensures done { result ≡ 0 → HasServedFiles S.Disk.meaning
         (file_service (S.held files.now config.now) (option_map (λ path. S.disks files.now path.now) log.entry)
         (serving (supply (R.known input.old) (R.reads input.old))
         (supply (R.known input.new) (R.reads input.new))
         (W.known output.old) (W.known output.new))
         (F.known fault.old) (F.known fault.new)) }
-    ensures told { result ≡ 1 → HasNotServedFiles
+    ensures told { result ≡ 1 → HasNotServedFiles S.Disk.meaning
         (file_service (S.held files.now config.now) (option_map (λ path. S.disks files.now path.now) log.entry)
         (serving (supply (R.known input.old) (R.reads input.old))
         (supply (R.known input.new) (R.reads input.new))
@@ -99,12 +99,12 @@ fn serve_on_file<S: LogFiles, R: Source, W: Sink, F: Sink>(
     fault: &mut F,
 ) -> u8
     ensures status { (result ≡ 0) ⊎ (result ≡ 1) }
-    ensures done { result ≡ 0 → IsServedOnDisk (S.disks files.now path.now)
+    ensures done { result ≡ 0 → IsServedOnDisk S.Disk.meaning (S.disks files.now path.now)
         config.now (serving (supply (R.known input.old) (R.reads input.old))
         (supply (R.known input.new) (R.reads input.new))
         (W.known output.old) (W.known output.new)) }
     ensures no_fault { result ≡ 0 → IsUntouched (F.known fault.old) (F.known fault.new) }
-    ensures not_done { result ≡ 1 → IsUnservedOnDisk (S.disks files.now path.now)
+    ensures not_done { result ≡ 1 → IsUnservedOnDisk S.Disk.meaning (S.disks files.now path.now)
         config.now (serving (supply (R.known input.old) (R.reads input.old))
         (supply (R.known input.new) (R.reads input.new))
         (W.known output.old) (W.known output.new))

@@ -1,0 +1,87 @@
+-- What a run of the program does (this project's own, over its commands, the files that `run` and
+-- `serve` read, and their streams).
+use Rattle.std.specs.Prelude.{◌⊎◌, ℕ, List, Option}
+use Rattle.std.specs.Option.{option_map}
+use Rattle.duk_commands.specs.Answer.{IsDone, IsNotDone, Streams, streams}
+use Rattle.duk_io.specs.Known.{Known}
+use Rattle.duk_program.specs.Commands.{HasLostAnswer, HasShown, IsNotShown, command_for}
+use Rattle.duk_program.specs.Files.{FileKnown}
+use Rattle.duk_program.specs.LogFiles.{DiskKnown}
+use Rattle.duk_program.specs.RunFiles.{FileRun, HasRunFiles, HasToldFault, file_run}
+use Rattle.duk_program.specs.Serve.{Serving}
+use Rattle.duk_program.specs.ServeFiles.{FileService, HasNotServedFiles, HasServedFiles, file_service}
+use Rattle.duk_store.specs.Disk.{DiskMeaning}
+use Rattle.duk_words.specs.Asked.{Asks}
+use Rattle.duk_words.specs.declared.request.Request.{Request}
+use Rattle.duk_words.specs.declared.request.Request.TheVariants as request
+
+-- what files make known of each path, and what the streams make known before and after
+pub record Scene (D : Type 0) : Type 0 where
+  pub held : List ℕ → FileKnown
+  pub disks : List ℕ → DiskKnown D
+  pub streams : Serving
+  pub fault_before : Known
+  pub fault_after : Known
+
+abbrev pub scene : {D : Type 0} → (List ℕ → FileKnown) → (List ℕ → DiskKnown D) → Serving → Known
+    → Known → Scene D
+scene held disks streams fault_before fault_after = record {
+  held = held;
+  disks = disks;
+  streams = streams;
+  fault_before = fault_before;
+  fault_after = fault_after;
+}
+
+-- the writers of a scene
+abbrev pub writers_of : {D : Type 0} → Scene D → Streams
+writers_of s = streams s.streams.output_before s.streams.output_after s.fault_before s.fault_after
+
+-- a run over the files of these paths
+abbrev pub run_in : {D : Type 0} → Scene D → List ℕ → List ℕ → FileRun
+run_in s config script = file_run (s.held config) (s.held script)
+    s.streams.output_before s.streams.output_after s.fault_before s.fault_after
+
+-- a service under the configuration of a path, over the log of which this is known, where it is
+-- given
+abbrev pub service_in : {D : Type 0} → Scene D → List ℕ → Option (DiskKnown D) → FileService D
+service_in s config log =
+    file_service (s.held config) log s.streams s.fault_before s.fault_after
+
+-- status 0 of a request
+abbrev pub IsRequestDone : {D : Type 0} → DiskMeaning D → Scene D → Request → Type 0
+IsRequestDone meaning s (request.Run config script) = HasRunFiles (run_in s config.now script.now)
+IsRequestDone meaning s (request.Serve config log) =
+    HasServedFiles meaning (service_in s config.now (option_map (λ path. s.disks path.now) log))
+IsRequestDone meaning s asked = IsDone (command_for asked) (writers_of s)
+
+-- status 1 of a request: of files, the first fault in the order that is told there
+abbrev pub IsRequestNotDone : {D : Type 0} → DiskMeaning D → Scene D → Request → Type 0
+IsRequestNotDone meaning s (request.Run config script) =
+    HasToldFault (run_in s config.now script.now)
+IsRequestNotDone meaning s (request.Serve config log) =
+    HasNotServedFiles meaning (service_in s config.now (option_map (λ path. s.disks path.now) log))
+IsRequestNotDone meaning s asked = IsNotDone (command_for asked) (writers_of s)
+
+-- the words ask for a request that is done
+pub record HasDone {D : Type 0} (meaning : DiskMeaning D) (words : List (List ℕ)) (s : Scene D)
+    : Type 0 where
+  pub request : Request
+  pub asked : Asks words request
+  pub done : IsRequestDone meaning s request
+
+-- status 0
+abbrev pub IsProgramDone : {D : Type 0} → DiskMeaning D → List (List ℕ) → Scene D → Type 0
+IsProgramDone meaning words s = HasDone meaning words s ⊎ HasShown words (writers_of s)
+
+-- the words ask for a request that is not done
+pub record HasNotDone {D : Type 0} (meaning : DiskMeaning D) (words : List (List ℕ)) (s : Scene D)
+    : Type 0 where
+  pub request : Request
+  pub asked : Asks words request
+  pub not_done : IsRequestNotDone meaning s request
+
+-- status 1
+abbrev pub IsProgramNotDone : {D : Type 0} → DiskMeaning D → List (List ℕ) → Scene D → Type 0
+IsProgramNotDone meaning words s = HasNotDone meaning words s
+    ⊎ IsNotShown words (writers_of s) ⊎ HasLostAnswer words (writers_of s)
