@@ -1,13 +1,13 @@
 -- That a host fits in memory (this project's own, over the layout of its type).
+use Rattle.std.specs.Prelude.{◌^◌, ◌<◌}
 use Rattle.std.specs.Mem.{FitsInMemory}
 use Rattle.duk_host.specs.contracts.host.Host as host
 use Rattle.duk_host.specs.contracts.table.TableIssuer as issuer
 use Rattle.duk_host.specs.contracts.table.TableIssuerIssuer.TheImpl as deciding
-use Rattle.duk_store.specs.contracts.disk_log.DiskLog as log
-use Rattle.duk_store.specs.declared.disk.Disk as disk
 use Rattle.duk_store.specs.declared.log.UsedLog.{Ghosts}
-use denote.Param.{number}
+use denote.Param.{layout, number}
 use denote.RattleType.{RattleType}
+use prog.Memory.{align, size}
 
 -- a host over a log of this type takes fewer than 2 ^ 63 bytes, where its local master key has so
 -- many
@@ -19,6 +19,7 @@ HostFits key_length Log log =
 abbrev pub HostsFit : (Log : RattleType) → Ghosts Log.Denot → Type 0
 HostsFit Log log = HostFits (number 16) Log log × HostFits (number 24) Log log
 
--- a log on a disk of this type
-abbrev pub log_on : (D : RattleType) → disk.Ghosts D.Denot → RattleType
-log_on D meaning = log.the_row D meaning
+-- a value of this type takes fewer than 2 ^ 32 bytes, and is aligned to fewer
+pub record IsSmall (R : RattleType) : Type 0 where
+  pub size_fits : size (layout R) < 2 ^ 32
+  pub alignment_fits : align (layout R) < 2 ^ 32

@@ -2,11 +2,10 @@
 
 ghost use Rattle.std.proofs.Common.{rules};
 ghost use Rattle.std.specs.Prelude.{ℕ, List, None, IfOk, OnErr};
-ghost use Rattle.duk_program.specs.HostSize.{HostsFit, log_on};
+ghost use Rattle.duk_program.specs.HostSize.{IsSmall};
 ghost use Rattle.duk_program.specs.LogFiles.{DiskKnown, IsDisk, IsNoDisk};
 
-use crate::log_disk::LogDisk;
-use duk_store::{Disk, DiskLog, FileDisk, StoreFault, UsedLog};
+use duk_store::{FileDisk, StoreFault};
 use std::fs::File;
 use std::rt::Files;
 
@@ -17,7 +16,7 @@ use std::rt::Files;
 /// such, and make nothing known: no contract says what a real file holds.
 pub trait LogFiles {
     /// The disks over these files.
-    type Disk: Disk;
+    type Disk: Drop;
 
     /// What there is under a path, where the files make it known: a disk, or none that can be
     /// opened.
@@ -29,20 +28,18 @@ pub trait LogFiles {
         ensures opened { IfOk result (IsDisk (disks self.now path.now)) }
         ensures refused { OnErr result (IsNoDisk (disks self.now path.now)) };
 
-    /// A host over a log on such a disk fits in memory.
-    ghost host_fits: { HostsFit (log_on Self.Disk.row Self.Disk.Disk)
-        ⟦<DiskLog<Self::Disk> as UsedLog>⟧ };
+    /// Such a disk takes little memory.
+    ghost small: { IsSmall Self.Disk.row };
 }
 
 impl<R: Files<File = File>> LogFiles for R {
-    type Disk = LogDisk;
+    type Disk = FileDisk;
 
     ghost disks = { λ _ _. None };
 
-    ghost host_fits = { Prim.search rules };
+    ghost small = { Prim.search rules };
 
-    fn open_disk(&self, path: &str) -> Result<LogDisk, StoreFault> {
-        let disk = FileDisk::new(self, path)?;
-        Ok(LogDisk { disk })
+    fn open_disk(&self, path: &str) -> Result<FileDisk, StoreFault> {
+        FileDisk::new(self, path)
     }
 }

@@ -16,6 +16,7 @@ use crate::files::run_files;
 use crate::log_files::LogFiles;
 use crate::serve_files::serve_files;
 use duk_io::{Sink, Source};
+use duk_store::Disk;
 use std::alloc::Global;
 
 /// Does what the words ask, the first of which is the program's name, and gives the status: 0 where
@@ -31,6 +32,8 @@ pub fn run_words<S: FileSystem + LogFiles, R: Source, W: Sink, F: Sink>(
     output: &mut W,
     fault: &mut F,
 ) -> u8
+where
+    S::Disk: Disk,
     ensures status { IsStatus result }
     ensures no_fault { result ≡ 0 → IsUntouched (F.known fault.old) (F.known fault.new) }
     ensures fault { result ≡ 1 → IsLineTold (F.known fault.old) (F.known fault.new) }

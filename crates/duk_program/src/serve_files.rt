@@ -16,7 +16,7 @@ use crate::serve::{refuse_host, serve_with};
 use duk_host::HostFault;
 use duk_io::{Sink, Source, write_text};
 use duk_script::Config;
-use duk_store::{DiskLog, MemLog};
+use duk_store::{Disk, DiskLog, MemLog};
 use std::alloc::Global;
 
 /// Serves the frames of `input` under the configuration of one file, over a log in another or in
@@ -34,6 +34,8 @@ pub(crate) fn serve_files<S: FileSystem + LogFiles, R: Source, W: Sink, F: Sink>
     output: &mut W,
     fault: &mut F,
 ) -> u8
+where
+    S::Disk: Disk,
     ensures status { (result ≡ 0) ⊎ (result ≡ 1) }
     ensures done { result ≡ 0 → HasServedFiles S.Disk.meaning
         (file_service (S.held files.now config.now) (option_map (λ path. S.disks files.now path.now) log.entry)
@@ -98,6 +100,8 @@ fn serve_on_file<S: LogFiles, R: Source, W: Sink, F: Sink>(
     output: &mut W,
     fault: &mut F,
 ) -> u8
+where
+    S::Disk: Disk,
     ensures status { (result ≡ 0) ⊎ (result ≡ 1) }
     ensures done { result ≡ 0 → IsServedOnDisk S.Disk.meaning (S.disks files.now path.now)
         config.now (serving (supply (R.known input.old) (R.reads input.old))
