@@ -1,11 +1,12 @@
 //! What the program makes of the files of `run` and `serve`, where these make known what they hold.
 
+ghost use Rattle.std.proofs.Common.{rules};
 ghost use Rattle.std.specs.Option.{option_map};
 ghost use Rattle.std.specs.Prelude.{Some, None};
 
 use crate::commands::words_of;
 use duk_program::{FileFault, FileSystem, LogFiles, run_words};
-use duk_store::{FileDisk, StoreFault};
+use duk_store::{Disk, MemDisk, StoreFault};
 use duk_tests_support::files::BANK;
 use duk_tests_support::frames::{FIRST_REPLY, FIRST_REQUEST};
 use std::alloc::Global;
@@ -34,20 +35,56 @@ impl FileSystem for EveryFile<'_> {
 }
 
 impl LogFiles for EveryFile<'_> {
+    type Disk = MemDisk;
+
     ghost disks = { λ _ _. Some None };
 
-    fn open_disk(&self, _path: &str) -> Result<FileDisk, StoreFault> {
+    ghost small = { Prim.search rules };
+
+    fn open_disk(&self, _path: &str) -> Result<MemDisk, StoreFault> {
         Err(StoreFault::Device)
+    }
+}
+
+/// Files that all state the same configuration, and may be opened as disks in memory, of zeros.
+#[derive(Drop)]
+struct Banks {
+    alloc: Global,
+}
+
+impl FileSystem for Banks {
+    ghost held = { λ _ _. None };
+
+    fn read_file(&self, alloc: Global, _path: &str, _most: usize) -> Result<Vec<u8>, FileFault> {
+        match Vec::from_slice(alloc, BANK.as_bytes()) {
+            Ok(bytes) => Ok(bytes),
+            Err(_) => Err(FileFault::NoMemory),
+        }
+    }
+}
+
+impl LogFiles for Banks {
+    type Disk = MemDisk;
+
+    ghost disks = { λ _ _. None };
+
+    ghost small = { Prim.search rules };
+
+    fn open_disk(&self, _path: &str) -> Result<MemDisk, StoreFault> {
+        MemDisk::new(self.alloc, 64)
     }
 }
 
 /// What a command over such files writes, which has the first request as its input, and what it
 /// tells.
-fn of_command(
+fn of_command<S: FileSystem + LogFiles>(
     alloc: Global,
-    files: &EveryFile,
+    files: &S,
     command: &[&str],
-) -> Option<(u8, Vec<u8>, Vec<u8>)> {
+) -> Option<(u8, Vec<u8>, Vec<u8>)>
+where
+    S::Disk: Disk,
+{
     let words = words_of(alloc, command).ok()?;
     let (mut output, mut fault) = (Vec::new(alloc), Vec::new(alloc));
     let mut input = FIRST_REQUEST.as_slice();
@@ -88,16 +125,22 @@ fn files_that_are_known(rt: HostRuntime) {
     }
 }
 
-/// Whether a service over a log in memory answers the first request.
-fn serves(alloc: Global) -> Option<bool> {
-    let files = EveryFile {
-        bytes: Some(BANK.as_bytes()),
-    };
-    let (status, output, fault) = of_command(alloc, &files, &["serve", "config"])?;
+/// Whether a service over such files answers the first request.
+fn serves<S: FileSystem + LogFiles>(alloc: Global, files: &S, command: &[&str]) -> Option<bool>
+where
+    S::Disk: Disk,
+{
+    let (status, output, fault) = of_command(alloc, files, command)?;
     Some(status == 0 && output.as_slice() == FIRST_REPLY.as_slice() && fault.is_empty())
 }
 
+/// Over a log in memory, and over one on a disk in memory.
 #[test]
 fn a_service(rt: HostRuntime) {
-    assert_eq!(rt; serves(rt.alloc()), Some(true));
+    let bank = EveryFile {
+        bytes: Some(BANK.as_bytes()),
+    };
+    let banks = Banks { alloc: rt.alloc() };
+    assert_eq!(rt; serves(rt.alloc(), &bank, &["serve", "config"]), Some(true));
+    assert_eq!(rt; serves(rt.alloc(), &banks, &SERVE), Some(true));
 }
