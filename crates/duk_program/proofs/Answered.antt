@@ -1,7 +1,7 @@
 -- What the words of a command ask for, once what was held back is handed on, and in a run of the
 -- program.
 use Rattle.std.proofs.Common.{ℕ, List, inl, inr}
-use Rattle.duk_commands.specs.Answer.{Command, IsDone, IsNotDone, Streams, streams}
+use Rattle.duk_commands.specs.Answer.{Command, IsDone, IsNotDone, streams}
 use Rattle.duk_io.specs.Known.{Known}
 use Rattle.duk_io.specs.Sink.{IsUntouched}
 use Rattle.duk_program.proofs.WrittenStaysWritten.{untouched_still, written_still}

@@ -1,4 +1,4 @@
-use Rattle.std.proofs.Common.{inl, inr}
+use Rattle.std.proofs.Common.{inl}
 use Rattle.duk_program.proofs.Answered.{program_done, program_not_done}
 use Rattle.duk_program.proofs.FaultIsTold.{files_told, unserved_told}
 use Rattle.duk_words.specs.declared.request.Request.TheVariants as request
