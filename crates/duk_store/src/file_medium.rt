@@ -13,7 +13,9 @@ use std::marker::Model;
 /// A medium over an open file. Its bytes are the file's, and it is honest where its file is.
 ///
 /// It keeps in mind that a write or a sync has failed, and asks nothing more of its file then. A
-/// sync also fails where the file has not the length that it had when the medium was made.
+/// write and a sync also fail where the file has not the length that it had when the medium was
+/// made: before the write, which could give a file that was cut short its length again, and behind
+/// the sync.
 #[derive(Drop)]
 pub struct FileMedium<F: OpenFile> {
     file: F,
@@ -74,9 +76,25 @@ impl<F: OpenFile> Medium for FileMedium<F> {
         self.file.read_range(at, bytes)
     }
 
-    fn write_range(&mut self, at: u64, bytes: &[u8]) -> io::Result<()> {
+    fn write_range(&mut self, at: u64, bytes: &[u8]) -> io::Result<()>
+        requires { IsInside (file_medium_state F.state self.old) at (length bytes.now) }
+        ensures nature { KeepsDisk (as_disk (file_medium_state F.state self.old))
+            (as_disk (file_medium_state F.state self.new)) }
+        ensures torn { LeavesChanged (DiffersWithin at (length bytes.now))
+            (as_disk (file_medium_state F.state self.old))
+            (as_disk (file_medium_state F.state self.new)) }
+        ensures written { OnOk result ((F.state self.old.file).honest
+            → (F.state self.new.file).reads
+            ≡ written (F.state self.old.file).reads at bytes.now) }
+        ensures failed { OnErr result (¬ (file_medium_state F.state self.old).calm) }
+        ensures refused { self.old.has_failed ≡ true → IsErr result }
+        ensures kept { OnErr result (self.new.has_failed ≡ true) }
+        ensures length { OnOk result (F.has_length self.old.file self.old.size) }
+    {
+        let size = self.size;
         self.check()?;
         self.has_failed = true;
+        check_length(&self.file, size)?;
         self.file.write_range(at, bytes)?;
         self.has_failed = false;
         Ok(())
