@@ -20,6 +20,5 @@ abbrev pub HostsFit : (Log : RattleType) → Ghosts Log.Denot → Type 0
 HostsFit Log log = HostFits (number 16) Log log × HostFits (number 24) Log log
 
 -- a value of this type takes fewer than 2 ^ 32 bytes, and is aligned to fewer
-pub record IsSmall (R : RattleType) : Type 0 where
-  pub size_fits : size (layout R) < 2 ^ 32
-  pub alignment_fits : align (layout R) < 2 ^ 32
+abbrev pub IsSmall : RattleType → Type 0
+IsSmall R = (size (layout R) < 2 ^ 32) × (align (layout R) < 2 ^ 32)

@@ -13,11 +13,11 @@ use std::alloc::Global;
 
 /// Files that all hold the same bytes, or of which none can be read. None can be opened as a disk.
 #[derive(Drop)]
-struct EveryFile<'a> {
-    bytes: Option<&'a [u8]>,
+struct EveryFile {
+    bytes: Option<&'static [u8]>,
 }
 
-impl FileSystem for EveryFile<'_> {
+impl FileSystem for EveryFile {
     ghost held = { λ files _. Some (option_map (λ bytes. bytes.now) files.bytes) };
 
     fn read_file(&self, alloc: Global, _path: &str, most: usize) -> Result<Vec<u8>, FileFault> {
@@ -34,7 +34,7 @@ impl FileSystem for EveryFile<'_> {
     }
 }
 
-impl LogFiles for EveryFile<'_> {
+impl LogFiles for EveryFile {
     type Disk = MemDisk;
 
     ghost disks = { λ _ _. Some None };
@@ -55,7 +55,10 @@ struct Banks {
 impl FileSystem for Banks {
     ghost held = { λ _ _. None };
 
-    fn read_file(&self, alloc: Global, _path: &str, _most: usize) -> Result<Vec<u8>, FileFault> {
+    fn read_file(&self, alloc: Global, _path: &str, most: usize) -> Result<Vec<u8>, FileFault> {
+        if BANK.len() > most {
+            return Err(FileFault::TooLong);
+        }
         match Vec::from_slice(alloc, BANK.as_bytes()) {
             Ok(bytes) => Ok(bytes),
             Err(_) => Err(FileFault::NoMemory),
@@ -100,7 +103,12 @@ where
 }
 
 /// Whether a command over such files fails with this line, and writes nothing.
-fn fails(alloc: Global, bytes: Option<&[u8]>, command: &[&str], line: &str) -> Option<bool> {
+fn fails(
+    alloc: Global,
+    bytes: Option<&'static [u8]>,
+    command: &[&str],
+    line: &str,
+) -> Option<bool> {
     let (status, output, fault) = of_command(alloc, &EveryFile { bytes }, command)?;
     Some(status == 1 && output.is_empty() && fault.as_slice() == line.as_bytes())
 }
