@@ -18,6 +18,8 @@ struct SmallFile {
     passes: u8,
     /// The length that it tells.
     length: u64,
+    /// The length that it tells once something was written.
+    written_length: u64,
 }
 
 /// Why a call fails.
@@ -57,6 +59,7 @@ impl OpenFile for SmallFile {
     fn write_range(&mut self, at: u64, bytes: &[u8]) -> io::Result<()> {
         let start = self.start(at, bytes.len())?;
         self.held[start..start + bytes.len()].copy_from_slice(bytes);
+        self.length = self.written_length;
         Ok(())
     }
 
@@ -104,16 +107,28 @@ fn passing_over(passes: u8, steps: u32) -> [[bool; 3]; 2] {
         held: [0; 8],
         passes,
         length: 8,
+        written_length: 8,
     };
     passing_twice(file, steps)
+}
+
+/// What passes over a file of these lengths, before it is written and behind that.
+fn passing_at(length: u64, written_length: u64) -> [[bool; 3]; 2] {
+    let file = SmallFile {
+        held: [0; 8],
+        passes: 99,
+        length,
+        written_length,
+    };
+    passing_twice(file, 99)
 }
 
 const ALL: [bool; 3] = [true; 3];
 
 const NONE: [bool; 3] = [false; 3];
 
-/// Each step is one call of the file, and one that fails is told. Once a write or a sync has
-/// failed, no step passes, also behind a restart. An armed disk fails from some step on until its
+/// Each step reads, writes or syncs the file once, and one that fails is told. Once a write or a sync
+/// has failed, no step passes, also behind a restart. An armed disk fails from some step on until its
 /// restart, and such a step does not come to the file: what it did not write is not there.
 #[test]
 fn failing_files(rt: HostRuntime) {
@@ -132,16 +147,17 @@ fn failing_files(rt: HostRuntime) {
     }
 }
 
-/// A sync fails where the file has another length than when it was opened, and then all fails.
+/// A write fails before it where the file has another length than when it was opened, also where it
+/// would give it that length again; so does a sync behind it. Then all fails.
 #[test]
 fn files_of_another_length(rt: HostRuntime) {
-    for length in [7, 9] {
-        let file = SmallFile {
-            held: [0; 8],
-            passes: 99,
-            length,
-        };
-        assert_eq!(rt; passing_twice(file, 99), [[true, false, false], NONE]);
+    for (length, written_length, first) in [
+        (7, 8, NONE),
+        (9, 8, NONE),
+        (8, 7, [true, false, false]),
+        (8, 9, [true, false, false]),
+    ] {
+        assert_eq!(rt; passing_at(length, written_length), [first, NONE]);
     }
 }
 
