@@ -10,14 +10,14 @@ use std::alloc::Global;
 use std::io;
 use std::io::{ErrorKind, Write};
 
-/// A writer that takes all, and counts how often it is to hand that on. This may fail.
+/// A writer that takes all, and counts how often it is flushed. A flush may fail.
 #[derive(Drop)]
-struct Holding {
+struct CountingFlushes {
     flushes: u32,
     fails: bool,
 }
 
-impl Write for Holding {
+impl Write for CountingFlushes {
     fn write(&mut self, bytes: &[u8]) -> io::Result<usize> {
         Ok(bytes.len())
     }
@@ -38,7 +38,7 @@ type Told = (u8, u32, bool);
 fn of_service(alloc: Global, mut input: &[u8], fails: bool, line: &str) -> Option<Told> {
     let config = read_config(alloc, BANK.as_bytes()).ok()?;
     let log = MemLog::new(alloc, 4).ok()?;
-    let mut output = Holding { flushes: 0, fails };
+    let mut output = CountingFlushes { flushes: 0, fails };
     let mut fault = Vec::new(alloc);
     let status = serve_with(alloc, &config, log, &mut input, &mut output, &mut fault);
     Some((status, output.flushes, fault.as_slice() == line.as_bytes()))
@@ -46,7 +46,7 @@ fn of_service(alloc: Global, mut input: &[u8], fails: bool, line: &str) -> Optio
 
 /// What comes of a run of one event.
 fn of_run(alloc: Global, fails: bool, line: &str) -> Told {
-    let mut output = Holding { flushes: 0, fails };
+    let mut output = CountingFlushes { flushes: 0, fails };
     let mut fault = Vec::new(alloc);
     let mut script = "up 1\n".as_bytes();
     let status = run_status(alloc, BANK.as_bytes(), &mut script, &mut output, &mut fault);
@@ -56,7 +56,7 @@ fn of_run(alloc: Global, fails: bool, line: &str) -> Told {
 /// What comes of a command.
 fn of_command(alloc: Global, fails: bool, line: &str) -> Option<Told> {
     let words = words_of(alloc, &DERIVE).ok()?;
-    let mut output = Holding { flushes: 0, fails };
+    let mut output = CountingFlushes { flushes: 0, fails };
     let mut fault = Vec::new(alloc);
     match command(alloc, words.as_slice(), &mut output, &mut fault) {
         Todo::Exit(status) => {
