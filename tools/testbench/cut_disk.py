@@ -146,6 +146,8 @@ class Plan:
     stop: Optional[Stop] = None
     lies: Lies = Lies.NONE
     failure: Optional[Failure] = None
+    # The read that fails, once: they are counted from 0.
+    failed_read: Optional[int] = None
     # Whether reads and writes take a part of what is asked for, at times.
     in_pieces: bool = False
 
@@ -159,7 +161,7 @@ class PlannedDisk:
 
     def begin(self, plan: Plan) -> None:
         self.plan, self.chance = plan, random.Random(plan.seed)
-        self.calls = self.syncs = 0
+        self.calls = self.syncs = self.reads = 0
         self.is_off = False
 
     @property
@@ -168,6 +170,9 @@ class PlannedDisk:
 
     def read(self, at: int, count: int) -> bytes:
         self.demand_power()
+        self.reads += 1
+        if self.plan.failed_read == self.reads - 1:
+            raise OSError(errno.EIO, "a read that fails")
         return self.disk.read(at, self.taken(count))
 
     def write(self, at: int, data: bytes) -> int:

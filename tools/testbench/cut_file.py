@@ -67,6 +67,10 @@ class CutFile:
         """How many writes and syncs this life has had."""
         return self.ask("calls")
 
+    def reads(self) -> int:
+        """How many reads this life has had."""
+        return self.ask("reads")
+
     def close(self) -> None:
         self.tests.close()
         self.process.join(5)
@@ -96,6 +100,9 @@ class Keeper:
 
     def calls(self) -> int:
         return self.file.calls
+
+    def reads(self) -> int:
+        return self.file.reads
 
 
 def keep(folder: str, image: bytes, tests: Connection) -> None:

@@ -1,4 +1,4 @@
-"""A log that fails while the service has it open: a sync or a write, or a file that is cut short.
+"""A log that fails while the service has it open: a call on it, or a file that is cut short.
 
 Behind the first call that fails nothing is acknowledged any more, whatever later calls would
 answer.
@@ -65,6 +65,26 @@ class FailedCalls(ServiceCase):
         self.assertEqual(kept, numbers_of(requests)[: len(kept)], what)
         self.assertIn(len(kept) - len(accepted), (0, 1), what)
         self.check_requests(words, requests, kept, ROOM, what=f"behind {what}")
+
+
+class FailedReads(ServiceCase):
+    """One read of a start fails, and each later one would be answered."""
+
+    def test_each_read(self) -> None:
+        requests = payments(PAYMENTS)
+        image = log_image(numbers_of(requests[:-1]), ROOM)
+        file = CutFile(self.folder(), image)
+        self.addCleanup(file.close)
+        words = ("serve", "bank.toml", "--log", file.path)
+        self.check(words, [], b"")
+        reads = file.reads()
+        self.assertGreaterEqual(reads, ROOM, "a start reads each record")
+        for read in range(reads):
+            what = f"read {read} of a start fails"
+            file.begin(Plan(failed_read=read))
+            self.check(words, [stream_of(requests)], b"", LOG_FAILED, what=what)
+            self.assertEqual(file.reads(), read + 1, f"{what}: reads behind it")
+            self.assertEqual(file.image(), image, what)
 
 
 class CutShort(ServiceCase):

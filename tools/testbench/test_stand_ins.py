@@ -15,7 +15,7 @@ from .log_file import log_image
 from .program import Program
 from .service_case import ServiceCase
 from .stand_in import Way, write_table
-from .test_failing_logs import CutShort, FailedCalls
+from .test_failing_logs import CutShort, FailedCalls, FailedReads
 from .test_log_calls import Calls
 
 TOOLS = Path(__file__).resolve().parents[1]
@@ -30,6 +30,7 @@ CUTS, MOST = 30, 3000
 BY_LIVES = (Way.NO_SYNC, Way.BODY_UNSYNCED, Way.GATE_UNSYNCED, Way.ONE_WRITE, Way.GATE_FIRST,
             Way.REWRITES, Way.IN_MEMORY)
 BY_TESTS = ((Way.GOES_ON, FailedCalls, "test_each_call"), (Way.GROWS, CutShort, "test_cut_short"),
+            (Way.READS_ZEROS, FailedReads, "test_each_read"),
             (Way.NO_SYNC, Calls, "test_two_acceptances"),
             (Way.GATE_UNSYNCED, Calls, "test_two_acceptances"))
 
