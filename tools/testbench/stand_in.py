@@ -30,6 +30,8 @@ class Way(Enum):
     IN_MEMORY = "numbers are in memory alone"
     GROWS = "a file that was cut short is written to all the same"
     READS_ZEROS = "a read that failed gives zeros"
+    LENGTH_FIRST = "the length is taken before the lock"
+    LOOKS_BEFORE = "the length is looked at before a write alone"
 
 
 class Log:
@@ -38,11 +40,19 @@ class Log:
     def __init__(self, path: str, way: Way) -> None:
         self.way = way
         self.file = os.open(path, os.O_RDWR)
-        fcntl.flock(self.file, fcntl.LOCK_EX | fcntl.LOCK_NB)
-        self.room = os.fstat(self.file).st_size // RECORD
+        steps = (self.lock, self.take_length)
+        for step in reversed(steps) if way is Way.LENGTH_FIRST else steps:
+            step()
+        self.room = self.size // RECORD
         self.sync()
         records = [self.read(RECORD * at, RECORD) for at in range(self.room)]
         self.numbers = [it[1:11] for it in records if it[0] == 1]
+
+    def lock(self) -> None:
+        fcntl.flock(self.file, fcntl.LOCK_EX | fcntl.LOCK_NB)
+
+    def take_length(self) -> None:
+        self.size = os.fstat(self.file).st_size
 
     def read(self, at: int, count: int) -> bytes:
         data = b""
@@ -64,11 +74,15 @@ class Log:
             if self.way is not Way.GOES_ON:
                 raise
             os.fdatasync(self.file)
+        if self.way is not Way.LOOKS_BEFORE:
+            self.check_length()
+
+    def check_length(self) -> None:
+        if self.way is not Way.GROWS and os.fstat(self.file).st_size != self.size:
+            raise OSError("the file has another length now")
 
     def append(self, number: bytes) -> None:
         at, body = RECORD * len(self.numbers), number + bytes(5)
-        if self.way is not Way.GROWS and os.fstat(self.file).st_size != RECORD * self.room:
-            raise OSError("the file has another size now")
         if self.way is Way.ONE_WRITE:
             self.put(at, b"\x01" + body)
         elif self.way is Way.GATE_FIRST:
@@ -84,6 +98,7 @@ class Log:
         self.numbers.append(number)
 
     def put(self, at: int, data: bytes, is_synced: bool = True) -> None:
+        self.check_length()
         while data:
             count = os.pwrite(self.file, data, at)
             at, data = at + count, data[count:]

@@ -14,23 +14,28 @@ from .service_case import ServiceCase, answers_to, numbers_of, stream_of
 LINE = re.compile(r"^\d+ +(\w+)\((.*)\) += (-?\d+)", re.MULTILINE)
 # What of the ways to open a file says whether it is read, written, made, cut or begun anew.
 CHANGES = re.compile(r"O_(?:RDONLY|WRONLY|RDWR|CREAT|EXCL|TRUNC|APPEND)")
-STEPS = ("openat", "flock", "pwrite64", "fdatasync", "write")
+# Each of them tells the length of a file.
+LENGTHS = ("fstat", "newfstatat", "statx")
+STEPS = ("openat", "flock", *LENGTHS, "pread64", "pwrite64", "fdatasync", "write")
 OPENED = "openat(log, O_RDWR)"
 LOCKED = "flock(log, LOCK_EX|LOCK_NB)"
-SYNCED = "fdatasync(log)"
+LENGTH = "the length of log"
+SYNCED = ["fdatasync(log)", LENGTH]
 REPLIED = "write(1)"
 
 
 def steps_of(trace: str) -> list[str]:
-    """The calls on the log and on the output, without what they wrote."""
+    """The calls on the log and on the output, without what they read or wrote."""
     steps, log = [], ""
     for call, words, gave in LINE.findall(trace):
         if call == "openat" and '"log"' in words:
             log = gave
             steps.append(f"openat(log, {'|'.join(CHANGES.findall(words))})")
-        elif call == "pwrite64" and log and words.startswith(f"{log}, "):
+        elif call in LENGTHS and ('"log"' in words or log and words.startswith(f"{log}, ")):
+            steps.append(LENGTH)
+        elif call in ("pread64", "pwrite64") and log and words.startswith(f"{log}, "):
             count, at = words.split(", ")[-2:]
-            steps.append(f"pwrite64(log, {count} bytes at {at})")
+            steps.append(f"{call}(log, {count} bytes at {at})")
         elif call in ("flock", "fdatasync") and log and words.split(", ")[0] == log:
             steps.append(f"{call}({words.replace(log, 'log', 1)})")
         elif call == "write" and words.startswith("1, "):
@@ -38,11 +43,22 @@ def steps_of(trace: str) -> list[str]:
     return steps
 
 
+def start(room: int) -> list[str]:
+    """The length is taken of a file that is locked. Each record of a log without numbers is read
+    once, behind a sync."""
+    reads = [f"pread64(log, {RECORD} bytes at {RECORD * place})" for place in range(room)]
+    return [OPENED, LOCKED, LENGTH, *SYNCED, *reads]
+
+
+def write(count: int, at: int) -> list[str]:
+    """The length is looked at before a write, and behind the sync of it."""
+    return [LENGTH, f"pwrite64(log, {count} bytes at {at})", *SYNCED]
+
+
 def acceptance(place: int) -> list[str]:
     """The body is written and synced, and then the gate; then the reply goes out."""
     gate = RECORD * place
-    return [f"pwrite64(log, {RECORD - 1} bytes at {gate + 1})", SYNCED,
-            f"pwrite64(log, 1 bytes at {gate})", SYNCED, REPLIED]
+    return [*write(RECORD - 1, gate + 1), *write(1, gate), REPLIED]
 
 
 class Calls(ServiceCase):
@@ -50,7 +66,8 @@ class Calls(ServiceCase):
         strace = shutil.which("strace")
         self.assertIsNotNone(strace, "strace is not installed: apt-get install strace")
         first, second = payments(2)
-        self.make_log(3)
+        room = 3
+        self.make_log(room)
         trace = self.home / "trace"
         # A request that comes again costs nothing but its reply.
         words = ["-f", "-e", f"trace={','.join(STEPS)}", "-o", trace, self.program.path,
@@ -58,6 +75,6 @@ class Calls(ServiceCase):
         requests = [first, first, second]
         ended = Program(Path(strace or "")).run(*words, given=stream_of(requests), folder=self.home)
         self.assert_ended(ended, 0, answers_to(requests), b"", "under strace")
-        self.assertEqual(self.log.read_bytes(), log_image(numbers_of([first, second]), 3))
-        wanted = [OPENED, LOCKED, SYNCED, *acceptance(0), REPLIED, *acceptance(1)]
+        self.assertEqual(self.log.read_bytes(), log_image(numbers_of([first, second]), room))
+        wanted = [*start(room), *acceptance(0), REPLIED, *acceptance(1)]
         self.assertEqual(steps_of(trace.read_text()), wanted)

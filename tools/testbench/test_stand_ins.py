@@ -32,7 +32,9 @@ BY_LIVES = (Way.NO_SYNC, Way.BODY_UNSYNCED, Way.GATE_UNSYNCED, Way.ONE_WRITE, Wa
 BY_TESTS = ((Way.GOES_ON, FailedCalls, "test_each_call"), (Way.GROWS, CutShort, "test_cut_short"),
             (Way.READS_ZEROS, FailedReads, "test_each_read"),
             (Way.NO_SYNC, Calls, "test_two_acceptances"),
-            (Way.GATE_UNSYNCED, Calls, "test_two_acceptances"))
+            (Way.GATE_UNSYNCED, Calls, "test_two_acceptances"),
+            (Way.LENGTH_FIRST, Calls, "test_two_acceptances"),
+            (Way.LOOKS_BEFORE, Calls, "test_two_acceptances"))
 
 
 class StandIns(Case):
