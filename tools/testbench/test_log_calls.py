@@ -1,14 +1,18 @@
 """The calls of the service on its log, in their order, as the system sees them."""
 from __future__ import annotations
 
+import fcntl
+import os
 import re
 import shutil
 from pathlib import Path
+from typing import Sequence
 
-from .client import payments
+from .client import Exchange, payments
 from .log_file import RECORD, log_image
-from .program import Program
-from .service_case import ServiceCase, answers_to, numbers_of, stream_of
+from .program import Ended, Program
+from .service_case import CANNOT_OPEN, ServiceCase, answers_to, numbers_of, stream_of
+from .test_files import REFUSED_FILES
 
 # One line of strace: the process, the call, its arguments and what it gave.
 LINE = re.compile(r"^\d+ +(\w+)\((.*)\) += (-?\d+)", re.MULTILINE)
@@ -61,20 +65,60 @@ def acceptance(place: int) -> list[str]:
     return [*write(RECORD - 1, gate + 1), *write(1, gate), REPLIED]
 
 
-class Calls(ServiceCase):
-    def test_two_acceptances(self) -> None:
+class TracedCase(ServiceCase):
+    def traced(
+        self, requests: Sequence[Exchange], configuration: str = "bank.toml"
+    ) -> tuple[Ended, list[str]]:
+        """How a service on the log ends, and its calls."""
         strace = shutil.which("strace")
         self.assertIsNotNone(strace, "strace is not installed: apt-get install strace")
+        trace = self.home / "trace"
+        words = ["-f", "-e", f"trace={','.join(STEPS)}", "-o", trace, self.program.path,
+                 "serve", configuration, "--log", "log"]
+        ended = Program(Path(strace or "")).run(*words, given=stream_of(requests), folder=self.home)
+        return ended, steps_of(trace.read_text())
+
+
+class Calls(TracedCase):
+    def test_two_acceptances(self) -> None:
         first, second = payments(2)
         room = 3
         self.make_log(room)
-        trace = self.home / "trace"
         # A request that comes again costs nothing but its reply.
-        words = ["-f", "-e", f"trace={','.join(STEPS)}", "-o", trace, self.program.path,
-                 "serve", "bank.toml", "--log", "log"]
         requests = [first, first, second]
-        ended = Program(Path(strace or "")).run(*words, given=stream_of(requests), folder=self.home)
+        ended, steps = self.traced(requests)
         self.assert_ended(ended, 0, answers_to(requests), b"", "under strace")
         self.assertEqual(self.log.read_bytes(), log_image(numbers_of([first, second]), room))
         wanted = [*start(room), *acceptance(0), REPLIED, *acceptance(1)]
-        self.assertEqual(steps_of(trace.read_text()), wanted)
+        self.assertEqual(steps, wanted)
+
+
+class Opens(TracedCase):
+    def test_a_refused_configuration(self) -> None:
+        """The log is not opened, whether there is one or not."""
+        self.make_log(3)
+        for text, fault in REFUSED_FILES:
+            self.write("refused.toml", text)
+            self.check_steps(f"config: {fault}", [], "refused.toml")
+        self.check_steps("config: cannot read", [], "missing.toml")
+        os.remove(self.log)
+        self.check_steps("config: cannot read", [], "missing.toml")
+
+    def test_a_refused_log(self) -> None:
+        """It is tried once: one that is missing, a folder, and one that is locked."""
+        self.check_steps(CANNOT_OPEN, [OPENED])
+        os.mkdir(self.log)
+        self.check_steps(CANNOT_OPEN, [OPENED])
+        os.rmdir(self.log)
+        self.make_log(3)
+        with open(self.log, "rb") as other:
+            fcntl.flock(other, fcntl.LOCK_EX)
+            self.check_steps(CANNOT_OPEN, [OPENED, LOCKED])
+
+    def check_steps(
+        self, fault: str, wanted: Sequence[str], configuration: str = "bank.toml"
+    ) -> None:
+        """That a service ends with this fault behind these calls, and no other."""
+        ended, steps = self.traced(payments(1), configuration)
+        self.assert_output(ended, b"", fault, fault)
+        self.assertEqual(steps, list(wanted), fault)
