@@ -32,6 +32,7 @@ class Way(Enum):
     READS_ZEROS = "a read that failed gives zeros"
     LENGTH_FIRST = "the length is taken before the lock"
     LOOKS_BEFORE = "the length is looked at before a write alone"
+    SMALL_READS = "a read of the input asks for less than it should"
 
 
 class Log:
@@ -123,7 +124,7 @@ def read_table(path: str) -> Table:
 def serve(log: Log, table: Table) -> None:
     recent: deque[bytes] = deque(maxlen=KEPT)
     stream = b""
-    while piece := os.read(0, 4096):
+    while piece := os.read(0, 512 if log.way is Way.SMALL_READS else 4096):
         stream += piece
         while len(stream) >= 2 and len(stream) >= (end := 2 + int.from_bytes(stream[:2], "big")):
             frame, stream = stream[:end], stream[end:]

@@ -1,4 +1,4 @@
-"""The calls of the service on its log, in their order, as the system sees them."""
+"""The calls of the service on its log and its streams, in their order, as the system sees them."""
 from __future__ import annotations
 
 import fcntl
@@ -20,16 +20,18 @@ LINE = re.compile(r"^\d+ +(\w+)\((.*)\) += (-?\d+)", re.MULTILINE)
 CHANGES = re.compile(r"O_(?:RDONLY|WRONLY|RDWR|CREAT|EXCL|TRUNC|APPEND)")
 # Each of them tells the length of a file.
 LENGTHS = ("fstat", "newfstatat", "statx")
-STEPS = ("openat", "flock", *LENGTHS, "pread64", "pwrite64", "fdatasync", "write")
+STEPS = ("openat", "flock", *LENGTHS, "pread64", "pwrite64", "fdatasync", "read", "write")
 OPENED = "openat(log, O_RDWR)"
 LOCKED = "flock(log, LOCK_EX|LOCK_NB)"
 LENGTH = "the length of log"
 SYNCED = ["fdatasync(log)", LENGTH]
+# A read takes what has come, up to so much.
+READ = "read(0, 4096 bytes)"
 REPLIED = "write(1)"
 
 
 def steps_of(trace: str) -> list[str]:
-    """The calls on the log and on the output, without what they read or wrote."""
+    """The calls on the log, the input and the output, without what they read or wrote."""
     steps, log = [], ""
     for call, words, gave in LINE.findall(trace):
         if call == "openat" and '"log"' in words:
@@ -42,6 +44,8 @@ def steps_of(trace: str) -> list[str]:
             steps.append(f"{call}(log, {count} bytes at {at})")
         elif call in ("flock", "fdatasync") and log and words.split(", ")[0] == log:
             steps.append(f"{call}({words.replace(log, 'log', 1)})")
+        elif call == "read" and words.startswith("0, "):
+            steps.append(f"read(0, {words.split(', ')[-1]} bytes)")
         elif call == "write" and words.startswith("1, "):
             steps.append(REPLIED)
     return steps
@@ -89,7 +93,7 @@ class Calls(TracedCase):
         ended, steps = self.traced(requests)
         self.assert_ended(ended, 0, answers_to(requests), b"", "under strace")
         self.assertEqual(self.log.read_bytes(), log_image(numbers_of([first, second]), room))
-        wanted = [*start(room), *acceptance(0), REPLIED, *acceptance(1)]
+        wanted = [*start(room), READ, *acceptance(0), REPLIED, *acceptance(1), READ]
         self.assertEqual(steps, wanted)
 
 
@@ -105,7 +109,8 @@ class Opens(TracedCase):
         self.check_steps("config: cannot read", [], "missing.toml")
 
     def test_a_refused_log(self) -> None:
-        """It is tried once: one that is missing, a folder, and one that is locked."""
+        """It is tried once, and nothing is read: one that is missing, a folder, and one that is
+        locked."""
         self.check_steps(CANNOT_OPEN, [OPENED])
         os.mkdir(self.log)
         self.check_steps(CANNOT_OPEN, [OPENED])

@@ -34,7 +34,8 @@ BY_TESTS = ((Way.GOES_ON, FailedCalls, "test_each_call"), (Way.GROWS, CutShort, 
             (Way.NO_SYNC, Calls, "test_two_acceptances"),
             (Way.GATE_UNSYNCED, Calls, "test_two_acceptances"),
             (Way.LENGTH_FIRST, Calls, "test_two_acceptances"),
-            (Way.LOOKS_BEFORE, Calls, "test_two_acceptances"))
+            (Way.LOOKS_BEFORE, Calls, "test_two_acceptances"),
+            (Way.SMALL_READS, Calls, "test_two_acceptances"))
 
 
 class StandIns(Case):
