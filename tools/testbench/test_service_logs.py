@@ -9,7 +9,7 @@ import subprocess
 from typing import Iterator
 
 from .client import PURCHASES, Exchange, number_of, payments, payments_of
-from .log_file import RECORD, log_image, record, records_of
+from .log_file import RECORD, log_image, read_log, record, records_of
 from .program import ROWS, SECONDS, Ended
 from .service_case import (
     CANNOT_OPEN, LOG_FAILED, ON_LOG, ServiceCase, answers_to, frames_of, numbers_of)
@@ -110,6 +110,19 @@ class Logs(ServiceCase):
         used = self.check_requests(ON_LOG, requests[:1])
         self.check_requests(ON_LOG, requests, used)
         self.assert_image(numbers_of(requests[:2]), "two runs")
+
+    def test_blanks_in_a_name(self) -> None:
+        """A name is taken as it is given. Beside each file stands the one without its blanks."""
+        requests, other = payments(3), log_image([], 1)
+        self.make_log(3)
+        image = self.log.read_bytes()
+        self.write("used.log", other)
+        for name in ("used.log ", " used.log", " used.log ", "used.log\t", "used.log\n", " "):
+            self.write(name, image)
+            used = self.check_requests(["serve", "bank.toml", "--log", name], requests, what=name)
+            found = read_log(self.home / name, self.room)
+            self.assertEqual(found, used, f"the log {name!r}")
+            self.assertEqual((self.home / "used.log").read_bytes(), other, f"beside {name!r}")
 
     def test_those_of_the_rows(self) -> None:
         requests = payments(3)
