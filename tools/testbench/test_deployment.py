@@ -7,7 +7,7 @@ import os
 import signal
 import subprocess
 from pathlib import Path
-from typing import Optional
+from typing import Optional, Sequence
 
 from .case import Case
 from .client import number_of, payments
@@ -23,6 +23,9 @@ WORDS = ("bank.toml", "log")
 BOOT = Path("/proc/sys/kernel/random/boot_id").read_text()
 OTHER_BOOT = "8c1d0e7a-5b7c-4f3e-9a51-0d2f6c3b1e94\n"
 FAILED = f"{LOG_FAILED}\n".encode()
+# What starts a script so that rights bind root too.
+DROPPED = "-dac_override,-dac_read_search"
+NO_RIGHTS = ("setpriv", "--inh-caps=-all", f"--bounding-set={DROPPED}") if os.getuid() == 0 else ()
 # It notes its words, hands on its input, and ends as it is told to.
 STAND_IN = """#!/bin/sh
 echo "$@" >>words
@@ -42,18 +45,19 @@ class Serving(Case):
         program.write_text(STAND_IN)
         program.chmod(0o755)
 
-    def start(self, says: bytes, status: int, limits: Limits = NO_LIMITS) -> subprocess.Popen:
+    def start(self, says: bytes, status: int, limits: Limits = NO_LIMITS,
+              way: Sequence[str] = ()) -> subprocess.Popen:
         told = {"DUKPT": self.home / "stand-in", "SAYS": says, "STATUS": str(status)}
         script = subprocess.Popen(
-            [SERVE, *WORDS], cwd=self.home, stdin=subprocess.PIPE, stdout=subprocess.PIPE,
+            [*way, SERVE, *WORDS], cwd=self.home, stdin=subprocess.PIPE, stdout=subprocess.PIPE,
             stderr=subprocess.PIPE, bufsize=0, env={**os.environ, **told},
             start_new_session=True, preexec_fn=limits.prepare())
         self.addCleanup(end_of, script)
         return script
 
     def serve(self, says: bytes = b"", status: int = 0, given: bytes = b"",
-              limits: Limits = NO_LIMITS) -> Ended:
-        return end_of(self.start(says, status, limits), given)
+              limits: Limits = NO_LIMITS, way: Sequence[str] = ()) -> Ended:
+        return end_of(self.start(says, status, limits, way), given)
 
     @property
     def state(self) -> Path:
@@ -66,9 +70,10 @@ class Serving(Case):
         self.assertEqual(lines, ["serve bank.toml --log log"] * len(lines))
         return len(lines)
 
-    def assert_refused(self, what: str, limits: Limits = NO_LIMITS) -> None:
+    def assert_refused(self, what: str, limits: Limits = NO_LIMITS,
+                       way: Sequence[str] = ()) -> None:
         """That the program is not started, and nothing is written but a line that says why."""
-        before, ended = self.runs(), self.serve(given=b"a request", limits=limits)
+        before, ended = self.runs(), self.serve(given=b"a request", limits=limits, way=way)
         self.assertEqual((ended.status, ended.output, self.runs()), (1, b"", before), what)
         self.assertIn(b"dukpt-serve: ", ended.faults, what)
 
@@ -149,6 +154,12 @@ class Serving(Case):
         self.state.unlink()
         self.state.mkdir()
         self.assert_refused("with a folder for a state")
+
+    def test_a_state_that_cannot_be_read(self) -> None:
+        """Then nothing is started, since it may say that the log failed."""
+        self.state.write_text("failed\n")
+        self.state.chmod(0o200)
+        self.assert_refused("with a state that cannot be read", way=NO_RIGHTS)
 
 
 class Copying(Case):
