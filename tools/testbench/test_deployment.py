@@ -99,6 +99,16 @@ class Serving(Case):
             self.state.unlink()
         self.assertEqual(self.serve(), Ended(0, b"", b""))
 
+    def test_a_failure_that_nobody_reads(self) -> None:
+        """It is kept all the same, before its line is passed on."""
+        script = self.start(FAILED, 1)
+        self.demand_running(script)
+        script.stderr.close()
+        script.stderr = None
+        end_of(script)
+        self.assertEqual(self.state.read_text(), f"{BOOT}failed\n")
+        self.assert_refused("behind a failure that nobody read")
+
     def test_killed(self) -> None:
         """A script that is killed has not seen how its service ended. The next boot reads the log
         from the disk."""
