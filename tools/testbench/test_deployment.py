@@ -19,7 +19,6 @@ from .test_service_logs import ACCEPTED, LOGS, REFUSED
 
 SERVE = ROOT / "deploy" / "dukpt-serve"
 COPY = ROOT / "deploy" / "dukpt-copy-log"
-WORDS = ("bank.toml", "log")
 BOOT = Path("/proc/sys/kernel/random/boot_id").read_text()
 OTHER_BOOT = "8c1d0e7a-5b7c-4f3e-9a51-0d2f6c3b1e94\n"
 FAILED = f"{LOG_FAILED}\n".encode()
@@ -46,34 +45,39 @@ class Serving(Case):
         program.chmod(0o755)
 
     def start(self, says: bytes, status: int, limits: Limits = NO_LIMITS,
-              way: Sequence[str] = ()) -> subprocess.Popen:
+              way: Sequence[str] = (), log: str = "log") -> subprocess.Popen:
         told = {"DUKPT": self.home / "stand-in", "SAYS": says, "STATUS": str(status)}
         script = subprocess.Popen(
-            [*way, SERVE, *WORDS], cwd=self.home, stdin=subprocess.PIPE, stdout=subprocess.PIPE,
+            [*way, SERVE, "bank.toml", log], cwd=self.home, stdin=subprocess.PIPE, stdout=subprocess.PIPE,
             stderr=subprocess.PIPE, bufsize=0, env={**os.environ, **told},
             start_new_session=True, preexec_fn=limits.prepare())
         self.addCleanup(end_of, script)
         return script
 
     def serve(self, says: bytes = b"", status: int = 0, given: bytes = b"",
-              limits: Limits = NO_LIMITS, way: Sequence[str] = ()) -> Ended:
-        return end_of(self.start(says, status, limits, way), given)
+              limits: Limits = NO_LIMITS, way: Sequence[str] = (), log: str = "log") -> Ended:
+        return end_of(self.start(says, status, limits, way, log), given)
 
     @property
     def state(self) -> Path:
         return self.home / "log.state"
 
+    @property
+    def log(self) -> Path:
+        return self.home.resolve() / "log"
+
     def runs(self) -> int:
         """How often the program was started, each time with the words of a service."""
         noted = self.home / "words"
         lines = noted.read_text().splitlines() if noted.exists() else []
-        self.assertEqual(lines, ["serve bank.toml --log log"] * len(lines))
+        self.assertEqual(lines, [f"serve bank.toml --log {self.log}"] * len(lines))
         return len(lines)
 
     def assert_refused(self, what: str, limits: Limits = NO_LIMITS,
-                       way: Sequence[str] = ()) -> None:
+                       way: Sequence[str] = (), log: str = "log") -> None:
         """That the program is not started, and nothing is written but a line that says why."""
-        before, ended = self.runs(), self.serve(given=b"a request", limits=limits, way=way)
+        before = self.runs()
+        ended = self.serve(given=b"a request", limits=limits, way=way, log=log)
         self.assertEqual((ended.status, ended.output, self.runs()), (1, b"", before), what)
         self.assertIn(b"dukpt-serve: ", ended.faults, what)
 
@@ -108,6 +112,17 @@ class Serving(Case):
         end_of(script)
         self.assertEqual(self.state.read_text(), f"{BOOT}failed\n")
         self.assert_refused("behind a failure that nobody read")
+
+    def test_other_names(self) -> None:
+        """A log has one state, by whatever name and link it is served."""
+        (self.home / "more").mkdir()
+        (self.home / "more" / "other").symlink_to("../link")
+        (self.home / "link").symlink_to("log")
+        self.assertEqual(self.serve(FAILED, 1, log="more/other"), Ended(1, b"", FAILED))
+        for name in ("log", "./log", "link", "more/other", "more/../log", str(self.log)):
+            self.assert_refused(f"as {name}", log=name)
+        self.assertEqual(self.state.read_text(), f"{BOOT}failed\n")
+        self.assert_refused("in no folder", log="missing/log")
 
     def test_killed(self) -> None:
         """A script that is killed has not seen how its service ended. The next boot reads the log
