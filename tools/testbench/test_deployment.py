@@ -3,11 +3,13 @@ copy of a log to a new file."""
 from __future__ import annotations
 
 import fcntl
+import itertools
 import os
 import signal
+import socket
 import subprocess
 from pathlib import Path
-from typing import Optional, Sequence
+from typing import Callable, Iterator, Optional, Sequence, Union
 
 from .case import Case
 from .client import number_of, payments
@@ -25,11 +27,12 @@ FAILED = f"{LOG_FAILED}\n".encode()
 # What starts a script so that rights bind root too.
 DROPPED = "-dac_override,-dac_read_search"
 NO_RIGHTS = ("setpriv", "--inh-caps=-all", f"--bounding-set={DROPPED}") if os.getuid() == 0 else ()
-# It notes its words, hands on its input, and ends as it is told to.
+# It notes its words, hands on its input, and ends as it is told to: by a signal too.
 STAND_IN = """#!/bin/sh
 echo "$@" >>words
 cat
 printf '%s' "$SAYS" >&2
+[ "$STATUS" -lt 128 ] || kill -$((STATUS - 128)) $$
 exit "$STATUS"
 """
 
@@ -45,10 +48,11 @@ class Serving(Case):
         program.chmod(0o755)
 
     def start(self, says: bytes, status: int, limits: Limits = NO_LIMITS,
-              way: Sequence[str] = (), log: str = "log") -> subprocess.Popen:
+              way: Sequence[str] = (), log: str = "log",
+              given: Union[int, socket.socket] = subprocess.PIPE) -> subprocess.Popen:
         told = {"DUKPT": self.home / "stand-in", "SAYS": says, "STATUS": str(status)}
         script = subprocess.Popen(
-            [*way, SERVE, "bank.toml", log], cwd=self.home, stdin=subprocess.PIPE, stdout=subprocess.PIPE,
+            [*way, SERVE, "bank.toml", log], cwd=self.home, stdin=given, stdout=subprocess.PIPE,
             stderr=subprocess.PIPE, bufsize=0, env={**os.environ, **told},
             start_new_session=True, preexec_fn=limits.prepare())
         self.addCleanup(end_of, script)
@@ -84,7 +88,7 @@ class Serving(Case):
     def test_each_end(self) -> None:
         """Streams and status are those of the service. But for one line it may be started again."""
         given = bytes(range(256)) * 3000
-        ends = [(b"", 0), (b"", 137), (b"log: cannot open\n", 1), (b"serve: read failed\n", 1),
+        ends = [(b"", 0), (b"log: cannot open\n", 1), (b"serve: read failed\n", 1),
                 (b"out of memory\n", 1), (b"log: failed or not\n", 1), (b"no log: failed\n", 1)]
         for at, (says, status) in enumerate(ends, 1):
             self.assertEqual(self.serve(says, status, given), Ended(status, given, says))
@@ -135,23 +139,46 @@ class Serving(Case):
         self.state.write_text(OTHER_BOOT)
         self.assertEqual(self.serve(), Ended(0, b"", b""))
 
-    def test_told_to_end(self) -> None:
-        """It waits for its service, and sees how it ends."""
-        for says, status, left in ((b"", 0, b""), (FAILED, 1, BOOT.encode() + b"failed\n")):
-            script = self.start(says, status)
-            self.demand_running(script)
-            script.send_signal(signal.SIGTERM)
-            self.assertEqual(end_of(script, b"more"), Ended(status, b"more", says))
-            self.assertEqual(self.state.read_bytes(), left)
-            self.state.unlink()
+    def test_a_service_that_a_signal_ends(self) -> None:
+        """It may have been told of a failed sync, and had no time to say so."""
+        for way in (signal.SIGKILL, signal.SIGSEGV, signal.SIGTERM):
+            for says, left in ((b"", BOOT), (b"a line\n", BOOT), (FAILED, f"{BOOT}failed\n")):
+                self.assertEqual(self.serve(says, 128 + way, b"x"), Ended(128 + way, b"x", says))
+                self.assertEqual(self.state.read_text(), left)
+                self.assert_refused("behind a service that a signal ended")
+                self.state.unlink()
 
-    def test_stopped(self) -> None:
-        """A signal to the script and its service, as systemd sends it, is no failure of the log."""
-        script = self.start(b"", 0)
-        self.demand_running(script)
-        os.killpg(script.pid, signal.SIGTERM)
-        self.assertEqual(end_of(script), Ended(128 + signal.SIGTERM, b"", b""))
-        self.assertEqual(self.state.read_bytes(), b"")
+    def test_told_to_end(self) -> None:
+        """It waits for its service, which goes on, and sees how that ends."""
+        for way, tell in self.ways_to_tell():
+            for says, status, left in ((b"", 0, ""), (FAILED, 1, f"{BOOT}failed\n")):
+                script = self.start(says, status)
+                self.demand_running(script)
+                tell(script.pid, way)
+                self.demand_running(script)
+                self.assertEqual(end_of(script, b"more"), Ended(status, b"more", says), way)
+                self.assertEqual(self.state.read_text(), left, way)
+                self.state.unlink()
+
+    def test_the_end_of_a_socket(self) -> None:
+        """It ends the input of its service where that is a socket, so that it ends by itself."""
+        for way, tell in self.ways_to_tell():
+            for says, status, left in ((b"", 0, ""), (FAILED, 1, f"{BOOT}failed\n")):
+                client, connection = socket.socketpair()
+                with client, connection:
+                    script = self.start(says, status, given=connection)
+                    client.sendall(b"some")
+                    self.assertEqual(script.stdout.read(4), b"some")
+                    tell(script.pid, way)
+                    self.assertEqual(end_of(script, None), Ended(status, b"", says), way)
+                self.assertEqual(self.state.read_text(), left, way)
+                self.state.unlink()
+
+    @staticmethod
+    def ways_to_tell() -> Iterator[tuple[int, Callable[[int, int], None]]]:
+        """Each signal, to the script alone, and to it and its service, as systemd sends it."""
+        return itertools.product((signal.SIGTERM, signal.SIGHUP, signal.SIGINT),
+                                 (os.kill, os.killpg))
 
     def test_two_at_once(self) -> None:
         """The second one is refused, and changes nothing for the first one."""
@@ -298,6 +325,30 @@ class Deployed(ServiceCase):
             self.assert_output(self.serve("log", stream_of(given)), wanted, "", "a connection")
         self.assert_image(numbers_of(requests[:5]), "two connections")
 
+    def test_told_to_end(self) -> None:
+        """What was asked before is answered, and the next service goes on."""
+        requests = payments(6)
+        self.make_log(6)
+        with socket.create_server(("127.0.0.1", 0)) as listens:
+            for given, used in ((requests[:3], ()), (requests, requests[:3])):
+                with socket.create_connection(listens.getsockname()) as client:
+                    connection = listens.accept()[0]
+                    script = subprocess.Popen(
+                        [SERVE, "bank.toml", "log"], cwd=self.home, stdin=connection,
+                        stdout=connection, stderr=subprocess.PIPE, start_new_session=True,
+                        env={**os.environ, "DUKPT": self.program.path})
+                    connection.close()
+                    self.addCleanup(script.kill)
+                    client.sendall(stream_of(given))
+                    wanted = answers_to(given, numbers_of(used), self.room)
+                    answers = client.makefile("rb")
+                    self.assertEqual(answers.read(len(wanted)), wanted)
+                    os.killpg(script.pid, signal.SIGTERM)
+                    self.assertEqual(answers.read(), b"")
+                    self.assertEqual(end_of(script, None).faults, b"")
+                    self.assertEqual(script.returncode, 0)
+        self.assert_image(numbers_of(requests), "told to end")
+
     def test_no_log(self) -> None:
         for _ in range(2):
             self.assert_output(self.serve("missing", b""), b"", CANNOT_OPEN, "no log")
@@ -346,7 +397,7 @@ def copied(old: Path, new: Path, limits: Limits = NO_LIMITS) -> Ended:
     return Ended(done.returncode, done.stdout, done.stderr)
 
 
-def end_of(script: subprocess.Popen, given: bytes = b"") -> Ended:
+def end_of(script: subprocess.Popen, given: Optional[bytes] = b"") -> Ended:
     """Gives a script the end of its input, and waits for its own."""
     output, faults = script.communicate(given, timeout=SECONDS)
     return Ended(script.returncode, output, faults)
