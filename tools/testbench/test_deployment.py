@@ -35,6 +35,10 @@ printf '%s' "$SAYS" >&2
 [ "$STATUS" -lt 128 ] || kill -$((STATUS - 128)) $$
 exit "$STATUS"
 """
+# It notes its words, and what the state is, and does nothing.
+SYNC = """#!/bin/sh
+echo "sync $*: $(tr '\\n' ' ' <log.state)" >>words
+"""
 
 
 class Serving(Case):
@@ -43,9 +47,12 @@ class Serving(Case):
     def setUp(self) -> None:
         super().setUp()
         self.home = self.folder()
-        program = self.home / "stand-in"
-        program.write_text(STAND_IN)
-        program.chmod(0o755)
+        self.make_program(self.home / "stand-in", STAND_IN)
+
+    @staticmethod
+    def make_program(path: Path, text: str) -> None:
+        path.write_text(text)
+        path.chmod(0o755)
 
     def start(self, says: bytes, status: int, limits: Limits = NO_LIMITS,
               way: Sequence[str] = (), log: str = "log",
@@ -113,7 +120,7 @@ class Serving(Case):
         self.demand_running(script)
         script.stderr.close()
         script.stderr = None
-        end_of(script)
+        self.assertEqual(end_of(script).status, 1)
         self.assertEqual(self.state.read_text(), f"{BOOT}failed\n")
         self.assert_refused("behind a failure that nobody read")
 
@@ -196,6 +203,23 @@ class Serving(Case):
         """Waits until the program has begun, and handed on its first input."""
         script.stdin.write(b"some")
         self.assertEqual(script.stdout.read(4), b"some")
+
+    def test_syncs(self) -> None:
+        """The state is synced before a service starts, with its folder, and behind its end."""
+        tools = self.folder()
+        self.make_program(tools / "sync", SYNC)
+        way = ("env", f"PATH={tools}:{os.environ['PATH']}")
+        boot, folder = BOOT.strip(), self.home.resolve()
+        for says, status, left in ((b"", 0, ""), (FAILED, 1, f"{boot} failed ")):
+            self.assertEqual(self.serve(says, status, way=way), Ended(status, b"", says))
+            noted = (self.home / "words").read_text()
+            self.assertEqual(noted, f"sync -- {folder}/log.state {folder}/: {boot} \n"
+                                    f"serve bank.toml --log {self.log}\n"
+                                    f"sync -- {folder}/log.state: {left}\n")
+            (self.home / "words").unlink()
+            self.state.unlink()
+        self.make_program(tools / "sync", "#!/bin/sh\nexit 1\n")
+        self.assert_refused("with a sync that fails", way=way)
 
     def test_a_state_that_cannot_be_kept(self) -> None:
         """Then nothing is started."""
