@@ -1,4 +1,4 @@
-# Completions of dukpt for bash, read by: . completions/dukpt.bash
+# Completions of dukpt for bash, read by: . share/completions/dukpt.bash
 
 # What may stand behind each command. A word in capitals stands for a value. The test bench
 # compares these words with the program's help.
