@@ -1,0 +1,18 @@
+"""What the tests stand on.
+
+| module | what it is |
+|---|---|
+| `program`, `service` | a built program, run to its end within limits, or while it is given frames |
+| `case`, `service_case`, `runner` | the base of each test, of each test of a service; the command |
+| `des`, `macs`, `dukpt`, `pin_blocks`, `key_blocks`, `frames` | the standards, and the frames |
+| `client` | the terminals' side of many payments at once |
+| `configuration`, `script`, `bank` | readers of configurations and scripts; the sample ones |
+| `images`, `log_file` | what stands in a cell, on its disk and in a log |
+| `model`, `model_terminal`, `model_host`, `model_stores` | terminals, network, host and stores |
+| `worlds`, `scenes`, `streams`, `outcomes`, `commands`, `spoiled` | what is drawn at random |
+| `little_memory` | the memory that a start needs |
+| `words_of_files` | the arguments that the help, the manual page and the completions name |
+| `cut_disk`, `user_files`, `cut_file` | a log on a file system in user space, whose power can be lost |
+| `lives`, `stand_in` | lives of a service on such a log, and their judge; what shows that it judges |
+| `driver`, `driver_keys` | the program `duk_driver`, and what it is asked |
+"""

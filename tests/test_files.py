@@ -1,0 +1,199 @@
+"""Streams, statuses and real files: what the program makes of words, and of the files they name."""
+from __future__ import annotations
+
+import os
+import shutil
+import subprocess
+from pathlib import Path
+
+from .support.bank import BANK, BDK, FRONT, LINES, BankCase
+from .support.case import Case
+from .support.program import ROOT, SECONDS, Ended, spoken
+
+BASE = "0123456789ABCDEFFEDCBA9876543210"
+SERIAL = "FFFF9876543210E00001"
+PROTECTION = "DD7515F2BFC17F85CE48F3CA25CB21F6"
+ZONE = "3F419E1CB7079442AA37474C2EFBF8B8"
+# A published key block of the zone key (ANSI X9.143).
+BLOCK = "B0080P0TE00E000094B420079CC80BA3461F86FE26EFC4A3B8E4FA4C5F5341176EED7B727B8A248E"
+DERIVED = b"""\
+initial 6AC292FAA1315B4D858AB3A3D7D5933A
+key 042666B49184CFA368DE9628D0397BC9
+pin 042666B49184CF5C68DE9628D0397B36
+"""
+PIN_KEY = "042666B49184CF5C68DE9628D0397B36"
+
+# Words, with the output and the fault that they have.
+COMMANDS = [
+    (("--version",), b"dukpt 0.1.0\n", ""),
+    (("derive", BASE, SERIAL), DERIVED, ""),
+    (("derive", BASE, "FFFF9876543210E00000"), b"", "counter refused"),
+    (("derive", "", SERIAL), b"", "BDK refused"),
+    (("walk", BASE, "FFFF9876543210E00000", "2", "--skip", "2045", "--ksn"),
+     b"FFFF9876543210E007FE\nFFFF9876543210E00800\n", ""),
+    (("pin", "1234", "4012345678909", "--key", PIN_KEY),
+     b"block 041274EDCBA9876F\nenciphered 1B9C1845EB993A7A\n", ""),
+    (("pin", "123", "4012345678909"), b"", "PinLength"),
+    (("unwrap", PROTECTION, BLOCK), f"fields P0TE00E\nkey {ZONE}\n".encode(), ""),
+    (("unwrap", PROTECTION, BLOCK[:-1]), b"", "Length"),
+    (("wrap", PROTECTION, "P0TE00E", ZONE, "0000000000"), b"", "PadLength"),
+]
+
+# Words that are refused, and those that are because one is no UTF-8.
+REFUSED_WORDS = [
+    ("run", "bank.toml"), ("derive", BASE, SERIAL, SERIAL), ("serve",), ("",), ("--", "-x"),
+]
+NO_UTF8 = [
+    ("derive", b"\xff", SERIAL), ("run", "bank.toml", b"all.script\xff"),
+    (b"derive\xc3", BASE, SERIAL), ("serve", "bank.toml", b"--log=\xed\xa0\x80"), (b"\x80",),
+    ("pin", "1234", b"401234567890\xb9"), ("--help", b"\xf8"), ("nothing", "of", b"this\xc0\xaf"),
+]
+
+# Configurations that are refused, and their faults.
+REFUSED_FILES = [
+    (b"", "bad lmk"),
+    (BANK.replace(b"log = 100", b"log = 0"), "bad log"),
+    (b"port = 1\n" + BANK.replace(b"log = 100", b"log = 0"), "unknown port"),
+    (BANK.replace(b"[[card]]", BDK + b"[[card]]"), "bad bdk 2"),
+    (BANK.replace(BDK, b""), "bad bdk"),
+    (BANK.replace(b'"4012345678909"', b'"40123"'), "bad card 1"),
+    (b'stores = "tape"\n' + BANK, "bad stores"),
+    (BANK.replace(b'zone = "3F', b'zone = "3'), "bad zone"),
+    (BANK.replace(b'loading = "4C', b'loading = "4'), "bad loading"),
+    (b"lmk = ", "not TOML"),
+    (FRONT + b'bdk = "\xff"', "not TOML"),
+]
+
+
+class Streams(BankCase):
+    """Which stream has what, with which status."""
+
+    def test_commands(self) -> None:
+        for words, output, fault in COMMANDS:
+            with self.subTest(spoken(words)):
+                self.check(words, output, fault)
+
+    def test_refused_words(self) -> None:
+        for words in REFUSED_WORDS:
+            with self.subTest(spoken(words)):
+                ended = self.program.run(*words, folder=self.home)
+                self.assertEqual((ended.status, ended.output), (2, b""))
+                self.assertTrue(ended.faults.startswith(b"error: "), ended)
+
+    def test_words_that_are_no_utf8(self) -> None:
+        """Wherever one stands."""
+        for words in NO_UTF8:
+            ended = self.program.run(*words, folder=self.home)
+            self.assert_ended(ended, 2, b"", b"error: a word is not UTF-8\n", spoken(words))
+
+    def test_help(self) -> None:
+        """Where there are no words the help is on standard error."""
+        told = self.program.run("--help")
+        self.assertEqual((told.status, told.faults), (0, b""))
+        self.assertIn(b"\nUsage: dukpt <COMMAND>\n", told.output)
+        self.assert_ended(self.program.run(), 2, b"", told.output, "dukpt")
+
+
+class Files(BankCase):
+    """What `run` makes of real files. What `serve` makes of them stands with the service."""
+
+    def test_runs(self) -> None:
+        self.write("empty.script", b"")
+        self.write("bad.script", b"up 1\nup 01\n")
+        for script, output, fault in (("all.script", LINES, ""), ("empty.script", b"", ""),
+                                      ("bad.script", b"", "line 2: not an event"),
+                                      ("bank.toml", b"", "line 1: not an event")):
+            self.check(("run", "bank.toml", script), output, fault)
+        self.check(("run", "all.script", "bank.toml"), fault="config: not TOML")
+
+    def test_files_that_cannot_be_read(self) -> None:
+        (self.home / "folder").mkdir()
+        (self.home / "nowhere").symlink_to("missing")
+        for name in ("missing", "folder", "", "nowhere", "bank.toml/bank.toml", "x" * 300):
+            self.check(("run", name, "all.script"), fault="config: cannot read")
+            self.check(("run", name, name), fault="config: cannot read")
+            self.check(("run", "bank.toml", name), fault="script: cannot read")
+
+    def test_files_by_other_ways(self) -> None:
+        """A link, a path from the root, and a standard input that is named as a file."""
+        (self.home / "link").symlink_to("bank.toml")
+        script = self.home / "all.script"
+        self.check(("run", "link", script), LINES)
+        self.check(("run", "bank.toml", "/dev/stdin"), LINES, given=script.read_bytes())
+        self.check(("run", "/dev/stdin", "all.script"), LINES, given=BANK)
+
+    def test_no_script_is_opened_for_a_refused_configuration(self) -> None:
+        """The script is a pipe that nobody writes to: whoever opens it waits."""
+        os.mkfifo(self.home / "pipe.script")
+        for text, fault in REFUSED_FILES:
+            self.write("refused.toml", text)
+            for script in ("pipe.script", "missing"):
+                self.check(("run", "refused.toml", script), fault=f"config: {fault}")
+
+
+# A kit that notes its calls and makes a program that prints its words, and one that makes nothing.
+MAKES = """#!/bin/sh
+echo "$*" >>"$NOTED"
+[ "$1" = run ] || exit 0
+mkdir -p out
+printf '#!/bin/sh\necho "$@"\nexit 3\n' >out/dukpt
+chmod +x out/dukpt
+"""
+MAKES_NOTHING = """#!/bin/sh
+echo "no proof"
+exit 1
+"""
+SYSTEM = "/usr/bin:/bin"
+
+
+class StartScript(Case):
+    """The script `dukpt`, over two crates and a kit that stands in for the true one."""
+
+    def setUp(self) -> None:
+        super().setUp()
+        self.home = self.folder()
+        shutil.copy(ROOT / "dukpt", self.home)
+        (self.home / "crates.txt").write_text("# A comment.\nduk_one: hex\ndukpt: duk_one\n")
+        for crate in ("duk_one", "dukpt"):
+            for part in ("src", "specs", "proofs"):
+                (self.home / "crates" / crate / part).mkdir(parents=True)
+
+    def run_script(self, *words: str, kit: str = "") -> Ended:
+        if kit:
+            (self.home / "rt").write_text(kit)
+            (self.home / "rt").chmod(0o755)
+        path = f"{self.home}:{SYSTEM}" if kit else SYSTEM
+        done = subprocess.run([self.home / "dukpt", *words], capture_output=True, timeout=SECONDS,
+                              env={"PATH": path, "NOTED": str(self.noted)}, check=False)
+        return Ended(done.returncode, done.stdout, done.stderr)
+
+    @property
+    def noted(self) -> Path:
+        return self.home / "noted"
+
+    def test_no_kit(self) -> None:
+        self.assertIsNone(shutil.which("rt", path=SYSTEM), "the kit is among the system's programs")
+        fault = b"dukpt: the program is not built, and there is no rt on PATH to build it\n"
+        self.assertEqual(self.run_script("derive"), Ended(125, b"", fault))
+
+    def test_not_built(self) -> None:
+        ended = self.run_script("derive", kit=MAKES_NOTHING)
+        self.assertEqual((ended.status, ended.output), (125, b""))
+        self.assertTrue(ended.faults.endswith(b"no proof\ndukpt: the program could not be built\n"))
+
+    def test_built(self) -> None:
+        """Once, and again where a source is newer. Words and status are those of the program."""
+        ended = self.run_script("pin", "a  b", kit=MAKES)
+        self.assertEqual((ended.status, ended.output), (3, b"pin a  b\n"))
+        self.assertRegex(ended.faults, rb"(?s)\Adukpt: proving .*\ndukpt: built, after 0 min\n\Z")
+        calls = "lib\nrun -- --help\n"
+        self.assertEqual(self.noted.read_text(), calls)
+        self.assertEqual(self.run_script("", kit=MAKES), Ended(3, b"\n", b""))
+        self.assertEqual(self.run_script("x"), Ended(3, b"x\n", b""))
+        self.assertEqual(self.noted.read_text(), calls)
+        source = self.home / "crates" / "duk_one" / "src" / "lib.rt"
+        source.write_text("")
+        later = os.stat(self.home / "crates" / "dukpt" / "out" / "dukpt").st_mtime + 10
+        os.utime(source, (later, later))
+        self.assertEqual(self.run_script("x", kit=MAKES).output, b"x\n")
+        self.assertEqual(self.noted.read_text(), calls * 2)

@@ -1,0 +1,129 @@
+"""The calls of the service on its log and its streams, in their order, as the system sees them."""
+from __future__ import annotations
+
+import fcntl
+import os
+import re
+import shutil
+from pathlib import Path
+from typing import Sequence
+
+from .support.client import Exchange, payments
+from .support.log_file import RECORD, log_image
+from .support.program import Ended, Program
+from .support.service_case import CANNOT_OPEN, ServiceCase, answers_to, numbers_of, stream_of
+from .test_files import REFUSED_FILES
+
+# One line of strace: the process, the call, its arguments and what it gave.
+LINE = re.compile(r"^\d+ +(\w+)\((.*)\) += (-?\d+)", re.MULTILINE)
+# What of the ways to open a file says whether it is read, written, made, cut or begun anew.
+CHANGES = re.compile(r"O_(?:RDONLY|WRONLY|RDWR|CREAT|EXCL|TRUNC|APPEND)")
+# Each of them tells the length of a file.
+LENGTHS = ("fstat", "newfstatat", "statx")
+STEPS = ("openat", "flock", *LENGTHS, "pread64", "pwrite64", "fdatasync", "read", "write")
+OPENED = "openat(log, O_RDWR)"
+LOCKED = "flock(log, LOCK_EX|LOCK_NB)"
+LENGTH = "the length of log"
+SYNCED = ["fdatasync(log)", LENGTH]
+# A read takes what has come, up to so much.
+READ = "read(0, 4096 bytes)"
+REPLIED = "write(1)"
+
+
+def steps_of(trace: str) -> list[str]:
+    """The calls on the log, the input and the output, without what they read or wrote."""
+    steps, log = [], ""
+    for call, words, gave in LINE.findall(trace):
+        if call == "openat" and '"log"' in words:
+            log = gave
+            steps.append(f"openat(log, {'|'.join(CHANGES.findall(words))})")
+        elif call in LENGTHS and ('"log"' in words or log and words.startswith(f"{log}, ")):
+            steps.append(LENGTH)
+        elif call in ("pread64", "pwrite64") and log and words.startswith(f"{log}, "):
+            count, at = words.split(", ")[-2:]
+            steps.append(f"{call}(log, {count} bytes at {at})")
+        elif call in ("flock", "fdatasync") and log and words.split(", ")[0] == log:
+            steps.append(f"{call}({words.replace(log, 'log', 1)})")
+        elif call == "read" and words.startswith("0, "):
+            steps.append(f"read(0, {words.split(', ')[-1]} bytes)")
+        elif call == "write" and words.startswith("1, "):
+            steps.append(REPLIED)
+    return steps
+
+
+def start(room: int) -> list[str]:
+    """The length is taken of a file that is locked. Each record of a log without numbers is read
+    once, behind a sync."""
+    reads = [f"pread64(log, {RECORD} bytes at {RECORD * place})" for place in range(room)]
+    return [OPENED, LOCKED, LENGTH, *SYNCED, *reads]
+
+
+def write(count: int, at: int) -> list[str]:
+    """The length is looked at before a write, and behind the sync of it."""
+    return [LENGTH, f"pwrite64(log, {count} bytes at {at})", *SYNCED]
+
+
+def acceptance(place: int) -> list[str]:
+    """The body is written and synced, and then the gate; then the reply goes out."""
+    gate = RECORD * place
+    return [*write(RECORD - 1, gate + 1), *write(1, gate), REPLIED]
+
+
+class TracedCase(ServiceCase):
+    def traced(
+        self, requests: Sequence[Exchange], configuration: str = "bank.toml"
+    ) -> tuple[Ended, list[str]]:
+        """How a service on the log ends, and its calls."""
+        strace = shutil.which("strace")
+        self.assertIsNotNone(strace, "strace is not installed: apt-get install strace")
+        trace = self.home / "trace"
+        words = ["-f", "-e", f"trace={','.join(STEPS)}", "-o", trace, self.program.path,
+                 "serve", configuration, "--log", "log"]
+        ended = Program(Path(strace or "")).run(*words, given=stream_of(requests), folder=self.home)
+        return ended, steps_of(trace.read_text())
+
+
+class Calls(TracedCase):
+    def test_two_acceptances(self) -> None:
+        first, second = payments(2)
+        room = 3
+        self.make_log(room)
+        # A request that comes again costs nothing but its reply.
+        requests = [first, first, second]
+        ended, steps = self.traced(requests)
+        self.assert_ended(ended, 0, answers_to(requests), b"", "under strace")
+        self.assertEqual(self.log.read_bytes(), log_image(numbers_of([first, second]), room))
+        wanted = [*start(room), READ, *acceptance(0), REPLIED, *acceptance(1), READ]
+        self.assertEqual(steps, wanted)
+
+
+class Opens(TracedCase):
+    def test_a_refused_configuration(self) -> None:
+        """The log is not opened, whether there is one or not."""
+        self.make_log(3)
+        for text, fault in REFUSED_FILES:
+            self.write("refused.toml", text)
+            self.check_steps(f"config: {fault}", [], "refused.toml")
+        self.check_steps("config: cannot read", [], "missing.toml")
+        os.remove(self.log)
+        self.check_steps("config: cannot read", [], "missing.toml")
+
+    def test_a_refused_log(self) -> None:
+        """It is tried once, and nothing is read: one that is missing, a folder, and one that is
+        locked."""
+        self.check_steps(CANNOT_OPEN, [OPENED])
+        os.mkdir(self.log)
+        self.check_steps(CANNOT_OPEN, [OPENED])
+        os.rmdir(self.log)
+        self.make_log(3)
+        with open(self.log, "rb") as other:
+            fcntl.flock(other, fcntl.LOCK_EX)
+            self.check_steps(CANNOT_OPEN, [OPENED, LOCKED])
+
+    def check_steps(
+        self, fault: str, wanted: Sequence[str], configuration: str = "bank.toml"
+    ) -> None:
+        """That a service ends with this fault behind these calls, and no other."""
+        ended, steps = self.traced(payments(1), configuration)
+        self.assert_output(ended, b"", fault, fault)
+        self.assertEqual(steps, list(wanted), fault)

@@ -1,0 +1,94 @@
+"""The recipes of docs/RECIPES.md.
+
+A recipe is a part of the document below a heading of the second level. Of its indented lines `$ `
+begins a command and `> ` goes on with it, and what stands behind a command is what it prints. The
+commands of a recipe are run in one bash, in a folder that has the program as `dukpt` beside `tests`
+and `examples`. Each ends with status 0, and nothing is on standard error.
+"""
+from __future__ import annotations
+
+import os
+import subprocess
+from dataclasses import dataclass
+
+from .support.case import ProgramCase
+from .support.program import ROOT, SECONDS
+
+RECIPES = ROOT / "docs" / "RECIPES.md"
+# Stands behind what a command prints, with its status. No command prints it.
+END = "\x1e"
+
+
+@dataclass
+class Command:
+    """A command of a recipe, and what it prints."""
+
+    text: str
+    printed: str = ""
+
+
+def recipes() -> list[tuple[str, list[Command]]]:
+    """The title of each recipe, and its commands."""
+    found: list[tuple[str, list[Command]]] = []
+    for number, line in enumerate(RECIPES.read_text(encoding="utf-8").splitlines(), 1):
+        if line.startswith("## "):
+            found.append((line[3:], []))
+        elif line.startswith("    ") and found:
+            read_line(found[-1][1], line[4:], number)
+    return found
+
+
+def read_line(commands: list[Command], line: str, number: int) -> None:
+    if line.startswith("$ "):
+        commands.append(Command(line[2:]))
+    elif not commands:
+        raise ValueError(f"line {number} of docs/RECIPES.md belongs to no command")
+    elif line.startswith("> "):
+        commands[-1].text += "\n" + line[2:]
+    else:
+        commands[-1].printed += line + "\n"
+
+
+class Recipes(ProgramCase):
+    """Each command prints what stands in the document."""
+
+    weight = 6
+
+    def run_recipe(self, place: int) -> None:
+        title, commands = recipes()[place]
+        printed, faults = self.play(commands)
+        self.assertEqual(faults, "", title)
+        self.assertEqual(len(printed), len(commands), title)
+        for command, found in zip(commands, printed):
+            self.assertEqual(found, (command.printed, "0"), f"{title}: `{command.text}`")
+        self.assertTrue(commands, f"{title} has no command")
+        self.tells(f"{title}: {len(commands)} commands")
+
+    def play(self, commands: list[Command]) -> tuple[list[tuple[str, str]], str]:
+        """What each command printed, with its status, as far as they came, and the faults."""
+        folder = self.folder()
+        (folder / "dukpt").symlink_to(self.program.path)
+        for name in ("tests", "examples"):
+            (folder / name).symlink_to(ROOT / name)
+        script = "".join(f"{it.text}\nprintf '{END}%d{END}' $?\n" for it in commands)
+        done = subprocess.run(
+            ["bash", "-c", script], cwd=folder, stdin=subprocess.DEVNULL, capture_output=True,
+            env={**os.environ, "LC_ALL": "C", "TMPDIR": str(folder)}, timeout=SECONDS, check=False)
+        parts = done.stdout.decode(errors="replace").split(END)
+        self.assertEqual(parts[-1], "", "what is printed behind the last command")
+        return list(zip(parts[::2], parts[1::2])), done.stderr.decode(errors="replace")
+
+    def test_a_loading_block(self) -> None:
+        self.run_recipe(0)
+
+    def test_a_translated_pin_block(self) -> None:
+        self.run_recipe(1)
+
+    def test_a_walk(self) -> None:
+        self.run_recipe(2)
+
+    def test_a_file_of_frames(self) -> None:
+        self.run_recipe(3)
+
+    def test_there_are_no_others(self) -> None:
+        self.assertEqual(len(recipes()), 4)
