@@ -1,5 +1,5 @@
-"""The scripts of share/deploy/: a service that is not started again behind a log that failed, and the
-copy of a log to a new file."""
+"""The scripts of share/deploy/: a service that is not started again after a log that failed, and
+the copy of a log to a new file."""
 from __future__ import annotations
 
 import fcntl

@@ -2,6 +2,7 @@
 from __future__ import annotations
 
 import os
+import re
 import shutil
 import subprocess
 from pathlib import Path
@@ -131,7 +132,9 @@ class Files(BankCase):
                 self.check(("run", "refused.toml", script), fault=f"config: {fault}")
 
 
-# A kit that notes its calls and makes a program that prints its words, and one that makes nothing.
+# A kit that notes its calls and makes a program that prints its arguments, one that makes nothing,
+# and one that makes a program for a try. That one prints its folder, its arguments and its input,
+# and the kit has it until the pipe is opened that it runs on.
 MAKES = """#!/bin/sh
 echo "$*" >>"$NOTED"
 [ "$1" = run ] || exit 0
@@ -143,7 +146,17 @@ MAKES_NOTHING = """#!/bin/sh
 echo "no proof"
 exit 1
 """
+TRIES = """#!/bin/sh
+echo "$*" >>"$NOTED"
+mkdir "$TMPDIR/made"
+printf '#!/bin/sh\npwd\necho "$@"\ncat\nexit 4\n' >"$TMPDIR/made/program"
+chmod +x "$TMPDIR/made/program"
+cat "$4"
+echo proved=no
+exit 1
+"""
 SYSTEM = "/usr/bin:/bin"
+WARNING = b"dukpt: not proved: "
 
 
 class StartScript(Case):
@@ -157,15 +170,31 @@ class StartScript(Case):
         for crate in ("duk_one", "dukpt"):
             for part in ("src", "specs", "proofs"):
                 (self.home / "crates" / crate / part).mkdir(parents=True)
+        self.temporary = self.folder()
 
-    def run_script(self, *words: str, kit: str = "") -> Ended:
+    def start(self, *words: str, kit: str = "") -> subprocess.Popen:
         if kit:
             (self.home / "rt").write_text(kit)
             (self.home / "rt").chmod(0o755)
-        path = f"{self.home}:{SYSTEM}" if kit else SYSTEM
-        done = subprocess.run([self.home / "dukpt", *words], capture_output=True, timeout=SECONDS,
-                              env={"PATH": path, "NOTED": str(self.noted)}, check=False)
-        return Ended(done.returncode, done.stdout, done.stderr)
+        told = {"PATH": f"{self.home}:{SYSTEM}" if kit else SYSTEM, "NOTED": str(self.noted),
+                "TMPDIR": str(self.temporary)}
+        return subprocess.Popen([self.home / "dukpt", *words], cwd=self.temporary, env=told,
+                                stdin=subprocess.PIPE, stdout=subprocess.PIPE,
+                                stderr=subprocess.PIPE)
+
+    def run_script(self, *words: str, kit: str = "", given: bytes = b"") -> Ended:
+        return self.ended(self.start(*words, kit=kit), given)
+
+    @staticmethod
+    def ended(script: subprocess.Popen, given: bytes = b"") -> Ended:
+        output, faults = script.communicate(given, timeout=SECONDS)
+        return Ended(script.returncode, output, faults)
+
+    def make_source_newer(self, program: Path) -> None:
+        source = self.home / "crates" / "duk_one" / "src" / "lib.rt"
+        source.write_text("")
+        later = os.stat(program).st_mtime + 10
+        os.utime(source, (later, later))
 
     @property
     def noted(self) -> Path:
@@ -182,7 +211,7 @@ class StartScript(Case):
         self.assertTrue(ended.faults.endswith(b"no proof\ndukpt: the program could not be built\n"))
 
     def test_built(self) -> None:
-        """Once, and again where a source is newer. Words and status are those of the program."""
+        """Once, and again where a source is newer. Arguments and status are the program's."""
         ended = self.run_script("pin", "a  b", kit=MAKES)
         self.assertEqual((ended.status, ended.output), (3, b"pin a  b\n"))
         self.assertRegex(ended.faults, rb"(?s)\Adukpt: proving .*\ndukpt: built, after 0 min\n\Z")
@@ -191,9 +220,45 @@ class StartScript(Case):
         self.assertEqual(self.run_script("", kit=MAKES), Ended(3, b"\n", b""))
         self.assertEqual(self.run_script("x"), Ended(3, b"x\n", b""))
         self.assertEqual(self.noted.read_text(), calls)
-        source = self.home / "crates" / "duk_one" / "src" / "lib.rt"
-        source.write_text("")
-        later = os.stat(self.home / "crates" / "dukpt" / "out" / "dukpt").st_mtime + 10
-        os.utime(source, (later, later))
+        self.make_source_newer(self.home / "crates" / "dukpt" / "out" / "dukpt")
         self.assertEqual(self.run_script("x", kit=MAKES).output, b"x\n")
         self.assertEqual(self.noted.read_text(), calls * 2)
+
+    def check_unproved(self, ended: Ended, arguments: str, given: bytes) -> None:
+        """That the program ran in the folder and with the streams of the script."""
+        output = f"{self.temporary.resolve()}\n{arguments}\n".encode() + given
+        self.assertEqual((ended.status, ended.output), (4, output), ended)
+        self.assertTrue(ended.faults.splitlines()[-1].startswith(WARNING), ended)
+
+    def test_unproved(self) -> None:
+        """Built once, and again where a source is newer, beside the proved program."""
+        given = b"\0\xff\n"
+        ended = self.run_script("--unproved", "pin", "a  b", kit=TRIES, given=given)
+        self.check_unproved(ended, "pin a  b", given)
+        self.assertRegex(self.noted.read_text(), r"\Atry -- run (\S+) \1\n\Z")
+        again = self.run_script("--unproved", "--unproved", given=given)
+        self.check_unproved(again, "--unproved", given)
+        self.assertEqual(again.faults.count(b"\n"), 1)
+        self.assertEqual(self.run_script("x", "--unproved", kit=MAKES).output, b"x --unproved\n")
+        self.make_source_newer(self.home / "out" / "unproved" / "dukpt")
+        self.check_unproved(self.run_script("--unproved", kit=TRIES), "", b"")
+        self.assertEqual(len(re.findall("^try ", self.noted.read_text(), re.M)), 2)
+        self.assert_clean(["dukpt"])
+
+    def assert_clean(self, programs: list[str]) -> None:
+        self.assertEqual(os.listdir(self.temporary), [], "files for the build are left")
+        self.assertEqual(os.listdir(self.home / "out" / "unproved"), programs)
+
+    def test_unproved_twice_at_once(self) -> None:
+        scripts = [self.start("--unproved", str(at), kit=TRIES) for at in range(4)]
+        for at, script in enumerate(scripts):
+            self.check_unproved(self.ended(script), str(at), b"")
+        self.assert_clean(["dukpt"])
+
+    def test_unproved_not_built(self) -> None:
+        fault = b"dukpt: the program is not built, and there is no rt on PATH to build it\n"
+        self.assertEqual(self.run_script("--unproved", "derive"), Ended(125, b"", fault))
+        ended = self.run_script("--unproved", "derive", kit=MAKES_NOTHING)
+        self.assertEqual((ended.status, ended.output), (125, b""))
+        self.assertTrue(ended.faults.endswith(b"no proof\ndukpt: the program could not be built\n"))
+        self.assert_clean([])

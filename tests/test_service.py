@@ -16,7 +16,7 @@ BDK = "0123456789ABCDEFFEDCBA9876543210"
 
 
 class StoredFrames(Case):
-    """The frames of tests/commands/service, which a recipe uses, are those that the client makes."""
+    """The frames of tests/commands/service, which a recipe uses, are the client's."""
 
     def test_the_first_payments(self) -> None:
         lines = [f"{it.frame.hex().upper()} {it.answer.hex().upper()}" for it in payments(6)]
