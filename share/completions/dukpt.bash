@@ -1,8 +1,8 @@
 # Completions of dukpt for bash, read by: . share/completions/dukpt.bash
 
-# What may stand behind each command. A word in capitals stands for a value. The test bench
-# compares these words with the program's help.
-declare -gA _dukpt_words=(
+# What may stand after each command. A word in capitals is a value's name. The test bench compares
+# these arguments with the program's help.
+declare -gA _dukpt_arguments=(
     [derive]="BDK KSN -h --help"
     [walk]="BDK IKSN COUNT --skip=K --ksn -h --help"
     [pin]="PIN PAN --key=KEY -h --help"
@@ -14,9 +14,9 @@ declare -gA _dukpt_words=(
 )
 _dukpt_options="-h --help -V --version"
 
-# Which value the word at the cursor stands for, by the words before it; nothing where it is none.
+# Which value the word at the cursor is, by the words before it; nothing where it is none.
 _dukpt_value() {
-    local words=" ${_dukpt_words[${COMP_WORDS[1]:-none}]-} " values=() word at
+    local words=" ${_dukpt_arguments[${COMP_WORDS[1]:-none}]-} " values=() word at
     for word in $words; do
         [[ $word == -* ]] || values+=("$word")
     done
@@ -25,7 +25,7 @@ _dukpt_value() {
         if [[ $word != -* ]]; then
             values=("${values[@]:1}")
         elif [[ $words == *" $word="* ]]; then
-            # Its value is the next word, or the one behind a sign, at which bash cuts.
+            # Its value is the next word, or the one after a sign, at which bash cuts.
             [[ ${COMP_WORDS[at + 1]-} == = ]] && at=$((at + 1))
             at=$((at + 1))
             [[ $at -ge $COMP_CWORD ]] && values=("${words#* "$word"=}")
@@ -38,15 +38,15 @@ _dukpt_value() {
 _dukpt() {
     local word=${COMP_WORDS[COMP_CWORD]} offered=
     if [[ $COMP_CWORD -eq 1 ]]; then
-        offered="${!_dukpt_words[*]} $_dukpt_options"
+        offered="${!_dukpt_arguments[*]} $_dukpt_options"
     elif [[ $word == -* ]]; then
-        for offered in ${_dukpt_words[${COMP_WORDS[1]:-none}]-}; do
+        for offered in ${_dukpt_arguments[${COMP_WORDS[1]:-none}]-}; do
             [[ $offered == -* ]] && COMPREPLY+=($(compgen -W "${offered%%=*}" -- "$word"))
         done
         return
     else
         case $(_dukpt_value) in
-            COMMAND) offered=${!_dukpt_words[*]} ;;
+            COMMAND) offered=${!_dukpt_arguments[*]} ;;
             CONFIG | SCRIPT | FILE) compopt -o filenames 2>/dev/null
                 COMPREPLY=($(compgen -f -- "${word#=}"))
                 return ;;

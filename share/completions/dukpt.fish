@@ -1,6 +1,6 @@
-# Completions of dukpt for fish: put this file into ~/.config/fish/completions. What stands before
-# the colon of a description are words for values. The test bench compares all words with the
-# program's help.
+# Completions of dukpt for fish: put this file into ~/.config/fish/completions. Before the colon of
+# a description stand the names of values. The test bench compares all arguments with the program's
+# help.
 
 complete -c dukpt -f
 complete -c dukpt -n __fish_use_subcommand -s h -l help -d 'Print help'
