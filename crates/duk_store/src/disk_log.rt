@@ -18,8 +18,8 @@ use std::marker::Model;
 /// A log on a disk of records of 16 bytes, of which those in front have the numbers kept, and all
 /// others are closed.
 ///
-/// A number is written into the first closed record, which is opened once that is synced. So a stop
-/// leaves the list without the number or with it.
+/// A number is written into the first closed record, which is opened once that is synced
+/// (`write_record` has the device steps). So a stop leaves the list without the number or with it.
 #[derive(Drop)]
 pub struct DiskLog<D: Disk> {
     disk: D,
@@ -151,7 +151,8 @@ impl<D: Disk> UsedLog for DiskLog<D> {
     }
 }
 
-/// Brings the disk of a log up, and counts its numbers.
+/// Brings the disk of a log up, and counts its numbers: the disk's own restart, a test of its size,
+/// a sync, and a read of each record to the last one. It writes nothing.
 ///
 /// Refused with `Device` where a device step failed, and with `Damaged` where the disk has no size
 /// of a log's, or keeps no list.

@@ -93,6 +93,16 @@ fn count_next(count: u64, place: u64, found: &Record) -> Result<u64, StoreFault>
 }
 
 /// Writes a number into a record, and opens it once that is synced.
+///
+/// It makes four device steps. A stop leaves all other records as they were. The table has what a
+/// stop after a step, and before the next one, leaves, and what a restart finds then.
+///
+/// | | device step | a stop leaves | found |
+/// |---|---|---|---|
+/// | 1 | write the number and its zeros | the record closed, with any bytes after its gate | the list |
+/// | 2 | sync | the record closed, with the number | the list |
+/// | 3 | write 01 to its gate | the number whole, with any gate | the list, or the list with the number where the gate is 01 |
+/// | 4 | sync | the record open | the list with the number |
 pub fn write_record<D: Disk>(disk: &mut D, place: u64, number: Ksn) -> Result<(), StoreFault>
     requires { HasRecord place (D.meaning.state_of disk.old) }
     ensures written { OnOk result (IsStepDone (ChangesRecord place (IsRecordWritten number))

@@ -13,8 +13,14 @@ use crate::slot::{Place, SlotState};
 use crate::slots::{empty, find, wipe};
 
 /// Brings a disk up as that of a cell: finds the slot that counts, and leaves nothing in the other
-/// one, or in both where none counts. Tells what is known of the disk then, and what it keeps. The
-/// gate of a slot that reads closed is never written, since a write that is torn could open it.
+/// one, or in both where none counts. Answers what is known of the disk then, and what it keeps.
+///
+/// The device calls are the disk's own restart, a sync, and a read of each slot, the first one
+/// first. Then each slot that does not count is emptied, the first one first: an open one is closed
+/// and wiped in four steps, and one that reads closed is wiped in two. So there are five device
+/// steps where one slot is open, and seven where both are or none is. The gate of a slot that reads
+/// closed is never written, since a torn write could open it over a torn body. A restart that is
+/// itself stopped leaves a disk that keeps what it kept.
 ///
 /// Refused with `Device` where a device step failed, and with `Damaged` where the disk has another
 /// size than two slots, or both are open and their sequences are equal.

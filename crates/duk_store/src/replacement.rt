@@ -11,8 +11,26 @@ use crate::fault::StoreFault;
 use crate::slot::Place;
 use crate::slots::{empty, fill};
 
-/// Fills a slot, and empties the other one once the new one is open. A stop in between leaves what
-/// was kept or the new body, and nothing else counts.
+/// Fills the slot at `place`, and empties the other one once the new one is open.
+///
+/// It makes eight device steps. Until step 5 a stop leaves the old slot as it was. The table has what
+/// a stop after a step, and before the next one, leaves, and what a restart finds then.
+///
+/// | | device step | a stop leaves | found |
+/// |---|---|---|---|
+/// | 1 | write sequence and body of the new slot | the new slot closed, with any bytes after its gate | the old body |
+/// | 2 | sync | the new slot closed, with sequence and body | the old body |
+/// | 3 | write 01 to its gate | the new slot whole, with any gate | the old body, or the new one where the gate is 01 |
+/// | 4 | sync | both slots open, the old one of smaller sequence | the new body |
+/// | 5 | write 00 to the gate of the old slot | that slot as it was, with any gate | the new body |
+/// | 6 | sync | the old slot closed | the new body |
+/// | 7 | write zeros to its sequence and body | the old slot closed, with any bytes after its gate | the new body |
+/// | 8 | sync | the old slot closed and zero | the new body |
+///
+/// A step that fails, or is stopped, leaves what a stop after it, or after the one before it, could
+/// leave. A gate is written by itself, and is opened only once the body of its slot is synced, so
+/// there is never a mixture of two bodies. The first put of all closes and wipes a slot that is
+/// closed and zero; where step 5 tears that gate open, its sequence is 0, which is smaller.
 ///
 /// Refused with `Device` where a device step failed.
 pub fn replace<D: Disk>(

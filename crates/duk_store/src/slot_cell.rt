@@ -20,8 +20,9 @@ use std::marker::Model;
 /// and the other is closed and zero.
 ///
 /// A body is written into the empty slot, which is opened once that is synced; then the old slot is
-/// closed, and wiped. So a stop leaves the old body or the new one, whatever it makes of what was
-/// not synced, and once a put is done nothing of the old body stands on the disk.
+/// closed, and wiped (`replace` has the device steps). So a stop leaves the old body or the new one,
+/// whatever it makes of what was not synced, and once a put is done nothing of the old body stands
+/// on the disk.
 #[derive(Drop)]
 pub struct SlotCell<D: Disk> {
     disk: D,
