@@ -1,4 +1,7 @@
 //! The numbers that were used.
+//!
+//! Contracts have the used numbers as a list, and ask only whether a number is in it; nothing is
+//! said of its order. A model of a type cannot be a function from numbers to yes or no.
 
 ghost use Rattle.std.specs.Prelude.{◌≡◌, ◌↔◌, [], IsTrue, IfOk, OnErr};
 ghost use Rattle.std.specs.Bool.{MatchBool};

@@ -1,4 +1,7 @@
 //! A key serial number that was opened, and the commands over its transaction key.
+//!
+//! A transaction owns its key and a copy of the zone key, so that a host may change its index and
+//! its log while it has one.
 
 ghost use Rattle.std.specs.Prelude.{◌≡◌, ◌↔◌, ◌<◌, IfOk, IfErr, IsOk, length};
 ghost use Rattle.duk_tree.specs.Serial.{Serial};

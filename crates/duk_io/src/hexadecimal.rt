@@ -1,4 +1,7 @@
 //! Bytes in hexadecimal.
+//!
+//! The crate `hex` reads hexadecimal, in either case. It writes upper case only into memory that it
+//! takes, or into a slice of a fixed length, so it is written by a table here.
 
 ghost use Rattle.std.specs.Prelude.{◌≡◌, ◌+◌, ◌*◌, ◌≤◌, ◌++◌, length};
 ghost use Rattle.hex.specs.Hex.{encode_upper};

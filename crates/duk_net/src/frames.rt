@@ -1,4 +1,7 @@
 //! What the frames on the network say.
+//!
+//! A number is read off the bytes of its frame, so that the laws speak of what went over the
+//! network, and not of what a terminal remembers.
 
 ghost use Rattle.std.specs.Prelude.{◌≡◌, List, ℕ};
 ghost use Rattle.duk_frame.specs.Answer.{IsAnswer};

@@ -1,4 +1,8 @@
 //! Which terminal owns which initial key serial number.
+//!
+//! A load whose store failed records an owner too: the cell may have kept the image, and a restart
+//! may find it. After every other refusal nothing was kept. An owner may ask for its number again,
+//! and its terminal refuses it while it keeps it.
 
 ghost use Rattle.std.specs.Prelude.{◌≡◌, ◌<◌, ◌↔◌, IsTrue};
 ghost use Rattle.std.specs.Vec.{vec_capacity, vec_len};

@@ -1,4 +1,8 @@
 //! Terminals, host and the frames between them.
+//!
+//! An event makes all its room before a store is called, so that it is done wholly or not at all.
+//! Only the host's restart grows its index while the log is read: where that is refused memory, the
+//! host is left stopped.
 
 mod host_events;
 mod terminal_events;

@@ -1,4 +1,7 @@
 //! Files as the program sees them: they may make known what they hold.
+//!
+//! A script is played from memory, since a reader of an open file could not promise that no read of
+//! it fails.
 
 ghost use Rattle.std.specs.Prelude.{ℕ, List, None, IfOk, IfErr};
 ghost use Rattle.duk_program.specs.Files.{FileKnown, IsFileRead, IsFileUnread, held_bytes};

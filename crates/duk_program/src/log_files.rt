@@ -1,4 +1,8 @@
 //! Files that keep logs, as the program sees them.
+//!
+//! `LogFiles` asks of its disks only that they are small, and who opens one asks that it is a
+//! `Disk`: with `Disk` as the bound of the associated type the checker refuses an impl whose disk
+//! is a generic type.
 
 ghost use Rattle.std.proofs.Common.{rules};
 ghost use Rattle.std.specs.Prelude.{ℕ, List, None, IfOk, OnErr};

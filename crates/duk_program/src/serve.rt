@@ -1,4 +1,8 @@
 //! The command `serve`: a host of a configuration that answers the frames of its input.
+//!
+//! That a host over its log fits in memory is required, since the host has the log by value, and
+//! nothing else bounds the size of an unknown type. At each type of this repository the check
+//! proves it by computing.
 
 ghost use Rattle.std.specs.Prelude.{◌≡◌, ◌⊎◌, IfErr, IfOk};
 ghost use Rattle.duk_host.specs.Host.{host_meaning_of};

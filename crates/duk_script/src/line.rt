@@ -1,4 +1,7 @@
 //! A line of output, written word by word into a fixed buffer.
+//!
+//! The buffer is fixed, so that writing a line takes no memory: the lines of the events that are
+//! done can be written after memory was refused.
 
 ghost use Rattle.std.specs.Prelude.{◌≡◌, ◌+◌, ◌<◌, ◌≤◌, ◌^◌, ◌∷◌, ◌++◌, [], length, decimal};
 ghost use Rattle.duk_tree.specs.Serial.{iksn_bytes, serial_bytes};

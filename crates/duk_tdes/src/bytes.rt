@@ -1,4 +1,8 @@
 //! Arrays of bytes, as keys and blocks are made of them.
+//!
+//! Slices become arrays by `array_of` and not by `TryFrom`: it asks for the length, and its
+//! contract says that each element is a byte. The answer of `try_into` has to be unwrapped, with a
+//! proof at each place.
 
 ghost use Rattle.std.specs.Prelude.{◌≡◌, length};
 ghost use Rattle.duk_tdes.specs.Key.{IsKey};
