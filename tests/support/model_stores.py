@@ -1,7 +1,7 @@
 """The stores of terminals and host: a cell and a log in memory, and both on a disk.
 
 A call is refused by a `StoreFault`. In memory a write has two device steps, which keep the new
-value and acknowledge it. On a disk its device steps are those of docs/ARCHITECTURE.md.
+value and acknowledge it. On a disk its device steps are those of docs/FORMATS.md.
 """
 from __future__ import annotations
 
