@@ -1,4 +1,4 @@
--- What words of 32 bits hold. The first bit of a word is its most significant.
+-- What numbers of 32 bits have as bits, the most significant first: this project's own.
 use Rattle.std.specs.Prelude.{ℕ, ◌+◌, ◌-◌, ◌*◌, Bool, false, cond, List, [], ◌∷◌, ◌++◌, take, drop, replicate, slice_index_or}
 use Rattle.duk_des.specs.Bits.{permute, bits_of}
 use Rattle.duk_des.specs.Des.{substitute}

@@ -1,4 +1,4 @@
--- A host: what it is, and what its log holds of it. This project's own.
+-- A host: what it is, and what its log holds of it: this project's own.
 use Rattle.std.specs.Prelude.{◌≡◌, ◌-◌, true, Option, Some, None, IsSome}
 use Rattle.duk_hsm.specs.Keys.{HsmKeys}
 use Rattle.duk_store.specs.Log.{LogMeaning, Numbers}

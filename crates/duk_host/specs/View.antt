@@ -1,4 +1,4 @@
--- What contracts see of a host's fields. This project's own.
+-- What contracts see of a host's fields: this project's own.
 use Rattle.std.specs.Prelude.{◌≡◌, ℕ}
 use Rattle.duk_host.specs.Host.{HostOf}
 use Rattle.duk_host.specs.declared.host.Host.TheInside.{Inside}

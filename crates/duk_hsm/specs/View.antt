@@ -1,4 +1,4 @@
--- What contracts see of the fields of a security module, and of a number that it opened. This
+-- What contracts see of the fields of a security module, and of a number that it opened: this
 -- project's own.
 use Rattle.std.specs.Prelude.{◌≡◌, ℕ, Option}
 use Rattle.std.specs.Option.{option_map}

@@ -1,4 +1,4 @@
--- Past initial key serial numbers in the front of an array of eight. This project's own.
+-- Past initial key serial numbers in the front of an array of eight: this project's own.
 use Rattle.std.specs.Prelude.{◌≡◌, ℕ, ◌-◌, ◌≤◌, List, ◌++◌, length, take, replicate}
 
 -- the first ones are in use, and each place behind them is zero

@@ -27,11 +27,12 @@ IsSpentIksn iksn set = (iksn ≡ set.iksn) ⊎ IsPastOf iksn set
 abbrev pub empty_register : List ℕ
 empty_register = replicate 16 0
 
--- a register by its number, which is a bit place of the counter
+-- a register by its bit place of the counter: place p is Future Key Register #(21 - p), since the
+-- standard numbers bits from the left
 abbrev pub register_at : List (List ℕ) → ℕ → List ℕ
 register_at registers place = slice_index_or registers place empty_register
 
--- the place of the lowest one bit of a counter
+-- the place of the lowest one bit of a counter, where `Set Bit` sets a bit
 abbrev pub lowest_place : ℕ → ℕ
 lowest_place counter = last_place (path_of counter)
 
@@ -75,9 +76,9 @@ pub record HoldsNode (initial : List ℕ) (set : RegisterSet) (place : ℕ) : Ty
   pub is_at : lowest_place node ≡ place
   pub holds : register_at set.registers place ≡ transaction_key_of initial set.iksn node
 
--- how a transaction changes what a terminal keeps, whatever its registers stand for: the register
--- of the lowest one bit gives its key and is emptied, and under ten one bits the registers below it
--- get the keys of the children
+-- how a transaction changes what a terminal keeps (`Set Bit`, `New Key`), whatever its registers
+-- stand for: the register of the lowest one bit gives its key and is emptied, and under ten one bits
+-- the registers below it get the keys of the children
 pub record IsTaken (old : RegisterSet) (key : List ℕ) (new : RegisterSet) : Type 0 where
   pub same_iksn : new.iksn ≡ old.iksn
   pub same_past : new.past ≡ old.past

@@ -1,4 +1,4 @@
--- A terminal is given another initial key. This project's own.
+-- A terminal is given another initial key: this project's own.
 use Rattle.std.specs.Prelude.{◌≡◌, ℕ, List, [], ◌∷◌, ◌++◌}
 use Rattle.duk_regs.specs.Registers.{RegisterSet, IsRegisterSet, StandsFor}
 

@@ -1,4 +1,4 @@
--- A terminal: what it is, and what its store holds of it. This project's own.
+-- A terminal: what it is, and what its store holds of it: this project's own.
 use Rattle.std.specs.Prelude.{◌≡◌, ◌⊎◌, true, ℕ, List, Some, None, ◌==◌, if◌then◌else◌}
 use Rattle.duk_store.specs.Cell.{CellMeaning, Kept, PutFailed}
 use Rattle.duk_store.specs.declared.fault.StoreFault.{StoreFault}

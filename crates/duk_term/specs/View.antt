@@ -1,4 +1,4 @@
--- What contracts see of a terminal's fields. This project's own.
+-- What contracts see of a terminal's fields: this project's own.
 use Rattle.duk_term.specs.Terminal.{TerminalOf}
 use Rattle.duk_term.specs.declared.terminal.Terminal.TheInside.{Inside}
 

@@ -29,7 +29,7 @@ half_step_of key crypto_register =
     xor_bytes (second_key key)
     (encrypted (first_key key) (xor_bytes (second_key key) crypto_register))
 
--- the non-reversible key generation process: the right half under the key itself, the left half
+-- the Non-reversible Key Generation Process: the right half under the key itself, the left half
 -- under the key with the mask
 unfoldable pub step_of : List ℕ → List ℕ → List ℕ
 step_of key crypto_register =
@@ -62,10 +62,11 @@ derived_key_of bdk serial =
 abbrev pub pin_key_of : List ℕ → List ℕ
 pin_key_of key = xor_bytes key (both_halves (0 ∷ 0 ∷ 0 ∷ 0 ∷ 0 ∷ 0 ∷ 0 ∷ 0xFF ∷ []))
 
--- the variant that authenticates requests: 000000000000FF00
+-- the variant that authenticates requests (message authentication, request or both ways):
+-- 000000000000FF00
 abbrev pub request_key_of : List ℕ → List ℕ
 request_key_of key = xor_bytes key (both_halves (0 ∷ 0 ∷ 0 ∷ 0 ∷ 0 ∷ 0 ∷ 0xFF ∷ 0 ∷ []))
 
--- the variant that authenticates responses: 00000000FF000000
+-- the variant that authenticates responses (message authentication, response): 00000000FF000000
 abbrev pub response_key_of : List ℕ → List ℕ
 response_key_of key = xor_bytes key (both_halves (0 ∷ 0 ∷ 0 ∷ 0 ∷ 0xFF ∷ 0 ∷ 0 ∷ 0 ∷ []))
