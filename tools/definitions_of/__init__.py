@@ -1,0 +1,1 @@
+"""What the public contracts rest on: the definitions that they cite, followed to the last one."""
