@@ -42,8 +42,8 @@ class Reach:
 
     # What a name means
 
-    def meant(self, imports: Imports, name: str) -> Iterator[Node]:
-        """What an imported name means."""
+    def meant(self, imports: Imports, name: str, after: str = "") -> Iterator[Node]:
+        """What an imported name means; of a module, with what stands after it, as in `module.name`."""
         path, old = imports[name]
         parts = path.split(".")
         if len(parts) < 3 or parts[0] != "Rattle" or parts[2] != "specs":
@@ -51,8 +51,8 @@ class Reach:
         crate, inside = parts[1], parts[3:]
         if inside and inside[0] == "declared":
             yield from self.declared(crate, inside[1:], old)
-        elif old:
-            yield from self.defined(crate, ".".join(inside), old)
+        elif old or after.startswith("."):
+            yield from self.defined(crate, ".".join(inside), old or after[1:])
 
     def declared(self, crate: str, path: list[str], old: Optional[str]) -> Iterator[Node]:
         """A type of the code, by the path of its generated module."""
@@ -76,7 +76,7 @@ class Reach:
             after = words[place + 1] if place + 1 < len(words) else ""
             label = before in ("{", ";") and after == "=" or before == "pub" and after == ":"
             if word in imports and not label and (word not in bound or imports[word][1] is None):
-                found.update(self.meant(imports, word))
+                found.update(self.meant(imports, word, after))
         return found
 
     # What a definition cites
