@@ -1,4 +1,5 @@
--- What terminals hold of the tree of keys (ANSI X9.24-1:2009 annex A): this project's own.
+-- Which keys of the key tree a terminal may keep: this project's own, over the registers of ANSI
+-- X9.24-1:2009 annex A.
 use Rattle.std.specs.Prelude.{◌≡◌, ◌<◌, ◌⊎◌, ℕ, List, Some, None, length}
 use Rattle.duk_hsm.specs.Keys.{HsmKeys}
 use Rattle.duk_regs.specs.Registers.{IsSpentIksn, RegisterSet, StandsFor, empty_register, register_at}
