@@ -1,3 +1,4 @@
+pub mod FirstFault
 pub mod Known
 pub mod Sink
 pub mod Source
