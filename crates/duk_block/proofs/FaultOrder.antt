@@ -61,9 +61,9 @@ met_before_hex text key header count has body of_body =
 pub IsFirstFault-same : (text key : List ℕ) (a b : BlockFault) → IsFirstFault text key a → IsFirstFault text key b → a ≡ b
 IsFirstFault-same text key a b first other =
     elim (cases_lt (rank a) (rank b)) [
-      | inl below ↦ absurd (first.unmet (other.earlier_met a below))
+      | inl below ↦ absurd (first.fails (other.earlier_met a below))
       | inr above ↦ elim (cases_lt (rank b) (rank a)) [
-        | inl below ↦ absurd (other.unmet (first.earlier_met b below))
+        | inl below ↦ absurd (other.fails (first.earlier_met b below))
         | inr equal ↦ rank_same a b (omega arith)
       ]
     ]

@@ -35,14 +35,14 @@ reads_of text protection_key exact (Ok answer) found kind refused header key wra
     let second : answer.1 ≡ key_from key = kind ∙ ap key_from same.1 in
     ap (λ h. Ok (h, answer.1)) same.0 ∙ ap (λ k. Ok (header, k)) second
 reads_of text protection_key exact (Err fault) found kind refused header key wraps =
-    absurd (refused.unmet (exact.no_fault header key wraps fault))
+    absurd (refused.fails (exact.no_fault header key wraps fault))
 
 refuses_of : (text protection_key : List ℕ) → Exact text protection_key → (answer : Result (Header × KeyBytes) BlockFault)
     → IfOk answer (λ found. Wraps protection_key text found.0 (bytes_of found.1))
     → IfErr answer (IsFirstFault text protection_key)
     → RefusesFirstFaults answer text protection_key
 refuses_of text protection_key exact (Ok answer) found refused fault =
-    (λ same. cc, λ first. absurd (first.unmet (exact.no_fault answer.0 (bytes_of answer.1) found fault)))
+    (λ same. cc, λ first. absurd (first.fails (exact.no_fault answer.0 (bytes_of answer.1) found fault)))
 refuses_of text protection_key exact (Err told) found refused fault =
     let P : BlockFault → Type 0 = IsFirstFault text protection_key in (
       λ same. subst P (fault_same told fault same) refused,

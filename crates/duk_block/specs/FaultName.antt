@@ -3,7 +3,7 @@ use Rattle.std.specs.Prelude.{ℕ, List, codes}
 use Rattle.duk_block.specs.declared.fault.BlockFault.{BlockFault}
 use Rattle.duk_block.specs.declared.fault.BlockFault.TheVariants as fault
 
--- a fault's name, as each command and each line that tells it writes it
+-- a fault's name, as each command and each line that reports it writes it
 abbrev pub block_fault_name : BlockFault → List ℕ
 block_fault_name fault.Length = codes "Length"
 block_fault_name fault.Version = codes "Version"

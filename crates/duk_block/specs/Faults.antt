@@ -2,6 +2,7 @@
 use Rattle.std.specs.Prelude.{◌≡◌, ◌<◌, ◌≤◌, ◌%◌, ℕ, List, ◌++◌, length, take, drop, codes}
 use Rattle.std.specs.List.{All, AllPass}
 use Rattle.hex.specs.Hex.{is_hex_digit}
+use Rattle.duk_io.specs.FirstFault.{AllBefore, IsFirst}
 use Rattle.duk_tdes.specs.Cbc.{AreWholeBlocks}
 use Rattle.duk_tdes.specs.Tdes.{IsTdesKey}
 use Rattle.duk_block.specs.declared.header.Header.{Header}
@@ -31,7 +32,7 @@ pub record HasCount (text : List ℕ) (count : ℕ) : Type 0 where
   pub below : count < 100
   pub written : take 2 (drop 12 text) ≡ two_digits count
 
--- as many optional blocks as characters 12 and 13 say stand behind the header, and then the body:
+-- as many optional blocks as characters 12 and 13 say stand after the header, and then the body:
 -- hexadecimal digits of a ciphertext of at least 24 bytes, in whole blocks, and of the MAC
 pub record HasBody (text body : List ℕ) : Type 0 where
   pub count : ℕ
@@ -89,13 +90,12 @@ rank PadLength = 7
 
 -- the text meets what comes before this fault in the order
 abbrev pub MetBefore : List ℕ → List ℕ → BlockFault → Type 0
-MetBefore text protection_key fault =
-    (earlier : BlockFault) → rank earlier < rank fault → Meets text protection_key earlier
+MetBefore text protection_key = AllBefore rank (Meets text protection_key)
 
 -- the first of the faults, in their order, whose condition the text does not meet
-pub record IsFirstFault (text protection_key : List ℕ) (fault : BlockFault) : Type 0 where
-  pub unmet : ¬ Meets text protection_key fault
-  pub earlier_met : MetBefore text protection_key fault
+abbrev pub IsFirstFault : List ℕ → List ℕ → BlockFault → Type 0
+IsFirstFault text protection_key =
+    IsFirst rank (Meets text protection_key) (λ fault. ¬ Meets text protection_key fault)
 
 -- the header's characters are this header's and this number of optional blocks: what a private
 -- function of `unwrap` answers

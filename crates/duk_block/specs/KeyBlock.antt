@@ -27,7 +27,7 @@ ciphertext_of protection_key mac payload =
     cbc_encrypted (derived_key encryption_usage protection_key) mac payload
 
 -- The text is a key block that binds the header to the key under the protection key. In front stand
--- the header's characters and the optional blocks; the body behind them is the ciphertext and the
+-- the header's characters and the optional blocks; the body after them is the ciphertext and the
 -- MAC in hexadecimal. This project's own: the reserved characters may be anything, the header's
 -- fields can be printed, and the key has 16 or 24 bytes.
 pub record IsKeyBlock (text protection_key : List ℕ) (header : Header) (key : List ℕ) : Type 0 where
@@ -96,7 +96,7 @@ pub record FitsKeyBlock (key padding : ℕ) : Type 0 where
   pub whole : (2 + key + padding) % 8 ≡ 0
   pub most : 32 + 2 * (2 + key + padding) ≤ 512
 
--- the text has these characters in front, and behind them, in upper case, the ciphertext and the
+-- the text has these characters in front, and after them, in upper case, the ciphertext and the
 -- MAC of this payload: what a private function of `wrap` writes
 pub record IsSealed (protection_key front payload text : List ℕ) : Type 0 where
   pub mac : List ℕ

@@ -17,10 +17,10 @@ pub enum BlockFault {
     /// A header field cannot be printed, or the number of optional blocks is not two decimal
     /// digits.
     HeaderField,
-    /// An optional block does not fit or its length is no length, or what is left behind them is
+    /// An optional block does not fit or its length is no length, or what is left after them is
     /// too short for a ciphertext and a MAC or is not made of whole blocks.
     OptionalBlock,
-    /// A character behind the optional blocks is no hexadecimal digit.
+    /// A character after the optional blocks is no hexadecimal digit.
     Hex,
     /// The MAC is not that of the block.
     Mac,

@@ -1,4 +1,4 @@
-//! The optional blocks behind a header.
+//! The optional blocks after a header.
 
 ghost use Rattle.std.specs.Prelude.{◌≡◌, ℕ, List, MatchOption};
 ghost use Rattle.duk_block.specs.Optional.{Leaves, LeavesOne};

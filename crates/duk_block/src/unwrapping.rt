@@ -58,7 +58,7 @@ fn read<const N: usize>(kbpk: &Key<N>, text: &[u8]) -> Result<(Header, KeyBytes)
     }
 }
 
-/// The header, and the number of optional blocks behind it.
+/// The header, and the number of optional blocks after it.
 fn header_of(text: &[u8]) -> Result<(Header, u8), BlockFault>
     ensures found { IfOk result (λ found. HasHeader text.now found.0 found.1) }
     ensures refused { IfErr result
@@ -80,7 +80,7 @@ fn header_of(text: &[u8]) -> Result<(Header, u8), BlockFault>
     }
 }
 
-/// What stands behind the optional blocks, where ciphertext and MAC have room in it.
+/// What stands after the optional blocks, where ciphertext and MAC have room in it.
 fn body_of(text: &[u8], count: u8) -> Option<&[u8]>
     requires header { 16 ≤ length text.now }
     requires count { HasCount text.now count }

@@ -13,7 +13,7 @@ use crate::text::{BlockText, MAX_TEXT};
 use duk_io::append_hex;
 use duk_tdes::Key;
 
-/// Padding of zeros behind a key of 16 or 24 bytes: with it, the key and the two bytes of its
+/// Padding of zeros after a key of 16 or 24 bytes: with it, the key and the two bytes of its
 /// length fill whole blocks.
 pub const ZERO_PADDING: [u8; 6] = [0; 6];
 
@@ -21,7 +21,7 @@ pub const ZERO_PADDING: [u8; 6] = [0; 6];
 const MAX_PAYLOAD: usize = (MAX_TEXT - 32) / 2;
 
 /// Wraps a key in a key block with no optional block: the header, and the key with this padding
-/// behind it enciphered under a key derived from the key block protection key. `N` and `M` are 16
+/// after it enciphered under a key derived from the key block protection key. `N` and `M` are 16
 /// or 24.
 ///
 /// Refuses a header with a character outside 20 to 7E hexadecimal as `HeaderField`; then, as

@@ -6,4 +6,4 @@ pub returns : goal.returns
 returns c = λ protection_key text header key fault is_key wraps first.
     let derived = c.derived_keys.ensures.encryption protection_key is_key in
     let opened = payload_at c.cbc_inverse.ensures.cipher_length text protection_key header key wraps.block derived in
-    first.unmet (all_met text protection_key header key wraps.limits wraps.block opened fault)
+    first.fails (all_met text protection_key header key wraps.limits wraps.block opened fault)

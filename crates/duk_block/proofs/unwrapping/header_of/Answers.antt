@@ -16,7 +16,7 @@ returns-then-not-is_printable-clause-refused c = λ protection_key.
     let has_length : HasLength text = search rules in
     let P : List ℕ → Type 0 = All IsPrintable in
     record {
-      unmet = λ met.
+      fails = λ met.
           let header : IsHeader c.from_text-header.result = record { widths = c.from_text-header.ensures.widths; printable = subst P (sym c.from_text-header.ensures.fields) met.0 } in
           let printable : c.is_printable.result ≡ true = c.is_printable.ensures.1 header in
           false≢true (sym c.if-not-is_printable.true ∙ printable);

@@ -32,7 +32,7 @@ returns-in_default-clause-refused g c =
     let P : List ℕ → Type 0 = AllPass is_hex_digit in
     let none = c.in_default.ensures in
     record {
-      unmet = λ met. none (subst P (HasBody-same c.args.text.now met.0 c.args.body.now met.1 c.requires.body) met.2);
+      fails = λ met. none (subst P (HasBody-same c.args.text.now met.0 c.args.body.now met.1 c.requires.body) met.2);
       earlier_met = c.requires.met;
     }
 
@@ -98,7 +98,7 @@ returns-else-eq-clause-refused g c =
     parts_of c.args.text.now body c.as_slice.result.now ciphertext mac c.in-Some.bytes.items (length body / 2 - 8) c.requires.body c.in-Some.ensures c.as_slice.ensures.value
     c.split_at.ensures.front (c.array_of-mac.ensures.bytes ∙ c.split_at.ensures.back) c.array_of-mac.ensures.key.size_is in
     record {
-      unmet = λ met.
+      fails = λ met.
           let other = met.1 in
           let same = HasParts-same text other.front other.ciphertext other.mac front ciphertext mac other.parts parts in
           let enciphered : ciphertext ≡ ciphertext_of key mac met.0 =

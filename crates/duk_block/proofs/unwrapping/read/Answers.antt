@@ -13,7 +13,7 @@ returns-in_err-header-clause-refused g c =
 
 pub returns-in_default-clause-refused : goal.returns-in_default-clause-refused
 returns-in_default-clause-refused g c = record {
-  unmet = λ met. c.in_default.ensures met.0 met.1;
+  fails = λ met. c.in_default.ensures met.0 met.1;
   earlier_met = met_before_optional c.args.text.now c.args.kbpk.now c.in_ok-header.header c.in_ok-header.count c.in_ok-header.ensures.found;
 }
 
@@ -34,7 +34,7 @@ pub returns-in-None-clause-refused : goal.returns-in-None-clause-refused
 returns-in-None-clause-refused g c =
     let header = c.in_ok-header.ensures.found in
     record {
-      unmet = λ met.
+      fails = λ met.
           let P : List ℕ → Type 0 = λ bytes. Carries bytes met.1 in
           c.in-None.ensures.found met.1 (subst P (c.in_ok-payload.ensures.only met.0 met.2 ∙ sym c.as_slice.ensures.value) met.3);
       earlier_met = met_before_payload c.args.text.now c.args.kbpk.now c.in_ok-header.header c.in_ok-header.count header c.in_ok-payload.payload.items c.in_ok-payload.ensures.found;
