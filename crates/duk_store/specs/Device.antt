@@ -16,7 +16,7 @@ new_device = record { running = false; passes = None; failures = 0 }
 abbrev pub started : Device → Device
 started device = record device { running = true; passes = None }
 
--- told how many steps are to pass
+-- armed: so many steps are to pass
 abbrev pub armed : ℕ → Device → Device
 armed steps device = record device { passes = Some steps }
 

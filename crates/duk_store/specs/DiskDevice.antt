@@ -18,15 +18,15 @@ pub record IsCalmDevice (device : DiskDevice) : Type 0 where
   pub not_armed : device.passes ≡ None
   pub no_single_failure : device.once ≡ None
 
--- told after how many steps each one is to fail
+-- armed: after so many steps each one is to fail
 abbrev pub armed_device : ℕ → DiskDevice → DiskDevice
 armed_device steps device = record device { passes = Some steps }
 
--- armed no more; one step is still to fail if it was told to
+-- armed no more; one step is still to fail if that was asked for
 abbrev pub disarmed_device : DiskDevice → DiskDevice
 disarmed_device device = record device { passes = None }
 
--- told after how many steps one is to fail
+-- asked to fail at one step, after so many
 abbrev pub failing_once : ℕ → DiskDevice → DiskDevice
 failing_once steps device = record device { once = Some steps }
 

@@ -162,7 +162,7 @@ pub record IsRecordWritten (number : Serial) (before after : List ℕ) : Type 0 
   pub is_open : IsOpen after
   pub contents : behind_gate after ≡ number_bytes number
 
--- it is written in part: its gate is as it was, or its number is whole behind any gate
+-- it is written in part: its gate is as it was, or its number is whole after any gate
 abbrev pub IsRecordTorn : Serial → List ℕ → List ℕ → Type 0
 IsRecordTorn number before after =
     (gate_of after ≡ gate_of before) ⊎ (behind_gate after ≡ number_bytes number)

@@ -24,7 +24,7 @@ pub record LogMeaning (L : Type 0) : Type 1 where
   -- how arming with a number of steps leaves it
   pub arms : L → ℕ → L → Type 0
 
--- how many numbers a log keeps, as it tells it: none while it is stopped
+-- how many numbers a log reports that it keeps: none while it is stopped
 abbrev pub length_of : {L : Type 0} → LogMeaning L → L → ℕ
 length_of meaning log = if (meaning.state_of log).running then meaning.count log else 0
 

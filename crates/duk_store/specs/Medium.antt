@@ -4,7 +4,7 @@ use Rattle.duk_store.specs.Disk.{DiskState}
 
 -- what may be said of a medium
 pub record MediumState : Type 1 where
-  -- it tells which bytes it holds, and keeps to the model of a disk
+  -- it reports which bytes it holds, and keeps to the model of a disk
   pub honest : Type 0
   -- no call of it fails
   pub calm : Type 0
@@ -15,7 +15,7 @@ pub record MediumState : Type 1 where
   -- the bytes that a stop could leave
   pub may_leave : List ℕ → Type 0
 
--- a medium that tells nothing: nothing is known of its bytes, and each call of it may fail
+-- a medium that reports nothing: nothing is known of its bytes, and each call of it may fail
 abbrev pub untold : MediumState
 untold = record { honest = ⊥; calm = ⊥; failed = ⊥; reads = []; may_leave = λ bytes. ⊥ }
 
@@ -31,10 +31,10 @@ as_disk medium = record {
   may_leave = medium.may_leave;
 }
 
--- a range lies inside a medium that tells its bytes
+-- a range lies inside a medium that reports its bytes
 abbrev pub IsInside : MediumState → ℕ → ℕ → Type 0
 IsInside medium at count = medium.honest → at + count ≤ length medium.reads
 
--- these are all bytes of a medium that tells them
+-- these are all bytes of a medium that reports them
 abbrev pub IsSizeOf : ℕ → MediumState → Type 0
 IsSizeOf size medium = medium.honest → length medium.reads ≡ size

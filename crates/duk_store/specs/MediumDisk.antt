@@ -36,7 +36,7 @@ medium_disk_state state disk = record (as_disk (state disk.medium)) {
   failures = disk.device.failures;
 }
 
--- the disk, told after how many steps each one is to fail
+-- the disk, armed to fail at each step after so many
 abbrev pub armed_medium_disk : {M : Type 0} → ℕ → MediumDiskOf M → MediumDiskOf M
 armed_medium_disk steps disk = record disk { device = armed_device steps disk.device }
 

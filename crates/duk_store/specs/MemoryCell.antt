@@ -30,7 +30,7 @@ memory_cell_state cell = record {
 abbrev pub restarted : MemoryCell → MemoryCell
 restarted cell = record cell { device = started cell.device }
 
--- the cell, told how many steps are to pass
+-- the cell, armed: so many steps are to pass
 abbrev pub armed_cell : ℕ → MemoryCell → MemoryCell
 armed_cell steps cell = record cell { device = armed steps cell.device }
 

@@ -64,11 +64,11 @@ memory_disk_state disk = record {
   may_leave = CouldLeave disk;
 }
 
--- the disk, told after how many steps each one is to fail
+-- the disk, armed to fail at each step after so many
 abbrev pub armed_disk : ℕ → MemoryDisk → MemoryDisk
 armed_disk steps disk = record disk { device = armed_device steps disk.device }
 
--- the disk, told after how many steps one is to fail
+-- the disk, asked to fail at one step, after so many
 abbrev pub disk_failing_once : ℕ → MemoryDisk → MemoryDisk
 disk_failing_once steps disk = record disk { device = failing_once steps disk.device }
 

@@ -33,7 +33,7 @@ memory_log_state log = record {
 abbrev pub restarted_log : MemoryLog → MemoryLog
 restarted_log log = record log { device = started log.device }
 
--- the log, told how many steps are to pass
+-- the log, armed: so many steps are to pass
 abbrev pub armed_log : ℕ → MemoryLog → MemoryLog
 armed_log steps log = record log { device = armed steps log.device }
 

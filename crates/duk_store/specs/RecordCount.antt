@@ -8,7 +8,7 @@ CountsNext count place said after =
     ((said.is_open ≡ false) × (after ≡ count))
     ⊎ ((said.is_open ≡ true) × (said.has_zeros ≡ true) × (count ≡ place) × (after ≡ count + 1))
 
--- an open record stands behind a closed one, or has no zeros
+-- an open record stands after a closed one, or has no zeros
 pub record IsNoList (count place : ℕ) (said : Record) : Type 0 where
   pub is_open : said.is_open ≡ true
   pub why : (count < place) ⊎ (said.has_zeros ≡ false)

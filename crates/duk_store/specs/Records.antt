@@ -18,18 +18,18 @@ IsLogSize size = (records : ℕ) × (1 ≤ records) × (size ≡ record_length *
 abbrev pub record_at : ℕ → List ℕ → List ℕ
 record_at place bytes = take record_length (drop (record_length * place) bytes)
 
--- the number in a record, and what stands behind it
+-- the number in a record, and what stands after it
 abbrev pub number_in : List ℕ → Serial
 number_in bytes = serial_of_bytes (take 10 (behind_gate bytes))
 
 abbrev pub behind_number : List ℕ → List ℕ
 behind_number bytes = drop 10 (behind_gate bytes)
 
--- a number, as it stands behind a gate
+-- a number, as it stands after a gate
 abbrev pub number_bytes : Serial → List ℕ
 number_bytes number = serial_bytes number ++ replicate 5 0
 
--- a record that has a number: it is open, and has zeros behind its number
+-- a record that has a number: it is open, and has zeros after its number
 pub record HasNumber (bytes : List ℕ) : Type 0 where
   pub is_open : IsOpen bytes
   pub zeros : behind_number bytes ≡ replicate 5 0

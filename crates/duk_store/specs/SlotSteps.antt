@@ -1,4 +1,5 @@
--- What the steps of a cell do to its disk: this project's own.
+-- What each step of a put and of a restart does to the two slots of a cell's disk, where it is done
+-- and where it fails: this project's own.
 use Rattle.std.specs.Prelude.{◌≡◌, ◌≢◌, ◌⊎◌, ◌↔◌, ℕ, Bool, true, List, replicate}
 use Rattle.duk_store.specs.Disk.{DiskState, HasFailed, KeepsBytes, KeepsDisk, LeavesChanged, LeavesReads, LeavesWithin}
 use Rattle.duk_store.specs.Slots.{IsBlank, IsOpen, Says, SlotsSay, behind_gate, cell_disk_size, contents_of, gate_of, other_than, slot_at}
@@ -37,12 +38,12 @@ pub record IsFilled (sequence : ℕ) (body before after : List ℕ) : Type 0 whe
   pub is_open : IsOpen after
   pub contents : behind_gate after ≡ contents_of sequence body
 
--- it is filled in part: its gate is as it was, or its sequence and body are whole behind any gate
+-- it is filled in part: its gate is as it was, or its sequence and body are whole after any gate
 abbrev pub IsPartlyFilled : ℕ → List ℕ → Change
 IsPartlyFilled sequence body before after =
     (gate_of after ≡ gate_of before) ⊎ (behind_gate after ≡ contents_of sequence body)
 
--- a slot is closed, or in part, behind any gate
+-- a slot is closed; in part, any gate stands before its contents
 pub record IsClosed (before after : List ℕ) : Type 0 where
   pub gate : gate_of after ≡ 0
   pub contents : behind_gate after ≡ behind_gate before
@@ -50,7 +51,7 @@ pub record IsClosed (before after : List ℕ) : Type 0 where
 abbrev pub IsPartlyClosed : Change
 IsPartlyClosed before after = behind_gate after ≡ behind_gate before
 
--- a slot is wiped, or in part, with any bytes behind its gate
+-- a slot is wiped; in part, any bytes stand after its gate
 pub record IsWiped (before after : List ℕ) : Type 0 where
   pub gate : gate_of after ≡ gate_of before
   pub zeros : behind_gate after ≡ replicate 511 0
@@ -63,7 +64,7 @@ pub record IsWipedBoth (before after : List ℕ) : Type 0 where
   pub gates : (place : Place) → gate_of (slot_at place after) ≡ gate_of (slot_at place before)
   pub zeros : (place : Place) → behind_gate (slot_at place after) ≡ replicate 511 0
 
--- the gates of both slots stay, behind which any bytes may stand
+-- the gates of both slots stay, and any bytes may stand after them
 abbrev pub BothGatesStay : Change
 BothGatesStay before after =
     (place : Place) → gate_of (slot_at place after) ≡ gate_of (slot_at place before)
@@ -111,7 +112,7 @@ pub record IsEmptied (before after : List ℕ) : Type 0 where
   pub gate : gate_of after ≡ 0
   pub zeros : behind_gate after ≡ replicate 511 0
 
--- it is emptied in part: not wiped yet, or closed, with any bytes behind its gate
+-- it is emptied in part: not wiped yet, or closed, with any bytes after its gate
 abbrev pub IsPartlyEmptied : Change
 IsPartlyEmptied before after = (behind_gate after ≡ behind_gate before) ⊎ (gate_of after ≡ 0)
 
@@ -121,7 +122,7 @@ pub record IsCleared (before after : List ℕ) : Type 0 where
   pub gate : ¬ IsOpen before → gate_of after ≡ gate_of before
 
 -- it is cleared in part: the gate of an open slot is torn, or the slot is closed, with any bytes
--- behind its gate, which is as it was where it was closed before
+-- after its gate, which is as it was where it was closed before
 abbrev pub IsPartlyCleared : Change
 IsPartlyCleared before after =
     (IsOpen before × (behind_gate after ≡ behind_gate before))

@@ -27,7 +27,7 @@ abbrev pub gate_place : Place → ℕ
 gate_place First = 0
 gate_place Second = 512
 
--- the gate of a slot, and what stands behind it
+-- the gate of a slot, and what stands after it
 abbrev pub gate_of : List ℕ → ℕ
 gate_of slot = slice_index slot 0
 
@@ -40,7 +40,7 @@ sequence_of slot = big_number 8 (behind_gate slot)
 abbrev pub body_of : List ℕ → List ℕ
 body_of slot = drop 8 (behind_gate slot)
 
--- a sequence and a body, as they stand behind a gate
+-- a sequence and a body, as they stand after a gate
 abbrev pub contents_of : ℕ → List ℕ → List ℕ
 contents_of sequence body = big_bytes 8 sequence ++ body
 
@@ -48,7 +48,7 @@ contents_of sequence body = big_bytes 8 sequence ++ body
 abbrev pub IsOpen : List ℕ → Type 0
 IsOpen slot = gate_of slot ≡ 1
 
--- a slot that is closed, with zeros behind its gate
+-- a slot that is closed, with zeros after its gate
 pub record IsBlank (slot : List ℕ) : Type 0 where
   pub closed : ¬ IsOpen slot
   pub zeros : behind_gate slot ≡ replicate 511 0

@@ -36,7 +36,7 @@ pub record IsNew {V : Type 0} (store : StoreState V) (value : V) : Type 0 where
   pub stopped : store.running ≡ false
   pub finds : FindsOnly store value
 
--- a sound store with nothing kept: a restart would find this, which stands for nothing
+-- a sound store with nothing kept: a restart would find this, which is how nothing is kept
 pub record KeepsNothing {V : Type 0} (store : StoreState V) (nothing : V) : Type 0 where
   pub sound : store.sound
   pub finds : FindsOnly store nothing

@@ -1,4 +1,4 @@
-//! What a terminal asks of the place where it keeps its image.
+//! The trait `Cell`: where a terminal keeps its image.
 
 ghost use Rattle.std.specs.Prelude.{IfOk, IfErr};
 ghost use Rattle.duk_store.specs.StoreState.{StaysButCalm};
@@ -10,7 +10,7 @@ use crate::fault::StoreFault;
 /// The bytes of a body.
 pub const BODY_LENGTH: usize = 503;
 
-/// What a cell keeps: the image of a terminal, with zero bytes behind it.
+/// What a cell keeps: the image of a terminal, with zero bytes after it.
 pub type Body = [u8; BODY_LENGTH];
 
 /// A place for one body, which outlives a stop. It is made stopped, and `restart` brings it up.
@@ -19,7 +19,7 @@ pub trait Cell: Drop {
     /// what it promises of itself after `put`.
     ghost meaning: { CellMeaning Self };
 
-    /// Brings the cell up and tells what it keeps, a body or nothing yet. It disarms first.
+    /// Brings the cell up and reports what it keeps, a body or nothing yet. It disarms first.
     ///
     /// Refused with `Device` where a device step failed, and with `Damaged` where the medium holds
     /// what no cell of this kind leaves. The cell is stopped then.

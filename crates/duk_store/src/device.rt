@@ -1,4 +1,4 @@
-//! The device under a store in memory.
+//! Which device step of a store in memory fails.
 
 ghost use Rattle.std.specs.Prelude.{◌≡◌, IfOk, IfErr};
 ghost use Rattle.duk_store.specs.Device.{HasPassed, IsStepDue, armed, new_device, started};

@@ -1,4 +1,4 @@
-//! What a store on a disk asks of the disk.
+//! The trait `Disk`: the bytes below a store, which are read, written and synced.
 
 ghost use Rattle.std.specs.Prelude.{◌≡◌, ◌+◌, ◌≤◌, length, OnOk, IfErr};
 ghost use Rattle.duk_store.specs.Disk.{DiskMeaning, ReadsMayStay, LeavesItsSize, KeepsDisk, StaysArmed, HasFailed, KeepsBytes, DiffersWithin, LeavesChanged, LeavesWithin, IsSynced, StaysButArmed, range_of, written};

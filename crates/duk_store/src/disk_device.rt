@@ -1,4 +1,4 @@
-//! The device under a disk, which fails where it is told to.
+//! Which device step of a disk fails, and how many failed.
 
 ghost use Rattle.std.specs.Prelude.{◌≡◌, ◌≢◌, Some, None, IfOk, IfErr, IsTrue, ◌↔◌};
 ghost use Rattle.duk_store.specs.DiskDevice.{HasPassed, IsDue, IsStepDue, armed_device, disarmed_device, failing_once, new_disk_device, once_left, passes_left, with_failure};
@@ -47,7 +47,7 @@ impl DiskDevice {
         self.passes = Some(steps);
     }
 
-    /// Takes back what `arm` told.
+    /// Disarms: takes back what `arm` asked for.
     pub fn disarm(&mut self)
         ensures { self.new ≡ disarmed_device self.old }
     {
@@ -77,7 +77,7 @@ impl DiskDevice {
         Ok(())
     }
 
-    /// Counts a failure, and is the fault that tells it.
+    /// Counts a failure, and answers its fault.
     pub fn fail(&mut self) -> StoreFault
         ensures fault { result ≡ StoreFault.Device }
         ensures device { self.new ≡ with_failure self.old }

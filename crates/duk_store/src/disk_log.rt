@@ -1,4 +1,4 @@
-//! A log of used numbers on a disk.
+//! A log of used numbers on a disk, and the device calls of an append.
 
 ghost use Rattle.std.specs.Prelude.{◌≡◌, ◌+◌, ◌<◌, [], true, IfErr, IfOk};
 ghost use Rattle.duk_store.specs.Disk.{LeavesWithin, StaysArmed};
@@ -18,8 +18,8 @@ use std::marker::Model;
 /// A log on a disk of records of 16 bytes, of which those in front have the numbers kept, and all
 /// others are closed.
 ///
-/// A number is written into the first closed record, which is opened once that is synced
-/// (`write_record` has the device steps). So a stop leaves the list without the number or with it.
+/// A number is written into the first closed record, which is opened once that is synced (`append`
+/// has the device calls). So a stop leaves the list without the number or with it.
 #[derive(Drop)]
 pub struct DiskLog<D: Disk> {
     disk: D,
@@ -121,6 +121,15 @@ impl<D: Disk> UsedLog for DiskLog<D> {
         }
     }
 
+    /// An append makes four device calls, on the first closed record. Each is followed by what a stop
+    /// before the next one leaves of that record; all others stay as they were.
+    ///
+    /// 1. Write the number and its zeros: the record is closed, with any bytes after its gate.
+    /// 2. Sync: it is closed, with the new number.
+    /// 3. Write 01 to its gate: it is whole, with any gate.
+    /// 4. Sync: it is open.
+    ///
+    /// A restart finds the list without the number until the gate is 01, and then with it.
     fn append(&mut self, number: Ksn) -> Result<(), StoreFault>
         requires { ((disk_log_meaning D.meaning).state_of self.old).running ≡ true
             → (disk_log_meaning D.meaning).count self.old

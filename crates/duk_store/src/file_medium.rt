@@ -14,7 +14,7 @@ use std::marker::Model;
 ///
 /// It keeps in mind that a write or a sync has failed, and asks nothing more of its file then. A
 /// write and a sync also fail where the file has not the length that it had when the medium was
-/// made: before the write, which could give a file that was cut short its length again, and behind
+/// made: before the write, which could give a file that was cut short its length again, and after
 /// the sync.
 #[derive(Drop)]
 pub struct FileMedium<F: OpenFile> {

@@ -3,7 +3,7 @@
 //!
 //! A store is made stopped and brought up by a restart. What a restart may find is part of its
 //! meaning: after a write that was acknowledged the new value alone, after one that failed the old
-//! or the new. Every store tells its failures by a count, so that no fault is told without cause.
+//! or the new. Every store counts its failures, so that no fault is answered without cause.
 //!
 //! A store stands in memory or on a disk. What a disk is to do, and what a stop may leave of it, is
 //! part of the meaning of the trait `Disk`.

@@ -1,4 +1,4 @@
-//! What a host asks of the place where it keeps the used numbers.
+//! The trait `UsedLog`: where a host keeps the used numbers.
 
 ghost use Rattle.std.specs.Prelude.{◌≡◌, ◌+◌, ◌<◌, ℕ, true, IfOk, IfErr};
 ghost use Rattle.duk_tree.specs.Serial.{Serial};
@@ -15,7 +15,7 @@ pub trait UsedLog: Drop {
     /// `arm` leaves it.
     ghost meaning: { LogMeaning Self };
 
-    /// Brings the log up and tells how many numbers it keeps. It disarms first.
+    /// Brings the log up and reports how many numbers it keeps. It disarms first.
     ///
     /// Refused with `Device` where a device step failed, and with `Damaged` where the medium holds
     /// what no log of this kind leaves. The log is stopped then.
@@ -35,7 +35,7 @@ pub trait UsedLog: Drop {
     fn room(&self) -> u64
         ensures { result ≡ room_of meaning self.now };
 
-    /// The number at a place of the list, counted from 0. `len` tells how many there are.
+    /// The number at a place of the list, counted from 0. `len` is how many there are.
     ///
     /// Refused with `Stopped` where the log is stopped, which changes nothing, and with `Device`
     /// where a device step failed, which stops it.
@@ -47,7 +47,7 @@ pub trait UsedLog: Drop {
         ensures disarmed { meaning.disarmed self.old → meaning.disarmed self.new }
         ensures failed { IfErr result (ReadFailed meaning self.old self.new) };
 
-    /// Appends a number. `room` tells whether there is place for it.
+    /// Appends a number. `room` says whether there is place for it.
     ///
     /// Refused with `Stopped` where the log is stopped, which changes nothing, and with `Device`
     /// where a device step failed, which stops it.

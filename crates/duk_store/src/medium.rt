@@ -1,4 +1,4 @@
-//! What a disk asks of the medium below it.
+//! The trait `Medium`: the bytes below a disk, as a file has them.
 
 ghost use Rattle.std.specs.Prelude.{◌≡◌, length, IsErr, OnOk, OnErr};
 ghost use Rattle.duk_store.specs.Disk.{DiffersWithin, IsSynced, KeepsBytes, KeepsDisk, LeavesChanged, LeavesItsSize, LeavesWithin, ReadsMayStay, range_of, written};
@@ -6,10 +6,10 @@ ghost use Rattle.duk_store.specs.Medium.{IsInside, MediumState, as_disk};
 
 use std::io;
 
-/// A medium of bytes, as a file, which may tell which bytes it holds. Where it tells nothing it is
+/// A medium of bytes, as a file, which may report which bytes it holds. Where it reports none it is
 /// not honest. Places are in bytes and count from 0.
 ///
-/// Its calls may fail for any cause. What it tells of its bytes keeps to the model of a disk. Once a
+/// Its calls may fail for any cause. What it reports of its bytes keeps to the model of a disk. Once a
 /// write or a sync has failed, each later call fails, until the medium is opened anew.
 pub trait Medium: Drop {
     /// What the medium is known to be.

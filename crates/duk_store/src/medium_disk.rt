@@ -13,9 +13,9 @@ use crate::medium::Medium;
 use std::marker::Model;
 
 /// A disk over a medium, as an open file. Its bytes are the medium's, and it is honest where its
-/// medium is: whatever the medium tells of itself holds of the disk.
+/// medium is: whatever the medium reports of itself holds of the disk.
 ///
-/// Each call of the medium that fails, for whatever cause, is told as `Device` and counted once. A
+/// Each call of the medium that fails, for whatever cause, is answered as `Device` and counted once. A
 /// step that fails by arming does not come to the medium. Once a write or a sync of the medium has
 /// failed, each later step fails, and a restart does not change that.
 #[derive(Drop)]

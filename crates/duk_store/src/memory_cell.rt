@@ -1,4 +1,4 @@
-//! A cell in memory.
+//! A cell in memory, for trials.
 
 ghost use Rattle.std.specs.Prelude.{◌≡◌, None, Ok, IfOk, IfErr};
 ghost use Rattle.duk_store.specs.StoreState.{IsNew, StaysButCalm};
@@ -11,7 +11,7 @@ use crate::device::MemoryDevice;
 use crate::fault::StoreFault;
 use std::marker::Model;
 
-/// A cell in memory, for trials: it can be told to fail at a device step. A write has two device
+/// A cell in memory, for trials: it can be armed to fail at a device step. A write has two device
 /// steps: the first keeps the new body, the second acknowledges it.
 #[derive(Drop)]
 pub struct MemCell {

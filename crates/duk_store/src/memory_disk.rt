@@ -1,4 +1,4 @@
-//! A disk in memory.
+//! A disk in memory, for trials: what a stop leaves of it can be chosen.
 
 ghost use Rattle.std.specs.Prelude.{◌≡◌, ◌+◌, ◌-◌, ◌<◌, ◌≤◌, ◌++◌, length, take, drop, replicate, refl, slice_index, None, IsOk, IfOk, IfErr, OnOk, OnErr};
 ghost use Rattle.duk_store.specs.Disk.{StaysArmed, KeepsDisk, KeepsBytes, LeavesChanged, LeavesReads, LeavesWithin, DiffersWithin, HasFailed, IsSynced, StaysButArmed, range_of, written};
@@ -22,7 +22,7 @@ pub enum Filling {
     Fill(u8),
 }
 
-/// A disk in memory, for trials: it can be told to fail at a device step, and what a restart leaves
+/// A disk in memory, for trials: it can be armed to fail at a device step, and what a restart leaves
 /// where something was written since the last sync. Only `new` takes memory.
 ///
 /// A sync and a restart go over one range around all that was written since the last sync, and not

@@ -13,11 +13,11 @@ use duk_tree::Ksn;
 use std::alloc::Global;
 use std::marker::Model;
 
-/// A log in memory, which can be told to fail at a device step. An append has two device steps: the
+/// A log in memory, which can be armed to fail at a device step. An append has two device steps: the
 /// first keeps the number, the second acknowledges it. Only `new` takes memory.
 #[derive(Drop)]
 pub struct MemLog {
-    /// The numbers kept, and behind them places that are free.
+    /// The numbers kept, and after them places that are free.
     places: Vec<Ksn>,
     len: usize,
     device: MemoryDevice,

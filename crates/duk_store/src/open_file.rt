@@ -1,4 +1,4 @@
-//! What a medium asks of the open file below it.
+//! The trait `OpenFile`: the open file below a medium.
 
 ghost use Rattle.std.specs.Prelude.{◌≡◌, ℕ, length, IfOk, OnOk, OnErr};
 ghost use Rattle.duk_store.specs.Disk.{DiffersWithin, IsSynced, KeepsBytes, KeepsDisk, LeavesChanged, LeavesItsSize, LeavesWithin, ReadsMayStay, range_of, written};
@@ -6,7 +6,7 @@ ghost use Rattle.duk_store.specs.Medium.{IsInside, MediumState, as_disk};
 
 use std::io;
 
-/// An open file, which may tell which bytes it holds. Where it tells nothing it is not honest.
+/// An open file, which may report which bytes it holds. Where it reports none it is not honest.
 /// Places are in bytes and count from 0.
 ///
 /// It may forget that a call failed: Linux reports once that a write did not reach the disk, and a
@@ -16,7 +16,7 @@ pub trait OpenFile: Drop {
     /// What the file is known to be.
     ghost state: { Self → MediumState };
 
-    /// The file has this length, as far as it tells.
+    /// The file has this length, as far as it reports one.
     ghost has_length: { Self → ℕ → Type 0 };
 
     /// What a read gives is at all times one of the states that a stop could leave.

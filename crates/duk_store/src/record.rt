@@ -1,4 +1,4 @@
-//! The records of a log's disk.
+//! The format of a log's disk: records of 16 bytes.
 
 ghost use Rattle.std.specs.Prelude.{◌≡◌, length};
 ghost use Rattle.duk_tree.specs.Serial.{IsSerial};
@@ -9,7 +9,7 @@ use duk_tree::Ksn;
 /// The bytes of a record: the gate, a key serial number in 10 bytes, and five zero bytes.
 pub const RECORD_LENGTH: usize = 16;
 
-/// The bytes of a record behind its gate.
+/// The bytes of a record after its gate.
 pub const NUMBER_LENGTH: usize = 15;
 
 /// What a record says.
@@ -19,7 +19,7 @@ pub struct Record {
     pub is_open: bool,
     /// Its number.
     pub number: Ksn,
-    /// Whether the bytes behind its number are zeros.
+    /// Whether the bytes after its number are zeros.
     pub has_zeros: bool,
 }
 
@@ -38,7 +38,7 @@ impl Record {
     }
 }
 
-/// The bytes behind the gate of a record with this number.
+/// The bytes after the gate of a record with this number.
 pub fn number_bytes(number: Ksn) -> [u8; NUMBER_LENGTH]
     ensures bytes { result ≡ bytes_of_number number }
     ensures length { length result ≡ 15 }

@@ -1,4 +1,4 @@
-//! The steps of a log on its disk.
+//! The device calls on the records of a log's disk: to read, count and write them.
 
 ghost use Rattle.std.specs.Prelude.{◌≡◌, ◌<◌, ◌≤◌, ◌^◌, ◌↔◌, true, IfErr, IfOk, OnOk};
 ghost use Rattle.duk_store.specs.Disk.{StaysArmed};
@@ -54,8 +54,8 @@ pub fn read_record<D: Disk>(disk: &mut D, place: u64) -> Result<Record, StoreFau
 
 /// Counts the records in front that have numbers.
 ///
-/// Refused with `Device` where a device step failed, and with `Damaged` where a record behind a
-/// closed one is open, or an open one has no zeros behind its number.
+/// Refused with `Device` where a device step failed, and with `Damaged` where a record after a
+/// closed one is open, or an open one has no zeros after its number.
 pub fn count_records<D: Disk>(disk: &mut D) -> Result<u64, StoreFault>
     requires { IsLogSize (D.meaning.state_of disk.old).size }
     ensures counted { IfOk result
@@ -74,7 +74,7 @@ pub fn count_records<D: Disk>(disk: &mut D) -> Result<u64, StoreFault>
 
 /// How many records in front have numbers, with one more.
 ///
-/// Refused with `Damaged` where that one is open behind a closed one, or has no zeros behind its
+/// Refused with `Damaged` where that one is open after a closed one, or has no zeros after its
 /// number.
 fn count_next(count: u64, place: u64, found: &Record) -> Result<u64, StoreFault>
     requires in_front { count ≤ place }
@@ -92,17 +92,8 @@ fn count_next(count: u64, place: u64, found: &Record) -> Result<u64, StoreFault>
     Ok(count + 1)
 }
 
-/// Writes a number into a record, and opens it once that is synced.
-///
-/// It makes four device steps. A stop leaves all other records as they were. The table has what a
-/// stop after a step, and before the next one, leaves, and what a restart finds then.
-///
-/// | | device step | a stop leaves | found |
-/// |---|---|---|---|
-/// | 1 | write the number and its zeros | the record closed, with any bytes after its gate | the list |
-/// | 2 | sync | the record closed, with the number | the list |
-/// | 3 | write 01 to its gate | the number whole, with any gate | the list, or the list with the number where the gate is 01 |
-/// | 4 | sync | the record open | the list with the number |
+/// Writes a number into a record, and opens it once that is synced: the four device calls of an
+/// append (`DiskLog::append`).
 pub fn write_record<D: Disk>(disk: &mut D, place: u64, number: Ksn) -> Result<(), StoreFault>
     requires { HasRecord place (D.meaning.state_of disk.old) }
     ensures written { OnOk result (IsStepDone (ChangesRecord place (IsRecordWritten number))

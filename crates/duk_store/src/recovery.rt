@@ -1,4 +1,4 @@
-//! A cell on a disk, brought up.
+//! The restart of a cell on a disk, and its device calls.
 
 ghost use Rattle.std.specs.Prelude.{◌≡◌, IfErr, IfOk, OnOk};
 ghost use Rattle.duk_store.specs.Disk.{LeavesChanged};
@@ -15,12 +15,17 @@ use crate::slots::{empty, find, wipe};
 /// Brings a disk up as that of a cell: finds the slot that counts, and leaves nothing in the other
 /// one, or in both where none counts. Answers what is known of the disk then, and what it keeps.
 ///
-/// The device calls are the disk's own restart, a sync, and a read of each slot, the first one
-/// first. Then each slot that does not count is emptied, the first one first: an open one is closed
-/// and wiped in four steps, and one that reads closed is wiped in two. So there are five device
-/// steps where one slot is open, and seven where both are or none is. The gate of a slot that reads
-/// closed is never written, since a torn write could open it over a torn body. A restart that is
-/// itself stopped leaves a disk that keeps what it kept.
+/// A restart makes these device calls:
+///
+/// 1. The disk's own restart. A disk of another size than 1,024 bytes is refused then.
+/// 2. A sync. From here on the disk has one possible image.
+/// 3. A read of each slot, the first one first.
+/// 4. Each slot that does not count is emptied, the first one first. One that reads open is closed
+///    and wiped, as by calls 5 to 8 of a put (`replace`). One that reads closed is wiped, as by
+///    calls 7 and 8: its gate is never written, since a write that is torn could open it.
+///
+/// That is five device steps where one slot is open, and seven where both are or none is. A restart
+/// that is itself stopped, at any place, leaves a disk that keeps what it kept.
 ///
 /// Refused with `Device` where a device step failed, and with `Damaged` where the disk has another
 /// size than two slots, or both are open and their sequences are equal.

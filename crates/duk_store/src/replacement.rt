@@ -1,4 +1,4 @@
-//! A body put in the place of another on the disk of a cell.
+//! The put of a cell on a disk, and its eight device calls.
 
 ghost use Rattle.std.specs.Prelude.{◌≡◌, IfErr, OnOk};
 ghost use Rattle.duk_store.specs.Disk.{StaysArmed};
@@ -13,24 +13,22 @@ use crate::slots::{empty, fill};
 
 /// Fills the slot at `place`, and empties the other one once the new one is open.
 ///
-/// It makes eight device steps. Until step 5 a stop leaves the old slot as it was. The table has what
-/// a stop after a step, and before the next one, leaves, and what a restart finds then.
+/// These are the eight device calls of a put. Each is followed by what a stop before the next one
+/// leaves. A restart then finds the old body, and from the fourth call on the new one.
 ///
-/// | | device step | a stop leaves | found |
-/// |---|---|---|---|
-/// | 1 | write sequence and body of the new slot | the new slot closed, with any bytes after its gate | the old body |
-/// | 2 | sync | the new slot closed, with sequence and body | the old body |
-/// | 3 | write 01 to its gate | the new slot whole, with any gate | the old body, or the new one where the gate is 01 |
-/// | 4 | sync | both slots open, the old one of smaller sequence | the new body |
-/// | 5 | write 00 to the gate of the old slot | that slot as it was, with any gate | the new body |
-/// | 6 | sync | the old slot closed | the new body |
-/// | 7 | write zeros to its sequence and body | the old slot closed, with any bytes after its gate | the new body |
-/// | 8 | sync | the old slot closed and zero | the new body |
+/// 1. Write sequence and body of the new slot: it is closed, with any bytes after its gate.
+/// 2. Sync: it is closed, with the new sequence and body.
+/// 3. Write 01 to its gate: it is whole, with any gate. Where that is 01, the new body is found.
+/// 4. Sync: it is open. The old slot is open too, with a smaller sequence.
+/// 5. Write 00 to the gate of the old slot: that is as it was, with any gate. Where the write tears
+///    the gate of an empty slot open, its sequence is 0, which is smaller.
+/// 6. Sync: the old slot is closed.
+/// 7. Write zeros after the gate of the old slot: it is closed, with any bytes after its gate.
+/// 8. Sync: the old slot is closed and zero.
 ///
-/// A step that fails, or is stopped, leaves what a stop after it, or after the one before it, could
-/// leave. A gate is written by itself, and is opened only once the body of its slot is synced, so
-/// there is never a mixture of two bodies. The first put of all closes and wipes a slot that is
-/// closed and zero; where step 5 tears that gate open, its sequence is 0, which is smaller.
+/// A stop in a call, or a call that fails, leaves what a stop after it, or after the one before it,
+/// could leave. So the bodies never mix: a gate is written by itself, and opened only once the body
+/// of its slot is synced.
 ///
 /// Refused with `Device` where a device step failed.
 pub fn replace<D: Disk>(

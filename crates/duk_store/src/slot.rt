@@ -1,4 +1,4 @@
-//! The two slots of a cell's disk.
+//! The format of a cell's disk: its two slots, and which of them counts.
 
 ghost use Rattle.std.specs.Prelude.{◌≡◌, ◌<◌, ◌^◌, length, IfErr, IfOk};
 ghost use Rattle.duk_store.specs.Slots.{Says, contents_of as contents, gate_place, other_than, slot_in};
@@ -12,7 +12,7 @@ use std::cmp::Ordering;
 /// The bytes of a slot: the gate, the sequence in 8 bytes, and the body.
 pub const SLOT_LENGTH: usize = 512;
 
-/// The bytes of a slot behind its gate.
+/// The bytes of a slot after its gate.
 pub const CONTENTS_LENGTH: usize = 511;
 
 /// The bytes of the disk under a cell: its two slots.
@@ -138,7 +138,7 @@ impl Slots {
     }
 }
 
-/// The bytes behind the gate of a slot with this sequence and this body.
+/// The bytes after the gate of a slot with this sequence and this body.
 pub fn contents_of(sequence: u64, body: &Body) -> [u8; CONTENTS_LENGTH]
     ensures contents { result ≡ contents sequence body.now }
     ensures length { length result ≡ 511 }

@@ -1,4 +1,4 @@
-//! A cell on a disk.
+//! A cell on a disk: a body in one of two slots.
 
 ghost use Rattle.std.specs.Prelude.{◌≡◌, ℕ, List, IfErr, IfOk, None, OnOk};
 ghost use Rattle.duk_store.specs.Cell.{IsPut, PutFailed};
@@ -57,7 +57,7 @@ impl<D: Disk> SlotCell<D> {
 
     /// While the cell runs with a body kept, a stop leaves one image of the disk: the slot of the
     /// cell's own state is open and has that body, with the state's own sequence, and the other is
-    /// closed, with zeros behind its gate. This says so, and does nothing.
+    /// closed, with zeros after its gate. This says so, and does nothing.
     pub fn one_body(&self)
         ensures alone { (body : List ℕ)
             → RunsWithBody (D.meaning.state_of self.now.disk) self.now.state body

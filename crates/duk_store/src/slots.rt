@@ -1,4 +1,4 @@
-//! The steps of a cell on its disk.
+//! The device calls on the slots of a cell's disk: to read, fill, close and wipe them.
 
 ghost use Rattle.std.specs.Prelude.{◌≡◌, ◌+◌, ◌≤◌, ◌<◌, ◌↔◌, true, length, IfErr, IfOk, OnOk};
 ghost use Rattle.duk_store.specs.Disk.{DiffersWithin, StaysArmed, written};
