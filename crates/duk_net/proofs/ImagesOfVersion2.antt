@@ -1,5 +1,5 @@
 -- The terminals of a world that is reached find no image but those of version 2.
-use Rattle.std.proofs.Common.{◌≡◌, ℕ, List, Some, None, inl, inr, refl, arith}
+use Rattle.std.proofs.Common.{◌≡◌, ℕ, List, Some, None, inl, inr, refl, ap, arith}
 use Rattle.std.specs.List.{slice_index}
 use Rattle.duk_regs.specs.Image.{IsImage, IsImageOfVersion2}
 use Rattle.duk_regs.specs.Registers.{RegisterSet}
@@ -19,7 +19,7 @@ first_is_2 set = refl
 -- an image whose first byte is 2 is of version 2
 of_version_2 : (image : List ℕ) → slice_index image 0 ≡ 2 → IsImage image → IsImageOfVersion2 image
 of_version_2 image two is = elim is [
-  | inl one ↦ absurd (omega (arith, two, one.is_version_1))
+  | inl one ↦ absurd (omega (arith, two, ap (λ bytes. slice_index bytes 0) one.bytes_are))
   | inr other ↦ other
 ]
 

@@ -3,7 +3,7 @@ use Rattle.std.proofs.Common.{◌≡◌, ◌≢◌, ◌⊎◌, ℕ, ◌+◌, ◌
 use Rattle.std.proofs.lemmas.List.{append_assoc, append-nil, length-append, length-drop, length-take, length-take-le, take_more, take_all, drop_all, take_at, drop_at, drop-drop, take-append-drop, get_or-drop, get_or-take, get_or_default}
 use Rattle.std.proofs.lemmas.Bool.{cases_lt}
 use Rattle.std.proofs.lemmas.Slice.{take-put_mid}
-use Rattle.std.proofs.lemmas.List.FromFn.{fill_by_all, length-map-range_with_len}
+use Rattle.std.proofs.lemmas.List.FromFn.{fill_by_all, get_or-map-range_with_len, length-map-range_with_len}
 use Rattle.std.specs.List.{concat}
 use Rattle.byteorder.specs.Numbers.{big_number-reads_back}
 use borrow.Rule.Slice.PartMut.{put_mid}
@@ -12,8 +12,10 @@ use Rattle.duk_tree.specs.Serial.{IsIksn, Serial, serial_bytes, serial_of_bytes,
 use Rattle.duk_regs.specs.Registers.{HaveSixteenBytes, IsRegisterSet, RegisterSet, LeavesEmpty, register_at, empty_register}
 use Rattle.duk_tree.specs.Path.{IsUsable}
 use Rattle.duk_tree.specs.Next.{spent_counter}
-use Rattle.duk_regs.specs.Image.{IsImage, IsPastPart, IsPresentPart, counted_past_in, counter_in, image_bytes, image_bytes_of_version_1, past_bytes, past_count_in, past_in, present_bytes, registers_in, serial_in, set_in}
-use Rattle.duk_regs.proofs.PiecesInARow.{concat-push, length-concat, length-put_mid, piece_found, pieces_from, take-add}
+use Rattle.duk_regs.specs.Image.{IsImage, counted_past_in, counter_in, image_bytes, image_bytes_of_version_1, past_bytes, past_count_in, past_in, present_bytes, registers_in, serial_in, set_in}
+use Rattle.duk_regs.specs.ImageParts.{HasImageParts, HasPartsOfVersion1, HasPartsOfVersion2, IsPastPart, IsPresentPart}
+use Rattle.duk_regs.proofs.CounterBounds.{BitLaws, counter_bounds}
+use Rattle.duk_regs.proofs.PiecesInARow.{concat-push, length-concat, length-put_mid, part_length, piece_found, pieces_from, take-add}
 use Rattle.duk_regs.proofs.PastWrittenAndRead.{HasPast, IsPastPart-written, counted_past, length-past_bytes, length-past_of, no_past, past_found}
 
 -- ---- written
@@ -276,16 +278,15 @@ length-image_bytes set writable =
 pub set_in-image_bytes : (set : RegisterSet) → IsWritable set → set_in (image_bytes set) ≡ set
 set_in-image_bytes set writable = set_found 2 set (past_bytes set.past) writable (past_found (image_bytes set) set.past (has_past set writable))
 
-pub IsImage-image_bytes : (set : RegisterSet) → IsWritable set → IsImage (image_bytes set)
-IsImage-image_bytes set writable =
+parts_of_version_2 : (set : RegisterSet) → IsWritable set → HasPartsOfVersion2 (image_bytes set)
+parts_of_version_2 set writable =
     let iksn : set.iksn ≡ (serial_in (image_bytes set)).iksn = sym (ap (λ (serial : Serial). serial.iksn) (serial_found 2 set (past_bytes set.past) writable)) in
-    inr
-    (record {
+    record {
       is_431_bytes = length-image_bytes set writable;
       is_version_2 = refl;
       present_is = present_found 2 set (past_bytes set.past) writable;
       past_is = IsPastPart-written (image_bytes set) set.past (has_past set writable) writable.set_is.past_are_at_most_8 writable.set_is.past_are_different (subst (λ (n : ℕ). ¬ Contains set.past n) iksn writable.set_is.iksn_is_not_past);
-    })
+    }
 
 -- ---- version 1
 
@@ -299,11 +300,62 @@ pub set_in-image_bytes_of_version_1 : (set : RegisterSet) → IsWritable set →
 set_in-image_bytes_of_version_1 set writable none =
     ap set_in (sym (with_nothing set)) ∙ set_found 1 set [] writable (sym none)
 
-pub IsImage-image_bytes_of_version_1 : (set : RegisterSet) → IsWritable set → IsImage (image_bytes_of_version_1 set)
-IsImage-image_bytes_of_version_1 set writable =
-    inl
-    (record {
+parts_of_version_1 : (set : RegisterSet) → IsWritable set → HasPartsOfVersion1 (image_bytes_of_version_1 set)
+parts_of_version_1 set writable =
+    record {
       is_350_bytes = length-image_bytes_of_version_1 set writable;
       is_version_1 = refl;
       present_is = subst IsPresentPart (with_nothing set) (present_found 1 set [] writable);
-    })
+    }
+
+-- ---- images
+
+-- what is written for what a terminal keeps
+abbrev pub AreWritable : Type 0
+AreWritable = (set : RegisterSet) → IsRegisterSet set → HaveSixteenBytes set.registers → IsWritable set
+
+pub writable : ((iksn : ℕ) → length (iksn_bytes iksn) ≡ 10) → ((iksn : ℕ) → IsIksn iksn → serial_of_bytes (iksn_bytes iksn) ≡ record { iksn = iksn; counter = 0 }) → BitLaws → AreWritable
+writable ten found laws set set_is are_16 = record {
+  ten = ten;
+  found = found;
+  fits = omega (arith, (counter_bounds laws set.counter set_is.counter_is).1);
+  set_is = set_is;
+  are_16 = are_16;
+}
+
+-- an image has the parts of one
+pub parts_of_image : (image : List ℕ) → AreWritable → IsImage image → HasImageParts image
+parts_of_image image are_writable is_image = elim is_image [
+  | inl one ↦ inl (subst HasPartsOfVersion1 (sym one.bytes_are) (parts_of_version_1 one.set (are_writable one.set one.set_is one.are_16)))
+  | inr two ↦ inr (subst HasPartsOfVersion2 (sym two.bytes_are) (parts_of_version_2 two.set (are_writable two.set two.set_is two.are_16)))
+]
+
+-- the image of a set is one
+pub IsImage-image_bytes : (set : RegisterSet) → IsRegisterSet set → HaveSixteenBytes set.registers → IsImage (image_bytes set)
+IsImage-image_bytes set set_is are_16 = inr (record { set = set; set_is = set_is; are_16 = are_16; bytes_are = refl })
+
+-- so is that of version 1, which is the image of the set without past numbers
+pub IsImage-image_bytes_of_version_1 : (set : RegisterSet) → IsRegisterSet set → HaveSixteenBytes set.registers → IsImage (image_bytes_of_version_1 set)
+IsImage-image_bytes_of_version_1 set set_is are_16 = inl (record {
+  set = record { iksn = set.iksn; counter = set.counter; registers = set.registers; past = [] };
+  set_is = record {
+    iksn_is = set_is.iksn_is;
+    counter_is = set_is.counter_is;
+    are_21 = set_is.are_21;
+    leaves_empty = set_is.leaves_empty;
+    past_are_iksns = λ k d within. absurd (omega arith);
+    past_are_at_most_8 = omega arith;
+    past_are_different = λ i j d below within. absurd (omega arith);
+    iksn_is_not_past = λ found. absurd (omega (arith, found.1));
+  };
+  are_16 = are_16;
+  none_past = refl;
+  bytes_are = refl;
+})
+
+-- the registers that are read have sixteen bytes each
+pub sixteen_read : (image : List ℕ) → 350 ≤ length image → HaveSixteenBytes (registers_in image)
+unfolding registers_in
+sixteen_read image long place within =
+    ap length (get_or-map-range_with_len (λ (place : ℕ). take 16 (drop (14 + 16 * place) image)) 0 21 place place empty_register within (omega arith))
+    ∙ part_length image (14 + 16 * place) 16 (omega arith)

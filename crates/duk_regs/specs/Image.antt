@@ -1,12 +1,10 @@
 -- The image of a terminal: version 2, of 431 bytes, and version 1, of 350, which is read but not
 -- written any more. Formats of this project's own.
-use Rattle.std.specs.Prelude.{◌≡◌, ◌≢◌, ◌⊎◌, ◌<◌, ◌≤◌, ◌+◌, ◌-◌, ◌*◌, ◌==◌, if◌then◌else◌, ℕ, List, AllPairs, Contains, [], ◌∷◌, ◌++◌, length, take, drop, map, replicate, slice_index}
+use Rattle.std.specs.Prelude.{◌≡◌, ◌⊎◌, ◌+◌, ◌-◌, ◌*◌, ◌==◌, if◌then◌else◌, ℕ, List, [], ◌∷◌, ◌++◌, length, take, drop, map, replicate, slice_index}
 use Rattle.std.specs.List.{concat, range_with_len}
 use Rattle.byteorder.specs.Endian.{big_bytes, big_number}
 use Rattle.duk_tree.specs.Serial.{Serial, serial_of_bytes, iksn_bytes}
-use Rattle.duk_tree.specs.Path.{IsUsable}
-use Rattle.duk_tree.specs.Next.{spent_counter}
-use Rattle.duk_regs.specs.Registers.{RegisterSet, LeavesEmpty}
+use Rattle.duk_regs.specs.Registers.{HaveSixteenBytes, IsRegisterSet, RegisterSet}
 
 -- the initial key serial number in 10 bytes, the next counter in 3, and the 21 registers of 16
 -- bytes, register 0 first
@@ -26,6 +24,25 @@ image_bytes set = 2 ∷ (present_bytes set ++ past_bytes set.past)
 -- the image of version 1, which has no past initial key serial numbers
 abbrev pub image_bytes_of_version_1 : RegisterSet → List ℕ
 image_bytes_of_version_1 set = 1 ∷ present_bytes set
+
+-- bytes that are the image of a terminal, of version 2
+pub record IsImageOfVersion2 (image : List ℕ) : Type 0 where
+  pub set : RegisterSet
+  pub set_is : IsRegisterSet set
+  pub are_16 : HaveSixteenBytes set.registers
+  pub bytes_are : image ≡ image_bytes set
+
+-- bytes that are the image of a terminal, of version 1
+pub record IsImageOfVersion1 (image : List ℕ) : Type 0 where
+  pub set : RegisterSet
+  pub set_is : IsRegisterSet set
+  pub are_16 : HaveSixteenBytes set.registers
+  pub none_past : set.past ≡ []
+  pub bytes_are : image ≡ image_bytes_of_version_1 set
+
+-- bytes that are the image of a terminal
+abbrev pub IsImage : List ℕ → Type 0
+IsImage image = IsImageOfVersion1 image ⊎ IsImageOfVersion2 image
 
 -- the key serial number in the bytes of an image
 abbrev pub serial_in : List ℕ → Serial
@@ -59,7 +76,7 @@ counted_past_in image = past_of image (past_count_in image)
 abbrev pub past_in : List ℕ → List ℕ
 past_in image = if slice_index image 0 == 1 then [] else counted_past_in image
 
--- what a terminal with this image keeps
+-- what a terminal with this image keeps, read out of it
 abbrev pub set_in : List ℕ → RegisterSet
 set_in image =
     record {
@@ -68,36 +85,3 @@ set_in image =
       registers = registers_in image;
       past = past_in image;
     }
-
--- what both versions ask of the initial key serial number, the next counter and the registers
-pub record IsPresentPart (image : List ℕ) : Type 0 where
-  pub counter_bits_are_zero : (serial_in image).counter ≡ 0
-  pub counter_is : IsUsable (counter_in image) ⊎ (counter_in image ≡ spent_counter)
-  pub leaves_empty : LeavesEmpty (counter_in image) (registers_in image)
-
--- what version 2 asks of the past initial key serial numbers; that of ten zero bytes is lawful
-pub record IsPastPart (image : List ℕ) : Type 0 where
-  pub are_at_most_8 : past_count_in image ≤ 8
-  pub counter_bits_are_zero : (place : ℕ) → place < past_count_in image
-      → (past_serial_in image place).counter ≡ 0
-  pub are_different : AllPairs (λ one other. one ≢ other) (counted_past_in image)
-  pub iksn_is_not_past : ¬ Contains (counted_past_in image) (serial_in image).iksn
-  pub unused_are_zero : drop (351 + 10 * past_count_in image) image
-      ≡ replicate (10 * (8 - past_count_in image)) 0
-
--- bytes that are the image of a terminal, of version 1
-pub record IsImageOfVersion1 (image : List ℕ) : Type 0 where
-  pub is_350_bytes : length image ≡ 350
-  pub is_version_1 : slice_index image 0 ≡ 1
-  pub present_is : IsPresentPart image
-
--- bytes that are the image of a terminal, of version 2
-pub record IsImageOfVersion2 (image : List ℕ) : Type 0 where
-  pub is_431_bytes : length image ≡ 431
-  pub is_version_2 : slice_index image 0 ≡ 2
-  pub present_is : IsPresentPart image
-  pub past_is : IsPastPart image
-
--- bytes that are the image of a terminal
-abbrev pub IsImage : List ℕ → Type 0
-IsImage image = IsImageOfVersion1 image ⊎ IsImageOfVersion2 image

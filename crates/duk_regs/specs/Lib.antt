@@ -2,3 +2,4 @@ pub mod Past
 pub mod Registers
 pub mod Reload
 pub mod Image
+pub mod ImageParts

@@ -3,7 +3,8 @@
 ghost use Rattle.std.specs.Prelude.{◌≡◌, ◌↔◌, ◌⊎◌, ◌∷◌, ◌<◌, ◌≤◌, ◌^◌, [], ℕ, drop, length, slice_index, take, IsSome, IsTrue, IfSome};
 ghost use Rattle.duk_tree.specs.Serial.{IsIksn};
 ghost use Rattle.duk_regs.specs.Registers.{IsRegisterSet, register_at};
-ghost use Rattle.duk_regs.specs.Image.{IsImage, IsPresentPart, counter_in, image_bytes, image_bytes_of_version_1, present_bytes, registers_in, serial_in, set_in};
+ghost use Rattle.duk_regs.specs.Image.{IsImage, counter_in, image_bytes, image_bytes_of_version_1, present_bytes, registers_in, serial_in, set_in};
+ghost use Rattle.duk_regs.specs.ImageParts.{HasImageParts, IsPresentPart};
 
 use crate::frontier::{PLACES, SPENT, leaves_empty, no_key};
 use crate::past::Past;
@@ -24,7 +25,7 @@ const VERSION: u8 = 2;
 /// The version before it.
 const VERSION_1: u8 = 1;
 
-/// Where the registers begin, behind version, initial key serial number and next counter.
+/// Where the registers begin, after version, initial key serial number and next counter.
 const REGISTERS: usize = 14;
 
 /// The bytes of a register.
@@ -80,6 +81,35 @@ fn write_present(iksn: Iksn, counter: u32, registers: &[Key<16>; PLACES]) -> [u8
 /// Reads an image of either version, where these bytes are one.
 pub(crate) fn read_image(image: &[u8]) -> Option<(Iksn, u32, [Key<16>; PLACES], Past)>
     ensures found { IsSome result ↔ IsImage image.now }
+    ensures parts { IfSome result (λ parts. record {
+      iksn = parts.0;
+      counter = parts.1;
+      registers = parts.2;
+      past = parts.3;
+    }
+        ≡ set_in image.now) }
+    ensures set { IfSome result (λ parts. IsRegisterSet (record {
+      iksn = parts.0;
+      counter = parts.1;
+      registers = parts.2;
+      past = parts.3;
+    })) }
+    ensures version_2 { IfSome result (λ parts. slice_index image.now 0 ≡ 2
+        → image_bytes (set_in image.now) ≡ image.now) }
+    ensures version_1 { IfSome result (λ parts. slice_index image.now 0 ≡ 1
+        → image_bytes_of_version_1 (set_in image.now) ≡ image.now) }
+    ensures no_past { IfSome result (λ parts. slice_index image.now 0 ≡ 1
+        → (set_in image.now).past ≡ []) }
+{
+    duk_tree::laws::serials();
+    duk_tree::laws::bits();
+    read_parts(image)
+}
+
+/// Reads an image, part by part.
+fn read_parts(image: &[u8]) -> Option<(Iksn, u32, [Key<16>; PLACES], Past)>
+    ensures found { IsSome result ↔ HasImageParts image.now }
+    ensures is_image { IsSome result → IsImage image.now }
     ensures parts { IfSome result (λ parts. record {
       iksn = parts.0;
       counter = parts.1;

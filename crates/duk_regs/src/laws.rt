@@ -6,7 +6,7 @@ ghost use Rattle.duk_tree.specs.Path.{IsUsable};
 ghost use Rattle.duk_tree.specs.Derivation.{step_of, transaction_key_of};
 ghost use Rattle.duk_tree.specs.Serial.{low_bytes};
 ghost use Rattle.duk_regs.specs.Registers.{HaveSixteenBytes, RegisterSet, IsRegisterSet, StandsFor, IsTaken, HoldsNode, register_at, empty_register};
-ghost use Rattle.duk_regs.specs.Image.{IsImage, image_bytes, image_bytes_of_version_1, set_in};
+ghost use Rattle.duk_regs.specs.Image.{IsImage, IsImageOfVersion1, IsImageOfVersion2, image_bytes, image_bytes_of_version_1, set_in};
 ghost use Rattle.duk_regs.specs.declared.past.Past.TheInside as past;
 ghost use Rattle.duk_regs.specs.declared.past.Past.TheView as past_view;
 ghost use Rattle.duk_regs.specs.declared.registers.Registers.TheInside as registers;
@@ -98,6 +98,10 @@ pub fn images()
     ensures is_image_of_version_1 { (set : RegisterSet) → IsRegisterSet set
         → HaveSixteenBytes set.registers
         → IsImage (image_bytes_of_version_1 set) }
+    ensures length_as_version_2 { (image : List ℕ) → IsImageOfVersion2 image
+        → length image ≡ 431 }
+    ensures length_as_version_1 { (image : List ℕ) → IsImageOfVersion1 image
+        → length image ≡ 350 }
 {
     duk_tree::laws::serials();
     duk_tree::laws::bits();

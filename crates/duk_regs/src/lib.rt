@@ -20,4 +20,5 @@ mod registers;
 
 pub use fault::ReloadFault;
 pub use image::{IMAGE_LENGTH, IMAGE_LENGTH_OF_VERSION_1};
+pub use past_image::are_zeros;
 pub use registers::Registers;

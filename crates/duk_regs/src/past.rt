@@ -9,7 +9,7 @@ use std::marker::Model;
 pub(crate) const MOST_PAST: usize = 8;
 
 /// The initial key serial numbers that a terminal had before, in order of their loading. The places
-/// behind them are zero.
+/// after them are zero.
 #[derive(Drop)]
 pub(crate) struct Past {
     iksns: [Iksn; MOST_PAST],
@@ -60,7 +60,7 @@ impl Past {
         self.iksns().len() == MOST_PAST
     }
 
-    /// These and, behind them, one more.
+    /// These and, after them, one more.
     pub(crate) fn with(&self, iksn: Iksn) -> Past
         requires { length self.now < 8 }
         ensures { result ≡ self.now ++ iksn ∷ [] }

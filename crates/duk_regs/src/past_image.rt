@@ -2,7 +2,8 @@
 
 ghost use Rattle.std.specs.Prelude.{◌≡◌, ◌↔◌, ◌<◌, ◌≤◌, ℕ, All, IfSome, IsSome, IsTrue, drop, length, replicate};
 ghost use Rattle.duk_tree.specs.Serial.{IsIksn};
-ghost use Rattle.duk_regs.specs.Image.{IsPastPart, counted_past_in, past_bytes, past_count_in, past_of, past_serial_in, serial_in};
+ghost use Rattle.duk_regs.specs.Image.{counted_past_in, past_bytes, past_count_in, past_of, past_serial_in, serial_in};
+ghost use Rattle.duk_regs.specs.ImageParts.{IsPastPart};
 
 use crate::past::{MOST_PAST, Past, are_different};
 use duk_tdes::array_of;
@@ -99,8 +100,8 @@ fn past_serial(image: &[u8], place: usize) -> Ksn
     Ksn::from_bytes(array_of(&image[start..start + SERIAL_LENGTH]))
 }
 
-/// Whether each byte is zero.
-fn are_zeros(bytes: &[u8]) -> bool
+/// Whether each byte is zero, as where nothing is written.
+pub fn are_zeros(bytes: &[u8]) -> bool
     ensures { IsTrue result ↔ (bytes.now ≡ replicate (length bytes.now) 0) }
 {
     bytes.iter().all(|byte| *byte == 0)

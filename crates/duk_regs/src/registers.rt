@@ -87,7 +87,7 @@ impl Registers {
     }
 
     /// The registers of a terminal that is given another initial key: those of `load`, with the past
-    /// initial key serial numbers followed by the present one. Refused as `check_reload` tells.
+    /// initial key serial numbers followed by the present one. Refused as `check_reload` says.
     #[tactic(auto, using(crate::proofs::PastIksns::different_push))]
     pub fn reload(&self, initial: Key<16>, iksn: Iksn) -> Result<Registers, ReloadFault>
         ensures iksn_spent { (result ≡ Err ReloadFault.IksnSpent) ↔ IsSpentIksn iksn self.now }
@@ -190,7 +190,7 @@ impl Registers {
     /// The image that a terminal stores: version 2, the initial key serial number in 10 bytes, the
     /// next counter in 3 (200000 where it is spent), the registers of 16 bytes, register 0 first,
     /// how many initial key serial numbers are past in 1, and eight places of 10 bytes with these,
-    /// in order of their loading, and zeros behind them.
+    /// in order of their loading, and zeros after them.
     pub fn image(&self) -> [u8; IMAGE_LENGTH]
         ensures image { result ≡ image_bytes self.now }
         ensures is_image { IsImage result }

@@ -4,7 +4,7 @@ use Rattle.std.proofs.Math.Seq.{drop-append_seam, take-append_seam}
 use Rattle.std.proofs.lemmas.List.{take-append-drop}
 use Rattle.std.specs.Prelude.{slice_index}
 use Rattle.std.specs.Option.{ok_or}
-use Rattle.duk_regs.specs.Image.{IsImage, image_bytes, image_bytes_of_version_1, set_in}
+use Rattle.duk_regs.specs.Image.{IsImage, IsImageOfVersion1, IsImageOfVersion2, image_bytes, image_bytes_of_version_1, set_in}
 use Rattle.duk_regs.specs.Registers.{RegisterSet}
 use Rattle.duk_term.specs.Body.{IsFoundAgain, IsTerminalBody, KeepsRegisters, body_bytes, body_bytes_of_version_1, set_of_body}
 
@@ -78,16 +78,19 @@ found_again set written = record {
 
 -- a body is the image in it with zeros behind it, and keeps the registers of that
 pub keeps_registers : (body image : List ℕ) (size : ℕ) (set : RegisterSet) → image ≡ take size body → length image ≡ size → drop size body ≡ replicate (503 - size) 0
+    → (IsImageOfVersion1 image → length image ≡ 350) → (IsImageOfVersion2 image → length image ≡ 431)
     → IsImage image → IsImageOf image set → KeepsRegisters body set
-keeps_registers body image size set front length_is zeros is_image of = elim is_image [
+keeps_registers body image size set front length_is zeros are_350 are_431 is_image of = elim is_image [
   | inl first ↦
-      let is_350 : size ≡ 350 = sym length_is ∙ first.is_350_bytes in
+      let is_version_1 : slice_index image 0 ≡ 1 = ap (λ bytes. slice_index bytes 0) first.bytes_are in
+      let is_350 : size ≡ 350 = sym length_is ∙ are_350 first in
       let rest : drop size body ≡ replicate 153 0 = subst (λ n. drop size body ≡ replicate (503 - n) 0) is_350 zeros in
-      inr (of.no_past first.is_version_1, image_and_zeros image body size 153 front rest ∙ ap (λ image. image ++ replicate 153 0) (sym (of.version_1 first.is_version_1)))
+      inr (of.no_past is_version_1, image_and_zeros image body size 153 front rest ∙ ap (λ image. image ++ replicate 153 0) (sym (of.version_1 is_version_1)))
   | inr latest ↦
-      let is_431 : size ≡ 431 = sym length_is ∙ latest.is_431_bytes in
+      let is_version_2 : slice_index image 0 ≡ 2 = ap (λ bytes. slice_index bytes 0) latest.bytes_are in
+      let is_431 : size ≡ 431 = sym length_is ∙ are_431 latest in
       let rest : drop size body ≡ replicate 72 0 = subst (λ n. drop size body ≡ replicate (503 - n) 0) is_431 zeros in
-      inl (image_and_zeros image body size 72 front rest ∙ ap (λ image. image ++ replicate 72 0) (sym (of.version_2 latest.is_version_2)))
+      inl (image_and_zeros image body size 72 front rest ∙ ap (λ image. image ++ replicate 72 0) (sym (of.version_2 is_version_2)))
 ]
 
 -- what holds of what is found holds of the registers that a body was read as

@@ -1,10 +1,10 @@
 //! The bytes that a terminal keeps in its cell.
 
-ghost use Rattle.std.specs.Prelude.{◌≡◌, ◌↔◌, ◌++◌, IsTrue, IsSome, IfSome, length, replicate};
+ghost use Rattle.std.specs.Prelude.{◌≡◌, ◌↔◌, ◌++◌, IsSome, IfSome};
 ghost use Rattle.duk_regs.specs.Registers.{HaveSixteenBytes, IsRegisterSet};
 ghost use Rattle.duk_term.specs.Body.{IsTerminalBody, KeepsRegisters, body_bytes, image_length, set_of_body};
 
-use duk_regs::{IMAGE_LENGTH, IMAGE_LENGTH_OF_VERSION_1, Registers};
+use duk_regs::{IMAGE_LENGTH, IMAGE_LENGTH_OF_VERSION_1, Registers, are_zeros};
 use duk_store::{BODY_LENGTH, Body};
 
 /// The body of these registers: their image, with zero bytes behind it.
@@ -25,6 +25,7 @@ pub(crate) fn registers_in(body: &Body) -> Option<Registers>
     ensures set { IfSome result (λ registers. registers ≡ set_of_body body.now) }
     ensures keeps { IfSome result (KeepsRegisters body.now) }
 {
+    duk_regs::laws::images();
     let (image, rest) = body.split_at(length_of_image(body));
     if !are_zeros(rest) {
         return None;
@@ -41,11 +42,4 @@ fn length_of_image(body: &Body) -> usize
     } else {
         IMAGE_LENGTH
     }
-}
-
-/// Whether each byte is zero.
-fn are_zeros(bytes: &[u8]) -> bool
-    ensures { IsTrue result ↔ (bytes.now ≡ replicate (length bytes.now) 0) }
-{
-    bytes.iter().all(|byte| *byte == 0)
 }

@@ -28,5 +28,5 @@ returns-clause-keeps c =
     let body = c.args.body.now in
     let image = c.split_at.result.0.now in
     if_found image (KeepsRegisters body) c.from_image.result
-    (λ set is_some of. keeps_registers body image c.length_of_image.result set c.split_at.ensures.front (omega (arith, c.split_at.ensures.front_len)) (zeros c) (c.from_image.ensures.found.0 is_some) of)
+    (λ set is_some of. keeps_registers body image c.length_of_image.result set c.split_at.ensures.front (omega (arith, c.split_at.ensures.front_len)) (zeros c) (c.images.ensures.length_as_version_1 image) (c.images.ensures.length_as_version_2 image) (c.from_image.ensures.found.0 is_some) of)
     c.from_image.ensures.version_2 c.from_image.ensures.version_1 c.from_image.ensures.no_past

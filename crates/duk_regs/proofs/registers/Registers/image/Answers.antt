@@ -12,3 +12,8 @@ pub returns-clause-is_image : goal.returns-clause-is_image
 returns-clause-is_image c =
     let set : RegisterSet = record { iksn = c.self.inside.iksn; counter = c.self.inside.counter; registers = c.self.inside.registers; past = c.self.inside.past } in
     rw (c.write_image.ensures.image, c.iksns.ensures.iksns) (c.images.ensures.is_image set c.self.invariant c.write_image.ensures.are_16)
+
+pub returns-clause-read : goal.returns-clause-read
+returns-clause-read c =
+    let set : RegisterSet = record { iksn = c.self.inside.iksn; counter = c.self.inside.counter; registers = c.self.inside.registers; past = c.self.inside.past } in
+    rw (← c.self.view_is, c.write_image.ensures.image, c.iksns.ensures.iksns) (c.images.ensures.read set c.self.invariant c.write_image.ensures.are_16)
