@@ -22,12 +22,12 @@ pub if_found : (image : List ℕ) (Q : RegisterSet → Type 0) → (found : Opti
 if_found image Q None follows version_2 version_1 no_past = version_2
 if_found image Q (Some set) follows version_2 version_1 no_past = follows set refl (record { version_2 = version_2; version_1 = version_1; no_past = no_past })
 
--- an image and the zeros behind it are the body
+-- an image and the zeros after it are the body
 pub image_and_zeros : (image body : List ℕ) (size rest : ℕ) → image ≡ take size body → drop size body ≡ replicate rest 0 → body ≡ image ++ replicate rest 0
 image_and_zeros image body size rest image_is zeros =
     sym (ap (λ front. front ++ replicate rest 0) image_is ∙ ap (λ back. take size body ++ back) (sym zeros) ∙ take-append-drop size body)
 
--- the parts of an image with zeros behind it
+-- the parts of an image with zeros after it
 front_of : (image : List ℕ) (size rest : ℕ) → length image ≡ size → take size (image ++ replicate rest 0) ≡ image
 front_of image size rest is = subst (λ n. take n (image ++ replicate rest 0) ≡ image) is (take-append_seam image (replicate rest 0))
 
@@ -76,7 +76,7 @@ found_again set written = record {
   ];
 }
 
--- a body is the image in it with zeros behind it, and keeps the registers of that
+-- a body is the image in it with zeros after it, and keeps the registers of that
 pub keeps_registers : (body image : List ℕ) (size : ℕ) (set : RegisterSet) → image ≡ take size body → length image ≡ size → drop size body ≡ replicate (503 - size) 0
     → (IsImageOfVersion1 image → length image ≡ 350) → (IsImageOfVersion2 image → length image ≡ 431)
     → IsImage image → IsImageOf image set → KeepsRegisters body set

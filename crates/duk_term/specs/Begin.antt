@@ -10,6 +10,7 @@ use Rattle.duk_store.specs.declared.fault.StoreFault.{StoreFault}
 use Rattle.duk_tree.specs.Derivation.{response_key_of}
 use Rattle.duk_tree.specs.Next.{spent_counter}
 use Rattle.duk_tree.specs.Path.{IsUsable}
+use Rattle.duk_tree.specs.Serial.{Serial}
 use Rattle.duk_term.specs.Body.{body_bytes}
 use Rattle.duk_term.specs.Terminal.{HasRegistersIn, StopsBetween, TerminalOf, serial_of}
 use Rattle.duk_term.specs.declared.fault.TermFault.{TermFault}
@@ -58,6 +59,13 @@ pub record IsBegun
       ≡ payment_request key (serial_of set) purchase.pan purchase.pin purchase.amount
   pub state_is : new.state ≡ Loaded left (Some (pending_of set key))
   pub kept : IsPut meaning old.cell new.cell (body_bytes left)
+
+-- a request goes out, and this is the number taken
+pub record IsBegunUnder
+    {C : Type 0} (meaning : CellMeaning C) (purchase : Purchase) (ksn : Serial) (frame : List ℕ)
+    (old new : TerminalOf C) : Type 0 where
+  pub begun : IsBegun meaning purchase old new frame
+  pub ksn_is : ksn ≡ serial_of begun.set
 
 -- no request goes out, since the image was not kept: the terminal is stopped, and a restart would
 -- find the registers as they were before the number was taken, or as they are after

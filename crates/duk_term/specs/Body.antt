@@ -3,11 +3,11 @@ use Rattle.std.specs.Prelude.{◌≡◌, ◌⊎◌, ◌-◌, ◌==◌, if◌then
 use Rattle.duk_regs.specs.Image.{IsImage, image_bytes, image_bytes_of_version_1, set_in}
 use Rattle.duk_regs.specs.Registers.{RegisterSet}
 
--- a body: the image of the registers in 431 bytes, and 72 zero bytes behind it
+-- a body: the image of the registers in 431 bytes, and 72 zero bytes after it
 abbrev pub body_bytes : RegisterSet → List ℕ
 body_bytes set = image_bytes set ++ replicate 72 0
 
--- the body of version 1: the image in 350 bytes, and 153 zero bytes behind it
+-- the body of version 1: the image in 350 bytes, and 153 zero bytes after it
 abbrev pub body_bytes_of_version_1 : RegisterSet → List ℕ
 body_bytes_of_version_1 set = image_bytes_of_version_1 set ++ replicate 153 0
 
@@ -25,7 +25,7 @@ image_length body = if slice_index_or body 0 0 == 1 then 350 else 431
 abbrev pub image_in : List ℕ → List ℕ
 image_in body = take (image_length body) body
 
--- bytes that are a body: an image of either version, and zeros behind it
+-- bytes that are a body: an image of either version, and zeros after it
 pub record IsTerminalBody (body : List ℕ) : Type 0 where
   pub image : IsImage (image_in body)
   pub zeros : drop (image_length body) body ≡ replicate (503 - image_length body) 0

@@ -1,5 +1,5 @@
 -- The key block that a terminal is loaded from: ANSI X9.143 in version B, with this project's own
--- choice of uses; and how a terminal tells why it is not loaded.
+-- choice of uses; and by which fault a terminal says why it is not loaded.
 use Rattle.std.specs.Prelude.{ℕ, List}
 use Rattle.duk_block.specs.KeyBlock.{WrapsFor, WrapsOther}
 use Rattle.duk_block.specs.KeyUse.{IsDoubleKeyFor}
@@ -19,12 +19,12 @@ WrapsInitialKey loading text initial = WrapsFor (IsDoubleKeyFor InitialKey) load
 abbrev pub WrapsOtherKey : List ℕ → List ℕ → Type 0
 WrapsOtherKey loading text = WrapsOther (IsDoubleKeyFor InitialKey) loading text
 
--- how a terminal tells why a key block has no initial key
+-- the fault of a terminal where a key block has no initial key
 abbrev pub term_fault_of : KeyFault → TermFault
 term_fault_of (key_fault.Block why) = fault.Block why
 term_fault_of key_fault.WrongUse = fault.WrongUse
 
--- how a terminal tells why its registers are not loaded again
+-- the fault of a terminal whose registers are not loaded again
 abbrev pub reload_fault_of : ReloadFault → TermFault
 reload_fault_of reload_fault.IksnSpent = fault.IksnSpent
 reload_fault_of reload_fault.LoadsSpent = fault.LoadsSpent

@@ -44,7 +44,7 @@ pub record IsHostReply (bytes : List ℕ) (pending : Pending) (code : Code) : Ty
   pub reply : IsReply bytes pending.ksn code mac
   pub bytes_are : bytes ≡ reply_to pending code
 
--- what the bytes tell a terminal in this state
+-- what the bytes say to a terminal in this state
 abbrev pub IsTold : State → List ℕ → Answer → Type 0
 IsTold state bytes (Done code) =
     (pending : Pending) × IsPending state pending × IsHostReply bytes pending code

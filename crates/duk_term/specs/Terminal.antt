@@ -44,7 +44,7 @@ Agrees cell Stopped = Unit {0}
 Agrees cell Empty = CellHolds cell None
 Agrees cell (Loaded set pending) = CellHoldsRegisters cell set
 
--- what a terminal tells of its next number
+-- what a terminal answers of its next number
 abbrev pub next_of : State → Next
 next_of Stopped = next.Stopped
 next_of Empty = next.Empty

@@ -1,6 +1,6 @@
-//! What a terminal tells.
+//! What the calls of a terminal answer.
 
-use duk_frame::Code;
+use duk_frame::{Code, Frame};
 use duk_tree::Ksn;
 
 /// Which number a terminal uses next.
@@ -23,4 +23,13 @@ pub enum Answer {
     Done(Code),
     /// The request was refused for a reason from 1 to 6. It is pending as before.
     Refused(u8),
+}
+
+/// A transaction that a terminal began.
+#[derive(Drop)]
+pub struct Begun {
+    /// Its key serial number.
+    pub ksn: Ksn,
+    /// Its request.
+    pub frame: Frame,
 }

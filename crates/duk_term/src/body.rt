@@ -7,7 +7,7 @@ ghost use Rattle.duk_term.specs.Body.{IsTerminalBody, KeepsRegisters, body_bytes
 use duk_regs::{IMAGE_LENGTH, IMAGE_LENGTH_OF_VERSION_1, Registers, are_zeros};
 use duk_store::{BODY_LENGTH, Body};
 
-/// The body of these registers: their image, with zero bytes behind it.
+/// The body of these registers: their image, with zero bytes after it.
 pub(crate) fn body_of(registers: &Registers) -> Body
     ensures body { result ≡ body_bytes registers.now }
     ensures set { IsRegisterSet registers.now }
@@ -19,7 +19,7 @@ pub(crate) fn body_of(registers: &Registers) -> Body
 }
 
 /// The registers of a body, where these bytes are one: an image of either version, with zero bytes
-/// behind it.
+/// after it.
 pub(crate) fn registers_in(body: &Body) -> Option<Registers>
     ensures found { IsSome result ↔ IsTerminalBody body.now }
     ensures set { IfSome result (λ registers. registers ≡ set_of_body body.now) }

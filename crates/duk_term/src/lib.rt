@@ -16,7 +16,7 @@ mod purchase;
 mod state;
 mod terminal;
 
-pub use answer::{Answer, Next};
+pub use answer::{Answer, Begun, Next};
 pub use fault::TermFault;
 pub use purchase::Purchase;
 pub use terminal::Terminal;

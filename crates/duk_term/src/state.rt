@@ -57,7 +57,7 @@ impl State {
         }
     }
 
-    /// Tells whether the terminal may be given an initial key serial number.
+    /// Whether the terminal may be given an initial key serial number.
     pub fn may_take(&self, iksn: Iksn) -> Result<(), TermFault>
         ensures may { IfOk result (λ _. MayTake self.now iksn) }
         ensures refused { IfErr result (MayNotTake self.now iksn) }
@@ -109,7 +109,7 @@ impl State {
         }
     }
 
-    /// What the bytes that came back tell, or the first reason to refuse them.
+    /// What the bytes that came back say, or the first reason to refuse them.
     pub fn judge(&self, bytes: &[u8]) -> Result<Answer, TermFault>
         ensures told { IfOk result (IsTold self.now bytes.now) }
         ensures refused { IfErr result (ReplyRefused self.now bytes.now) }
@@ -135,7 +135,7 @@ impl State {
 }
 
 impl Pending {
-    /// What an answer tells of this transaction.
+    /// What an answer says of this transaction.
     fn judge(&self, bytes: &[u8], answer: AnswerFrame) -> Result<Answer, TermFault>
         requires { IsAnswer bytes.now answer }
         ensures told { IfOk result
@@ -155,7 +155,7 @@ impl Pending {
         }
     }
 
-    /// What a reply tells of this transaction.
+    /// What a reply says of this transaction.
     fn judge_reply(
         &self,
         bytes: &[u8],

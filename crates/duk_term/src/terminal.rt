@@ -3,7 +3,7 @@
 ghost use Rattle.std.specs.Prelude.{◌≡◌, ℕ, IfOk, IfErr};
 ghost use Rattle.duk_store.specs.StoreState.{StaysButCalm};
 ghost use Rattle.duk_tdes.specs.Tdes.{IsTdesLength};
-ghost use Rattle.duk_term.specs.Begin.{BeginRefused, IsBegun};
+ghost use Rattle.duk_term.specs.Begin.{BeginRefused, IsBegun, IsBegunUnder};
 ghost use Rattle.duk_regs.specs.Registers.{HaveSixteenBytes, IsRegisterSet};
 ghost use Rattle.duk_term.specs.Body.{body_bytes};
 ghost use Rattle.duk_store.specs.Cell.{IsPut};
@@ -13,7 +13,7 @@ ghost use Rattle.duk_term.specs.Restart.{IsTerminalRestarted, TerminalRestartRef
 ghost use Rattle.duk_term.specs.Terminal.{IsImageNotKept, PromisesBody, next_of};
 ghost use Rattle.duk_term.specs.declared.state.State.TheVariants as state;
 
-use crate::answer::{Answer, Next};
+use crate::answer::{Answer, Begun, Next};
 use crate::body::{body_of, registers_in};
 use crate::fault::TermFault;
 use crate::purchase::Purchase;
@@ -67,7 +67,7 @@ impl<C: Cell> Terminal<C> {
     /// What was pending is given up.
     ///
     /// Refused with `Store`: of the cell's fault, or with `Damaged` where it keeps bytes that are
-    /// no image with zeros behind it. The terminal is stopped then.
+    /// no image with zeros after it. The terminal is stopped then.
     pub fn restart(&mut self) -> Result<(), TermFault>
         ensures restarted { IfOk result (λ _. IsTerminalRestarted C.meaning self.old self.new) }
         ensures refused { IfErr result (TerminalRestartRefused C.meaning self.old self.new) }
@@ -136,15 +136,25 @@ impl<C: Cell> Terminal<C> {
         ensures after_put { IfOk result (λ _. PromisesBody C.meaning self.new) }
         ensures refused { IfErr result (BeginRefused C.meaning self.old self.new) }
     {
+        Ok(self.begin_numbered(purchase)?.frame)
+    }
+
+    /// Begins a transaction as `begin` does, and answers its number beside the request's frame.
+    pub fn begin_numbered(&mut self, purchase: &Purchase) -> Result<Begun, TermFault>
+        ensures begun { IfOk result (λ begun. IsBegunUnder
+            C.meaning purchase.now begun.ksn begun.frame.items self.old self.new) }
+        ensures after_put { IfOk result (λ _. PromisesBody C.meaning self.new) }
+        ensures refused { IfErr result (BeginRefused C.meaning self.old self.new) }
+    {
         let (key, ksn, left) = self.state.take_number()?;
         let Purchase { pan, pin, amount } = purchase;
-        let request = payment_request(&key, ksn, pan, pin, *amount);
+        let frame = payment_request(&key, ksn, pan, pin, *amount);
         let pending = Pending {
             ksn,
             response_key: response_key(&key),
         };
         self.keep(left, Some(pending))?;
-        Ok(request)
+        Ok(Begun { ksn, frame })
     }
 
     /// Keeps the image of these registers and goes on with them. Where the cell fails, the terminal
