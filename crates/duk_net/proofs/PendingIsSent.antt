@@ -2,7 +2,7 @@
 use Rattle.std.proofs.Common.{◌≡◌, ◌≢◌, ◌⊎◌, ◌++◌, ◌∷◌, [], ℕ, List, All, Contains, Some, None, inl, inr, refl, sym, ap, subst, ◌∙◌}
 use Rattle.std.proofs.lemmas.List.Elements.{All-contains, All-head, Contains-append_left, Contains-push}
 use Rattle.duk_store.specs.Cell.{CellMeaning, Kept}
-use Rattle.duk_term.specs.Begin.{BeginRefused, pending_of}
+use Rattle.duk_term.specs.Begin.{BeginRefused, IsBegunUnder, pending_of}
 use Rattle.duk_term.specs.Load.{LoadRefused, Loading}
 use Rattle.duk_term.specs.Reply.{IsPending, completed}
 use Rattle.duk_term.specs.Restart.{Opens, TerminalRestartRefused}
@@ -18,7 +18,7 @@ use Rattle.duk_tree.specs.Serial.{Serial}
 use Rattle.duk_frame.specs.Answer.{IsReply}
 use Rattle.duk_frame.specs.declared.code.Code.{Code}
 use Rattle.duk_net.specs.Accepted.{HasReply}
-use Rattle.duk_net.specs.Begin.{HandsOut, IsSent}
+use Rattle.duk_net.specs.Begin.{IsSent}
 use Rattle.duk_net.specs.Completed.{IsPendingAt, IsPendingIn, Sends}
 use Rattle.duk_net.specs.Down.{IsToldOf}
 use Rattle.duk_net.specs.First.{IsFirst, IsNewTerminal}
@@ -116,7 +116,7 @@ record Waits {C : Type 0} (terminal : TerminalOf C) (ksn : Serial) : Type 0 wher
 
 -- a terminal that hands out a request waits for the reply to that
 begun_waits : {C : Type 0} (meaning : CellMeaning C) (purchase : Purchase) (frame : Frame) (sent ksn : Serial) (before after : TerminalOf C)
-    → HandsOut meaning purchase frame sent before after → Waits after ksn → sent ≡ ksn
+    → IsBegunUnder meaning purchase sent frame.items before after → Waits after ksn → sent ≡ ksn
 begun_waits meaning purchase frame sent ksn before after hands waits =
     let begun = hands.begun in
     let same = one_pending after.state (pending_of begun.set begun.key) waits.pending (begun.left, begun.state_is) waits.is_pending in

@@ -1,8 +1,8 @@
 -- A terminal of a world begins a transaction: this project's own.
 use Rattle.std.specs.Prelude.{◌≡◌, ◌+◌, ◌++◌, ◌∷◌, [], ℕ, length}
 use Rattle.duk_store.specs.Cell.{CellMeaning}
-use Rattle.duk_term.specs.Begin.{BeginRefused, IsBegun}
-use Rattle.duk_term.specs.Terminal.{TerminalOf, serial_of}
+use Rattle.duk_term.specs.Begin.{BeginRefused, IsBegunUnder}
+use Rattle.duk_term.specs.Terminal.{TerminalOf}
 use Rattle.duk_term.specs.declared.fault.TermFault.{TermFault}
 use Rattle.duk_term.specs.declared.purchase.Purchase.{Purchase}
 use Rattle.duk_tree.specs.Serial.{Serial}
@@ -10,19 +10,12 @@ use Rattle.duk_net.specs.World.{ChangesOnly, Frame, HasNone, Meanings, ChangesTe
 use Rattle.duk_net.specs.declared.outcome.Outcome.{Outcome}
 use Rattle.duk_net.specs.declared.outcome.Outcome.TheVariants as outcome
 
--- a terminal hands out this frame, which is the request of this number
-pub record HandsOut
-    {C : Type 0} (meaning : CellMeaning C) (purchase : Purchase) (frame : Frame) (ksn : Serial)
-    (before after : TerminalOf C) : Type 0 where
-  pub begun : IsBegun meaning purchase before after frame.items
-  pub ksn_is : ksn ≡ serial_of begun.set
-
 -- a request is sent
 pub record IsSent
     {C L I : Type 0} (m : Meanings C L I) (old : WorldOf C L I) (t : ℕ) (purchase : Purchase)
     (k : ℕ) (ksn : Serial) (new : WorldOf C L I) : Type 0 where
   pub frame : Frame
-  pub terminal : ChangesOnly t (HandsOut m.cell purchase frame ksn) old.terminals new.terminals
+  pub terminal : ChangesOnly t (IsBegunUnder m.cell purchase ksn frame.items) old.terminals new.terminals
   pub number : k ≡ length old.requests + 1
   pub rest : new ≡ record old { terminals = new.terminals; requests = old.requests ++ frame ∷ [] }
 

@@ -3,24 +3,15 @@
 //! A number is read off the bytes of its frame, so that the laws speak of what went over the
 //! network, and not of what a terminal remembers.
 
-ghost use Rattle.std.specs.Prelude.{◌≡◌, List, ℕ};
+ghost use Rattle.std.specs.Prelude.{◌≡◌};
 ghost use Rattle.duk_frame.specs.Answer.{IsAnswer};
-ghost use Rattle.duk_frame.specs.Request.{IsRequest};
 ghost use Rattle.duk_term.specs.Reply.{ksn_in};
 ghost use Rattle.duk_net.specs.Up.{verdict_outcome};
 
 use crate::outcome::Outcome;
-use duk_frame::{AnswerFrame, Frame, Request, read_answer, read_request};
+use duk_frame::{AnswerFrame, Frame, read_answer};
 use duk_host::Verdict;
 use duk_tree::Ksn;
-
-/// The key serial number in a request.
-pub(crate) fn ksn_of_request(frame: &Frame) -> Ksn
-    requires { (request : Request) × IsRequest frame.now.items request }
-    ensures { (request : Request) → IsRequest frame.now.items request → result ≡ request.ksn }
-{
-    read_request(frame.as_slice()).unwrap().ksn
-}
 
 /// The key serial number in an answer.
 pub(crate) fn ksn_of_answer(frame: &Frame) -> Ksn

@@ -1,17 +1,16 @@
 //! The terminals' events.
 
-ghost use Rattle.std.specs.Prelude.{◌≡◌, IfOk, IfErr, OnErr};
+ghost use Rattle.std.specs.Prelude.{◌≡◌, IfOk, OnErr};
 ghost use Rattle.duk_net.specs.Arm.{ArmsTerminal};
-ghost use Rattle.duk_net.specs.Begin.{Begins, HandsOut};
+ghost use Rattle.duk_net.specs.Begin.{Begins};
 ghost use Rattle.duk_net.specs.Down.{ReachesTerminal, TakesAnswer};
 ghost use Rattle.duk_net.specs.Load.{Loads, TakesLoad};
 ghost use Rattle.duk_net.specs.Restart.{RestartsTerminal, TakesRestart};
 ghost use Rattle.duk_net.specs.World.{meanings_of};
-ghost use Rattle.duk_term.specs.Begin.{BeginRefused};
 ghost use Rattle.duk_term.specs.Load.{loading_of};
 
 use crate::event::End;
-use crate::frames::{ksn_of_answer, ksn_of_request};
+use crate::frames::ksn_of_answer;
 use crate::outcome::Outcome;
 use crate::owner::{is_elsewhere, record_owner};
 use crate::places::{place_of, push_within};
@@ -21,8 +20,8 @@ use duk_frame::Frame;
 use duk_host::Issuer;
 use duk_store::{Cell, UsedLog};
 use duk_tdes::Key;
-use duk_term::{Answer, Purchase, TermFault, Terminal};
-use duk_tree::{Iksn, Ksn};
+use duk_term::{Answer, Purchase, Terminal};
+use duk_tree::Iksn;
 use std::alloc::AllocError;
 
 impl<const N: usize, C: Cell, L: UsedLog, I: Issuer> System<N, C, L, I> {
@@ -59,11 +58,15 @@ impl<const N: usize, C: Cell, L: UsedLog, I: Issuer> System<N, C, L, I> {
             return Ok(Outcome::NoSuchTerminal);
         };
         self.requests.reserve(1)?;
-        match begin(&mut self.terminals[place], purchase) {
-            Ok((frame, ksn)) => {
+        match self.terminals[place].begin_numbered(purchase) {
+            Ok(begun) => {
                 let k = self.requests.len() as u64 + 1;
-                push_within(&mut self.requests, frame);
-                Ok(Outcome::Sent { t, k, ksn })
+                push_within(&mut self.requests, begun.frame);
+                Ok(Outcome::Sent {
+                    t,
+                    k,
+                    ksn: begun.ksn,
+                })
             }
             Err(fault) => Ok(Outcome::TermFaulted { t, fault }),
         }
@@ -124,21 +127,6 @@ fn load<C: Cell>(
         Ok(()) => Outcome::Loaded { t, iksn },
         Err(fault) => Outcome::TermFaulted { t, fault },
     }
-}
-
-/// Lets a terminal begin: the request's frame, and its key serial number.
-fn begin<C: Cell>(
-    terminal: &mut Terminal<C>,
-    purchase: &Purchase,
-) -> Result<(Frame, Ksn), TermFault>
-    ensures sent { IfOk result
-        (λ sent. HandsOut C.meaning purchase.now sent.0 sent.1 terminal.old terminal.new) }
-    ensures refused { IfErr result (BeginRefused C.meaning terminal.old terminal.new) }
-{
-    let frame = terminal.begin(purchase)?;
-    duk_term::laws::requests::<C>();
-    let ksn = ksn_of_request(&frame);
-    Ok((frame, ksn))
 }
 
 /// Takes an answer to terminal `t`.

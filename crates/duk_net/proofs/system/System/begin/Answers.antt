@@ -8,8 +8,8 @@ returns-in-Ok-clause-outcome g c =
     rw (← c.self.view_is) (
       refl,
       record {
-        frame = c.in-Ok.frame;
-        terminal = acts_at c.args.t c.in-Some.place c.len.result _ terminals.items c.index_mut.result.now _ c.in-Some.ensures.0 c.in-Some.ensures.1 (c.len.ensures ∙ terminals.ok.0) c.index_mut.ensures.value c.in-Ok.ensures.sent;
+        frame = c.in-Ok.begun.frame;
+        terminal = acts_at c.args.t c.in-Some.place c.len.result _ terminals.items c.index_mut.result.now _ c.in-Some.ensures.0 c.in-Some.ensures.1 (c.len.ensures ∙ terminals.ok.0) c.index_mut.ensures.value c.in-Ok.ensures.begun;
         number = ap (λ n. n + 1) (c.len-in-Ok.ensures ∙ c.reserve.new.self.ok.0 ∙ ap length c.reserve.ensures.items);
         rest = rw (c.push_within.ensures, c.reserve.ensures.items) refl;
       },
