@@ -16,20 +16,20 @@ pub record EndsFrame (rest piece : List ℕ) (taken : ℕ) : Type 0 where
   pub within : taken ≤ length piece
   pub is_frame : IsFrame (rest ++ take taken piece)
 
--- what the rest and the piece behind it begin with: what a private function tells
+-- what the rest and the piece after it begin with: what a private function answers
 abbrev pub IsFront : List ℕ → List ℕ → Front → Type 0
 IsFront rest piece front.Part = IsPart (rest ++ piece)
 IsFront rest piece (front.Whole taken) = EndsFrame rest piece taken
 IsFront rest piece front.TooLong = BeginsTooLong (rest ++ piece)
 
--- a frame is handed out: it is the rest with the bytes that were taken behind it, and the new rest
+-- a frame is handed out: it is the rest with the bytes that were taken after it, and the new rest
 -- is empty
 pub record HandsOut (old new : Feeding) (piece : List ℕ) (taken : ℕ) (frame : List ℕ) : Type 0 where
   pub ends : EndsFrame old.rest piece taken
   pub whole : frame ≡ old.rest ++ take taken piece
   pub nothing_left : new.rest ≡ []
 
--- the whole piece is taken: the new rest is the old one with the piece behind it, and is the part
+-- the whole piece is taken: the new rest is the old one with the piece after it, and is the part
 -- of a frame
 pub record TakesAll (old new : Feeding) (piece : List ℕ) (taken : ℕ) : Type 0 where
   pub all : taken ≡ length piece

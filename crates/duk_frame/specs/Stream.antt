@@ -38,7 +38,7 @@ pub record BeginsWith (bytes : List ℕ) (frames : List (List ℕ)) (rest : List
   pub whole : bytes ≡ concat frames ++ rest
   pub each : All IsFrame frames
 
--- the bytes are these frames, and behind them what holds no further one: a part of a frame, or what
+-- the bytes are these frames, and after them what holds no further one: a part of a frame, or what
 -- begins with a length above 62
 pub record Splits (bytes : List ℕ) (frames : List (List ℕ)) (rest : List ℕ) : Type 0 where
   pub begins : BeginsWith bytes frames rest

@@ -97,7 +97,7 @@ impl Feeder {
     }
 }
 
-/// What the bytes behind the last whole frame begin with.
+/// What the bytes after the last whole frame begin with.
 enum Front {
     /// The part of a frame, and that is all.
     Part,
@@ -107,7 +107,7 @@ enum Front {
     TooLong,
 }
 
-/// What a rest and the piece behind it begin with.
+/// What a rest and the piece after it begin with.
 fn front_of(rest: &[u8], piece: &[u8]) -> Front
     requires { IsPart rest.now }
     ensures { IsFront rest.now piece.now result }
@@ -125,7 +125,7 @@ fn front_of(rest: &[u8], piece: &[u8]) -> Front
     Front::Whole(wanting)
 }
 
-/// The length that a rest and the piece behind it begin with, where both its bytes are there.
+/// The length that a rest and the piece after it begin with, where both its bytes are there.
 fn length_said(rest: &[u8], piece: &[u8]) -> Option<usize>
     ensures there { IsSome result ↔ (LENGTH ≤ length (rest.now ++ piece.now)) }
     ensures said { IfSome result (λ body. body ≡ said_length (rest.now ++ piece.now)) }
@@ -135,7 +135,7 @@ fn length_said(rest: &[u8], piece: &[u8]) -> Option<usize>
     Some(usize::from(BigEndian::read_u16(&[high, low])))
 }
 
-/// The byte at a place of a rest and the piece behind it.
+/// The byte at a place of a rest and the piece after it.
 fn byte_at(rest: &[u8], piece: &[u8], place: usize) -> Option<u8>
     ensures { result ≡ slice_get (rest.now ++ piece.now) place }
 {

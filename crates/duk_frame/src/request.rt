@@ -20,7 +20,7 @@ const KIND: u8 = 1;
 /// The bytes of a body without the digits of its PAN.
 const BODY: usize = 33;
 
-/// Where the PAN's digits begin in a frame, behind their number.
+/// Where the PAN's digits begin in a frame, after their number.
 const DIGITS: usize = 15;
 
 /// The fields of a request.

@@ -12,7 +12,7 @@ use std::marker::Model;
 pub(crate) const MAC_LENGTH: usize = 8;
 
 /// The text that the MAC of a frame is made over: all of its body but the MAC. It stands in the
-/// frame that it is a part of, behind the length and before the MAC's place.
+/// frame that it is a part of, after the length and before the MAC's place.
 #[derive(Drop)]
 pub struct MacText {
     frame: Frame,

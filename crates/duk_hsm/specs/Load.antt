@@ -43,7 +43,7 @@ pub record IsZoneLoaded (old : HsmKeys) (text : List ℕ) (new : HsmKeys) : Type
   pub had_none : old.zone ≡ None
   pub keys_are : new ≡ record old { zone = Some zone }
 
--- how a module tells why a key block has no key for it
+-- the fault of a module where a key block has no key for it
 abbrev pub hsm_fault_of : KeyFault → HsmFault
 hsm_fault_of (key_fault.Block why) = fault.Block why
 hsm_fault_of key_fault.WrongUse = fault.WrongUse

@@ -144,7 +144,7 @@ impl<const N: usize> Hsm<N> {
         }
     }
 
-    /// Tells whether `mac` is the retail MAC of a text, which is not empty, under the transaction
+    /// Whether `mac` is the retail MAC of a text, which is not empty, under the transaction
     /// key's variant for requests.
     ///
     /// Refused with, in this order: `NoKeySet`; `BadCounter`, where the counter numbers no

@@ -44,7 +44,7 @@ impl Transaction {
         Transaction { key, zone }
     }
 
-    /// Tells whether `mac` is the retail MAC of a text, which is not empty, under the transaction
+    /// Whether `mac` is the retail MAC of a text, which is not empty, under the transaction
     /// key's variant for requests. Refused with `BadMac`.
     pub fn verify(&self, text: &[u8], mac: [u8; 8]) -> Result<(), HsmFault>
         requires { 0 < length text.now }
