@@ -4,7 +4,8 @@ use Rattle.duk_frame.specs.Request.{IsRequest}
 use Rattle.duk_frame.specs.declared.request.Request.{Request}
 use Rattle.duk_store.specs.Log.{IsAppended, room_of}
 use Rattle.duk_tree.specs.Serial.{Serial}
-use Rattle.duk_host.specs.Handle.{Answers, AnswersAs, AnswersReply, HandleRefused, IsNumberAdded, IsNumberKept, IsRemembered, IsReplied, IsSettled, IsToAccept, IsTold, IsToldReply, KeepRefused}
+use Rattle.duk_host.specs.Handle.{Answers, AnswersAs, AnswersReply, HandleRefused, IsNumberAdded, IsNumberKept, IsRemembered, IsReplied, IsToAccept, IsTold, IsToldReply, KeepRefused}
+use Rattle.duk_host.specs.Judged.{IsSettled}
 use Rattle.duk_host.specs.Host.{LogHolds, HostMeaning, HostOf, LogAgrees, basis_of}
 use Rattle.duk_host.specs.Judgement.{Decision, IsAcceptable, IsReplyTo, basis_with}
 use Rattle.duk_host.specs.Recent.{Exchange, exchange, with_exchange}

@@ -102,7 +102,7 @@ left_by meaning basis mid new frame fault.Read judges failed = absurd failed.ref
 left_by meaning basis mid new frame fault.Truncated judges failed = absurd failed.refused
 left_by meaning basis mid new frame fault.TooLong judges failed = absurd failed.refused
 
--- a service fails behind the first frames of a stream
+-- a service fails after the first frames of a stream
 pub failed_behind :
     {L I : Type 0} (meaning : HostMeaning L I) (old new : Service L I) (basis : JudgementBasis) (bytes : List ℕ) (why : HostFault)
     → JudgesBy meaning old.host basis → FailsAtFrame meaning old new bytes why → FailedBehind meaning basis old new bytes why

@@ -62,7 +62,7 @@ member_at (thing ∷ things) (suc k) d within = let rest = member_at things k d 
 abbrev AreAmong : List (List ℕ) → Numbers → Type 0
 AreAmong answers used = (answer : List ℕ) → Contains answers answer → (ksn : Serial) → AcceptsNumber ksn answer → IsUsed used ksn
 
--- what a run answers behind the answers of earlier runs: those that accept one number are equal, none
+-- what a run answers after the answers of earlier runs: those that accept one number are equal, none
 -- of them accepts a number that was accepted before, and each is made under its own key
 pub record IsSoundRun (keys : HsmKeys) (decides : Decision) (before here : List (List ℕ)) : Type 0 where
   pub alike : AcceptsAlike here
@@ -293,7 +293,7 @@ module _ {L I : Type 0} (meaning : HostMeaning L I) where
         )
     run_of before left made last answers leaves is_made (inr up) = run_up before left made last answers leaves is_made up
 
-    -- what is known of runs behind earlier ones
+    -- what is known of runs after earlier ones
     pub record AreSoundRuns (before : List (List ℕ)) (runs : List (List (List ℕ))) : Type 0 where
       pub alike : All AcceptsAlike runs
       pub behind : All (λ run. AcceptOtherNumbers before run) runs

@@ -3,7 +3,8 @@ use Rattle.std.proofs.Common.{◌≡◌, ℕ, List, inr}
 use Rattle.duk_frame.specs.Request.{IsRequest}
 use Rattle.duk_frame.specs.declared.request.Request.{Request}
 use Rattle.duk_tree.specs.Serial.{serial_bytes}
-use Rattle.duk_host.specs.Handle.{IsSettled, IsToldRefusal}
+use Rattle.duk_host.specs.Handle.{IsToldRefusal}
+use Rattle.duk_host.specs.Judged.{IsSettled}
 use Rattle.duk_host.specs.Judgement.{IsAuthentic, IsNoRepeat, IsReasonAgainst, IsReasonAgainstNumber, JudgementBasis, refusal_frame}
 use Rattle.duk_host.specs.declared.answered.Verdict.{Verdict}
 use Rattle.duk_host.specs.declared.answered.Verdict.TheVariants.{Accepted, Refused, Repeated}

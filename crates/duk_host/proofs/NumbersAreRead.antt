@@ -108,7 +108,7 @@ at_end : (first : Numbers) (last : Serial) → get_or (first ++ last ∷ []) (le
 at_end [] last = refl
 at_end (number ∷ first) last = at_end first last
 
--- numbers that occur once do not occur again behind themselves
+-- numbers that occur once do not occur again after themselves
 occurs_twice : (seen : Numbers) (number : Serial) → Contains seen number → AllPairs (λ earlier later. earlier ≢ later) (seen ++ number ∷ []) → ⊥
 occurs_twice seen number (k, within, is) once =
     once k (length seen) number within (omega (arith, length-append seen (number ∷ [])))

@@ -1,4 +1,4 @@
--- What a service does behind a restart is a run.
+-- What a service does after a restart is a run.
 use Rattle.std.proofs.Common.{◌≡◌, inl, inr, ℕ, List, [], ◌∷◌, ◌++◌, length, refl, sym, subst, ◌∙◌}
 use Rattle.std.specs.List.{concat}
 use Rattle.duk_io.specs.Sink.{IsWritten}

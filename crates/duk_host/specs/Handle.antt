@@ -7,7 +7,7 @@ use Rattle.duk_store.specs.Log.{AppendFailed, IsAppended}
 use Rattle.duk_store.specs.declared.fault.StoreFault.{StoreFault}
 use Rattle.duk_tree.specs.Serial.{Serial}
 use Rattle.duk_host.specs.Host.{HostMeaning, HostOf, basis_of}
-use Rattle.duk_host.specs.Judgement.{IsAcceptable, IsAccepted, IsRefusalFor, IsRepeated, IsReplyTo, JudgementBasis}
+use Rattle.duk_host.specs.Judgement.{IsAcceptable, IsAccepted, IsRefusalFor, IsRepeated, IsReplyTo}
 use Rattle.duk_host.specs.Recent.{Exchange, IsReplyWithCode, exchange, with_exchange}
 use Rattle.duk_host.specs.Restart.{KeepsEnds}
 use Rattle.duk_host.specs.Used.{IsOneMore}
@@ -99,34 +99,28 @@ Answers meaning bytes old new frame =
     ⊎ AnswersReply meaning bytes old new frame
     ⊎ AnswersRepeat meaning bytes old new frame
 
--- what is told of a frame is what it says
+-- what is said of a frame is what it says
 abbrev pub IsTold : List ℕ → Verdict → Type 0
 IsTold frame (Accepted ksn code) = IsReplyWithCode frame ksn code
 IsTold frame (Repeated ksn code) = IsReplyWithCode frame ksn code
 IsTold frame (Refused ksn reason) = IsRefusal frame ksn reason
 
--- what is told of a frame is the refusal that it is
+-- what is said of a frame is the refusal that it is
 abbrev pub IsToldRefusal : List ℕ → Verdict → Type 0
 IsToldRefusal frame (Refused ksn reason) = IsRefusal frame ksn reason
 IsToldRefusal frame _ = ⊥
 
--- what is told of a frame is the accepted reply that it is
+-- what is said of a frame is the accepted reply that it is
 abbrev pub IsToldReply : List ℕ → Verdict → Type 0
 IsToldReply frame (Accepted ksn code) = IsReplyWithCode frame ksn code
 IsToldReply frame _ = ⊥
 
--- what is told of a frame is that it is an accepted reply that was given before
+-- what is said of a frame is that it is an accepted reply that was given before
 abbrev pub IsToldRepeat : List ℕ → Verdict → Type 0
 IsToldRepeat frame (Repeated ksn code) = IsReplyWithCode frame ksn code
 IsToldRepeat frame _ = ⊥
 
--- an answer that changes nothing, by what is told of it: a refusal, or a reply that was given before
-abbrev pub IsSettled : JudgementBasis → List ℕ → List ℕ → Verdict → Type 0
-IsSettled basis bytes frame (Refused ksn reason) = IsRefusalFor basis bytes frame
-IsSettled basis bytes frame (Repeated ksn code) = IsRepeated basis bytes frame
-IsSettled basis bytes frame (Accepted ksn code) = ⊥
-
--- what a host does, by what it tells of its frame: a request is accepted, is one that was accepted
+-- what a host does, by what it says of its frame: a request is accepted, is one that was accepted
 -- before, or is refused
 abbrev pub AnswersAs : {L I : Type 0} → HostMeaning L I → List ℕ → HostOf L I → HostOf L I → List ℕ
     → Verdict → Type 0

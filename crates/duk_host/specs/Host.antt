@@ -16,7 +16,7 @@ pub record HostOf (L I : Type 0) : Type 0 where
   pub log : L
   pub state : Option Running
 
--- a key serial number is used at a host in this state; one that is stopped tells none as used
+-- a key serial number is used at a host in this state; at one that is stopped none is
 abbrev pub IsUsedIn : Option Running → Serial → Type 0
 IsUsedIn None ksn = ⊥
 IsUsedIn (Some running) ksn = IsUsed running.used ksn

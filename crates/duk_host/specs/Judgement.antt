@@ -1,5 +1,5 @@
--- The judgement of a request: this project's own, over the transaction keys of ANSI X9.24-1:2009
--- annex A.
+-- How a host judges a request: the reason for which it is refused, or the reply to it. This project's
+-- own, over the transaction keys of ANSI X9.24-1:2009 annex A.
 use Rattle.std.specs.Prelude.{◌≡◌, ◌⊎◌, ◌<◌, ℕ, List, Some, None, replicate}
 use Rattle.duk_frame.specs.Answer.{refusal_text}
 use Rattle.duk_frame.specs.Frame.{framed}
@@ -75,7 +75,7 @@ pub record HasNoRoom (basis : JudgementBasis) (request : Request) : Type 0 where
   pub fresh : ¬ IsUsed basis.used request.ksn
   pub full : basis.room ≡ 0
 
--- the least reason against the MAC of a request: each says that those before it do not hold
+-- why the MAC of a request is not verified. Each reason says that those before it do not hold
 abbrev pub IsReasonAgainstMac : HsmKeys → Request → Reason → Type 0
 IsReasonAgainstMac keys request reason.UnknownKeySet =
     key_set_of keys (prefix_of request.ksn) ≡ None
@@ -89,15 +89,14 @@ pub record IsFreshWithoutRoom (used : Numbers) (room : ℕ) (ksn : Serial) : Typ
   pub fresh : ¬ IsUsed used ksn
   pub full : room ≡ 0
 
--- why a number cannot be used by the next request: it is used, or else there is no room for it. A
--- private function answers this
+-- why a number cannot be used by the next request: it is used, or else there is no room for it
 abbrev pub IsReasonAgainstNumber : Numbers → ℕ → Serial → Reason → Type 0
 IsReasonAgainstNumber used room ksn reason.Used = IsUsed used ksn
 IsReasonAgainstNumber used room ksn reason.LogFull = IsFreshWithoutRoom used room ksn
 IsReasonAgainstNumber used room ksn _ = ⊥
 
--- the least reason against a request: one against its MAC, or else, where it is none of the latest
--- that were accepted, that its number is used, or else that there is no room for it
+-- the least reason against a request. It is one against its MAC; or else, where the request is none
+-- of the latest that were accepted, that its number is used; or else that there is no room
 abbrev pub IsReasonAgainst : JudgementBasis → Request → Reason → Type 0
 IsReasonAgainst basis request reason.Used = IsUsedAgain basis request
 IsReasonAgainst basis request reason.LogFull = HasNoRoom basis request

@@ -3,6 +3,7 @@ pub mod Recent
 pub mod Index
 pub mod Table
 pub mod Judgement
+pub mod Judged
 pub mod Host
 pub mod Reading
 pub mod Restart

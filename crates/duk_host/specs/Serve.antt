@@ -143,7 +143,7 @@ pub record IsLastRead (input left : Supply) (bytes : List ℕ) : Type 0 where
   pub within : before < most_reads
   pub made : AreReadsMade input.reads left.reads (before + 1)
 
--- the input is read to its end, and its frames are served, but for a part of one behind them
+-- the input is read to its end, and its frames are served, but for a part of one after them
 pub record IsReadUp
     {L I : Type 0} (meaning : HostMeaning L I) (old new : Service L I) (input left : Supply)
     (rest : List ℕ) (count : ℕ) : Type 0 where

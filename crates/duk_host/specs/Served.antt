@@ -165,7 +165,7 @@ IsLeftBy meaning basis writer new frame (fault.Store why) =
     IsStoppedOn meaning basis writer new frame
 IsLeftBy meaning basis writer new frame _ = ⊥
 
--- a service wrote the answers to the first frames of a stream, and failed at the frame behind them
+-- a service wrote the answers to the first frames of a stream, and failed at the frame after them
 pub record FailedBehind
     {L I : Type 0} (meaning : HostMeaning L I) (basis : JudgementBasis) (old new : Service L I)
     (bytes : List ℕ) (why : HostFault) : Type 0 where

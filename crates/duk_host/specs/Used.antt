@@ -5,7 +5,7 @@ use Rattle.duk_store.specs.Log.{Numbers}
 use Rattle.duk_tree.specs.Path.{IsUsable}
 use Rattle.duk_tree.specs.Serial.{Serial}
 
--- a key serial number is one of the used ones, in whatever order these are told
+-- a key serial number is one of the used ones, in whatever order these stand
 abbrev pub IsUsed : Numbers → Serial → Type 0
 IsUsed used ksn = Contains used ksn
 

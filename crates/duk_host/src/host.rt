@@ -14,7 +14,7 @@ use crate::answered::Answered;
 use crate::exchange::Exchange;
 use crate::fault::HostFault;
 use crate::issuer::Issuer;
-use crate::judge::judge;
+use crate::judge::{Judgement, judge};
 use crate::payment::Payment;
 use crate::reading::numbers_in;
 use crate::recent::{EmptyRing, Recent};
@@ -54,7 +54,7 @@ impl<const N: usize, L: UsedLog, I: Issuer> Model for Host<N, L, I> {
 }
 
 impl<const N: usize, L: UsedLog, I: Issuer> Host<N, L, I> {
-    /// A stopped host. Its security module holds a zone key, which `has_zone` tells. This takes no
+    /// A stopped host. Its security module holds a zone key, as `has_zone` reports. This takes no
     /// memory.
     pub fn new(alloc: Global, hsm: Hsm<N>, issuer: I, log: L) -> Self
         requires zone { IsSome hsm.zone }
@@ -70,8 +70,8 @@ impl<const N: usize, L: UsedLog, I: Issuer> Host<N, L, I> {
         }
     }
 
-    /// Brings log and host up, reads the used numbers from the log, and tells how many there are. No
-    /// request is known as accepted before.
+    /// Brings log and host up, reads the used numbers from the log, and answers how many there are.
+    /// No request is known as accepted before.
     ///
     /// Refused with `Store`: of the log's fault, or with `Damaged` where a number that it keeps
     /// occurs twice or numbers no transaction; and with `NoMemory`. The host is stopped after
@@ -100,7 +100,7 @@ impl<const N: usize, L: UsedLog, I: Issuer> Host<N, L, I> {
     /// A refusal has the least reason that holds: 1 where the bytes are no request's frame, and
     /// then its key serial number is ten zero bytes; 2 where no key set for the key serial number
     /// is held; 3 where the counter numbers no transaction; 4 where the MAC is not that of the
-    /// request; 5 where the number is used; 6 where the log has no room. Behind reason 4 and before
+    /// request; 5 where the number is used; 6 where the log has no room. After reason 4 and before
     /// reason 5, a request that is equal in every byte to one of the last 64 that were accepted
     /// since the restart is given the reply of that one. Both change nothing and take no memory.
     /// Else the number goes into the log before the reply is handed out, with code 30 where the PIN
@@ -117,7 +117,7 @@ impl<const N: usize, L: UsedLog, I: Issuer> Host<N, L, I> {
         Ok(self.answer(bytes)?.frame)
     }
 
-    /// Does with the bytes of a request what `handle` does, and tells beside the frame what it
+    /// Does with the bytes of a request what `handle` does, and answers beside the frame what it
     /// says: that the request is accepted, that it was accepted before, or that it is refused.
     pub fn answer(&mut self, bytes: &[u8]) -> Result<Answered, HostFault>
         ensures told { IfOk result (λ answered. IsTold answered.frame.items answered.says) }
@@ -131,8 +131,8 @@ impl<const N: usize, L: UsedLog, I: Issuer> Host<N, L, I> {
             return Err(HostFault::Stopped);
         };
         match judge(&self.hsm, running, self.log.room(), bytes) {
-            Ok(payment) => self.accept(&payment, bytes),
-            Err(answered) => Ok(answered),
+            Judgement::Fresh(payment) => self.accept(&payment, bytes),
+            Judgement::Settled(answered) => Ok(answered),
         }
     }
 

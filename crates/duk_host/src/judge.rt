@@ -1,10 +1,11 @@
-//! The judgement of a request.
+//! How a host judges a request.
 
 ghost use Rattle.std.specs.Prelude.{◌≡◌, ◌≤◌, ◌<◌, ℕ, List, IfOk, IfErr, OnOk, length};
 ghost use Rattle.duk_frame.specs.Frame.{mac_text_of};
 ghost use Rattle.duk_frame.specs.Request.{IsRequest};
 ghost use Rattle.duk_hsm.specs.Opened.{IsOpened};
-ghost use Rattle.duk_host.specs.Handle.{IsSettled, IsTold};
+ghost use Rattle.duk_host.specs.Handle.{IsTold};
+ghost use Rattle.duk_host.specs.Judged.{IfFresh, IfSettled, IsSettled};
 ghost use Rattle.duk_host.specs.Judgement.{Decision, IsAcceptable, IsAuthentic, IsReasonAgainstMac, IsReasonAgainstNumber, basis_with, authenticated_text};
 ghost use Rattle.duk_host.specs.Used.{IsUsed};
 
@@ -17,41 +18,50 @@ use duk_frame::{Request, mac_text, read_request};
 use duk_hsm::{Hsm, HsmFault, Transaction};
 use duk_tree::Ksn;
 
-/// The request in the bytes with its transaction, where it is to be accepted, or else its answer:
-/// the refusal of the least reason, or the reply that it was given before.
+/// What the bytes of a request are judged to be.
+#[derive(Drop)]
+pub(crate) enum Judgement {
+    /// A request against which there is no reason, with its transaction: it is to be accepted.
+    Fresh(Payment),
+    /// What is refused, or was accepted before, with its answer: nothing is to change.
+    Settled(Answered),
+}
+
+/// Judges bytes. What is refused is settled with the refusal of the least reason, and what was
+/// accepted before with the reply that it was given then.
 pub(crate) fn judge<const N: usize>(
     hsm: &Hsm<N>,
     running: &Running,
     room: u64,
     bytes: &[u8],
-) -> Result<Payment, Answered>
-    ensures acceptable { (decides : Decision) → IfOk result (λ payment. IsAcceptable
+) -> Judgement
+    ensures acceptable { (decides : Decision) → IfFresh result (λ payment. IsAcceptable
         (basis_with hsm.now running.now.used running.now.recent room decides) payment.request) }
-    ensures request { IfOk result (λ payment. IsRequest bytes.now payment.request) }
-    ensures opened { IfOk result
+    ensures request { IfFresh result (λ payment. IsRequest bytes.now payment.request) }
+    ensures opened { IfFresh result
         (λ payment. IsOpened hsm.now payment.request.ksn payment.transaction) }
-    ensures settled { (decides : Decision) → IfErr result (λ answered. IsSettled
+    ensures settled { (decides : Decision) → IfSettled result (λ answered. IsSettled
         (basis_with hsm.now running.now.used running.now.recent room decides)
         bytes.now answered.frame.items answered.says) }
-    ensures told { IfErr result (λ answered. IsTold answered.frame.items answered.says) }
+    ensures told { IfSettled result (λ answered. IsTold answered.frame.items answered.says) }
 {
     let Some(request) = read_request(bytes) else {
-        return Err(Reason::Malformed.answer(Ksn::from_bytes([0; 10])));
+        return Judgement::Settled(Reason::Malformed.answer(Ksn::from_bytes([0; 10])));
     };
     duk_frame::laws::mac_texts();
     let transaction = match open_authentic(hsm, &request, mac_text(bytes)) {
         Ok(transaction) => transaction,
-        Err(reason) => return Err(reason.answer(request.ksn)),
+        Err(reason) => return Judgement::Settled(reason.answer(request.ksn)),
     };
     if let Some(repeat) = running.recent.answer_to(request.ksn, bytes) {
-        return Err(repeat);
+        return Judgement::Settled(repeat);
     }
     match check_number(&running.used, room, request.ksn) {
-        Ok(()) => Ok(Payment {
+        Ok(()) => Judgement::Fresh(Payment {
             request,
             transaction,
         }),
-        Err(reason) => Err(reason.answer(request.ksn)),
+        Err(reason) => Judgement::Settled(reason.answer(request.ksn)),
     }
 }
 

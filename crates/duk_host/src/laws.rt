@@ -129,8 +129,8 @@ pub fn services<L: UsedLog, I: Issuer>()
 
 /// What a service writes by both lists and the bytes that it read: all answers to their frames, where
 /// it served these up to a part of one or a length above 62; and else the first of them, as many as
-/// it served frames. By what its host then judges, or what its log finds where that stopped it, is
-/// told too, also where it fails at the frame behind those.
+/// it served frames. The law also says by what its host then judges, or what its log finds where
+/// that stopped it, and so it does where the service fails at the frame after those.
 pub fn served_streams<L: UsedLog, I: Issuer>()
     ensures all { (old new : Service L I) (basis : JudgementBasis) (bytes rest : List ℕ)
         → (count : ℕ)
@@ -182,7 +182,7 @@ pub fn lifetimes<L: UsedLog, I: Issuer>()
     services::<L, I>();
 }
 
-/// What `serve` does behind a restart is a run of a service, however it ends: at the end of its
+/// What `serve` does after a restart is a run of a service, however it ends: at the end of its
 /// input, or with any fault. The answers of that run are those which the writer got, the last of them
 /// cut where a write failed.
 pub fn service_runs<L: UsedLog, I: Issuer>()

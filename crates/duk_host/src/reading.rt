@@ -9,7 +9,7 @@ use duk_store::{StoreFault, UsedLog};
 use duk_tree::{Ksn, usable};
 use std::alloc::Global;
 
-/// The numbers that a log keeps, as many as it told at its restart.
+/// The numbers that a log keeps, as many as its restart found.
 ///
 /// Refused with `Store`: of the log's fault, or with `Damaged` where a number that it keeps occurs
 /// twice or numbers no transaction; and with `NoMemory`.

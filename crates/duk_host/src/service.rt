@@ -19,13 +19,13 @@ const READS: usize = 1_000_000;
 /// How many bytes are read at a time, at most.
 const PIECE: usize = 4096;
 
-/// Handles each frame of the input, writes its answer, and tells how many frames there were when
-/// the input has ended.
+/// Handles each frame of the input, writes its answer, and answers how many frames there were
+/// when the input has ended.
 ///
 /// Refused with the first of these: `Read`, where a read failed or 1,000,000 were made, none of
 /// which gave the end, and `Truncated`, where the input ends inside a frame, each after all whole
 /// frames are answered; `TooLong`, where a length above 62 stands in the place of a frame, after all
-/// before it are; what `handle` refuses, and that frame and what is behind it have no answer;
+/// before it are; what `handle` refuses, and that frame and what is after it have no answer;
 /// `Write`, where a write failed or took no byte.
 pub fn serve<const N: usize, L: UsedLog, I: Issuer, R: Source, W: Sink>(
     host: &mut Host<N, L, I>,
@@ -58,7 +58,7 @@ pub fn serve<const N: usize, L: UsedLog, I: Issuer, R: Source, W: Sink>(
     Err(HostFault::Read)
 }
 
-/// What a service tells at the end of its input, where it answered so many frames.
+/// What a service answers at the end of its input, where it answered so many frames.
 fn at_end(feeder: &Feeder, frames: u64) -> Result<u64, HostFault>
     ensures between { IfOk result (λ count. (count ≡ frames) × (feeder.now.rest ≡ [])) }
     ensures inside { IfErr result
@@ -70,7 +70,7 @@ fn at_end(feeder: &Feeder, frames: u64) -> Result<u64, HostFault>
     Ok(frames)
 }
 
-/// Serves the frames that end in a piece, and tells how many these are.
+/// Serves the frames that end in a piece, and answers how many these are.
 fn serve_piece<const N: usize, L: UsedLog, I: Issuer, W: Sink>(
     host: &mut Host<N, L, I>,
     feeder: &mut Feeder,
@@ -98,8 +98,8 @@ fn serve_piece<const N: usize, L: UsedLog, I: Issuer, W: Sink>(
     Ok(frames)
 }
 
-/// Serves the first frame that ends in a piece, and tells how many bytes of the piece that took; or
-/// none, where no frame ends in it, and it was taken whole.
+/// Serves the first frame that ends in a piece, and answers how many bytes of the piece that took;
+/// or none, where no frame ends in it, and it was taken whole.
 fn serve_frame<const N: usize, L: UsedLog, I: Issuer, W: Sink>(
     host: &mut Host<N, L, I>,
     feeder: &mut Feeder,
