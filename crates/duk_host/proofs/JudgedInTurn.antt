@@ -7,7 +7,7 @@ use Rattle.duk_store.specs.Log.{Numbers}
 use Rattle.duk_tree.specs.Serial.{Serial}
 use Rattle.duk_host.specs.Handle.{AnswersRefusal, AnswersRepeat, AnswersReply, IsNumberKept}
 use Rattle.duk_host.specs.Host.{HostMeaning, HostOf, basis_of}
-use Rattle.duk_host.specs.Judgement.{IsAcceptable, IsAccepted, IsAnswerTo, IsNoRepeat, IsReasonAgainst, IsRefusalFor, IsRepeated, JudgementBasis, basis_with}
+use Rattle.duk_host.specs.Judgement.{IsAcceptable, IsAccepted, IsAnswerTo, IsNoRepeat, IsRefusalFor, IsRepeated, JudgementBasis, basis_with}
 use Rattle.duk_host.specs.Recent.{Exchange, exchange, reply_given, with_exchange}
 use Rattle.duk_host.specs.Restart.{IsHostRestarted}
 use Rattle.duk_host.specs.Serve.{IsServed, Serves, Service}
@@ -18,6 +18,7 @@ use Rattle.duk_host.specs.declared.reason.Reason.TheVariants as reason
 use Rattle.duk_host.specs.declared.running.Running.{Running}
 use Rattle.duk_host.proofs.OneAnswer.{OnePin, OneRequest, not_accepted_too, not_new_too, one_answer}
 use Rattle.duk_host.proofs.OneNumberMore.{contains_more, usable_more}
+use Rattle.duk_host.proofs.Reasons.{Case, case_of, reason_of}
 
 -- ---- one judgement
 
@@ -96,7 +97,7 @@ same_no_repeat basis other request recent new = ap (λ recent. reply_given recen
 same_reason :
     (basis other : JudgementBasis) (request : Request) (why : Reason)
     → basis.keys ≡ other.keys → basis.room ≡ other.room → SameNumbers basis.used other.used → basis.recent ≡ other.recent
-    → IsReasonAgainst basis request why → IsReasonAgainst other request why
+    → Case basis request why → Case other request why
 same_reason basis other request reason.Malformed keys room same recent against = absurd against
 same_reason basis other request reason.UnknownKeySet keys room same recent against = rw keys at against
 same_reason basis other request reason.BadCounter keys room same recent against = rw keys at against
@@ -122,7 +123,7 @@ same_refusal basis other bytes frame keys room same recent (inr refused) = inr (
   request = refused.request;
   reason = refused.reason;
   is_request = refused.is_request;
-  refuses = same_reason basis other refused.request refused.reason keys room same recent refused.refuses;
+  refuses = reason_of other refused.request refused.reason (same_reason basis other refused.request refused.reason keys room same recent (case_of basis refused.request refused.reason refused.refuses));
   frame_is = refused.frame_is;
 })
 

@@ -4,6 +4,7 @@ mod OneNumberMore
 mod NumbersAreRead
 mod AcceptedIsAnswered
 mod RestartReadsAll
+mod Reasons
 mod NumberRefuses
 mod RefusalsAreRead
 mod OneAnswer

@@ -1,18 +1,19 @@
--- A request that is refused for its number.
+-- A request that is refused for its MAC or for its number.
 use Rattle.std.proofs.Common.{◌≡◌, ℕ, List, inr}
 use Rattle.duk_frame.specs.Request.{IsRequest}
 use Rattle.duk_frame.specs.declared.request.Request.{Request}
 use Rattle.duk_tree.specs.Serial.{serial_bytes}
 use Rattle.duk_host.specs.Handle.{IsToldRefusal}
-use Rattle.duk_host.specs.Judged.{IsSettled}
-use Rattle.duk_host.specs.Judgement.{IsAuthentic, IsNoRepeat, IsReasonAgainst, IsReasonAgainstNumber, JudgementBasis, refusal_frame}
+use Rattle.duk_host.specs.Judged.{IsReasonAgainstMac, IsReasonAgainstNumber, IsSettled}
+use Rattle.duk_host.specs.Judgement.{IsAuthentic, IsNoRepeat, JudgementBasis, refusal_frame}
 use Rattle.duk_host.specs.declared.answered.Verdict.{Verdict}
 use Rattle.duk_host.specs.declared.answered.Verdict.TheVariants.{Accepted, Refused, Repeated}
 use Rattle.duk_host.specs.declared.reason.Reason.{Reason}
 use Rattle.duk_host.specs.declared.reason.Reason.TheVariants as reason
+use Rattle.duk_host.proofs.Reasons.{Case, mac_case, reason_of}
 
 -- a reason against the number of a request that is no repeat is the least against the request
-against : (basis : JudgementBasis) (request : Request) (why : Reason) → IsAuthentic basis.keys request → IsNoRepeat basis request → IsReasonAgainstNumber basis.used basis.room request.ksn why → IsReasonAgainst basis request why
+against : (basis : JudgementBasis) (request : Request) (why : Reason) → IsAuthentic basis.keys request → IsNoRepeat basis request → IsReasonAgainstNumber basis.used basis.room request.ksn why → Case basis request why
 against basis request reason.Malformed authentic no_repeat number = absurd number
 against basis request reason.UnknownKeySet authentic no_repeat number = absurd number
 against basis request reason.BadCounter authentic no_repeat number = absurd number
@@ -28,4 +29,14 @@ pub number_refuses :
 number_refuses basis bytes frame request why (Accepted ksn code) is_request authentic no_repeat number frame_is told = absurd told
 number_refuses basis bytes frame request why (Repeated ksn code) is_request authentic no_repeat number frame_is told = absurd told
 number_refuses basis bytes frame request why (Refused ksn reason) is_request authentic no_repeat number frame_is told =
-    inr (record { request = request; reason = why; is_request = is_request; refuses = against basis request why authentic no_repeat number; frame_is = frame_is })
+    inr (record { request = request; reason = why; is_request = is_request; refuses = reason_of basis request why (against basis request why authentic no_repeat number); frame_is = frame_is })
+
+-- so is one whose MAC is not verified
+pub mac_refuses :
+    (basis : JudgementBasis) (bytes frame : List ℕ) (request : Request) (why : Reason) (says : Verdict)
+    → IsRequest bytes request → IsReasonAgainstMac basis.keys request why
+    → frame ≡ refusal_frame (serial_bytes request.ksn) why → IsToldRefusal frame says → IsSettled basis bytes frame says
+mac_refuses basis bytes frame request why (Accepted ksn code) is_request against frame_is told = absurd told
+mac_refuses basis bytes frame request why (Repeated ksn code) is_request against frame_is told = absurd told
+mac_refuses basis bytes frame request why (Refused ksn reason) is_request against frame_is told =
+    inr (record { request = request; reason = why; is_request = is_request; refuses = reason_of basis request why (mac_case basis request why against); frame_is = frame_is })

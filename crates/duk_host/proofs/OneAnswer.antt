@@ -4,24 +4,19 @@ use Rattle.duk_frame.specs.Payment.{payment_reply}
 use Rattle.duk_frame.specs.Request.{IsRequest, request_bytes}
 use Rattle.duk_frame.specs.declared.code.Code.{Code}
 use Rattle.duk_frame.specs.declared.request.Request.{Request}
-use Rattle.duk_hsm.specs.Commands.{HasNoPin, IsOtherMac, IsPinOf, IsRequestMac, IsTransactionKey, IsTranslated}
+use Rattle.duk_hsm.specs.Commands.{HasNoPin, IsPinOf, IsTransactionKey, IsTranslated}
 use Rattle.duk_hsm.specs.Keys.{HsmKeys, key_set_of}
 use Rattle.duk_pin.specs.PinBlock.{IsPinBlock, pin_block}
 use Rattle.duk_tdes.specs.Tdes.{tdes_encrypted}
-use Rattle.duk_tree.specs.Derivation.{derived_key_of}
 use Rattle.duk_tree.specs.Serial.{Serial, prefix_of, serial_bytes}
 use Rattle.duk_host.specs.Judgement.{Decision, IsAcceptable, IsAccepted, IsAnswerTo, IsAuthentic, IsCodeOf, IsNoRepeat, IsReasonAgainst, IsRefusalFor, IsRefusedRequest, IsRepeated, IsReplyTo, JudgementBasis, WasGiven, refusal_frame}
 use Rattle.duk_host.specs.Recent.{reply_given}
 use Rattle.duk_host.specs.declared.reason.Reason.{Reason}
 use Rattle.duk_host.specs.declared.reason.Reason.TheVariants as reason
+use Rattle.duk_host.proofs.Reasons.{Case, case_of, no_other_mac, one_key}
 
 one_value : {A : Type 0} (found : Option A) (one other : A) → found ≡ Some one → found ≡ Some other → one ≡ other
 one_value found one other is same = cc
-
--- a key serial number has at most one transaction key
-one_key : (keys : HsmKeys) (ksn : Serial) (key other : List ℕ) → IsTransactionKey keys ksn key → IsTransactionKey keys ksn other → key ≡ other
-one_key keys ksn key other one two =
-    one.key_is ∙ ap (λ bdk. derived_key_of bdk ksn) (one_value (key_set_of keys (prefix_of ksn)) one.bdk two.bdk one.held two.held) ∙ sym two.key_is
 
 not_held : {A : Type 0} (found : Option A) → found ≡ None → IsSome found → ⊥
 not_held None is some = cc
@@ -33,15 +28,10 @@ none_and_some found value none some = cc
 no_key : (keys : HsmKeys) (ksn : Serial) (key : List ℕ) → key_set_of keys (prefix_of ksn) ≡ None → IsTransactionKey keys ksn key → ⊥
 no_key keys ksn key none is = let held = is.held in cc
 
--- no text has two MACs for requests
-no_other_mac : (keys : HsmKeys) (ksn : Serial) (text mac : List ℕ) → IsOtherMac keys ksn text mac → IsRequestMac keys ksn text mac → ⊥
-no_other_mac keys ksn text mac other is =
-    other.mac_is_other (rw (one_key keys ksn is.key other.key is.key_is other.key_is) at is.mac_is)
-
 -- what is said of a request: the least reason against it, or that there is none
 abbrev Says : JudgementBasis → Request → Option Reason → Type 0
 Says basis request None = IsAcceptable basis request
-Says basis request (Some why) = IsReasonAgainst basis request why
+Says basis request (Some why) = Case basis request why
 
 -- no two things are said of a request
 one_verdict : (basis : JudgementBasis) (request : Request) (verdict other : Option Reason)
@@ -137,14 +127,14 @@ module _ (basis : JudgementBasis) (one_request : OneRequest) (one_pin : OnePin) 
   one_refusal bytes frame other one two =
       let same : one.request ≡ two.request = one_request bytes one.request two.request one.is_request two.is_request in
       let refuses : IsReasonAgainst basis two.request one.reason = subst (λ request. IsReasonAgainst basis request one.reason) same one.refuses in
-      let why = some_reason one.reason two.reason (one_verdict basis two.request (Some one.reason) (Some two.reason) refuses two.refuses) in
+      let why = some_reason one.reason two.reason (one_verdict basis two.request (Some one.reason) (Some two.reason) (case_of basis two.request one.reason refuses) (case_of basis two.request two.reason two.refuses)) in
       one.frame_is ∙ ap (λ request. refusal_frame (serial_bytes request.ksn) one.reason) same ∙ ap (λ why. refusal_frame (serial_bytes two.request.ksn) why) why ∙ sym two.frame_is
 
   not_both : (bytes frame other : List ℕ) (request : Request) → IsRefusedRequest basis bytes frame → IsAccepted basis bytes request other → ⊥
   not_both bytes frame other request refused accepted =
       let same : refused.request ≡ request = one_request bytes refused.request request refused.is_request accepted.is_request in
       let refuses : IsReasonAgainst basis request refused.reason = subst (λ request. IsReasonAgainst basis request refused.reason) same refused.refuses in
-      let verdict = one_verdict basis request (Some refused.reason) None refuses accepted.acceptable in cc
+      let verdict = one_verdict basis request (Some refused.reason) None (case_of basis request refused.reason refuses) accepted.acceptable in cc
 
   one_acceptance : (bytes frame other : List ℕ) (request again : Request) → IsAccepted basis bytes request frame → IsAccepted basis bytes again other → frame ≡ other
   one_acceptance bytes frame other request again one two =
@@ -152,7 +142,7 @@ module _ (basis : JudgementBasis) (one_request : OneRequest) (one_pin : OnePin) 
       one_reply basis.keys basis.decides again frame other one_pin (subst (λ request. IsReplyTo basis.keys basis.decides request frame) same one.reply) two.reply
 
   -- a request that was given a reply has no reason against it
-  no_reason_too : (request : Request) (why : Reason) (frame : List ℕ) → IsReasonAgainst basis request why → IsAuthentic basis.keys request → WasGiven basis request frame → ⊥
+  no_reason_too : (request : Request) (why : Reason) (frame : List ℕ) → Case basis request why → IsAuthentic basis.keys request → WasGiven basis request frame → ⊥
   no_reason_too request reason.Malformed frame against authentic given = absurd against
   no_reason_too request reason.UnknownKeySet frame against authentic given = no_key basis.keys request.ksn _ against authentic.key_is
   no_reason_too request reason.BadCounter frame against authentic given = against.unusable authentic.key_is.usable
@@ -166,7 +156,7 @@ module _ (basis : JudgementBasis) (one_request : OneRequest) (one_pin : OnePin) 
   not_repeated_too bytes frame other (inr refused) repeated =
       let same : refused.request ≡ repeated.request = one_request bytes refused.request repeated.request refused.is_request repeated.is_request in
       let refuses : IsReasonAgainst basis repeated.request refused.reason = subst (λ request. IsReasonAgainst basis request refused.reason) same refused.refuses in
-      no_reason_too repeated.request refused.reason other refuses repeated.authentic repeated.given
+      no_reason_too repeated.request refused.reason other (case_of basis repeated.request refused.reason refuses) repeated.authentic repeated.given
 
   -- nor are bytes that are accepted
   pub not_new_too : (bytes frame other : List ℕ) (request : Request) → IsAccepted basis bytes request frame → IsRepeated basis bytes other → ⊥

@@ -14,13 +14,14 @@ use Rattle.duk_tdes.specs.Tdes.{tdes_decrypted, tdes_encrypted}
 use Rattle.duk_tree.specs.Derivation.{derived_key_of, pin_key_of}
 use Rattle.duk_tree.specs.Path.{IsUsable}
 use Rattle.duk_tree.specs.Serial.{Serial, prefix_of, serial_bytes}
-use Rattle.duk_host.specs.Judgement.{IsAcceptable, IsAnswerTo, IsAuthentic, IsCodeOf, IsReasonAgainst, JudgementBasis, authenticated_text, refusal_frame}
+use Rattle.duk_host.specs.Judgement.{IsAcceptable, IsAnswerTo, IsAuthentic, IsCodeOf, JudgementBasis, authenticated_text, refusal_frame}
 use Rattle.duk_host.specs.Recent.{exchange, reply_given}
 use Rattle.duk_host.specs.Served.{AreJudged, IsJudgedOn, IsServedStream, with_accepted}
 use Rattle.duk_host.specs.declared.reason.Reason.{Reason}
 use Rattle.duk_host.specs.declared.reason.Reason.TheVariants as reason
 use Rattle.duk_host.proofs.Decided.{Decided, both, equal, is_among, less, like, same_list}
 use Rattle.duk_host.proofs.DecidedRequests.{PathLaws, is_usable, some_pin, some_request}
+use Rattle.duk_host.proofs.Reasons.{Case, reason_of}
 
 abbrev serial_with : ℕ → ℕ → Serial
 serial_with iksn counter = record { iksn = iksn; counter = counter }
@@ -57,11 +58,11 @@ module _ (paths : PathLaws) (basis : JudgementBasis) (zone : List ℕ) (zone_is 
   no_request none = (_, basis, inl (record { refused = inl (record { no_request = none; frame_is = refl }); same = refl }), refl)
 
   module _ (request : Request) (is : IsRequest bytes request) where
-    refused : (why : Reason) → IsReasonAgainst basis request why → HasAnswer basis bytes
+    refused : (why : Reason) → Case basis request why → HasAnswer basis bytes
     refused why against = (
       refusal_frame (serial_bytes request.ksn) why,
       basis,
-      inl (record { refused = inr (record { request = request; reason = why; is_request = is; refuses = against; frame_is = refl }); same = refl }),
+      inl (record { refused = inr (record { request = request; reason = why; is_request = is; refuses = reason_of basis request why against; frame_is = refl }); same = refl }),
       refl,
     )
 

@@ -1,6 +1,6 @@
 -- How a host judges a request: the reason for which it is refused, or the reply to it. This project's
 -- own, over the transaction keys of ANSI X9.24-1:2009 annex A.
-use Rattle.std.specs.Prelude.{◌≡◌, ◌⊎◌, ◌<◌, ℕ, List, Some, None, replicate}
+use Rattle.std.specs.Prelude.{◌≡◌, ◌⊎◌, ◌<◌, ℕ, List, Some, None, IsSome, replicate}
 use Rattle.duk_frame.specs.Answer.{refusal_text}
 use Rattle.duk_frame.specs.Frame.{framed}
 use Rattle.duk_frame.specs.Payment.{payment_reply}
@@ -8,9 +8,11 @@ use Rattle.duk_frame.specs.Request.{IsRequest, request_bytes, request_text}
 use Rattle.duk_frame.specs.declared.code.Code.{Code}
 use Rattle.duk_frame.specs.declared.code.Code.TheVariants.{Unreadable}
 use Rattle.duk_frame.specs.declared.request.Request.{Request}
-use Rattle.duk_hsm.specs.Commands.{HasBadCounter, HasNoPin, IsOtherMac, IsRequestMac, IsTransactionKey, IsTranslated}
+use Rattle.duk_hsm.specs.Commands.{HasNoPin, IsRequestMac, IsTransactionKey, IsTranslated}
 use Rattle.duk_hsm.specs.Keys.{HsmKeys, key_set_of}
+use Rattle.duk_io.specs.FirstFault.{IsFirst}
 use Rattle.duk_store.specs.Log.{Numbers}
+use Rattle.duk_tree.specs.Path.{IsUsable}
 use Rattle.duk_tree.specs.Serial.{Serial, serial_bytes, prefix_of}
 use Rattle.duk_host.specs.Recent.{Exchange, reply_given}
 use Rattle.duk_host.specs.Used.{IsUsed}
@@ -40,7 +42,7 @@ basis_with keys used recent room decides =
 abbrev pub authenticated_text : Request → List ℕ
 authenticated_text request = request_text request.ksn request.pan request.amount request.block
 
--- the number of a reason in a refusal
+-- the number of a reason in a refusal, which is its place in the order of the reasons
 abbrev pub reason_number : Reason → ℕ
 reason_number reason.Malformed = 1
 reason_number reason.UnknownKeySet = 2
@@ -62,45 +64,30 @@ WasGiven basis request frame = reply_given basis.recent (request_bytes request) 
 abbrev pub IsNoRepeat : JudgementBasis → Request → Type 0
 IsNoRepeat basis request = reply_given basis.recent (request_bytes request) ≡ None
 
--- the number is used, and the request is none of the latest that were accepted
-pub record IsUsedAgain (basis : JudgementBasis) (request : Request) : Type 0 where
-  pub authentic : IsAuthentic basis.keys request
-  pub no_repeat : IsNoRepeat basis request
-  pub used : IsUsed basis.used request.ksn
+-- what has to hold of a request, by the reason for which it is refused where that does not hold.
+-- Bytes that are no request are refused as malformed before
+abbrev pub Passes : JudgementBasis → Request → Reason → Type 0
+Passes basis request reason.Malformed = Unit {0}
+Passes basis request reason.UnknownKeySet = IsSome (key_set_of basis.keys (prefix_of request.ksn))
+Passes basis request reason.BadCounter = IsUsable request.ksn.counter
+Passes basis request reason.BadMac = IsAuthentic basis.keys request
+Passes basis request reason.Used = ¬ IsUsed basis.used request.ksn
+Passes basis request reason.LogFull = 0 < basis.room
 
--- the number is not used, the request is none of the latest that were accepted, and there is no room
-pub record HasNoRoom (basis : JudgementBasis) (request : Request) : Type 0 where
-  pub authentic : IsAuthentic basis.keys request
-  pub no_repeat : IsNoRepeat basis request
-  pub fresh : ¬ IsUsed basis.used request.ksn
-  pub full : basis.room ≡ 0
+-- it does not hold. One of the latest requests that were accepted fails neither for its number nor
+-- for the room, since it is given its reply again
+abbrev pub Fails : JudgementBasis → Request → Reason → Type 0
+Fails basis request reason.Malformed = ⊥
+Fails basis request reason.UnknownKeySet = key_set_of basis.keys (prefix_of request.ksn) ≡ None
+Fails basis request reason.BadCounter = ¬ IsUsable request.ksn.counter
+Fails basis request reason.BadMac = ¬ IsAuthentic basis.keys request
+Fails basis request reason.Used = IsNoRepeat basis request × IsUsed basis.used request.ksn
+Fails basis request reason.LogFull = IsNoRepeat basis request × (basis.room ≡ 0)
 
--- why the MAC of a request is not verified. Each reason says that those before it do not hold
-abbrev pub IsReasonAgainstMac : HsmKeys → Request → Reason → Type 0
-IsReasonAgainstMac keys request reason.UnknownKeySet =
-    key_set_of keys (prefix_of request.ksn) ≡ None
-IsReasonAgainstMac keys request reason.BadCounter = HasBadCounter keys request.ksn
-IsReasonAgainstMac keys request reason.BadMac =
-    IsOtherMac keys request.ksn (authenticated_text request) request.mac
-IsReasonAgainstMac keys request _ = ⊥
-
--- the number is not used, and there is no room for it
-pub record IsFreshWithoutRoom (used : Numbers) (room : ℕ) (ksn : Serial) : Type 0 where
-  pub fresh : ¬ IsUsed used ksn
-  pub full : room ≡ 0
-
--- why a number cannot be used by the next request: it is used, or else there is no room for it
-abbrev pub IsReasonAgainstNumber : Numbers → ℕ → Serial → Reason → Type 0
-IsReasonAgainstNumber used room ksn reason.Used = IsUsed used ksn
-IsReasonAgainstNumber used room ksn reason.LogFull = IsFreshWithoutRoom used room ksn
-IsReasonAgainstNumber used room ksn _ = ⊥
-
--- the least reason against a request. It is one against its MAC; or else, where the request is none
--- of the latest that were accepted, that its number is used; or else that there is no room
+-- the least reason against a request: it fails for this one, and passes for each before it
 abbrev pub IsReasonAgainst : JudgementBasis → Request → Reason → Type 0
-IsReasonAgainst basis request reason.Used = IsUsedAgain basis request
-IsReasonAgainst basis request reason.LogFull = HasNoRoom basis request
-IsReasonAgainst basis request why = IsReasonAgainstMac basis.keys request why
+IsReasonAgainst basis request =
+    IsFirst reason_number (Passes basis request) (Fails basis request)
 
 -- the frame of a refusal
 abbrev pub refusal_frame : List ℕ → Reason → List ℕ

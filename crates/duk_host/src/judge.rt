@@ -5,8 +5,8 @@ ghost use Rattle.duk_frame.specs.Frame.{mac_text_of};
 ghost use Rattle.duk_frame.specs.Request.{IsRequest};
 ghost use Rattle.duk_hsm.specs.Opened.{IsOpened};
 ghost use Rattle.duk_host.specs.Handle.{IsTold};
-ghost use Rattle.duk_host.specs.Judged.{IfFresh, IfSettled, IsSettled};
-ghost use Rattle.duk_host.specs.Judgement.{Decision, IsAcceptable, IsAuthentic, IsReasonAgainstMac, IsReasonAgainstNumber, basis_with, authenticated_text};
+ghost use Rattle.duk_host.specs.Judged.{IfFresh, IfSettled, IsReasonAgainstMac, IsReasonAgainstNumber, IsSettled};
+ghost use Rattle.duk_host.specs.Judgement.{Decision, IsAcceptable, IsAuthentic, basis_with, authenticated_text};
 ghost use Rattle.duk_host.specs.Used.{IsUsed};
 
 use crate::answered::Answered;
