@@ -1,6 +1,6 @@
 use Rattle.std.proofs.Common.{inl, refl}
-use Rattle.duk_net.proofs.CalmRestarts.{all_up}
-use Rattle.duk_net.proofs.AboveUsed.{WorldLaws}
+use Rattle.duk_net.proofs.calm_stores.CalmRestarts.{all_up}
+use Rattle.duk_net.proofs.used_once.AboveUsed.{WorldLaws}
 use Rattle.duk_net.proofs.laws.calm_restarts.Goals as goal
 use Rattle.duk_net.proofs.laws.calm_restarts.Goals.{After-replies}
 

@@ -1,5 +1,5 @@
-use Rattle.duk_net.proofs.CalmStores.{leads_calm, leads_sound}
-use Rattle.duk_net.proofs.AboveUsed.{WorldLaws}
+use Rattle.duk_net.proofs.calm_stores.CalmStores.{leads_calm, leads_sound}
+use Rattle.duk_net.proofs.used_once.AboveUsed.{WorldLaws}
 use Rattle.duk_net.proofs.laws.calm_stores.Goals as goal
 use Rattle.duk_net.proofs.laws.calm_stores.Goals.{After-replies}
 

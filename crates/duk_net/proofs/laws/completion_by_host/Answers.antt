@@ -1,4 +1,4 @@
-use Rattle.duk_net.proofs.CompletedByHost.{completed_by_call}
+use Rattle.duk_net.proofs.completed_by_host.CompletedByHost.{completed_by_call}
 use Rattle.duk_net.proofs.laws.completion_by_host.Goals as goal
 
 pub returns : goal.returns

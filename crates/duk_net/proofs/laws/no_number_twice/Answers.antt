@@ -1,5 +1,5 @@
-use Rattle.duk_net.proofs.WorldStaysAboveUsed.{leads_by_owner, reached_is_safe, sent_by_owners}
-use Rattle.duk_net.proofs.AboveUsed.{WorldLaws}
+use Rattle.duk_net.proofs.used_once.WorldStaysAboveUsed.{leads_by_owner, reached_is_safe, sent_by_owners}
+use Rattle.duk_net.proofs.used_once.AboveUsed.{WorldLaws}
 use Rattle.duk_net.proofs.laws.no_number_twice.Goals as goal
 use Rattle.duk_net.proofs.laws.no_number_twice.Goals.{After-bits}
 

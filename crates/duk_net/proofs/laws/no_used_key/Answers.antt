@@ -1,7 +1,7 @@
-use Rattle.duk_net.proofs.AboveUsed.{books_of}
-use Rattle.duk_net.proofs.ImagesOfVersion2.{reached_finds_version_2}
-use Rattle.duk_net.proofs.UsedKeysAreGone.{hold_no_used_key, terminals_hold}
-use Rattle.duk_net.proofs.AboveUsed.{WorldLaws}
+use Rattle.duk_net.proofs.used_once.AboveUsed.{books_of}
+use Rattle.duk_net.proofs.no_used_key.ImagesOfVersion2.{reached_finds_version_2}
+use Rattle.duk_net.proofs.no_used_key.UsedKeysAreGone.{hold_no_used_key, terminals_hold}
+use Rattle.duk_net.proofs.used_once.AboveUsed.{WorldLaws}
 use Rattle.duk_net.proofs.laws.no_used_key.Goals as goal
 use Rattle.duk_net.proofs.laws.no_used_key.Goals.{After-uniqueness}
 

@@ -1,4 +1,4 @@
-use Rattle.duk_net.proofs.AcceptedIsKept.{leads_once, reached_safe}
+use Rattle.duk_net.proofs.accepted_once.AcceptedIsKept.{leads_once, reached_safe}
 use Rattle.duk_net.proofs.laws.one_acceptance.Goals as goal
 
 pub returns-clause-kept : goal.returns-clause-kept

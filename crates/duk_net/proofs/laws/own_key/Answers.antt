@@ -1,7 +1,7 @@
 use Rattle.std.proofs.Common.{inl}
 use Rattle.duk_pin.specs.PinBlock.{pin_block}
 use Rattle.duk_net.specs.World.{meanings_of}
-use Rattle.duk_net.proofs.FramesUnderOwnKeys.{KeyLaws, leads_refuses, reached_own}
+use Rattle.duk_net.proofs.own_key.FramesUnderOwnKeys.{KeyLaws, leads_refuses, reached_own}
 use Rattle.duk_net.proofs.laws.own_key.Goals as goal
 use Rattle.duk_net.proofs.laws.own_key.Goals.{After-inverse}
 

@@ -1,7 +1,7 @@
 use Rattle.duk_net.specs.Gained.{HoldsOfGained}
 use Rattle.duk_net.specs.Reached.{CallLeads, Reached}
 use Rattle.duk_net.specs.World.{meanings_of}
-use Rattle.duk_net.proofs.ReachedByMoves.{call_leads, gained_so, reached_leads}
+use Rattle.duk_net.proofs.worlds.ReachedByMoves.{call_leads, gained_so, reached_leads}
 use Rattle.duk_net.proofs.runs.run.Goals as goal
 
 -- what the call leads from and to

@@ -1,6 +1,6 @@
 use Rattle.std.proofs.Common.{◌+◌, refl, ap}
-use Rattle.duk_net.proofs.PlacesInLists.{stands_at}
-use Rattle.duk_net.proofs.RunsGoOn.{run_next, run_none}
+use Rattle.duk_net.proofs.worlds.PlacesInLists.{stands_at}
+use Rattle.duk_net.proofs.worlds.RunsGoOn.{run_next, run_none}
 use Rattle.duk_net.proofs.runs.run_system.Goals as goal
 
 pub loop-event-init : goal.loop-event-init

@@ -1,5 +1,5 @@
 use Rattle.std.proofs.Common.{refl, ◌∙◌}
-use Rattle.duk_net.proofs.PlacesInLists.{acts_at}
+use Rattle.duk_net.proofs.worlds.PlacesInLists.{acts_at}
 use Rattle.duk_net.proofs.system.System.arm_terminal.Goals as goal
 
 pub returns : goal.returns

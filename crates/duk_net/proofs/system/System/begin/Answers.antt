@@ -1,5 +1,5 @@
 use Rattle.std.proofs.Common.{◌+◌, length, refl, ap, ◌∙◌}
-use Rattle.duk_net.proofs.PlacesInLists.{acts_at}
+use Rattle.duk_net.proofs.worlds.PlacesInLists.{acts_at}
 use Rattle.duk_net.proofs.system.System.begin.Goals as goal
 
 pub returns-in-Ok-clause-outcome : goal.returns-in-Ok-clause-outcome

@@ -1,5 +1,5 @@
 use Rattle.std.proofs.Common.{refl, inr, ◌∙◌}
-use Rattle.duk_net.proofs.PlacesInLists.{acts_at, is_at}
+use Rattle.duk_net.proofs.worlds.PlacesInLists.{acts_at, is_at}
 use Rattle.duk_net.proofs.system.System.down.Goals as goal
 
 pub returns : goal.returns

@@ -3,8 +3,8 @@ use Rattle.duk_hsm.specs.Commands.{IsIssued}
 use Rattle.duk_hsm.specs.Keys.{key_set_of}
 use Rattle.duk_tree.specs.Serial.{iksn_prefix_of}
 use Rattle.duk_net.specs.Owner.{IsElsewhere}
-use Rattle.duk_net.proofs.IssuedForTerminal.{no_key_set}
-use Rattle.duk_net.proofs.PlacesInLists.{acts_at, has_one}
+use Rattle.duk_net.proofs.own_key.IssuedForTerminal.{no_key_set}
+use Rattle.duk_net.proofs.worlds.PlacesInLists.{acts_at, has_one}
 use Rattle.duk_net.proofs.system.System.load.Goals as goal
 
 not_both : false ≡ true → ⊥

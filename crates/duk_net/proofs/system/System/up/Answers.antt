@@ -2,8 +2,8 @@ use Rattle.std.proofs.Common.{◌+◌, length, refl, ap, subst, ◌∙◌}
 use Rattle.duk_host.specs.Handle.{AcceptFailed, AnswersAs, HandleRefused}
 use Rattle.duk_host.specs.Host.{host_meaning_of}
 use Rattle.duk_host.specs.declared.fault.HostFault.TheVariants.{NoMemory}
-use Rattle.duk_net.proofs.PlacesInLists.{is_at}
-use Rattle.duk_net.proofs.HostAnswers.{if_ok, on_err, up_answered}
+use Rattle.duk_net.proofs.worlds.PlacesInLists.{is_at}
+use Rattle.duk_net.proofs.worlds.HostAnswers.{if_ok, on_err, up_answered}
 use Rattle.duk_net.proofs.system.System.up.Goals as goal
 
 pub returns-in-Ok-clause-outcome : goal.returns-in-Ok-clause-outcome

@@ -1,5 +1,5 @@
 use Rattle.duk_net.specs.First.{first_world}
-use Rattle.duk_net.proofs.ReachedByMoves.{starts}
+use Rattle.duk_net.proofs.worlds.ReachedByMoves.{starts}
 use Rattle.duk_net.proofs.world.World.new.Goals as goal
 
 pub returns-clause-none_twice : goal.returns-clause-none_twice

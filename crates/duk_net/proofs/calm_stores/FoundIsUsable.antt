@@ -23,9 +23,9 @@ use Rattle.duk_net.specs.First.{IsFirst}
 use Rattle.duk_net.specs.Reached.{Reached}
 use Rattle.duk_net.specs.World.{Frame, Meanings, WorldOf}
 use Rattle.duk_net.specs.declared.outcome.Outcome.{Outcome}
-use Rattle.duk_net.proofs.AcceptedIsKept.{AnswerLaws, HostKeepsAccepted, KeepsAllAccepted, UsesAll, reached_safe}
-use Rattle.duk_net.proofs.ReachedByMoves.{reached_all}
-use Rattle.duk_net.proofs.StepChanges.{TouchesHost, View, accept, done, host, host_armed, host_restart_refused, host_restarted, left_touches, load, no_answer, nothing, refuse, repeat, send, step_view, terminal}
+use Rattle.duk_net.proofs.accepted_once.AcceptedIsKept.{AnswerLaws, HostKeepsAccepted, KeepsAllAccepted, UsesAll, reached_safe}
+use Rattle.duk_net.proofs.worlds.ReachedByMoves.{reached_all}
+use Rattle.duk_net.proofs.worlds.StepChanges.{TouchesHost, View, accept, done, host, host_armed, host_restart_refused, host_restarted, left_touches, load, no_answer, nothing, refuse, repeat, send, step_view, terminal}
 
 -- each list that a restart of a log may find is one of such numbers
 abbrev pub FindsUsable : StoreState Numbers → Type 0

@@ -31,14 +31,14 @@ use Rattle.duk_net.specs.declared.event.Event.{Event}
 use Rattle.duk_net.specs.declared.event.Event.TheVariants as event
 use Rattle.duk_net.specs.declared.outcome.Outcome.{Outcome}
 use Rattle.duk_net.specs.declared.outcome.Outcome.TheVariants as came
-use Rattle.duk_net.proofs.AboveUsed.{KeptSafe, WorldLaws, books_of}
-use Rattle.duk_net.proofs.AcceptedIsKept.{AnswerLaws, reached_safe}
-use Rattle.duk_net.proofs.CompletedByHost.{any_stays, last_or_before}
-use Rattle.duk_net.proofs.FoundIsUsable.{FindsUsable, reached_usable}
-use Rattle.duk_net.proofs.ReachedByMoves.{leads_all}
-use Rattle.duk_net.proofs.StoreFaults.{FindsBodies, IsKeptBody, KeepsCalm, RefusesHost, RefusesTerm, begin_refused, handle_refused, host_restart_refused, load_refused, nature_kept, reply_refused, same_kept, term_restart_refused}
-use Rattle.duk_net.proofs.TerminalsAfterwards.{after_acts, at_contains, before_acts}
-use Rattle.duk_net.proofs.WorldStaysAboveUsed.{reached_is_safe}
+use Rattle.duk_net.proofs.used_once.AboveUsed.{KeptSafe, WorldLaws, books_of}
+use Rattle.duk_net.proofs.accepted_once.AcceptedIsKept.{AnswerLaws, reached_safe}
+use Rattle.duk_net.proofs.completed_by_host.CompletedByHost.{any_stays, last_or_before}
+use Rattle.duk_net.proofs.calm_stores.FoundIsUsable.{FindsUsable, reached_usable}
+use Rattle.duk_net.proofs.worlds.ReachedByMoves.{leads_all}
+use Rattle.duk_net.proofs.calm_stores.StoreFaults.{FindsBodies, IsKeptBody, KeepsCalm, RefusesHost, RefusesTerm, begin_refused, handle_refused, host_restart_refused, load_refused, nature_kept, reply_refused, same_kept, term_restart_refused}
+use Rattle.duk_net.proofs.worlds.TerminalsAfterwards.{after_acts, at_contains, before_acts}
+use Rattle.duk_net.proofs.used_once.WorldStaysAboveUsed.{reached_is_safe}
 
 -- what is known of a world's stores: they are honest, and a restart finds what it is to find
 pub record KnownStores {C L I : Type 0} (m : Meanings C L I) (world : WorldOf C L I) : Type 0 where

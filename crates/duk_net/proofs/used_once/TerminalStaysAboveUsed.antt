@@ -17,8 +17,8 @@ use Rattle.duk_term.specs.declared.state.State.{State}
 use Rattle.duk_term.specs.declared.state.State.TheVariants.{Stopped, Empty, Loaded}
 use Rattle.duk_net.specs.Arm.{ArmsCell}
 use Rattle.duk_net.specs.World.{Meanings}
-use Rattle.duk_net.proofs.AboveUsed.{Books, KeptSafe, RegisterLaws, SetSafe, StateSafe, TermSafe, left_is_safe}
-use Rattle.duk_net.proofs.StepChanges.{Touches, armed, begin_refused, restart_refused, restarted}
+use Rattle.duk_net.proofs.used_once.AboveUsed.{Books, KeptSafe, RegisterLaws, SetSafe, StateSafe, TermSafe, left_is_safe}
+use Rattle.duk_net.proofs.worlds.StepChanges.{Touches, armed, begin_refused, restart_refused, restarted}
 
 -- what a failed put leaves is as honest as it was
 pub put_failed_honest :

@@ -18,14 +18,14 @@ use Rattle.duk_net.specs.World.{Frame, Meanings, WorldOf}
 use Rattle.duk_net.specs.declared.event.Event.{Event}
 use Rattle.duk_net.specs.declared.outcome.Outcome.{Outcome}
 use Rattle.duk_net.specs.declared.outcome.Outcome.TheVariants as came
-use Rattle.duk_net.proofs.AcceptedIsKept.{any_cases}
-use Rattle.duk_net.proofs.PendingIsSent.{OwnPending, SendsNumber, SentByOwners, Tells, done_by_host, done_is_over, pending_comes, pending_safe, sends_number, step_tells, used_stays}
-use Rattle.duk_net.proofs.ReachedByMoves.{leads_all, reached_step}
-use Rattle.duk_net.proofs.AboveUsed.{BegunIsRequest}
-use Rattle.duk_net.proofs.HostAnswers.{OneReading}
-use Rattle.duk_net.proofs.RepeatsWereSent.{ExchangeLaws, HostGivesSent, reached_gives, repeat_was_sent}
-use Rattle.duk_net.proofs.StepChanges.{View, step_view}
-use Rattle.duk_net.proofs.StepChanges as step
+use Rattle.duk_net.proofs.accepted_once.AcceptedIsKept.{any_cases}
+use Rattle.duk_net.proofs.completed_by_host.PendingIsSent.{OwnPending, SendsNumber, SentByOwners, Tells, done_by_host, done_is_over, pending_comes, pending_safe, sends_number, step_tells, used_stays}
+use Rattle.duk_net.proofs.worlds.ReachedByMoves.{leads_all, reached_step}
+use Rattle.duk_net.proofs.used_once.AboveUsed.{BegunIsRequest}
+use Rattle.duk_net.proofs.worlds.HostAnswers.{OneReading}
+use Rattle.duk_net.proofs.accepted_once.RepeatsWereSent.{ExchangeLaws, HostGivesSent, reached_gives, repeat_was_sent}
+use Rattle.duk_net.proofs.worlds.StepChanges.{View, step_view}
+use Rattle.duk_net.proofs.worlds.StepChanges as step
 
 -- where each two of a list are so, so is each with the last
 pairs_with_last : {A : Type 0} (R : A → A → Type 0) (things : List A) (last thing : A) → AllPairs R (things ++ last ∷ []) → Contains things thing → R thing last

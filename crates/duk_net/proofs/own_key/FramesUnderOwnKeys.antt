@@ -32,12 +32,12 @@ use Rattle.duk_net.specs.Up.{UpRefused}
 use Rattle.duk_net.specs.World.{Frame, Meanings, WorldOf}
 use Rattle.duk_net.specs.declared.outcome.Outcome.{Outcome}
 use Rattle.duk_net.specs.declared.outcome.Outcome.TheVariants as came
-use Rattle.duk_net.proofs.AboveUsed.{BegunIsRequest}
-use Rattle.duk_net.proofs.AcceptedIsKept.{RepliesAreRead}
-use Rattle.duk_net.proofs.ReachedByMoves.{leads_all, reached_all}
-use Rattle.duk_net.proofs.RepeatsWereSent.{ExchangeLaws, WasSent, reached_gives, repeat_was_sent}
-use Rattle.duk_net.proofs.StepChanges.{IsQuiet, View, left_touches, step_view, touched_keys}
-use Rattle.duk_net.proofs.StepChanges as shape
+use Rattle.duk_net.proofs.used_once.AboveUsed.{BegunIsRequest}
+use Rattle.duk_net.proofs.accepted_once.AcceptedIsKept.{RepliesAreRead}
+use Rattle.duk_net.proofs.worlds.ReachedByMoves.{leads_all, reached_all}
+use Rattle.duk_net.proofs.accepted_once.RepeatsWereSent.{ExchangeLaws, WasSent, reached_gives, repeat_was_sent}
+use Rattle.duk_net.proofs.worlds.StepChanges.{IsQuiet, View, left_touches, step_view, touched_keys}
+use Rattle.duk_net.proofs.worlds.StepChanges as shape
 
 -- what the laws of the crates below say of keys and frames, and that the registers of each terminal stand for its own initial key
 pub record KeyLaws {C L I : Type 0} (m : Meanings C L I) : Type 0 where

@@ -26,7 +26,7 @@ use Rattle.duk_net.specs.Owner.{owner_of}
 use Rattle.duk_net.specs.UnusedKeys.{RemembersUsed, StandsAboveUsed}
 use Rattle.duk_net.specs.World.{Frame, IsAt, Meanings, WorldOf}
 use Rattle.duk_net.specs.declared.owner.Owner.{Owner}
-use Rattle.duk_net.proofs.OwnersStay.{one_owner}
+use Rattle.duk_net.proofs.used_once.OwnersStay.{one_owner}
 
 -- what the rest of a world is to a terminal: the host's keys, the requests that were sent, and the owners
 pub record Books : Type 0 where

@@ -27,10 +27,10 @@ use Rattle.duk_net.specs.declared.event.Event.{Event}
 use Rattle.duk_net.specs.declared.event.Event.TheVariants as event
 use Rattle.duk_net.specs.declared.outcome.Outcome.{Outcome}
 use Rattle.duk_net.specs.declared.outcome.Outcome.TheVariants as came
-use Rattle.duk_net.proofs.AboveUsed.{WorldLaws}
-use Rattle.duk_net.proofs.CalmStores.{StepFacts, reached_stores, step_facts}
-use Rattle.duk_net.proofs.AcceptedIsKept.{AnswerLaws}
-use Rattle.duk_net.proofs.ReachedByMoves.{reached_step}
+use Rattle.duk_net.proofs.used_once.AboveUsed.{WorldLaws}
+use Rattle.duk_net.proofs.calm_stores.CalmStores.{StepFacts, reached_stores, step_facts}
+use Rattle.duk_net.proofs.accepted_once.AcceptedIsKept.{AnswerLaws}
+use Rattle.duk_net.proofs.worlds.ReachedByMoves.{reached_step}
 
 -- a list in which an item is put at a place is as long as before
 set_length : {A : Type 0} (things : List A) (place : ℕ) (thing : A) → length (slice_set things place thing) ≡ length things

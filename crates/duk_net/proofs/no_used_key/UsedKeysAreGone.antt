@@ -11,8 +11,8 @@ use Rattle.duk_tree.specs.Path.{IsUsable, value_of}
 use Rattle.duk_net.specs.Reached.{Reached}
 use Rattle.duk_net.specs.UnusedKeys.{HoldNoUsedKey, HoldsNoUsedNode, HoldsOfKept, HoldsOfState, HoldsOfTerminals}
 use Rattle.duk_net.specs.World.{Meanings, WorldOf}
-use Rattle.duk_net.proofs.AboveUsed.{Books, KeptSafe, SetSafe, StateSafe, UsableFits, WorldLaws, books_of}
-use Rattle.duk_net.proofs.WorldStaysAboveUsed.{reached_is_safe}
+use Rattle.duk_net.proofs.used_once.AboveUsed.{Books, KeptSafe, SetSafe, StateSafe, UsableFits, WorldLaws, books_of}
+use Rattle.duk_net.proofs.used_once.WorldStaysAboveUsed.{reached_is_safe}
 
 state_holds : (books : Books) (t : ℕ) (P : RegisterSet → Type 0) (state : State) → ((set : RegisterSet) → SetSafe books t set → P set) → StateSafe books t state → HoldsOfState P state
 state_holds books t P Stopped follows safe = tt

@@ -17,8 +17,8 @@ use Rattle.duk_net.specs.Restart.{IsHostLeft}
 use Rattle.duk_net.specs.Up.{UpRepeated}
 use Rattle.duk_net.specs.World.{Frame, Meanings, WorldOf}
 use Rattle.duk_net.specs.declared.outcome.Outcome.{Outcome}
-use Rattle.duk_net.proofs.ReachedByMoves.{reached_all}
-use Rattle.duk_net.proofs.StepChanges.{TouchesHost, View, accept, done, host, host_armed, host_restart_refused, host_restarted, left_touches, load, no_answer, nothing, refuse, repeat, send, step_view, terminal}
+use Rattle.duk_net.proofs.worlds.ReachedByMoves.{reached_all}
+use Rattle.duk_net.proofs.worlds.StepChanges.{TouchesHost, View, accept, done, host, host_armed, host_restart_refused, host_restarted, left_touches, load, no_answer, nothing, refuse, repeat, send, step_view, terminal}
 
 -- what is known of lists of exchanges: what is given again is on the list, and what is on the list with one more was before, or is that one
 pub record ExchangeLaws : Type 0 where

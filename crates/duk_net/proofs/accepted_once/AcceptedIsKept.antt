@@ -31,10 +31,10 @@ use Rattle.duk_net.specs.Restart.{IsHostLeft}
 use Rattle.duk_net.specs.World.{Frame, Meanings, WorldOf}
 use Rattle.duk_net.specs.declared.outcome.Outcome.{Outcome}
 use Rattle.duk_net.specs.declared.outcome.Outcome.TheVariants as came
-use Rattle.duk_net.proofs.ReachedByMoves.{leads_all, reached_all}
-use Rattle.duk_net.proofs.HostAnswers.{OneReading}
-use Rattle.duk_net.proofs.RepeatsWereSent.{ExchangeLaws, HostGivesSent, WasSent, reached_gives, repeat_was_sent}
-use Rattle.duk_net.proofs.StepChanges.{IsQuiet, TouchesHost, View, accept, done, host, host_armed, host_restart_refused, host_restarted, left_touches, load, no_answer, nothing, refuse, repeat, send, step_view, terminal}
+use Rattle.duk_net.proofs.worlds.ReachedByMoves.{leads_all, reached_all}
+use Rattle.duk_net.proofs.worlds.HostAnswers.{OneReading}
+use Rattle.duk_net.proofs.accepted_once.RepeatsWereSent.{ExchangeLaws, HostGivesSent, WasSent, reached_gives, repeat_was_sent}
+use Rattle.duk_net.proofs.worlds.StepChanges.{IsQuiet, TouchesHost, View, accept, done, host, host_armed, host_restart_refused, host_restarted, left_touches, load, no_answer, nothing, refuse, repeat, send, step_view, terminal}
 
 -- the key serial number of an answer
 abbrev ksn_of : AnswerFrame → Serial

@@ -12,14 +12,14 @@ use Rattle.duk_net.specs.World.{ChangesOnly, IsAt, Meanings, WorldOf}
 use Rattle.duk_net.specs.declared.outcome.Outcome.{Outcome}
 use Rattle.duk_net.specs.declared.outcome.Outcome.TheVariants as came
 use Rattle.duk_net.specs.declared.owner.Owner.{Owner}
-use Rattle.duk_net.proofs.TerminalsAfterwards.{after_acts, at_contains, before_acts}
-use Rattle.duk_net.proofs.BeginStaysAboveUsed.{after_begin, begin_follows, begin_none_twice, begin_owned, begin_safe, begun_number, begun_safe}
-use Rattle.duk_net.proofs.LoadStaysAboveUsed.{MayBeGiven, after_load, load_follows, load_safe}
-use Rattle.duk_net.proofs.OwnersStay.{owner_stays}
-use Rattle.duk_net.proofs.ReachedByMoves.{leads_all, reached_all, reached_run}
-use Rattle.duk_net.proofs.AboveUsed.{BooksOwned, Books, Follows, KeptSafe, StateSafe, TermSafe, WorldLaws, WorldSafe, books_of, term_follows}
-use Rattle.duk_net.proofs.StepChanges.{IsQuiet, View, accept, done, host, left_touches, load, nothing, refuse, repeat, send, step_view, terminal, touched_keys}
-use Rattle.duk_net.proofs.TerminalStaysAboveUsed.{done_safe, touched_safe}
+use Rattle.duk_net.proofs.worlds.TerminalsAfterwards.{after_acts, at_contains, before_acts}
+use Rattle.duk_net.proofs.used_once.BeginStaysAboveUsed.{after_begin, begin_follows, begin_none_twice, begin_owned, begin_safe, begun_number, begun_safe}
+use Rattle.duk_net.proofs.used_once.LoadStaysAboveUsed.{MayBeGiven, after_load, load_follows, load_safe}
+use Rattle.duk_net.proofs.used_once.OwnersStay.{owner_stays}
+use Rattle.duk_net.proofs.worlds.ReachedByMoves.{leads_all, reached_all, reached_run}
+use Rattle.duk_net.proofs.used_once.AboveUsed.{BooksOwned, Books, Follows, KeptSafe, StateSafe, TermSafe, WorldLaws, WorldSafe, books_of, term_follows}
+use Rattle.duk_net.proofs.worlds.StepChanges.{IsQuiet, View, accept, done, host, left_touches, load, nothing, refuse, repeat, send, step_view, terminal, touched_keys}
+use Rattle.duk_net.proofs.used_once.TerminalStaysAboveUsed.{done_safe, touched_safe}
 
 -- nothing stands in the empty list
 in_none : {A : Type 0} (thing : A) → Contains [] thing → ⊥

@@ -20,7 +20,7 @@ use Rattle.duk_term.specs.Terminal.{TerminalOf}
 use Rattle.duk_term.specs.declared.fault.TermFault.{TermFault}
 use Rattle.duk_term.specs.declared.fault.TermFault.TheVariants as fault
 use Rattle.duk_net.specs.Calm.{IsCellFault, IsLogFault}
-use Rattle.duk_net.proofs.FoundIsUsable.{FindsUsable}
+use Rattle.duk_net.proofs.calm_stores.FoundIsUsable.{FindsUsable}
 
 -- what a store keeps of its nature where nothing arms it
 pub record KeepsCalm {V : Type 0} (old new : StoreState V) : Type 0 where

@@ -30,12 +30,12 @@ use Rattle.duk_net.specs.World.{ChangesOnly, Frame, IsAt, Meanings, ChangesTermi
 use Rattle.duk_net.specs.declared.outcome.Outcome.{Outcome}
 use Rattle.duk_net.specs.declared.outcome.Outcome.TheVariants as came
 use Rattle.duk_net.specs.declared.owner.Owner.{Owner}
-use Rattle.duk_net.proofs.AboveUsed.{BegunIsRequest}
-use Rattle.duk_net.proofs.TerminalsAfterwards.{after_acts, at_contains, before_acts}
-use Rattle.duk_net.proofs.ReachedByMoves.{reached_all}
-use Rattle.duk_net.proofs.WorldStaysAboveUsed.{step_owners_stay}
-use Rattle.duk_net.proofs.StepChanges.{IsQuiet, Touches, View, step_view}
-use Rattle.duk_net.proofs.StepChanges as step
+use Rattle.duk_net.proofs.used_once.AboveUsed.{BegunIsRequest}
+use Rattle.duk_net.proofs.worlds.TerminalsAfterwards.{after_acts, at_contains, before_acts}
+use Rattle.duk_net.proofs.worlds.ReachedByMoves.{reached_all}
+use Rattle.duk_net.proofs.used_once.WorldStaysAboveUsed.{step_owners_stay}
+use Rattle.duk_net.proofs.worlds.StepChanges.{IsQuiet, Touches, View, step_view}
+use Rattle.duk_net.proofs.worlds.StepChanges as step
 
 -- a stopped terminal waits for nothing
 stopped_waits : (state : State) (pending : Pending) → state ≡ Stopped → ¬ IsPending state pending

@@ -19,9 +19,9 @@ use Rattle.duk_net.specs.Owner.{IsElsewhere, owned_by, owner_of}
 use Rattle.duk_net.specs.UsedNumbers.{IsUsedNumber}
 use Rattle.duk_net.specs.declared.outcome.Outcome.{Outcome}
 use Rattle.duk_net.specs.declared.outcome.Outcome.TheVariants as came
-use Rattle.duk_net.proofs.OwnersStay.{one_owner, owner_stays, owns_loaded}
-use Rattle.duk_net.proofs.AboveUsed.{BooksOwned, Books, Follows, RegisterLaws, SetSafe, StateSafe, TermSafe, kept_follows, owners_follow}
-use Rattle.duk_net.proofs.TerminalStaysAboveUsed.{put_failed_honest, put_failed_within, safe_body}
+use Rattle.duk_net.proofs.used_once.OwnersStay.{one_owner, owner_stays, owns_loaded}
+use Rattle.duk_net.proofs.used_once.AboveUsed.{BooksOwned, Books, Follows, RegisterLaws, SetSafe, StateSafe, TermSafe, kept_follows, owners_follow}
+use Rattle.duk_net.proofs.used_once.TerminalStaysAboveUsed.{put_failed_honest, put_failed_within, safe_body}
 
 -- what a terminal is asked to load is its own initial key, and no other terminal owns the initial key serial number
 pub record MayBeGiven (books : Books) (t iksn : ℕ) (asked : Loading) : Type 0 where

@@ -12,9 +12,9 @@ use Rattle.duk_tree.specs.Serial.{Serial}
 use Rattle.duk_net.specs.UsedNumbers.{HasNumber, HasUsableNumber, HaveOtherNumbers, IsUsedNumber, NoneTwice}
 use Rattle.duk_net.specs.Owner.{owner_of}
 use Rattle.duk_net.specs.World.{Frame}
-use Rattle.duk_net.proofs.OwnersStay.{one_owner}
-use Rattle.duk_net.proofs.AboveUsed.{BooksOwned, BegunIsRequest, Books, Follows, OneRequest, SetSafe, StateSafe, TermSafe, WorldLaws, left_is_safe, one_number, used_before}
-use Rattle.duk_net.proofs.TerminalStaysAboveUsed.{safe_body, taken_from_safe}
+use Rattle.duk_net.proofs.used_once.OwnersStay.{one_owner}
+use Rattle.duk_net.proofs.used_once.AboveUsed.{BooksOwned, BegunIsRequest, Books, Follows, OneRequest, SetSafe, StateSafe, TermSafe, WorldLaws, left_is_safe, one_number, used_before}
+use Rattle.duk_net.proofs.used_once.TerminalStaysAboveUsed.{safe_body, taken_from_safe}
 
 -- the books after a request is sent
 abbrev pub after_begin : Books → Frame → Books

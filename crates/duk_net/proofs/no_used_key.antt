@@ -1,0 +1,3 @@
+-- No register and no image has the key of a used number or of its ancestors.
+pub mod UsedKeysAreGone
+pub mod ImagesOfVersion2
