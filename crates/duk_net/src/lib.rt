@@ -19,4 +19,4 @@ pub use event::{End, Event};
 pub use outcome::Outcome;
 pub use owner::Owner;
 pub use runs::{NetFault, run};
-pub use world::World;
+pub use world::{MemoryWorld, World};

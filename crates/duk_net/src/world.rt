@@ -13,8 +13,8 @@ use crate::laws;
 use crate::owner::Owner;
 use crate::system::System;
 use duk_frame::Frame;
-use duk_host::{Host, Issuer};
-use duk_store::{Cell, UsedLog};
+use duk_host::{Host, Issuer, TableIssuer};
+use duk_store::{Cell, MemCell, MemLog, UsedLog};
 use duk_tdes::Key;
 use duk_term::Terminal;
 use std::alloc::Global;
@@ -26,6 +26,9 @@ use std::marker::Model;
 pub struct World<const N: usize, C: Cell, L: UsedLog, I: Issuer> {
     pub(crate) system: System<N, C, L, I>,
 }
+
+/// A world over stores in memory, whose host asks a table of cards.
+pub type MemoryWorld<const N: usize> = World<N, MemCell, MemLog, TableIssuer>;
 
 impl<const N: usize, C: Cell, L: UsedLog, I: Issuer> Model for World<N, C, L, I> {
     ghost use Rattle.duk_net.specs.Reached.{Reached};
