@@ -1,4 +1,4 @@
--- Which faults a world with sound and calm stores tells: this project's own.
+-- Which faults a world with sound and calm stores reports: this project's own.
 use Rattle.std.specs.Prelude.{◌≡◌, ◌⊎◌, ◌++◌, ◌∷◌, List, All, Any}
 use Rattle.duk_host.specs.declared.fault.HostFault.{HostFault}
 use Rattle.duk_host.specs.declared.fault.HostFault.TheVariants as host_fault
@@ -42,13 +42,13 @@ abbrev pub IsLogFault : HostFault → StoreFault → Type 0
 IsLogFault (host_fault.Store why) fault = why ≡ fault
 IsLogFault _ fault = ⊥
 
--- an outcome tells that the store of an end failed so
+-- an outcome says that the store of an end failed so
 abbrev pub TellsFault : Outcome → End → StoreFault → Type 0
 TellsFault (came.TermFaulted u why) (end.Term t) fault = (u ≡ t) × IsCellFault why fault
 TellsFault (came.HostFaulted why) end.Host fault = IsLogFault why fault
 TellsFault _ _ fault = ⊥
 
--- an outcome tells of no end that its store is damaged
+-- an outcome says of no end that its store is damaged
 abbrev pub TellsNoDamage : Outcome → Type 0
 TellsNoDamage outcome = (end : End) → ¬ TellsFault outcome end Damaged
 
@@ -57,7 +57,7 @@ abbrev pub TellsArming : End → Outcome → Type 0
 TellsArming end (came.Armed armed steps) = armed ≡ end
 TellsArming end _ = ⊥
 
--- where outcomes tell that a device step of an end's store failed, one before it tells that the
+-- where outcomes say that a device step of an end's store failed, one before it says that the
 -- store was armed
 abbrev pub FailsOnceArmed : End → List Outcome → Type 0
 FailsOnceArmed end outcomes =
@@ -65,7 +65,7 @@ FailsOnceArmed end outcomes =
     → outcomes ≡ earlier ++ outcome ∷ later → TellsFault outcome end Device
     → Any (TellsArming end) earlier
 
--- the store of an end is calm yet, unless one of the outcomes tells that it was armed
+-- the store of an end is calm yet, unless one of the outcomes says that it was armed
 abbrev pub StaysCalm : {C L I : Type 0} → Meanings C L I → End → WorldOf C L I → List Outcome
     → Type 0
 StaysCalm m end world outcomes = Any (TellsArming end) outcomes ⊎ IsCalmAt m world end

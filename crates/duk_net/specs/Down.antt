@@ -10,7 +10,7 @@ use Rattle.duk_net.specs.World.{FindsNoTerminal, Frame, HasOne, HasNone, IsAt, C
 use Rattle.duk_net.specs.declared.outcome.Outcome.{Outcome}
 use Rattle.duk_net.specs.declared.outcome.Outcome.TheVariants as came
 
--- a frame tells a terminal this, of its pending transaction, which has this number
+-- a frame says this to a terminal, of its pending transaction, which has this number
 pub record IsToldOf
     {C : Type 0} (frame : Frame) (ksn : Serial) (answer : Answer)
     (before after : TerminalOf C) : Type 0 where

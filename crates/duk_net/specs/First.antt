@@ -18,7 +18,7 @@ first_world host loading terminals = record {
   owners = [];
 }
 
--- an honest store in which nothing was ever kept: a restart finds this, which stands for nothing
+-- an honest store in which nothing was ever kept: a restart finds `nothing` alone
 pub record IsUnused {V : Type 0} (store : StoreState V) (nothing : V) : Type 0 where
   pub honest : store.honest
   pub finds : FindsOnly store nothing

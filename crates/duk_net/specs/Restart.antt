@@ -11,7 +11,7 @@ use Rattle.duk_net.specs.World.{FindsNoTerminal, Meanings, ChangesTerminal, Worl
 use Rattle.duk_net.specs.declared.outcome.Outcome.{Outcome}
 use Rattle.duk_net.specs.declared.outcome.Outcome.TheVariants as outcome
 
--- a terminal is brought up, and tells which number it uses next
+-- a terminal is brought up, and answers which number it uses next
 pub record Reopens
     {C : Type 0} (meaning : CellMeaning C) (next : Next)
     (before after : TerminalOf C) : Type 0 where
@@ -33,7 +33,7 @@ abbrev pub RestartsTerminal : {C L I : Type 0} → Meanings C L I → WorldOf C 
 RestartsTerminal m old t outcome new =
     FindsNoTerminal old t outcome new ⊎ ChangesTerminal t (TakesRestart m.cell t outcome) old new
 
--- the host is restarted, and tells how many numbers are used; its log is armed no more
+-- the host is restarted, and answers how many numbers are used; its log is armed no more
 pub record IsHostReopened
     {C L I : Type 0} (m : Meanings C L I) (old : WorldOf C L I) (used : ℕ)
     (new : WorldOf C L I) : Type 0 where
@@ -43,7 +43,7 @@ pub record IsHostReopened
   pub disarmed : m.host.log.disarmed new.host.log
   pub rest : new ≡ record old { host = new.host }
 
--- the host's restart is refused, but not for want of memory
+-- the host's restart is refused, but not as out of memory
 pub record HostReopenFaulted
     {C L I : Type 0} (m : Meanings C L I) (old : WorldOf C L I) (why : HostFault)
     (new : WorldOf C L I) : Type 0 where

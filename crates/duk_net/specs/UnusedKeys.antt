@@ -1,5 +1,5 @@
--- Which keys of the key tree a terminal may keep: this project's own, over the registers of ANSI
--- X9.24-1:2009 annex A.
+-- That no register or image of a terminal has the key of a used number, or of an ancestor of one.
+-- This project's own, over the key tree of ANSI X9.24-1:2009 annex A.
 use Rattle.std.specs.Prelude.{◌≡◌, ◌<◌, ◌⊎◌, ℕ, List, Some, None, length}
 use Rattle.duk_hsm.specs.Keys.{HsmKeys}
 use Rattle.duk_regs.specs.Registers.{IsSpentIksn, RegisterSet, StandsFor, empty_register, register_at}
@@ -66,7 +66,7 @@ HoldsOfState P Stopped = Unit {0}
 HoldsOfState P Empty = Unit {0}
 HoldsOfState P (Loaded set pending) = P set
 
--- the body is an image with its zeros behind it, which has no byte but those of its registers, and
+-- the body is an image with its zeros after it, which has no byte but those of its registers, and
 -- this holds of them
 pub record HoldsOfImage (P : RegisterSet → Type 0) (body : List ℕ) : Type 0 where
   pub is_body : IsTerminalBody body

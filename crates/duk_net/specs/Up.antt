@@ -61,7 +61,7 @@ pub record UpRefused
   pub told : IsRefusal frame.items ksn reason
   pub answered : IsAnswered old n frame new
 
--- the host does not answer, for another fault than want of memory
+-- the host does not answer, for another fault than out of memory
 pub record UpFaulted
     {C L I : Type 0} (m : Meanings C L I) (old : WorldOf C L I) (k : ℕ) (why : HostFault)
     (new : WorldOf C L I) : Type 0 where

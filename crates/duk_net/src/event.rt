@@ -49,7 +49,7 @@ pub enum Event {
     },
     /// The host is restarted.
     RestartHost,
-    /// The store of an end is told to let `n` device steps pass and then to fail, until its
+    /// The store of an end is made to let `n` device steps pass and then to fail, until its
     /// restart.
     Arm {
         /// The end.

@@ -145,8 +145,8 @@ pub fn completion_by_host<C: Cell, L: UsedLog, I: Issuer>()
     duk_frame::laws::one_reading();
 }
 
-/// Sound stores stay sound, and no end tells that its store is damaged. A store that is calm stays
-/// so until it is armed, and its end tells no failed device step before.
+/// Sound stores stay sound, and no end reports that its store is damaged. A store that is calm stays
+/// so until it is armed, and its end reports no failed device step before.
 pub fn calm_stores<C: Cell, L: UsedLog, I: Issuer>()
     ensures sound { (old new : WorldOf C L I) (outcomes : List Outcome)
         → Reached (meanings_of C.meaning L.meaning I.decides) old

@@ -1,4 +1,4 @@
-//! Things that are counted from 1, in the places of a list.
+//! Where the terminal or frame of a number stands in its list: numbers count from 1, places from 0.
 
 ghost use Rattle.std.specs.Prelude.{◌≡◌, ◌+◌, ◌<◌, ◌⊎◌, ◌++◌, ◌∷◌, [], MatchOption};
 ghost use Rattle.std.specs.Vec.{vec_capacity, vec_len};

@@ -46,8 +46,8 @@ pub enum NetFault {
 /// transactions use one number; the host accepts each number at most once, and each request and
 /// reply is made under the terminal's own key; a terminal completes only with the host's reply to
 /// its number; and no terminal holds, or may find after a stop, the key of a used number or of an
-/// ancestor of one. Where all stores are sound, no end tells that its store is damaged; and one
-/// whose store is calm tells no failed device step before it was armed.
+/// ancestor of one. Where all stores are sound, no end reports that its store is damaged; and one
+/// whose store is calm reports no failed device step before it was armed.
 pub fn run<const N: usize, C: Cell, L: UsedLog, I: Issuer>(
     world: &mut World<N, C, L, I>,
     events: &[Event],
@@ -94,7 +94,7 @@ pub fn run<const N: usize, C: Cell, L: UsedLog, I: Issuer>(
         (λ t. HoldNoUsedKey world.new.host.keys world.new.requests) world.new.terminals }
     ensures version_2 { FindVersion2
         (meanings_of C.meaning L.meaning I.decides) world.new.terminals }
-    // Sound stores tell no damage, and calm ones fail only once they were armed.
+    // Sound stores report no damage, and calm ones fail only once they were armed.
     ensures sound { HasSoundStores (meanings_of C.meaning L.meaning I.decides) world.old
         → HasSoundStores (meanings_of C.meaning L.meaning I.decides) world.new }
     ensures no_damage { HasSoundStores (meanings_of C.meaning L.meaning I.decides) world.old

@@ -246,11 +246,11 @@ repeats_safe m at answers frame safe was = record {
   uses = safe.uses;
 }
 
--- an outcome tells of no acceptance
+-- an outcome says nothing of an acceptance
 abbrev AcceptsNone : Outcome → Type 0
 AcceptsNone outcome = (ksn : Serial) → ¬ Accepts ksn outcome
 
--- a quiet outcome tells of no acceptance
+-- a quiet outcome says nothing of an acceptance
 quiet_accepts : (outcome : Outcome) → IsQuiet outcome → AcceptsNone outcome
 quiet_accepts (came.Accepted k number code) quiet ksn accepts = quiet
 quiet_accepts _ quiet ksn accepts = accepts

@@ -53,7 +53,7 @@ two_faults old new store_fault.Device is = inl refl
 two_faults old new store_fault.Damaged is = inr refl
 two_faults old new _ is = absurd is
 
--- a terminal's refusal to restart tells one of the two
+-- a terminal's refusal to restart is one of the two
 term_tells : {C L I : Type 0} (m : Meanings C L I) (before after : TerminalOf C) (why : TermFault) → TerminalRestartRefused m.cell before after why → IsCellFault why store_fault.Device ⊎ IsCellFault why store_fault.Damaged
 term_tells m before after (term_fault.Store why) refused = elim refused.cause [
   | inl failed ↦ two_faults (m.cell.state_of before.cell) (m.cell.state_of after.cell) why failed.fault_is
@@ -61,7 +61,7 @@ term_tells m before after (term_fault.Store why) refused = elim refused.cause [
 ]
 term_tells m before after _ refused = absurd refused
 
--- and so does the host's, but for want of memory
+-- and so is the host's, if it is not out of memory
 host_tells : {C L I : Type 0} (m : Meanings C L I) (old new : HostOf L I) (why : HostFault) → why ≢ host_fault.NoMemory → HostRestartRefused m.host.log old new why
     → IsLogFault why store_fault.Device ⊎ IsLogFault why store_fault.Damaged
 host_tells m old new host_fault.NoMemory other refused = absurd (other refl)

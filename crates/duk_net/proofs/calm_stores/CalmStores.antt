@@ -1,4 +1,4 @@
--- Sound stores tell no damage, and a calm store tells no failed device step before it is armed.
+-- Sound stores report no damage, and a calm store reports no failed device step before it is armed.
 use Rattle.std.proofs.Common.{◌≡◌, ◌≢◌, ◌⊎◌, ◌+◌, ◌++◌, ◌∷◌, [], zero, suc, ℕ, List, Some, None, inl, inr, refl, sym, ap, subst, ◌∙◌, arith}
 use Rattle.std.specs.List.{All, Any}
 use Rattle.std.proofs.lemmas.List.Elements.{All-contains, All-nil, All-push}
@@ -63,14 +63,14 @@ reached_stores m laws answer world reached =
       bodies = λ t terminal at kept found. kept_body (books_of world) t kept ((safe.terminals t terminal at).kept kept found);
     }
 
--- what a step does to sound and calm stores, and which faults it tells
+-- what a step does to sound and calm stores, and which faults it reports
 pub record StepFacts {C L I : Type 0} (m : Meanings C L I) (old : WorldOf C L I) (outcome : Outcome) (new : WorldOf C L I) : Type 0 where
   pub sound : HasSoundStores m old → HasSoundStores m new
   pub calm : (end : End) → IsCalmAt m old end → ¬ TellsArming end outcome → IsCalmAt m new end
   pub device : (end : End) → IsCalmAt m old end → ¬ TellsFault outcome end Device
   pub damaged : HasSoundStores m old → TellsNoDamage outcome
 
--- an outcome that tells of no store
+-- an outcome that says nothing of a store
 abbrev TellsNoFault : Outcome → Type 0
 TellsNoFault outcome = (end : End) (fault : StoreFault) → ¬ TellsFault outcome end fault
 
@@ -83,7 +83,7 @@ nothing_step m old outcome new same none = record {
   damaged = λ sound end. none end Damaged;
 }
 
--- what an event of a terminal does to its cell, and which faults it tells
+-- what an event of a terminal does to its cell, and which faults it reports
 record CellFacts {C : Type 0} (cell : CellMeaning C) (t : ℕ) (outcome : Outcome) (before after : TerminalOf C) : Type 0 where
   about : (end : End) (fault : StoreFault) → TellsFault outcome end fault → end ≡ ends.Term t
   sound : (cell.state_of before.cell).honest → (cell.state_of before.cell).sound → (cell.state_of after.cell).sound
@@ -199,7 +199,7 @@ arm_term_step m old t steps (came.Armed armed passed) new known arms =
     terminal_step m old new t _ (came.Armed armed passed) acts known (ap (λ world. world.host) arms.2.rest) (arm_facts m t steps passed armed acts.before acts.after arms.0 acts.changed)
 arm_term_step m old t steps _ new known arms = absurd arms
 
--- what an event of the host does to its log, and which faults it tells
+-- what an event of the host does to its log, and which faults it reports
 record LogFacts {C L I : Type 0} (m : Meanings C L I) (outcome : Outcome) (before after : HostOf L I) : Type 0 where
   about : (end : End) (fault : StoreFault) → TellsFault outcome end fault → end ≡ ends.Host
   sound : (m.host.log.state_of before.log).honest → (m.host.log.state_of before.log).sound → (m.host.log.state_of after.log).sound
@@ -322,7 +322,7 @@ left_facts m old new known left =
     host_step m old new (came.HostFaulted host_fault.NoMemory) known (ap (λ world. world.terminals) left.rest)
     (host_refused m host_fault.NoMemory old.host new.host (host_restart_refused m.host.log old.host new.host host_fault.NoMemory (λ honest. known.usable) left.host))
 
--- what a call does: sound stores stay so, and tell no damage
+-- what a call does: sound stores stay so, and report no damage
 record SoundSince {C L I : Type 0} (m : Meanings C L I) (outcomes : List Outcome) (world : WorldOf C L I) : Type 0 where
   sound : HasSoundStores m world
   none : All TellsNoDamage outcomes
@@ -358,7 +358,7 @@ same_end (ends.Term t) (ends.Term u) = elim (same_number t u) [
   | inr other ↦ inr (λ same. other cc)
 ]
 
--- whether an outcome tells that the store of an end was armed
+-- whether an outcome says that the store of an end was armed
 tells_arming : (end : End) (outcome : Outcome) → TellsArming end outcome ⊎ ¬ TellsArming end outcome
 tells_arming end (came.Armed armed steps) = same_end armed end
 tells_arming end _ = inr (λ tells. tells)
@@ -368,7 +368,7 @@ record CalmSince {C L I : Type 0} (m : Meanings C L I) (end : End) (outcomes : L
   calm : Any (TellsArming end) outcomes ⊎ IsCalmAt m world end
   armed : FailsOnceArmed end outcomes
 
--- no outcome at all tells it
+-- no outcome at all says it
 none_fails : (end : End) → FailsOnceArmed end []
 none_fails end [] later outcome is tells = cc
 none_fails end (first ∷ earlier) later outcome is tells = cc
@@ -408,7 +408,7 @@ calm_left m end outcomes old new since facts = record {
   armed = since.armed;
 }
 
--- no outcome at all tells that a store was armed
+-- no outcome at all says that a store was armed
 none_armed : (end : End) → ¬ Any (TellsArming end) []
 none_armed end any = omega (arith, any.2)
 

@@ -46,7 +46,7 @@ with_one_more numbers ksn usable fits fresh = record {
 used_in : (log : StoreState Numbers) (running : Running) (numbers : Numbers) (ksn : Serial) → UsesAll log (Some running) → log.found numbers → Contains numbers ksn → IsUsed running.used ksn
 used_in log running numbers ksn uses found has = uses.2 ksn (subst (λ list. Contains list ksn) ((uses.1 numbers).0 found) has)
 
--- the number of a request that a running host is to accept, behind a list that a restart of its log may find
+-- the number of a request that a running host is to accept, after a list that a restart of its log may find
 accepted_more : {C L I : Type 0} (m : Meanings C L I) (old : HostOf L I) (bytes : List ℕ) (request : Request) (numbers : Numbers) → UsesAll (m.host.log.state_of old.log) old.state → HostFindsUsable m old
     → IsRequest bytes request → IsToAccept m.host old request → (m.host.log.state_of old.log).found numbers → AreUsable (numbers ++ request.ksn ∷ [])
 accepted_more m old bytes request numbers uses usable is may found =

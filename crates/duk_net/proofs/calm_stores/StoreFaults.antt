@@ -1,4 +1,4 @@
--- What the calls of terminals and the host leave of their stores' soundness and calm, and which faults of stores they tell.
+-- What the calls of terminals and the host leave of their stores' soundness and calm, and which faults of stores they report.
 use Rattle.std.proofs.Common.{◌≡◌, ◌≢◌, ℕ, List, Some, None, inl, inr, sym, subst}
 use Rattle.duk_host.specs.Handle.{HandleRefused}
 use Rattle.duk_host.specs.Host.{HostMeaning, HostOf}
@@ -78,7 +78,7 @@ restart_failed old new _ failed = absurd failed.fault_is
 pub found_wrong : {V : Type 0} (old new : StoreState V) (value : V) → Restarted old new value → (old.honest → ⊥) → KeepsCalm old new × IsSpared old Damaged
 found_wrong old new value restarted never = (nature_kept old new restarted.settles.nature, record { device = λ calm same. cc; damaged = λ honest sound same. never honest })
 
--- what a terminal's refusal leaves of its cell's nature, and which faults of its cell it tells
+-- what a terminal's refusal leaves of its cell's nature, and which faults of its cell it reports
 pub record RefusesTerm {C : Type 0} (cell : CellMeaning C) (before after : TerminalOf C) (why : TermFault) : Type 0 where
   pub keeps : KeepsCalm (cell.state_of before.cell) (cell.state_of after.cell)
   pub device : (cell.state_of before.cell).calm → ¬ IsCellFault why Device
@@ -146,7 +146,7 @@ term_restart_refused cell before after (fault.Store why) bodies refused = store_
 ])
 term_restart_refused cell before after _ bodies refused = absurd refused
 
--- what a host's refusal leaves of its log's nature, and which faults of its log it tells
+-- what a host's refusal leaves of its log's nature, and which faults of its log it reports
 pub record RefusesHost {L I : Type 0} (log : LogMeaning L) (before after : HostOf L I) (why : HostFault) : Type 0 where
   pub keeps : KeepsCalm (log.state_of before.log) (log.state_of after.log)
   pub device : (log.state_of before.log).calm → ¬ IsLogFault why Device

@@ -198,7 +198,7 @@ pub used_stays : {C L I : Type 0} (m : Meanings C L I) (old : WorldOf C L I) (ou
     → View m old outcome new → IsUsedNumber old.requests ksn → IsUsedNumber new.requests ksn
 used_stays m old outcome new ksn view used = record { frame = used.frame; sent = requests_stay m old outcome new used.frame view used.sent; number = used.number }
 
--- what a step's outcome tells where a request is sent, or a terminal is done
+-- what a step's outcome says where a request is sent, or a terminal is done
 abbrev pub Tells : {C L I : Type 0} → Meanings C L I → WorldOf C L I → Outcome → WorldOf C L I → Type 0
 Tells m old (came.Sent t k ksn) new = (purchase : Purchase) × IsSent m old t purchase k ksn new
 Tells m old (came.Done t ksn code) new = (k : ℕ) × (frame : Frame) × IsAt old.answers k frame × ChangesTerminal t (IsToldOf frame ksn (Done code)) old new
@@ -210,7 +210,7 @@ quiet_tells m old (came.Sent t k ksn) new quiet = absurd quiet
 quiet_tells m old (came.Done t ksn code) new quiet = absurd quiet
 quiet_tells m old _ new quiet = tt
 
--- each step's outcome tells that
+-- each step's outcome says that
 pub step_tells : {C L I : Type 0} (m : Meanings C L I) (old : WorldOf C L I) (outcome : Outcome) (new : WorldOf C L I) → View m old outcome new → Tells m old outcome new
 step_tells m old outcome new (step.nothing same quiet) = quiet_tells m old outcome new quiet
 step_tells m old outcome new (step.load t iksn given quiet) = quiet_tells m old outcome new quiet

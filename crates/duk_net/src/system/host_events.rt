@@ -16,7 +16,7 @@ use duk_host::{HostFault, Issuer};
 use duk_store::{Cell, UsedLog};
 use std::alloc::AllocError;
 
-/// What comes of a fault of the host, if it is another than want of memory.
+/// What comes of a fault of the host, if it is another than out of memory.
 fn outcome_of_fault(fault: HostFault) -> Result<Outcome, AllocError>
     ensures other { IfOk result
         (λ outcome. (outcome ≡ came.HostFaulted fault) × (fault ≢ HostFault.NoMemory)) }
