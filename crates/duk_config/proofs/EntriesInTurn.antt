@@ -45,18 +45,17 @@ parted [] i value within at = absurd (omega arith)
 parted (v ∷ values) zero value within at = ap (λ x. view x ∷ map view values) (sym at)
 parted (v ∷ values) (suc i) value within at = ap (λ rest. view v ∷ rest) (parted values i value (omega arith) at)
 
--- the first value that is bad behind the entries of those before it
+-- the first value that is bad after the entries of those before it
 pub first_bad : {Entry : Type 0} (States : Data → Entry → Type 0) (Repeats : Entry → Entry → Type 0) (values : List Value) (earlier : List Entry) (i : ℕ) (value : Value)
     → i < length values → value ≡ get_or values i value
     → AreEntries States Repeats (map view (take i values)) earlier → IsBadAfter States Repeats earlier (view value)
     → IsFirstBadEntry States Repeats (map view values) (i + 1)
 first_bad States Repeats values earlier i value within at are bad = record {
   before = map view (take i values);
-  value = view value;
+  item = view value;
   after = map view (drop (suc i) values);
-  earlier = earlier;
-  values_are = parted values i value within at;
+  items_are = parted values i value within at;
   place_is = ap (λ n. n + 1) (sym (length-map (take i values) view ∙ length-take-le i values (omega arith)));
-  earlier_are = are;
-  bad = bad;
+  earlier_right = (earlier, are);
+  wrong = (earlier, are, bad);
 }

@@ -97,13 +97,13 @@ module _ {Entry : Type 0} (States : Data → Entry → Type 0) (Repeats : Entry 
   -- where the values state entries, none of them is the first that is bad
   pub none_bad : (values : List Data) (entries : List Entry) (place : ℕ) → AreEntries States Repeats values entries → ¬ IsFirstBadEntry States Repeats values place
   none_bad values entries place are first =
-      let zipped = rw first.values_are at are.each in
-      let parts = split first.before first.value first.after entries zipped in
-      let fronts : first.earlier ≡ parts.front = one_list first.before first.earlier parts.front first.earlier_are.each parts.front_are in
-      elim first.bad [
+      let zipped = rw first.items_are at are.each in
+      let parts = split first.before first.item first.after entries zipped in
+      let fronts : first.wrong.0 ≡ parts.front = one_list first.before first.wrong.0 parts.front first.wrong.1.each parts.front_are in
+      elim first.wrong.2 [
         | inl nothing ↦ nothing parts.here parts.here_is
         | inr repeated ↦
-            let same : repeated.entry ≡ parts.here = one first.value _ _ repeated.stated parts.here_is in
+            let same : repeated.entry ≡ parts.here = one first.item _ _ repeated.stated parts.here_is in
             let within = rw fronts at repeated.repeated in
             let distinct = rw parts.entries_are at are.distinct in
             no_repeat parts.front parts.here parts.back (rw same at within) distinct

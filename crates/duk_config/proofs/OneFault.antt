@@ -53,16 +53,15 @@ module _ {Entry : Type 0} (States : Data → Entry → Type 0) (Repeats : Entry 
   not_before values p q first second = λ below.
       let first_place = first.place_is in
       let second_place = second.place_is in
-      let part = cut first.before first.value first.after second.before second.value second.after (sym first.values_are ∙ second.values_are) (omega arith) in
-      none_bad States Repeats one second.before second.earlier p second.earlier_are (record {
+      let part = cut first.before first.item first.after second.before second.item second.after (sym first.items_are ∙ second.items_are) (omega arith) in
+      none_bad States Repeats one second.before second.wrong.0 p second.wrong.1 (record {
         before = first.before;
-        value = first.value;
+        item = first.item;
         after = part.0;
-        earlier = first.earlier;
-        values_are = part.1;
+        items_are = part.1;
         place_is = first.place_is;
-        earlier_are = first.earlier_are;
-        bad = first.bad;
+        earlier_right = first.earlier_right;
+        wrong = first.wrong;
       })
 
   -- values have one first bad entry

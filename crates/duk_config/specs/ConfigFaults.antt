@@ -1,5 +1,5 @@
 -- Why a table of TOML is no configuration: this project's own.
-use Rattle.std.specs.Prelude.{◌≡◌, ◌<◌, ℕ, true, List, Some, None, IsSome, codes, string_bytes}
+use Rattle.std.specs.Prelude.{◌≡◌, ℕ, true, List, Some, None, IsSome, codes, string_bytes}
 use Rattle.duk_pin.specs.declared.card.Card.{Card}
 use Rattle.toml.specs.Data.{Data, Members}
 use Rattle.duk_config.specs.BaseKeys.{BaseKey}
@@ -10,6 +10,7 @@ use Rattle.duk_config.specs.declared.fault.ScriptFault.TheVariants as fault
 use Rattle.duk_config.specs.ConfigKeys.{is_config_key}
 use Rattle.duk_config.specs.ConfigTable.{HasBaseKeys, HasCards, bdk_values, card_values, disk_in}
 use Rattle.duk_config.specs.Entries.{HaveOnePan, HaveOnePrefix, IsFirstBadEntry, StatesBaseKey, StatesCard}
+use Rattle.duk_io.specs.FirstFault.{AllBefore}
 use Rattle.duk_config.specs.Names.{IsFirstUnknown, has_only}
 use Rattle.duk_config.specs.Values.{double_key_at, number_at, tdes_key_at}
 
@@ -60,8 +61,7 @@ key_rank key.Card = 7
 -- there is no unknown key, and each key that is told before this one is right
 pub record IsRightBefore (document : Members) (key : ConfigKey) : Type 0 where
   pub no_other_key : has_only is_config_key document ≡ true
-  pub earlier_right : (earlier : ConfigKey)
-      → key_rank earlier < key_rank key → IsRight document earlier
+  pub earlier_right : AllBefore key_rank (IsRight document) key
 
 -- the first fault of a table; any may be refused for want of memory
 abbrev pub IsFirstTableFault : Members → ScriptFault → Type 0

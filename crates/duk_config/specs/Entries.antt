@@ -1,5 +1,5 @@
 -- The entries that an array of TOML states, one for each of its values: this project's own.
-use Rattle.std.specs.Prelude.{◌≡◌, ◌⊎◌, ◌+◌, ℕ, List, [], ◌∷◌, ◌++◌, Some, true, codes, length, Any, AllPairs}
+use Rattle.std.specs.Prelude.{◌≡◌, ◌⊎◌, ℕ, List, [], ◌∷◌, Some, true, codes, Any, AllPairs}
 use Rattle.std.specs.List.{All, AllZip}
 use Rattle.duk_pin.specs.Pan.{IsPan}
 use Rattle.duk_pin.specs.Pin.{IsPin}
@@ -7,6 +7,7 @@ use Rattle.duk_pin.specs.declared.card.Card.{Card}
 use Rattle.toml.specs.Data.{Data, Members, table, Items, no_items, item}
 use Rattle.duk_config.specs.BaseKeys.{BaseKey, key_of, prefix_of}
 use Rattle.duk_config.specs.ConfigKeys.{is_bdk_key, is_card_key}
+use Rattle.duk_io.specs.FirstFault.{IsFirstItem}
 use Rattle.duk_config.specs.Names.{has_only}
 use Rattle.duk_config.specs.Values.{double_key_at, number_at, prefix_at, text_at}
 
@@ -60,16 +61,18 @@ module _ {Entry : Type 0} (States : Data → Entry → Type 0) (Repeats : Entry 
   abbrev pub IsBadAfter : List Entry → Data → Type 0
   IsBadAfter earlier value = ((entry : Entry) → ¬ States value entry) ⊎ StatesRepeated earlier value
 
-  -- the value at this place, counted from 1, is the first that is bad behind those before it
-  pub record IsFirstBadEntry (values : List Data) (place : ℕ) : Type 0 where
-    pub before : List Data
-    pub value : Data
-    pub after : List Data
-    pub earlier : List Entry
-    pub values_are : values ≡ before ++ value ∷ after
-    pub place_is : place ≡ length before + 1
-    pub earlier_are : AreEntries before earlier
-    pub bad : IsBadAfter earlier value
+  -- the values state entries
+  abbrev pub StateEntries : List Data → Type 0
+  StateEntries values = (entries : List Entry) × AreEntries values entries
+
+  -- these values state entries, after which this value is bad
+  abbrev pub IsBadEntryAfter : List Data → Data → Type 0
+  IsBadEntryAfter values value =
+      (earlier : List Entry) × AreEntries values earlier × IsBadAfter earlier value
+
+  -- the value at this place, counted from 1, is the first that is bad
+  abbrev pub IsFirstBadEntry : List Data → ℕ → Type 0
+  IsFirstBadEntry = IsFirstItem StateEntries IsBadEntryAfter
 
   -- the value states this entry, which repeats none of these: what a private function of
   -- `read_config` answers

@@ -9,3 +9,5 @@ pub mod ConfigTable
 pub mod ConfigFaults
 pub mod ConfigFile
 pub mod Opened
+pub mod NewHost
+pub mod FaultText

@@ -5,8 +5,8 @@ ghost use Rattle.duk_config.specs.ConfigKeys.{key_name};
 ghost use Rattle.duk_config.specs.declared.fault.ScriptFault.TheVariants.{NoMemory};
 
 use std::alloc::{AllocError, AllocFailed};
+use std::error::Error;
 use std::fmt;
-use thiserror::Error;
 
 /// A key of a configuration. `Display` writes it as it stands in the file.
 #[derive(Debug, Clone, Copy, PartialEq, Eq)]
@@ -48,47 +48,65 @@ impl ConfigKey {
 }
 
 impl fmt::Display for ConfigKey {
+    ghost use Rattle.std.specs.Prelude.{Some};
+
+    ghost output = { λ key. Some (key_name key) };
+
     fn fmt<W: fmt::Write>(&self, f: &mut fmt::Formatter<W>) -> fmt::Result {
         f.write_str(self.name())
     }
 }
 
 /// Why a configuration or a script is refused, or its outcomes are not written. `Display` writes
-/// the fault's line, with no line feed.
-#[derive(Debug, PartialEq, Eq, Drop, Error)]
+/// the fault's line, without its LF.
+#[derive(Debug, PartialEq, Eq, Drop)]
 pub enum ScriptFault {
     /// The configuration has more than 1,048,576 bytes.
-    #[error("config: too long")]
     ConfigTooLong,
     /// The configuration is no UTF-8 or no TOML.
-    #[error("config: not TOML")]
     NotToml,
     /// The configuration has a key that is none of its keys: the first such key in byte order.
-    #[error("config: unknown {0}")]
     UnknownKey(String),
     /// The value of a key is missing or wrong, or has a wrong number of entries.
-    #[error("config: bad {0}")]
     BadKey(ConfigKey),
     /// An entry of a key has a missing, unknown, wrong or repeated value. Entries are counted from
     /// 1.
-    #[error("config: bad {0} {1}")]
     BadEntry(ConfigKey, u64),
     /// The script's file cannot be opened, or a read of it failed.
-    #[error("script: cannot read")]
     CannotRead,
     /// The script has more than 1,048,576 bytes.
-    #[error("script: too long")]
     TooLong,
     /// A line of the script is no event. Lines are counted from 1.
-    #[error("line {0}: not an event")]
     NotAnEvent(u64),
     /// An outcome could not be written.
-    #[error("script: write failed")]
     WriteFailed,
     /// Memory was refused.
-    #[error("out of memory")]
     NoMemory,
 }
+
+impl fmt::Display for ScriptFault {
+    ghost use Rattle.std.specs.Prelude.{Some};
+    ghost use Rattle.duk_config.specs.FaultText.{script_fault_text};
+
+    ghost output = { λ fault. Some (script_fault_text fault) };
+
+    fn fmt<W: fmt::Write>(&self, f: &mut fmt::Formatter<W>) -> fmt::Result {
+        match self {
+            ScriptFault::ConfigTooLong => f.write_str("config: too long"),
+            ScriptFault::NotToml => f.write_str("config: not TOML"),
+            ScriptFault::UnknownKey(name) => write!(f, "config: unknown {name}"),
+            ScriptFault::BadKey(key) => write!(f, "config: bad {key}"),
+            ScriptFault::BadEntry(key, place) => write!(f, "config: bad {key} {place}"),
+            ScriptFault::CannotRead => f.write_str("script: cannot read"),
+            ScriptFault::TooLong => f.write_str("script: too long"),
+            ScriptFault::NotAnEvent(line) => write!(f, "line {line}: not an event"),
+            ScriptFault::WriteFailed => f.write_str("script: write failed"),
+            ScriptFault::NoMemory => f.write_str("out of memory"),
+        }
+    }
+}
+
+impl Error for ScriptFault {}
 
 impl From<AllocError> for ScriptFault {
     ghost from_gives = { λ _ fault. fault ≡ NoMemory };
