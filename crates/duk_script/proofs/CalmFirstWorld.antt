@@ -4,6 +4,7 @@ use Rattle.std.specs.List.{All}
 use Rattle.std.proofs.lemmas.List.{length-replicate}
 use Rattle.std.proofs.lemmas.List.Elements.{All-nil, All-cons, All-push, All-weaker, All-get_or}
 use Rattle.std.proofs.lemmas.Option.{get_or_from_slice_get, slice_get_within}
+use Rattle.duk_config.specs.NewHost.{new_host_of}
 use Rattle.duk_config.specs.Settings.{Settings}
 use Rattle.duk_host.specs.Host.{HostOf}
 use Rattle.duk_host.specs.Table.{CardTable, table_decision}
@@ -21,7 +22,7 @@ use Rattle.duk_store.specs.Cell.{CellMeaning}
 use Rattle.duk_store.specs.Log.{LogMeaning}
 use Rattle.duk_store.specs.StoreState.{IsNew}
 use Rattle.duk_term.specs.Terminal.{TerminalOf}
-use Rattle.duk_script.specs.Opening.{HasNewCell, IsOpened, StartsCalm, new_host_of, new_world_of, opening}
+use Rattle.duk_script.specs.Opening.{HasNewCell, IsOpened, StartsCalm, new_world_of, opening}
 use Rattle.duk_script.specs.Play.{ArePlayedIn}
 
 -- terminals over new cells are newly made

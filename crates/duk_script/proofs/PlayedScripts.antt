@@ -14,9 +14,8 @@ use Rattle.duk_net.specs.declared.runs.NetFault.TheVariants as net
 use Rattle.duk_script.specs.Opening.{IsOpened, StartsCalm}
 use Rattle.duk_script.specs.OutcomeText.{lines_of}
 use Rattle.duk_script.specs.Play.{ArePlayed, ArePlayedIn, ArePlayedInPart, ArePlayedOn, HaveOutcomes, IsPlayed, IsPlayedUpTo, PlayRefused, Playing}
-use Rattle.duk_script.specs.Script.{IsNoScript}
-use Rattle.duk_script.specs.Session.{AreEventsRead, IsQuietSession, IsScriptRefused, Session}
-use Rattle.duk_script.specs.WholeText.{IsReadWhole, ReadRefused}
+use Rattle.duk_script.specs.Script.{IsNoScript, IsScript}
+use Rattle.duk_script.specs.Session.{IsScriptRefused}
 
 pub on_ok : {A E : Type 0} (P Q : Type 0) → (P → Q) → (result : Result A E) → OnOk result P → OnOk result Q
 on_ok P Q follows (Ok x) holds = follows holds
@@ -92,37 +91,24 @@ pub named_stores : (config : Settings) (disk : Bool) → config.disk ≡ disk
     → (events : List Event) (outcomes : List Outcome) → ArePlayedOn disk config events outcomes → ArePlayed config events outcomes
 named_stores config disk named events outcomes have = subst (λ disk. ArePlayedOn disk config events outcomes) (sym named) have
 
--- the script is not read
-pub unread : (config : Settings) (s : Session) (why : ScriptFault) → ReadRefused s.reader_before s.reader_after why → IsQuietSession s → IsScriptRefused config s why
-unread config s fault.ConfigTooLong cause quiet = absurd cause
-unread config s fault.NotToml cause quiet = absurd cause
-unread config s (fault.UnknownKey name) cause quiet = absurd cause
-unread config s (fault.BadKey key) cause quiet = absurd cause
-unread config s (fault.BadEntry key place) cause quiet = absurd cause
-unread config s fault.CannotRead cause quiet = record { cause = cause; quiet = quiet }
-unread config s fault.TooLong cause quiet = record { cause = cause; quiet = quiet }
-unread config s (fault.NotAnEvent line) cause quiet = absurd cause
-unread config s fault.WriteFailed cause quiet = absurd cause
-unread config s fault.NoMemory cause quiet = inl quiet
-
 -- a line is no event
-pub not_a_script : (config : Settings) (s : Session) (text : List ℕ) (why : ScriptFault) → IsReadWhole s.reader_before s.reader_after text
+pub not_a_script : (config : Settings) (text : List ℕ) (old new : Known) (why : ScriptFault)
     → (why ≡ fault.NoMemory) ⊎ ((line : ℕ) × (why ≡ fault.NotAnEvent line) × IsNoScript text line)
-    → IsQuietSession s → IsScriptRefused config s why
-not_a_script config s text why text_is (inl same) quiet = subst (λ why. IsScriptRefused config s why) (sym same) (inl quiet)
-not_a_script config s text why text_is (inr bad) quiet = subst (λ why. IsScriptRefused config s why) (sym bad.1)
-    (record { text = text; text_is = text_is; cause = bad.2; quiet = quiet })
+    → IsUntouched old new → IsScriptRefused config text old new why
+not_a_script config text old new why (inl same) quiet = subst (λ why. IsScriptRefused config text old new why) (sym same) (inl quiet)
+not_a_script config text old new why (inr bad) quiet = subst (λ why. IsScriptRefused config text old new why) (sym bad.1)
+    (record { cause = bad.2; quiet = quiet })
 
 -- what stops the playing stops the script
-pub stopped : (config : Settings) (s : Session) (events : List Event) (why : ScriptFault) → AreEventsRead s events
-    → PlayRefused (ArePlayed config) events s.writer_before s.writer_after why → IsScriptRefused config s why
-stopped config s events fault.ConfigTooLong read cause = absurd cause
-stopped config s events fault.NotToml read cause = absurd cause
-stopped config s events (fault.UnknownKey name) read cause = absurd cause
-stopped config s events (fault.BadKey key) read cause = absurd cause
-stopped config s events (fault.BadEntry key place) read cause = absurd cause
-stopped config s events fault.CannotRead read cause = absurd cause
-stopped config s events fault.TooLong read cause = absurd cause
-stopped config s events (fault.NotAnEvent line) read cause = absurd cause
-stopped config s events fault.WriteFailed read cause = record { events = events; read = read; cause = cause }
-stopped config s events fault.NoMemory read cause = inr (record { events = events; read = read; cause = cause })
+pub stopped : (config : Settings) (text : List ℕ) (old new : Known) (events : List Event) (why : ScriptFault) → IsScript text events
+    → PlayRefused (ArePlayed config) events old new why → IsScriptRefused config text old new why
+stopped config text old new events fault.ConfigTooLong script cause = absurd cause
+stopped config text old new events fault.NotToml script cause = absurd cause
+stopped config text old new events (fault.UnknownKey name) script cause = absurd cause
+stopped config text old new events (fault.BadKey key) script cause = absurd cause
+stopped config text old new events (fault.BadEntry key place) script cause = absurd cause
+stopped config text old new events fault.CannotRead script cause = absurd cause
+stopped config text old new events fault.TooLong script cause = absurd cause
+stopped config text old new events (fault.NotAnEvent line) script cause = absurd cause
+stopped config text old new events fault.WriteFailed script cause = record { events = events; script = script; cause = cause }
+stopped config text old new events fault.NoMemory script cause = inr (record { events = events; script = script; cause = cause })

@@ -48,25 +48,25 @@ quiet_alone line event (inr (comment, begins)) is =
 bad_later : (line : List ℕ) (rest : List (List ℕ)) (later : ℕ) → IsLawful line → IsFirstBad rest later → IsFirstBad (line ∷ rest) (suc later)
 bad_later line rest later lawful is = record {
   before = line ∷ is.before;
-  bad = is.bad;
+  item = is.item;
   after = is.after;
-  split = ap (λ l. line ∷ l) is.split;
-  lawful = All-cons IsLawful line is.before lawful is.lawful;
-  unlawful = is.unlawful;
-  counted = omega (arith, is.counted);
+  items_are = ap (λ l. line ∷ l) is.items_are;
+  place_is = omega (arith, is.place_is);
+  earlier_right = All-cons IsLawful line is.before lawful is.earlier_right;
+  wrong = is.wrong;
 }
 
 bad_sooner : (line : List ℕ) (rest : List (List ℕ)) (number : ℕ) → IsLawful line → IsFirstBad (line ∷ rest) number
     → (later : ℕ) × (number ≡ suc later) × IsFirstBad rest later
-bad_sooner line rest number lawful is = at is.before is.split is.lawful is.counted
+bad_sooner line rest number lawful is = at is.before is.items_are is.earlier_right is.place_is
   where
-    at : (before : List (List ℕ)) → line ∷ rest ≡ before ++ is.bad ∷ is.after → All IsLawful before → number ≡ length before + 1
+    at : (before : List (List ℕ)) → line ∷ rest ≡ before ++ is.item ∷ is.after → All IsLawful before → number ≡ length before + 1
         → (later : ℕ) × (number ≡ suc later) × IsFirstBad rest later
-    at [] split all counted = let same : line ≡ is.bad = cc in absurd (is.unlawful (subst IsLawful same lawful))
+    at [] split all counted = let same : line ≡ is.item = cc in absurd (is.wrong (subst IsLawful same lawful))
     at (first ∷ before) split all counted = (
       length before + 1,
       omega arith,
-      record { before = before; bad = is.bad; after = is.after; split = cc; lawful = All-tail IsLawful first before all; unlawful = is.unlawful; counted = refl },
+      record { before = before; item = is.item; after = is.after; items_are = cc; place_is = refl; earlier_right = All-tail IsLawful first before all; wrong = is.wrong },
     )
 
 -- a line that may stand in a script is passed
@@ -119,9 +119,9 @@ end_every whole events number stands all are =
     let only = stands.only all are in sym (only.1 ∙ ap (λ l. events ++ l) only.2 ∙ append-nil events)
 
 no_line : {A : Type 0} (number : ℕ) → IsFirstBad [] number → A
-no_line number is = at is.before is.split
+no_line number is = at is.before is.items_are
   where
-    at : {A : Type 0} (before : List (List ℕ)) → [] ≡ before ++ is.bad ∷ is.after → A
+    at : {A : Type 0} (before : List (List ℕ)) → [] ≡ before ++ is.item ∷ is.after → A
     at [] split = absurd (cc split)
     at (first ∷ before) split = absurd (cc split)
 
@@ -134,12 +134,12 @@ pub stop_bad : (whole : List (List ℕ)) (line : List ℕ) (rest : List (List �
     → Stands whole (line ∷ rest) events number → ¬ IsLawful line → IsFirstBad whole (number + 1)
 stop_bad whole line rest events number stands unlawful = stands.bad 1 (record {
   before = [];
-  bad = line;
+  item = line;
   after = rest;
-  split = refl;
-  lawful = All-nil IsLawful;
-  unlawful = unlawful;
-  counted = refl;
+  items_are = refl;
+  place_is = refl;
+  earlier_right = All-nil IsLawful;
+  wrong = unlawful;
 })
 
 pub stop_every : (whole : List (List ℕ)) (line : List ℕ) (rest : List (List ℕ)) (events : List Event) (number : ℕ)
@@ -155,9 +155,9 @@ pub stop_first : (whole : List (List ℕ)) (line : List ℕ) (rest : List (List 
 stop_first whole line rest events number stands unlawful bad is = let later = stands.only_bad bad is in later.1 ∙ ap (λ n. number + n) (first later.0 later.2)
   where
     first : (later : ℕ) → IsFirstBad (line ∷ rest) later → later ≡ 1
-    first later is = at is.before is.split is.lawful is.counted
+    first later is = at is.before is.items_are is.earlier_right is.place_is
       where
-        at : (before : List (List ℕ)) → line ∷ rest ≡ before ++ is.bad ∷ is.after → All IsLawful before → later ≡ length before + 1 → later ≡ 1
+        at : (before : List (List ℕ)) → line ∷ rest ≡ before ++ is.item ∷ is.after → All IsLawful before → later ≡ length before + 1 → later ≡ 1
         at [] split all counted = counted
         at (first ∷ before) split all counted =
             let same : first ≡ line = cc in absurd (unlawful (subst IsLawful same (All-head IsLawful first before all)))

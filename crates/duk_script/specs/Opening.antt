@@ -1,8 +1,7 @@
 -- The first world of a script, and its ends brought up: this project's own.
 use Rattle.std.specs.Prelude.{◌≡◌, ◌+◌, ◌++◌, ◌∷◌, zero, suc, ℕ, List, [], None, All, length}
-use Rattle.duk_config.specs.Opened.{keys_for}
+use Rattle.duk_config.specs.NewHost.{new_host_of}
 use Rattle.duk_config.specs.Settings.{Settings}
-use Rattle.duk_host.specs.Host.{HostOf}
 use Rattle.duk_host.specs.Table.{CardTable}
 use Rattle.duk_net.specs.Calm.{HasSoundStores, IsBroughtUp, IsCalmAt}
 use Rattle.duk_net.specs.First.{IsFirst, first_world}
@@ -14,18 +13,8 @@ use Rattle.duk_net.specs.declared.event.Event.TheVariants.{RestartHost, RestartT
 use Rattle.duk_net.specs.declared.outcome.Outcome.{Outcome}
 use Rattle.duk_store.specs.Cell.{CellMeaning}
 use Rattle.duk_store.specs.StoreState.{IsNew}
-use Rattle.duk_tdes.specs.KeyBytes.{bytes_of}
 use Rattle.duk_term.specs.Terminal.{TerminalOf}
 use Rattle.duk_term.specs.declared.state.State.TheVariants.{Stopped}
-
--- the host of a configuration over this log, as it is made
-abbrev pub new_host_of : {L : Type 0} → Settings → L → HostOf L CardTable
-new_host_of config log = record {
-  keys = keys_for (bytes_of config.lmk) config;
-  issuer = record { zone = bytes_of config.zone; cards = config.cards };
-  log = log;
-  state = None;
-}
 
 -- the world of a configuration with this log and these terminals, as it is made
 abbrev pub new_world_of : {C L : Type 0} → Settings → L → List (TerminalOf C)

@@ -2,6 +2,7 @@
 use Rattle.std.specs.Prelude.{◌≡◌, ◌⊎◌, ◌+◌, ◌<◌, ◌≤◌, ◌^◌, ℕ, List, [], ◌∷◌, ◌++◌, length, All, codes, decimal, Some}
 use Rattle.std.specs.List.{join_with_byte}
 use Rattle.std.specs.Str.Lines.{lines}
+use Rattle.duk_io.specs.FirstFault.{IsFirstItem}
 use Rattle.duk_pin.specs.Pan.{IsPan}
 use Rattle.duk_pin.specs.Pin.{IsPin}
 use Rattle.duk_tree.specs.Serial.{iksn_of_text}
@@ -103,14 +104,8 @@ abbrev pub IsLawful : List ℕ → Type 0
 IsLawful line = IsQuiet line ⊎ ((event : Event) × IsEventLine line event)
 
 -- the line of this number, counted from 1, is the first that may not stand in a script
-pub record IsFirstBad (lines : List (List ℕ)) (number : ℕ) : Type 0 where
-  pub before : List (List ℕ)
-  pub bad : List ℕ
-  pub after : List (List ℕ)
-  pub split : lines ≡ before ++ bad ∷ after
-  pub lawful : All IsLawful before
-  pub unlawful : ¬ IsLawful bad
-  pub counted : number ≡ length before + 1
+abbrev pub IsFirstBad : List (List ℕ) → ℕ → Type 0
+IsFirstBad = IsFirstItem (All IsLawful) (λ _ line. ¬ IsLawful line)
 
 -- a script of these events. Its lines end with LF, which the last may lack, and one CR before an LF
 -- is dropped

@@ -30,50 +30,40 @@ session reader_before reader_after writer_before writer_after = record {
 abbrev pub IsQuietSession : Session → Type 0
 IsQuietSession s = IsUntouched s.writer_before s.writer_after
 
--- the script is read, and these are its events
-pub record AreEventsRead (s : Session) (events : List Event) : Type 0 where
-  pub text : List ℕ
-  pub text_is : IsReadWhole s.reader_before s.reader_after text
+-- the text is a script, and it is played to its end under a configuration
+pub record IsScriptDone (config : Settings) (text : List ℕ) (old new : Known) : Type 0 where
+  pub events : List Event
   pub script : IsScript text events
+  pub played : IsPlayed (ArePlayed config) events old new
 
--- the script is read, and played to its end under a configuration
-pub record IsScriptDone (config : Settings) (s : Session) : Type 0 where
-  pub events : List Event
-  pub read : AreEventsRead s events
-  pub played : IsPlayed (ArePlayed config) events s.writer_before s.writer_after
-
--- the script cannot be read, and nothing is written
-pub record IsUnread (s : Session) (why : ScriptFault) : Type 0 where
-  pub cause : ReadRefused s.reader_before s.reader_after why
-  pub quiet : IsQuietSession s
-
--- a line of the script is no event, and nothing is written
-pub record IsNotAScript (s : Session) (line : ℕ) : Type 0 where
-  pub text : List ℕ
-  pub text_is : IsReadWhole s.reader_before s.reader_after text
+-- a line of the text is no event, and nothing is written
+pub record IsNotAScript (text : List ℕ) (line : ℕ) (old new : Known) : Type 0 where
   pub cause : IsNoScript text line
-  pub quiet : IsQuietSession s
+  pub quiet : IsUntouched old new
 
--- the script is read, and not all of it is done and written
-pub record IsPlayStopped (config : Settings) (s : Session) (why : ScriptFault) : Type 0 where
+-- the text is a script, and not all of it is done and written
+pub record IsPlayStopped (config : Settings) (text : List ℕ) (old new : Known) (why : ScriptFault)
+    : Type 0 where
   pub events : List Event
-  pub read : AreEventsRead s events
-  pub cause : PlayRefused (ArePlayed config) events s.writer_before s.writer_after why
+  pub script : IsScript text events
+  pub cause : PlayRefused (ArePlayed config) events old new why
 
--- why a script is not read and played to its end under a configuration
-abbrev pub IsScriptRefused : Settings → Session → ScriptFault → Type 0
-IsScriptRefused config s fault.CannotRead = IsUnread s fault.CannotRead
-IsScriptRefused config s fault.TooLong = IsUnread s fault.TooLong
-IsScriptRefused config s (fault.NotAnEvent line) = IsNotAScript s line
-IsScriptRefused config s fault.WriteFailed = IsPlayStopped config s fault.WriteFailed
-IsScriptRefused config s fault.NoMemory = IsQuietSession s ⊎ IsPlayStopped config s fault.NoMemory
-IsScriptRefused config s _ = ⊥
+-- why a text is not played to its end under a configuration
+abbrev pub IsScriptRefused : Settings → List ℕ → Known → Known → ScriptFault → Type 0
+IsScriptRefused config text old new (fault.NotAnEvent line) = IsNotAScript text line old new
+IsScriptRefused config text old new fault.WriteFailed =
+    IsPlayStopped config text old new fault.WriteFailed
+IsScriptRefused config text old new fault.NoMemory =
+    IsUntouched old new ⊎ IsPlayStopped config text old new fault.NoMemory
+IsScriptRefused config text old new _ = ⊥
 
--- the bytes are a configuration, and the script is played to its end under it
+-- the bytes are a configuration, the script is read, and it is played to its end
 pub record IsRunDone (bytes : List ℕ) (s : Session) : Type 0 where
   pub config : Settings
   pub config_is : IsConfigFile bytes config
-  pub done : IsScriptDone config s
+  pub text : List ℕ
+  pub text_is : IsReadWhole s.reader_before s.reader_after text
+  pub done : IsScriptDone config text s.writer_before s.writer_after
 
 -- the configuration is refused: nothing is read of the script, and nothing is written
 pub record IsConfigRefused (bytes : List ℕ) (s : Session) (why : ScriptFault) : Type 0 where
@@ -81,12 +71,22 @@ pub record IsConfigRefused (bytes : List ℕ) (s : Session) (why : ScriptFault) 
   pub unread : s.reader_after ≡ s.reader_before
   pub quiet : IsQuietSession s
 
--- the bytes are a configuration, and the script is refused under it
+-- the bytes are a configuration, the script cannot be read, and nothing is written
+pub record IsUnread (bytes : List ℕ) (s : Session) (why : ScriptFault) : Type 0 where
+  pub config : Settings
+  pub config_is : IsConfigFile bytes config
+  pub cause : ReadRefused s.reader_before s.reader_after why
+  pub quiet : IsQuietSession s
+
+-- the bytes are a configuration, and the script is read, and refused under it
 pub record IsRefusedUnder (bytes : List ℕ) (s : Session) (why : ScriptFault) : Type 0 where
   pub config : Settings
   pub config_is : IsConfigFile bytes config
-  pub refused : IsScriptRefused config s why
+  pub text : List ℕ
+  pub text_is : IsReadWhole s.reader_before s.reader_after text
+  pub refused : IsScriptRefused config text s.writer_before s.writer_after why
 
--- why a script is not read and played to its end under a configuration's bytes
+-- why a script is not read and played to its end under a configuration's bytes: the first of these
 abbrev pub IsRunRefused : List ℕ → Session → ScriptFault → Type 0
-IsRunRefused bytes s why = IsConfigRefused bytes s why ⊎ IsRefusedUnder bytes s why
+IsRunRefused bytes s why =
+    IsConfigRefused bytes s why ⊎ IsUnread bytes s why ⊎ IsRefusedUnder bytes s why

@@ -1,4 +1,4 @@
-//! The line of an event.
+//! Reads the line of a script as an event.
 
 ghost use Rattle.std.specs.Prelude.{◌≡◌, ◌++◌, ℕ, List, Some, codes, decimal, IfSome};
 ghost use Rattle.duk_net.specs.declared.event.End.{End};

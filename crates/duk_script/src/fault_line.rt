@@ -1,6 +1,6 @@
-//! The line that tells a fault of a configuration or a script.
+//! Writes the line of a fault of a configuration or a script.
 
-ghost use Rattle.std.specs.Prelude.{◌≡◌, ◌++◌, ◌≤◌, codes, decimal, length, OnOk, OnErr};
+ghost use Rattle.std.specs.Prelude.{◌≡◌, ◌++◌, ◌≤◌, codes, length, OnOk, OnErr};
 ghost use Rattle.duk_config.specs.ConfigKeys.{key_name};
 ghost use Rattle.duk_script.specs.FaultLine.{fault_line, unknown_line};
 ghost use Rattle.duk_io.specs.Sink.{IsCut, IsTried, IsWritten};
@@ -67,15 +67,14 @@ fn bad_key(key: ConfigKey) -> Line
 
 /// The line of an entry with a wrong value.
 fn bad_entry(key: ConfigKey, place: u64) -> LineText
-    ensures { result.items ≡ codes "config: bad " ++ key_name key ++ codes " " ++ decimal place
-        ++ codes "\n" }
+    ensures { result.items ≡ fault_line (ScriptFault.BadEntry key place) }
 {
     bad_key(key).number(place).end()
 }
 
 /// The line of a line that is no event.
 fn not_an_event(line: u64) -> LineText
-    ensures { result.items ≡ codes "line " ++ decimal line ++ codes ": not an event\n" }
+    ensures { result.items ≡ fault_line (ScriptFault.NotAnEvent line) }
 {
     Line::of_word(b"line")
         .number(line)

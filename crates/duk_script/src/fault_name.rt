@@ -1,4 +1,4 @@
-//! The names of faults at the end of a line.
+//! Appends the name of a fault to a line.
 
 ghost use Rattle.std.specs.Prelude.{◌≡◌, ◌+◌, ◌<◌, ◌≤◌, ◌++◌, ◌∷◌, codes, length};
 ghost use Rattle.duk_block.specs.FaultName.{block_fault_name};

@@ -1,4 +1,4 @@
-//! The log of a configuration's host, as it is made.
+//! Makes the log of a configuration's host.
 
 ghost use Rattle.std.specs.Prelude.{◌≡◌, ◌≤◌, [], IfOk, IfErr};
 ghost use Rattle.duk_script.specs.OnDisk.{log_on_disk_meaning, new_log_on_disk};

@@ -1,48 +1,41 @@
-//! The world of a configuration, its ends brought up.
+//! Makes the world of a configuration, and restarts its ends.
 
 ghost use Rattle.std.specs.Prelude.{◌≡◌, IfOk, IfErr, OnOk, length};
 ghost use Rattle.duk_net.specs.InMemory.{in_memory};
 ghost use Rattle.duk_net.specs.World.{meanings_of};
 ghost use Rattle.duk_script.specs.OnDisk.{on_disk};
-ghost use Rattle.duk_script.specs.Opening.{IsOpened, StartsCalm, new_host_of, opening};
+ghost use Rattle.duk_script.specs.Opening.{IsOpened, StartsCalm, opening};
 ghost use Rattle.duk_script.specs.Play.{new_disk_world, new_memory_world};
 ghost use Rattle.duk_tdes.specs.KeyBytes.{bytes_of};
 ghost use Rattle.duk_tdes.specs.Tdes.{IsTdesLength};
 
 use crate::logs::{LogOnDisk, disk_log, memory_log};
 use crate::terminals::{DiskCell, disk_terminals, memory_terminals};
-use duk_config::{Config, ScriptFault, open_hsm};
-use duk_host::{Host, Issuer, TableIssuer};
+use duk_config::{Config, ScriptFault, new_host};
+use duk_host::{Issuer, TableIssuer};
 use duk_net::{Event, World, run};
 use duk_store::{Cell, MemCell, MemLog, UsedLog};
 use duk_tdes::Key;
 use std::alloc::Global;
-
-/// A world over stores in memory, whose host asks a table of cards.
-pub(crate) type MemoryWorld<const N: usize> = World<N, MemCell, MemLog, TableIssuer>;
-
-/// A world over stores on disks in memory, whose host asks a table of cards.
-pub(crate) type DiskWorld<const N: usize> = World<N, DiskCell, LogOnDisk, TableIssuer>;
 
 /// The world of a configuration over stores in memory, with its ends brought up. Refused with
 /// `NoMemory`.
 pub(crate) fn open_in_memory<const N: usize>(
     alloc: Global,
     lmk: &Key<N>,
-    config: Config,
-) -> Result<MemoryWorld<N>, ScriptFault>
+    config: &Config,
+) -> Result<World<N, MemCell, MemLog, TableIssuer>, ScriptFault>
     requires length { IsTdesLength N }
-    requires lmk { lmk.now ≡ bytes_of config.lmk }
-    ensures starts { IfOk result (λ _. StartsCalm in_memory (new_memory_world config)) }
-    ensures opened { IfOk result (IsOpened in_memory (new_memory_world config)) }
+    requires lmk { lmk.now ≡ bytes_of config.now.lmk }
+    ensures starts { IfOk result (λ _. StartsCalm in_memory (new_memory_world config.now)) }
+    ensures opened { IfOk result (IsOpened in_memory (new_memory_world config.now)) }
     ensures refused { IfErr result (λ why. why ≡ ScriptFault.NoMemory) }
 {
-    let (count, loading) = (config.terminals, config.loading);
-    let terminals = memory_terminals(alloc, count)?;
+    let terminals = memory_terminals(alloc, config.terminals)?;
     let log = memory_log(alloc, config.log)?;
-    let host = new_host(alloc, lmk, config, log);
-    let mut world = World::new(alloc, host, loading, terminals);
-    bring_up(alloc, &mut world, count)?;
+    let host = new_host(alloc, lmk, config, log)?;
+    let mut world = World::new(alloc, host, config.loading, terminals);
+    bring_up(alloc, &mut world, config.terminals)?;
     Ok(world)
 }
 
@@ -51,37 +44,20 @@ pub(crate) fn open_in_memory<const N: usize>(
 pub(crate) fn open_on_disk<const N: usize>(
     alloc: Global,
     lmk: &Key<N>,
-    config: Config,
-) -> Result<DiskWorld<N>, ScriptFault>
+    config: &Config,
+) -> Result<World<N, DiskCell, LogOnDisk, TableIssuer>, ScriptFault>
     requires length { IsTdesLength N }
-    requires lmk { lmk.now ≡ bytes_of config.lmk }
-    ensures starts { IfOk result (λ _. StartsCalm on_disk (new_disk_world config)) }
-    ensures opened { IfOk result (IsOpened on_disk (new_disk_world config)) }
+    requires lmk { lmk.now ≡ bytes_of config.now.lmk }
+    ensures starts { IfOk result (λ _. StartsCalm on_disk (new_disk_world config.now)) }
+    ensures opened { IfOk result (IsOpened on_disk (new_disk_world config.now)) }
     ensures refused { IfErr result (λ why. why ≡ ScriptFault.NoMemory) }
 {
-    let (count, loading) = (config.terminals, config.loading);
-    let terminals = disk_terminals(alloc, count)?;
+    let terminals = disk_terminals(alloc, config.terminals)?;
     let log = disk_log(alloc, config.log)?;
-    let host = new_host(alloc, lmk, config, log);
-    let mut world = World::new(alloc, host, loading, terminals);
-    bring_up(alloc, &mut world, count)?;
+    let host = new_host(alloc, lmk, config, log)?;
+    let mut world = World::new(alloc, host, config.loading, terminals);
+    bring_up(alloc, &mut world, config.terminals)?;
     Ok(world)
-}
-
-/// The host of a configuration over this log, as it is made.
-fn new_host<const N: usize, L: UsedLog>(
-    alloc: Global,
-    lmk: &Key<N>,
-    config: Config,
-    log: L,
-) -> Host<N, L, TableIssuer>
-    requires length { IsTdesLength N }
-    requires lmk { lmk.now ≡ bytes_of config.lmk }
-    ensures { result ≡ new_host_of config log }
-{
-    let hsm = open_hsm(lmk, &config).unwrap();
-    let issuer = TableIssuer::new(config.zone, config.cards);
-    Host::new(alloc, hsm, issuer, log)
 }
 
 /// Brings the host and all terminals of a new world up. Refused with `NoMemory`.

@@ -1,4 +1,4 @@
-//! The lines of outcomes, written through a buffer.
+//! Writes the lines of outcomes, many at a time.
 
 ghost use Rattle.std.specs.Prelude.{◌≡◌, ◌+◌, ◌≤◌, ◌++◌, OnOk, OnErr, IfErr};
 ghost use Rattle.arrayvec.specs.ArrayVec.{array_vec_len};

@@ -1,4 +1,4 @@
-//! The text of outcomes.
+//! The line of an outcome.
 
 ghost use Rattle.std.specs.Prelude.{◌≡◌, ◌∷◌, ◌<◌, ◌≤◌, [], codes, decimal, length};
 ghost use Rattle.duk_script.specs.Script.{spaced, terminal_name};

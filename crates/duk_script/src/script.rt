@@ -1,4 +1,4 @@
-//! Scripts, from their bytes to their events.
+//! Reads a script: from its bytes to its events.
 
 ghost use Rattle.std.specs.Prelude.{◌≡◌, ◌⊎◌, ◌+◌, ◌<◌, ◌∷◌, ◌++◌, ◌==◌, [], ℕ, List, length, position, IsTrue, IfOk, IfErr, OnOk, MatchResult};
 ghost use Rattle.std.specs.Str.Lines.{lines, strip_carriage_return};

@@ -1,4 +1,4 @@
-//! A script, from its bytes to the lines of its outcomes.
+//! Runs a script: from its bytes to the lines of its outcomes.
 
 ghost use Rattle.std.specs.Prelude.{◌≡◌, ◌⊎◌, false, true, OnOk, IfErr};
 ghost use Rattle.duk_io.specs.Sink.{IsCut, IsWritten};
@@ -26,7 +26,8 @@ use std::alloc::Global;
 ///
 /// The configuration is tested before anything of the script is read, and the whole script is read
 /// and parsed before the first event. Refused with the first of these: what `read_config` refuses,
-/// and then nothing is read or written; what `play_script` refuses.
+/// and then nothing is read or written; `CannotRead`, where a read of the script failed, and
+/// `TooLong`, above 1,048,576 bytes, and then nothing is written; what `play_script` refuses.
 pub fn run_script<R: Source, W: Sink>(
     alloc: Global,
     config: &[u8],
@@ -42,51 +43,45 @@ pub fn run_script<R: Source, W: Sink>(
 {
     duk_io::laws::writes();
     let config = read_config(alloc, config)?;
-    play_script(alloc, config, reader, writer)
+    let script = read_text(alloc, reader)?;
+    play_script(alloc, &config, script.as_slice(), writer)
 }
 
-/// Plays a script under a configuration, over stores that are newly made: on disks in memory, or in
-/// memory itself, as the configuration says. Writes a line for what comes of each event. Every end
-/// is restarted first, without a line.
+/// Plays the script with these bytes under a configuration, over stores that are newly made: on
+/// disks in memory, or in memory itself, as the configuration says. Writes a line for what comes of
+/// each event. Every end is restarted first, without a line.
 ///
-/// Refused with the first of these: `CannotRead`, where a read of the script failed; `TooLong`,
-/// above 1,048,576 bytes; `NotAnEvent`, of its first bad line; and then nothing is written. After
-/// `NoMemory` the lines of the events done are written. After `WriteFailed` a part of the lines is.
-pub fn play_script<R: Source, W: Sink>(
+/// `NotAnEvent` is of the script's first bad line, and then nothing is written. After `NoMemory` the
+/// lines of the events done are written. After `WriteFailed` a part of the lines is.
+pub fn play_script<W: Sink>(
     alloc: Global,
-    config: Config,
-    reader: &mut R,
+    config: &Config,
+    script: &[u8],
     writer: &mut W,
 ) -> Result<(), ScriptFault>
-    ensures done { OnOk result (IsScriptDone config
-        (session (R.known reader.old) (R.known reader.new)
-        (W.known writer.old) (W.known writer.new))) }
-    ensures refused { IfErr result (IsScriptRefused config
-        (session (R.known reader.old) (R.known reader.new)
-        (W.known writer.old) (W.known writer.new))) }
+    ensures done { OnOk result
+        (IsScriptDone config.now script.now (W.known writer.old) (W.known writer.new)) }
+    ensures refused { IfErr result
+        (IsScriptRefused config.now script.now (W.known writer.old) (W.known writer.new)) }
 {
     duk_io::laws::writes();
-    let text = read_text(alloc, reader)?;
-    let events = parse_script(alloc, text.as_slice())?;
-    let lmk = config.lmk;
-    play(alloc, &lmk, config, events.as_slice(), writer)
+    let events = parse_script(alloc, script)?;
+    play(alloc, config, events.as_slice(), writer)
 }
 
 /// Plays events in the world of a configuration, and writes what comes of them.
 fn play<W: Sink>(
     alloc: Global,
-    lmk: &KeyBytes,
-    config: Config,
+    config: &Config,
     events: &[Event],
     writer: &mut W,
 ) -> Result<(), ScriptFault>
-    requires { lmk.now ≡ config.lmk }
     ensures done { OnOk result
-        (IsPlayed (ArePlayed config) events.now (W.known writer.old) (W.known writer.new)) }
+        (IsPlayed (ArePlayed config.now) events.now (W.known writer.old) (W.known writer.new)) }
     ensures refused { IfErr result
-        (PlayRefused (ArePlayed config) events.now (W.known writer.old) (W.known writer.new)) }
+        (PlayRefused (ArePlayed config.now) events.now (W.known writer.old) (W.known writer.new)) }
 {
-    match lmk {
+    match &config.lmk {
         KeyBytes::Double(lmk) => play_under(alloc, lmk, config, events, writer),
         KeyBytes::Triple(lmk) => play_under(alloc, lmk, config, events, writer),
     }
@@ -96,16 +91,16 @@ fn play<W: Sink>(
 fn play_under<const N: usize, W: Sink>(
     alloc: Global,
     lmk: &Key<N>,
-    config: Config,
+    config: &Config,
     events: &[Event],
     writer: &mut W,
 ) -> Result<(), ScriptFault>
     requires length { IsTdesLength N }
-    requires lmk { lmk.now ≡ bytes_of config.lmk }
+    requires lmk { lmk.now ≡ bytes_of config.now.lmk }
     ensures done { OnOk result
-        (IsPlayed (ArePlayed config) events.now (W.known writer.old) (W.known writer.new)) }
+        (IsPlayed (ArePlayed config.now) events.now (W.known writer.old) (W.known writer.new)) }
     ensures refused { IfErr result
-        (PlayRefused (ArePlayed config) events.now (W.known writer.old) (W.known writer.new)) }
+        (PlayRefused (ArePlayed config.now) events.now (W.known writer.old) (W.known writer.new)) }
 {
     if config.disk {
         play_on_disk(alloc, lmk, config, events, writer)
@@ -118,15 +113,15 @@ fn play_under<const N: usize, W: Sink>(
 fn play_on_disk<const N: usize, W: Sink>(
     alloc: Global,
     lmk: &Key<N>,
-    config: Config,
+    config: &Config,
     events: &[Event],
     writer: &mut W,
 ) -> Result<(), ScriptFault>
     requires length { IsTdesLength N }
-    requires lmk { lmk.now ≡ bytes_of config.lmk }
-    ensures done { OnOk result (IsPlayed (ArePlayedOn true config) events.now
+    requires lmk { lmk.now ≡ bytes_of config.now.lmk }
+    ensures done { OnOk result (IsPlayed (ArePlayedOn true config.now) events.now
         (W.known writer.old) (W.known writer.new)) }
-    ensures refused { IfErr result (PlayRefused (ArePlayedOn true config) events.now
+    ensures refused { IfErr result (PlayRefused (ArePlayedOn true config.now) events.now
         (W.known writer.old) (W.known writer.new)) }
 {
     let mut world = open_on_disk(alloc, lmk, config)?;
@@ -137,15 +132,15 @@ fn play_on_disk<const N: usize, W: Sink>(
 fn play_in_memory<const N: usize, W: Sink>(
     alloc: Global,
     lmk: &Key<N>,
-    config: Config,
+    config: &Config,
     events: &[Event],
     writer: &mut W,
 ) -> Result<(), ScriptFault>
     requires length { IsTdesLength N }
-    requires lmk { lmk.now ≡ bytes_of config.lmk }
-    ensures done { OnOk result (IsPlayed (ArePlayedOn false config) events.now
+    requires lmk { lmk.now ≡ bytes_of config.now.lmk }
+    ensures done { OnOk result (IsPlayed (ArePlayedOn false config.now) events.now
         (W.known writer.old) (W.known writer.new)) }
-    ensures refused { IfErr result (PlayRefused (ArePlayedOn false config) events.now
+    ensures refused { IfErr result (PlayRefused (ArePlayedOn false config.now) events.now
         (W.known writer.old) (W.known writer.new)) }
 {
     let mut world = open_in_memory(alloc, lmk, config)?;

@@ -1,4 +1,4 @@
-//! The terminals of a configuration, over their cells as they are made.
+//! Makes the terminals of a configuration, over new cells.
 
 ghost use Rattle.std.specs.Prelude.{◌≡◌, All, None, IfOk, IfErr, replicate};
 ghost use Rattle.duk_net.specs.InMemory.{new_terminal};

@@ -1,4 +1,4 @@
-//! All that a reader has left.
+//! Reads all bytes that a reader has left.
 
 ghost use Rattle.std.specs.Prelude.{◌≤◌, length, IfOk, IfErr};
 ghost use Rattle.duk_config.specs.ConfigFile.{longest_file};
@@ -8,13 +8,10 @@ use duk_config::{LONGEST_FILE, ScriptFault};
 use duk_io::Source;
 use std::alloc::Global;
 
-/// How many reads are made at most. Each gives a byte at least, so that there are never so many.
-const READS: usize = 1_100_000;
-
 /// How many bytes are read at a time, at most.
 const PIECE: usize = 4096;
 
-/// All that a reader has left.
+/// All that a reader has left. Each read but the last gives a byte at least.
 ///
 /// Refused with `CannotRead` where a read failed, for whatever cause; with `TooLong`, above
 /// 1,048,576 bytes; with `NoMemory`.
@@ -26,12 +23,11 @@ pub(crate) fn read_text<R: Source>(alloc: Global, reader: &mut R) -> Result<Vec<
     duk_io::laws::failures();
     let mut piece = [0; PIECE];
     let mut text = Vec::new(alloc);
-    for _ in 0..READS {
+    loop {
         if read_piece(reader, &mut piece, &mut text)? {
             return Ok(text);
         }
     }
-    unreachable!()
 }
 
 /// Reads a piece to the end of a text, and tells whether nothing is left.

@@ -10,7 +10,7 @@ use duk_net::End;
 /// The greatest number of a terminal.
 const MOST_TERMINALS: u32 = 16;
 
-/// The first word of a text, and what stands after the space behind it.
+/// The first word of a text, and what follows the space after it.
 pub(crate) fn split_word(text: &str) -> Option<(&str, &str)>
     ensures found { IfSome result (λ parts. IsSplit text.now parts.0.now parts.1.now) }
     ensures every { (word rest : List ℕ) → IsSplit text.now word rest

@@ -5,18 +5,18 @@ use Rattle.duk_script.proofs.opening.open_on_disk.Goals as goal
 
 pub new-world-requires : goal.new-world-requires
 new-world-requires g c =
-    let host = new_host disk_cell_meaning log_on_disk_meaning c.args.config c.in_ok-log.log c.in_ok-terminals.terminals.items c.in_ok-log.ensures.new c.in_ok-terminals.ensures.new in
+    let host = new_host disk_cell_meaning log_on_disk_meaning c.args.config.now c.in_ok-log.log c.in_ok-terminals.terminals.items c.in_ok-log.ensures.new c.in_ok-terminals.ensures.new in
     let terminals = new_terminals disk_cell_meaning log_on_disk_meaning c.in_ok-terminals.terminals.items c.in_ok-terminals.ensures.new in
-    (search rules, (search rules, (rw c.new_host-host.ensures host, terminals)))
+    (search rules, (search rules, (rw c.in_ok-host.ensures host, terminals)))
 
 pub bring_up-requires : goal.bring_up-requires
 bring_up-requires g c =
     let loading = ap (λ config. config.loading) c.config.view_is in
-    let starts = made_calm disk_cell_meaning log_on_disk_meaning c.args.config c.in_ok-log.log c.in_ok-terminals.terminals.items c.in_ok-log.ensures.new c.in_ok-terminals.ensures.new
-    _ _ _ c.new_host-host.ensures loading c.new-world.ensures.first in
+    let starts = made_calm disk_cell_meaning log_on_disk_meaning c.args.config.now c.in_ok-log.log c.in_ok-terminals.terminals.items c.in_ok-log.ensures.new c.in_ok-terminals.ensures.new
+    _ _ _ c.in_ok-host.ensures loading c.new-world.ensures.first in
     (search, (starts, count_made _ _ _ _ _ new_disk_terminal c.in_ok-terminals.ensures.made c.new-world.ensures.first))
 
 pub returns-clause-starts : goal.returns-clause-starts
 returns-clause-starts g c =
-    calm_as disk_cell_meaning log_on_disk_meaning c.args.config c.in_ok-log.log c.in_ok-terminals.terminals.items c.in_ok-log.ensures.new c.in_ok-terminals.ensures.new _ _
+    calm_as disk_cell_meaning log_on_disk_meaning c.args.config.now c.in_ok-log.log c.in_ok-terminals.terminals.items c.in_ok-log.ensures.new c.in_ok-terminals.ensures.new _ _
     (c.in_ok-log.ensures.made ∙ ap (λ config. new_log_on_disk config.log) c.config.view_is) (c.in_ok-terminals.ensures.made ∙ ap (λ config. replicate config.terminals new_disk_terminal) c.config.view_is)

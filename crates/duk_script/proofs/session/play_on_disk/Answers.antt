@@ -5,10 +5,10 @@ use Rattle.duk_script.proofs.session.play_on_disk.Goals as goal
 
 pub returns-clause-done : goal.returns-clause-done
 returns-clause-done g c =
-    let follows = played_from on_disk (new_disk_world c.args.config) c.in_ok-world.world c.in_ok-world.ensures.starts c.in_ok-world.ensures.opened in
+    let follows = played_from on_disk (new_disk_world c.args.config.now) c.in_ok-world.world c.in_ok-world.ensures.starts c.in_ok-world.ensures.opened in
     on_ok _ _ (played_too _ _ follows _ _ _) c.play_in.result c.play_in.ensures.done
 
 pub returns-clause-refused : goal.returns-clause-refused
 returns-clause-refused g c =
-    let follows = played_from on_disk (new_disk_world c.args.config) c.in_ok-world.world c.in_ok-world.ensures.starts c.in_ok-world.ensures.opened in
+    let follows = played_from on_disk (new_disk_world c.args.config.now) c.in_ok-world.world c.in_ok-world.ensures.starts c.in_ok-world.ensures.opened in
     if_err _ _ (refused_too _ _ follows _ _ _) c.play_in.result c.play_in.ensures.refused

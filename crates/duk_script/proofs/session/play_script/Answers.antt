@@ -1,8 +1,8 @@
 use Rattle.std.proofs.lemmas.Result.{err_from_is_err_and}
-use Rattle.duk_script.proofs.PlayedScripts.{not_a_script}
+use Rattle.duk_script.proofs.PlayedScripts.{if_err, not_a_script, on_ok, stopped}
 use Rattle.duk_script.proofs.session.play_script.Goals as goal
 
 pub returns-in_err-events-clause-refused : goal.returns-in_err-events-clause-refused
 returns-in_err-events-clause-refused g c =
-    let p = err_from_is_err_and c.from_residual-in_err-events.result c.from_residual-in_err-events.ensures.1 in
-    rw (p.1, p.2) (not_a_script _ _ c.in_ok-text.text.items _ c.in_ok-text.ensures.read (rw c.as_slice.ensures.value at c.in_err-events.ensures.refused) (c.writes.ensures.untouched (g.W.Sink.known c.args.writer.now)))
+    let p = err_from_is_err_and c.from_residual.result c.from_residual.ensures.1 in
+    rw (p.1, p.2) (not_a_script _ _ _ _ _ c.in_err-events.ensures.refused (c.writes.ensures.untouched (g.W.Sink.known c.args.writer.now)))

@@ -5,9 +5,9 @@ use Rattle.duk_script.proofs.session.play_under.Goals as goal
 pub returns-then-config-clause-done : goal.returns-then-config-clause-done
 returns-then-config-clause-done g c =
     let named = sym (ap (λ config. config.disk) c.config.view_is) ∙ c.if-config.true in
-    on_ok _ _ (played_too _ _ (named_stores c.args.config true named) _ _ _) c.play_on_disk.result c.play_on_disk.ensures.done
+    on_ok _ _ (played_too _ _ (named_stores c.args.config.now true named) _ _ _) c.play_on_disk.result c.play_on_disk.ensures.done
 
 pub returns-else-config-clause-done : goal.returns-else-config-clause-done
 returns-else-config-clause-done g c =
     let named = sym (ap (λ config. config.disk) c.config.view_is) ∙ c.if-config.false in
-    on_ok _ _ (played_too _ _ (named_stores c.args.config false named) _ _ _) c.play_in_memory.result c.play_in_memory.ensures.done
+    on_ok _ _ (played_too _ _ (named_stores c.args.config.now false named) _ _ _) c.play_in_memory.result c.play_in_memory.ensures.done
