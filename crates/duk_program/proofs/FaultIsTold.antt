@@ -58,7 +58,7 @@ files_told r (inl none) = config_told r.config_held r.fault_before r.fault_after
 files_told r (inr (inl unread)) = unread_told r.fault_before r.fault_after unread.why unread.told.told
 files_told r (inr (inr failed)) = elim failed.run [
   | inl refused ↦ script_told r.fault_before r.fault_after refused.why refused.line
-  | inr lost ↦ script_told r.fault_before r.fault_after fault.WriteFailed lost.line
+  | inr lost ↦ script_told r.fault_before r.fault_after fault.WriteFailed lost.tells.line
 ]
 
 -- the line of a host's fault is the line of a fault

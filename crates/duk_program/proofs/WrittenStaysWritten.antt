@@ -6,7 +6,7 @@ use Rattle.duk_config.specs.Settings.{Settings}
 use Rattle.duk_config.specs.declared.fault.ScriptFault.TheVariants.{NoMemory}
 use Rattle.duk_io.specs.Known.{Known, Stayed}
 use Rattle.duk_io.specs.Sink.{IsUntouched, IsWritten}
-use Rattle.duk_script.specs.Session.{IsRunDone, IsRunRefused, IsScriptRefused, session}
+use Rattle.duk_script.specs.Session.{IsRunDone, IsRunRefused, IsScriptDone, IsScriptRefused, session}
 
 appended_still : (a b c : Option (List ℕ)) (text : List ℕ) → Appends a b text → Keeps b c → Appends a c text
 appended_still None b c text first kept = tt
@@ -25,36 +25,41 @@ written_still a b c text written kept = record {
   unfailed = stayed_still a.failures b.failures c.failures written.unfailed kept.unfailed;
 }
 
--- a session that is done is done once its lines are handed on
-pub done_still : (bytes : List ℕ) (reader reader' writer written writer' : Known) → IsRunDone bytes (session reader reader' writer written)
-    → IsUntouched written writer' → IsRunDone bytes (session reader reader' writer writer')
-done_still bytes reader reader' writer written writer' run kept =
-    let done = run.done in
-    record {
-      config = run.config;
-      config_is = run.config_is;
-      done = record {
-        events = done.events;
-        read = record { text = done.read.text; text_is = done.read.text_is; script = done.read.script };
-        played = (done.played.0, done.played.1, written_still writer written writer' _ done.played.2 kept);
-      };
-    }
-
 pub untouched_still : (a b c : Known) → IsUntouched a b → IsUntouched b c → IsUntouched a c
 untouched_still a b c first second = record {
   bytes = Keeps-trans a.contents b.contents c.contents first.bytes second.bytes;
   unfailed = stayed_still a.failures b.failures c.failures first.unfailed second.unfailed;
 }
 
+-- a script that is done is done once its lines are handed on
+pub script_done_still : (config : Settings) (text : List ℕ) (writer written writer' : Known) → IsScriptDone config text writer written
+    → IsUntouched written writer' → IsScriptDone config text writer writer'
+script_done_still config text writer written writer' done kept = record {
+  events = done.events;
+  script = done.script;
+  played = (done.played.0, done.played.1, written_still writer written writer' _ done.played.2 kept);
+}
+
+-- so is one that was read
+pub done_still : (bytes : List ℕ) (reader reader' writer written writer' : Known) → IsRunDone bytes (session reader reader' writer written)
+    → IsUntouched written writer' → IsRunDone bytes (session reader reader' writer writer')
+done_still bytes reader reader' writer written writer' run kept = record {
+  config = run.config;
+  config_is = run.config_is;
+  text = run.text;
+  text_is = run.text_is;
+  done = script_done_still run.config run.text writer written writer' run.done kept;
+}
+
 -- a script that was refused memory was so once its lines are handed on
-pub script_refused_still : (config : Settings) (reader reader' writer written writer' : Known) → IsScriptRefused config (session reader reader' writer written) NoMemory
-    → IsUntouched written writer' → IsScriptRefused config (session reader reader' writer writer') NoMemory
-script_refused_still config reader reader' writer written writer' refused kept =
+pub script_refused_still : (config : Settings) (text : List ℕ) (writer written writer' : Known) → IsScriptRefused config text writer written NoMemory
+    → IsUntouched written writer' → IsScriptRefused config text writer writer' NoMemory
+script_refused_still config text writer written writer' refused kept =
     elim refused [
       | inl quiet ↦ inl (untouched_still writer written writer' quiet kept)
       | inr stopped ↦ inr (record {
         events = stopped.events;
-        read = record { text = stopped.read.text; text_is = stopped.read.text_is; script = stopped.read.script };
+        script = stopped.script;
         cause = elim stopped.cause [
           | inl quiet ↦ inl (untouched_still writer written writer' quiet kept)
           | inr part ↦ inr (record { outcomes = part.outcomes; played = part.played; written = written_still writer written writer' _ part.written kept })
@@ -62,15 +67,21 @@ script_refused_still config reader reader' writer written writer' refused kept =
       })
     ]
 
--- a session that was refused memory was so once its lines are handed on
+-- so was one that was to be read
 pub refused_still : (bytes : List ℕ) (reader reader' writer written writer' : Known) → IsRunRefused bytes (session reader reader' writer written) NoMemory
     → IsUntouched written writer' → IsRunRefused bytes (session reader reader' writer writer') NoMemory
-refused_still bytes reader reader' writer written writer' refused kept =
-    elim refused [
-      | inl bad ↦ inl (record { cause = bad.cause; unread = bad.unread; quiet = untouched_still writer written writer' bad.quiet kept })
-      | inr under ↦ inr (record {
-        config = under.config;
-        config_is = under.config_is;
-        refused = script_refused_still under.config reader reader' writer written writer' under.refused kept;
-      })
-    ]
+refused_still bytes reader reader' writer written writer' (inl bad) kept =
+    inl (record { cause = bad.cause; unread = bad.unread; quiet = untouched_still writer written writer' bad.quiet kept })
+refused_still bytes reader reader' writer written writer' (inr (inl unread)) kept = inr (inl (record {
+  config = unread.config;
+  config_is = unread.config_is;
+  cause = unread.cause;
+  quiet = untouched_still writer written writer' unread.quiet kept;
+}))
+refused_still bytes reader reader' writer written writer' (inr (inr under)) kept = inr (inr (record {
+  config = under.config;
+  config_is = under.config_is;
+  text = under.text;
+  text_is = under.text_is;
+  refused = script_refused_still under.config under.text writer written writer' under.refused kept;
+}))

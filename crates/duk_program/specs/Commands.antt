@@ -12,7 +12,7 @@ use Rattle.duk_commands.specs.Wrap.{wrap_of, wrap_words}
 use Rattle.duk_commands.specs.declared.fault.Fault.TheVariants.{OutOfMemory, WriteFailed}
 use Rattle.duk_io.specs.Known.{Known}
 use Rattle.duk_io.specs.Sink.{IsTried}
-use Rattle.duk_program.specs.Run.{IsFlushLost}
+use Rattle.duk_program.specs.HandedOn.{IsFlushLost}
 use Rattle.duk_words.specs.Asked.{AskForHelp, Asks}
 use Rattle.duk_words.specs.declared.request.Request.{Request}
 use Rattle.duk_words.specs.declared.request.Request.TheVariants as request

@@ -1,7 +1,6 @@
 -- What contracts know of files (this project's own). Of what there is under a path files may make
 -- known nothing, that there are bytes, or that there are none that can be read.
 use Rattle.std.specs.Prelude.{◌≡◌, ◌<◌, ◌≤◌, ℕ, List, ⊤, Option, Some, None, length}
-use Rattle.duk_io.specs.Known.{Known}
 use Rattle.duk_program.specs.declared.file_system.FileFault.{FileFault}
 use Rattle.duk_program.specs.declared.file_system.FileFault.TheVariants as fault
 
@@ -39,12 +38,8 @@ pub record IsFileRead (held : FileKnown) (most : ℕ) (bytes : List ℕ) : Type 
   pub bytes_are : IsHeld held bytes
   pub fits : length bytes ≤ most
 
--- why a file is not read; want of memory is told of files that can be read alone
+-- why a file is not read; memory is refused only where the file can be read
 abbrev pub IsFileUnread : FileKnown → ℕ → FileFault → Type 0
 IsFileUnread held most fault.CannotRead = IsUnreadable held
 IsFileUnread held most fault.TooLong = IsLongerThan most held
 IsFileUnread held most fault.NoMemory = IsReadable held
-
--- what a reader makes known that has these bytes left, and of which no read fails
-abbrev pub held_bytes : List ℕ → Known
-held_bytes bytes = record { contents = Some bytes; failures = Some 0 }

@@ -1,6 +1,7 @@
 pub mod Commands
 pub mod Configured
 pub mod Files
+pub mod HandedOn
 pub mod HostSize
 pub mod LogFiles
 pub mod Program

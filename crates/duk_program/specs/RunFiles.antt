@@ -1,4 +1,4 @@
--- What `run` answers over files (this project's own, over the sessions of a script). Where files
+-- What `run` answers over files (this project's own, over what the script of a file does). Where files
 -- make nothing known, what they hold may be any bytes.
 use Rattle.std.specs.Prelude.{◌⊎◌, ℕ, List}
 use Rattle.duk_config.specs.ConfigFile.{longest_file}
@@ -7,12 +7,12 @@ use Rattle.duk_config.specs.declared.fault.ScriptFault.TheVariants as fault
 use Rattle.duk_io.specs.Known.{Known}
 use Rattle.duk_io.specs.Sink.{IsTried, IsUntouched}
 use Rattle.duk_program.specs.Configured.{IsConfigFaultTold, IsConfigured}
-use Rattle.duk_program.specs.Files.{FileKnown, IsFileUnread, IsHeld, held_bytes}
+use Rattle.duk_program.specs.Files.{FileKnown, IsFileUnread, IsHeld}
 use Rattle.duk_program.specs.declared.file_system.FileFault.{FileFault}
 use Rattle.duk_program.specs.declared.file_system.FileFault.TheVariants as file
 use Rattle.duk_program.specs.Run.{HasNotRun, HasRun}
 use Rattle.duk_script.specs.FaultLine.{fault_line}
-use Rattle.duk_script.specs.Session.{IsScriptDone, IsScriptRefused, Session, session}
+use Rattle.duk_script.specs.Session.{IsScriptDone, IsScriptRefused}
 
 -- what the files of a configuration and of a script hold, and what the writers of lines and of
 -- faults make known before and after
@@ -34,11 +34,6 @@ file_run config_held script_held output_before output_after fault_before fault_a
   fault_after = fault_after;
 }
 
--- the session of a script's bytes, of which these are left in the end
-abbrev pub session_of : FileRun → List ℕ → List ℕ → Session
-session_of r script left =
-    session (held_bytes script) (held_bytes left) r.output_before r.output_after
-
 -- status 0: the script of its file was played to its end under the configuration of its file, and
 -- nothing was told as a fault
 pub record HasRunFiles (r : FileRun) : Type 0 where
@@ -46,8 +41,8 @@ pub record HasRunFiles (r : FileRun) : Type 0 where
   pub configured : IsConfigured r.config_held config
   pub script : List ℕ
   pub script_held : IsHeld r.script_held script
-  pub left : List ℕ
-  pub run : HasRun (IsScriptDone config) (session_of r script left) r.fault_before r.fault_after
+  pub run : HasRun (IsScriptDone config script r.output_before) r.output_after
+      r.fault_before r.fault_after
 
 -- the line where the file of a script is not read
 abbrev pub script_line : FileFault → List ℕ
@@ -80,8 +75,8 @@ pub record HasFailedRun (r : FileRun) : Type 0 where
   pub configured : IsConfigured r.config_held config
   pub script : List ℕ
   pub script_held : IsHeld r.script_held script
-  pub left : List ℕ
-  pub run : HasNotRun (IsScriptDone config) (IsScriptRefused config) (session_of r script left)
+  pub run : HasNotRun (IsScriptDone config script r.output_before)
+      (IsScriptRefused config script r.output_before) r.output_after
       r.fault_before r.fault_after
 
 -- status 1: the first of these

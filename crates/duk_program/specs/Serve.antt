@@ -7,8 +7,8 @@ use Rattle.duk_host.specs.Table.{CardTable, table_decision}
 use Rattle.duk_host.specs.declared.fault.HostFault.{HostFault}
 use Rattle.duk_host.specs.declared.fault.HostFault.TheVariants as fault
 use Rattle.duk_io.specs.Known.{Known}
-use Rattle.duk_io.specs.Sink.{IsTried, IsUntouched}
-use Rattle.duk_program.specs.Run.{IsFlushLost}
+use Rattle.duk_io.specs.Sink.{IsUntouched}
+use Rattle.duk_program.specs.HandedOn.{IsFlushTold, IsToldAfter}
 use Rattle.duk_store.specs.Log.{LogMeaning}
 
 -- what a log and the issuer of a configuration mean
@@ -106,26 +106,18 @@ serve_line fault.Write = codes "serve: write failed\n"
 serve_line fault.Truncated = codes "serve: input ends in a frame\n"
 serve_line fault.TooLong = codes "serve: frame too long\n"
 
--- what was held back could not be handed on, and that is told
-pub record IsFlushTold (output output' told told' : Known) : Type 0 where
-  pub lost : IsFlushLost output output'
-  pub line : IsTried told told' (serve_line fault.Write)
+-- the line where the answers cannot be handed on
+abbrev pub lost_answers_line : List ℕ
+lost_answers_line = serve_line fault.Write
 
--- what was held back was handed on, and the line of a fault is told; or the first could not be, and
--- that is told
-abbrev pub IsFaultTold : HostFault → Known → Known → Known → Known → Type 0
-IsFaultTold why output output' told told' =
-    (IsUntouched output output' × IsTried told told' (serve_line why))
-    ⊎ IsFlushTold output output' told told'
-
--- serving was refused, and that is told behind the answers, or that they could not be handed on
+-- serving was refused, and that is told after the answers, or that they could not be handed on
 pub record HasRefused
     {L I : Type 0} (meaning : HostMeaning L I) (made : HostOf L I) (s : Serving)
     (told told' : Known) : Type 0 where
   pub why : HostFault
   pub written : Known
   pub refused : ServeRefused meaning made (answered_at s written) why
-  pub tells : IsFaultTold why written s.output_after told told'
+  pub tells : IsToldAfter (serve_line why) lost_answers_line written s.output_after told told'
 
 -- the input was served to its end, and then the answers could not be handed on, and that is told
 pub record HasLostAnswers
@@ -134,7 +126,7 @@ pub record HasLostAnswers
   pub count : ℕ
   pub written : Known
   pub served : IsServedUp meaning made (answered_at s written) count
-  pub tells : IsFlushTold written s.output_after told told'
+  pub tells : IsFlushTold lost_answers_line written s.output_after told told'
 
 -- status 1
 abbrev pub HasNotServed : {L I : Type 0} → HostMeaning L I → HostOf L I → Serving → Known → Known

@@ -1,5 +1,6 @@
 -- What `serve` answers over files (this project's own).
 use Rattle.std.specs.Prelude.{◌⊎◌, ℕ, List, Option, Some, None, codes}
+use Rattle.duk_config.specs.NewHost.{new_host_of}
 use Rattle.duk_config.specs.Settings.{Settings}
 use Rattle.duk_io.specs.Known.{Known}
 use Rattle.duk_io.specs.Sink.{IsTried, IsUntouched}
@@ -7,7 +8,6 @@ use Rattle.duk_program.specs.Configured.{IsConfigFaultTold, IsConfigured}
 use Rattle.duk_program.specs.Files.{FileKnown}
 use Rattle.duk_program.specs.LogFiles.{DiskKnown, IsDisk, IsNoDisk}
 use Rattle.duk_program.specs.Serve.{HasNotServed, HasServed, IsIdle, Serving, over_log}
-use Rattle.duk_script.specs.Opening.{new_host_of}
 use Rattle.duk_store.specs.Disk.{DiskMeaning}
 use Rattle.duk_store.specs.DiskLog.{disk_log_meaning, new_disk_log}
 use Rattle.duk_store.specs.MemoryLog.{memory_log_meaning, new_log}

@@ -6,7 +6,7 @@ use Rattle.duk_words.specs.declared.request.Request.TheVariants as request
 use Rattle.duk_program.specs.declared.dispatch.Todo.{Todo}
 use Rattle.duk_program.specs.declared.dispatch.Todo.TheVariants.{Exit, Run, Serve}
 
--- 0 where all is done, 1 behind the line of a fault, 2 where the words were refused
+-- 0 where all is done, 1 after the line of a fault, 2 where the words were refused
 abbrev pub IsStatus : ℕ → Type 0
 IsStatus status = (status ≡ 0) ⊎ (status ≡ 1) ⊎ (status ≡ 2)
 

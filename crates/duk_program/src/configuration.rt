@@ -1,13 +1,13 @@
-//! The configuration of a file.
+//! Reads the configuration from its file.
 
 ghost use Rattle.std.specs.Prelude.{◌≡◌, IfErr, IfOk, OnErr, OnOk};
 ghost use Rattle.duk_io.specs.Sink.{IsTried};
 ghost use Rattle.duk_program.specs.Configured.{IsConfigFaultTold, IsConfigured, config_line};
 
+use crate::ending::EndingFault;
 use crate::file_system::{FileFault, FileSystem};
-use crate::run::refuse;
+use duk_config::{Config, LONGEST_FILE, ScriptFault, read_config};
 use duk_io::{Sink, write_text};
-use duk_script::{Config, LONGEST_FILE, ScriptFault, read_config};
 use std::alloc::Global;
 
 /// The configuration that the file under a path states. Where it states none, the line of the fault
@@ -15,7 +15,7 @@ use std::alloc::Global;
 ///
 /// The faults, in this order: `config: cannot read` and `config: too long`, then those of the
 /// configuration. A file cannot be read where it cannot be opened or a read fails, so a folder
-/// cannot. Where the cause is want of memory, `out of memory` stands in place of any.
+/// cannot. Where the cause is that memory was refused, the line is `out of memory` instead.
 pub(crate) fn read_configuration<S: FileSystem, F: Sink>(
     alloc: Global,
     files: &S,
@@ -34,7 +34,7 @@ pub(crate) fn read_configuration<S: FileSystem, F: Sink>(
     };
     match read_config(alloc, bytes.as_slice()) {
         Ok(config) => Ok(config),
-        Err(why) => Err(refuse(&why, fault)),
+        Err(why) => Err(why.tell(fault)),
     }
 }
 
@@ -45,8 +45,8 @@ fn refuse_config<F: Sink>(why: FileFault, fault: &mut F) -> u8
 {
     match why {
         FileFault::CannotRead => refuse_unread(fault),
-        FileFault::TooLong => refuse(&ScriptFault::ConfigTooLong, fault),
-        FileFault::NoMemory => refuse(&ScriptFault::NoMemory, fault),
+        FileFault::TooLong => ScriptFault::ConfigTooLong.tell(fault),
+        FileFault::NoMemory => ScriptFault::NoMemory.tell(fault),
     }
 }
 

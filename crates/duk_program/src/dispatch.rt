@@ -1,16 +1,15 @@
-//! One run of the program over its words.
+//! Finds the command that the words ask for, and does it unless it needs files.
 
-ghost use Rattle.std.specs.Prelude.{◌≡◌, ◌⊎◌, ℕ, List};
+ghost use Rattle.std.specs.Prelude.{◌≡◌, ℕ, List};
 ghost use Rattle.std.specs.Io.KnownBytes.{Keeps};
 ghost use Rattle.duk_commands.specs.Answer.{IsDone, IsNotDone, streams};
-ghost use Rattle.duk_commands.specs.Fault.{line_telling, IsFaultTold};
-ghost use Rattle.duk_commands.specs.declared.fault.Fault.{Fault};
-ghost use Rattle.duk_io.specs.Sink.{IsUntouched, IsTried};
+ghost use Rattle.duk_commands.specs.Fault.{IsFaultTold};
+ghost use Rattle.duk_io.specs.Sink.{IsUntouched};
 ghost use Rattle.duk_program.specs.Commands.{HasShown, IsAnswered, IsNotShown, IsUnanswered, command_for};
-ghost use Rattle.duk_program.specs.Run.{IsFlushLost};
 ghost use Rattle.duk_program.specs.Status.{EndsWith, IsLeftToDo, IsStatus, IsToRun, RunsAsked, RunsRequest};
 ghost use Rattle.duk_words.specs.Asked.{AreRefused, StandsFor, texts_of};
 
+use crate::ending::hand_on;
 use duk_commands::{
     Fault, derive_command, pin_command, tell, unwrap_command, walk_command, wrap_command,
 };
@@ -21,8 +20,8 @@ use std::alloc::Global;
 /// What is left to do when the words are dealt with.
 #[derive(Clone, Copy, Debug, PartialEq, Eq)]
 pub enum Todo<'a> {
-    /// To end with this status: 0 where all is done, 1 after a line that tells the fault, 2 where
-    /// the words were refused.
+    /// To end with this status: 0 where all is done, 1 after the line of a fault, 2 where the words
+    /// were refused.
     Exit(u8),
     /// To run a script under a configuration. Nothing is written yet.
     Run {
@@ -70,7 +69,7 @@ pub fn command<'a, W: Sink, F: Sink>(
 {
     duk_io::laws::writes();
     match answer_words(alloc, words, output, fault) {
-        Todo::Exit(0) => Todo::Exit(flush(output, fault)),
+        Todo::Exit(0) => Todo::Exit(hand_on(&Fault::WriteFailed, output, fault)),
         todo => todo,
     }
 }
@@ -169,21 +168,5 @@ fn show<W: Sink, F: Sink>(answer: &NoRequest, output: &mut W, fault: &mut F) -> 
             Ok(()) => 0,
             Err(_) => tell(fault, Fault::WriteFailed),
         },
-    }
-}
-
-/// Hands on what `output` still holds back, and gives the status: 0, or 1 where that fails, since
-/// what was printed may be missing then.
-fn flush<W: Sink, F: Sink>(output: &mut W, fault: &mut F) -> u8
-    ensures status { (result ≡ 0) ⊎ (result ≡ 1) }
-    ensures no_fault { result ≡ 0 → IsUntouched (F.known fault.old) (F.known fault.new) }
-    ensures fault { result ≡ 1
-        → IsTried (F.known fault.old) (F.known fault.new) (line_telling Fault.WriteFailed) }
-    ensures kept { result ≡ 0 → IsUntouched (W.known output.old) (W.known output.new) }
-    ensures lost { result ≡ 1 → IsFlushLost (W.known output.old) (W.known output.new) }
-{
-    match output.flush() {
-        Ok(()) => 0,
-        Err(_) => tell(fault, Fault::WriteFailed),
     }
 }

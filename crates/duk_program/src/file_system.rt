@@ -1,12 +1,8 @@
-//! Files as the program sees them: they may make known what they hold.
-//!
-//! A script is played from memory, since a reader of an open file could not promise that no read of
-//! it fails.
+//! Reads whole files, through a trait by which a contract can say what a file holds.
 
 ghost use Rattle.std.specs.Prelude.{ℕ, List, None, IfOk, IfErr};
-ghost use Rattle.duk_program.specs.Files.{FileKnown, IsFileRead, IsFileUnread, held_bytes};
+ghost use Rattle.duk_program.specs.Files.{FileKnown, IsFileRead, IsFileUnread};
 
-use duk_io::Source;
 use std::alloc::Global;
 use std::io::{ErrorKind, Read};
 use std::rt::Files;
@@ -58,21 +54,4 @@ fn read_front<R: Files>(files: &R, alloc: Global, path: &str, most: u64) -> io::
     let mut file = fs::open(files, path)?.take(most);
     file.read_to_end(&mut bytes)?;
     Ok(bytes)
-}
-
-/// Bytes in memory as a reader, which makes them known: no read of it fails.
-#[derive(Drop)]
-pub(crate) struct HeldBytes<'a> {
-    /// The bytes that reads will give.
-    pub(crate) left: &'a [u8],
-}
-
-impl Source for HeldBytes<'_> {
-    ghost known = { λ reader. held_bytes reader.left.now };
-
-    ghost reads = { λ _. None };
-
-    fn get(&mut self, buffer: &mut [u8]) -> io::Result<usize> {
-        Read::read(&mut self.left, buffer)
-    }
 }

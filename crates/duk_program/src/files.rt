@@ -1,14 +1,15 @@
-//! The files of `run`.
+//! The command `run` with its files: reads the configuration and the script, and plays the script.
 
 ghost use Rattle.std.specs.Prelude.{◌≡◌, ◌⊎◌};
 ghost use Rattle.duk_io.specs.Sink.{IsTried};
 ghost use Rattle.duk_program.specs.RunFiles.{HasRunFiles, HasToldFault, file_run, script_line};
 
 use crate::configuration::read_configuration;
-use crate::file_system::{FileFault, FileSystem, HeldBytes};
-use crate::run::{play_status, refuse};
+use crate::ending::EndingFault;
+use crate::file_system::{FileFault, FileSystem};
+use crate::run::play_status;
+use duk_config::{LONGEST_FILE, ScriptFault};
 use duk_io::Sink;
-use duk_script::{LONGEST_FILE, ScriptFault};
 use std::alloc::Global;
 
 /// Runs the script of one file under the configuration of another, and gives the status: 0, or 1
@@ -18,7 +19,7 @@ use std::alloc::Global;
 /// `config: cannot read` and `config: too long`; those of the configuration; `script: cannot read`
 /// and `script: too long`; those of the script and of its lines, as `run_status` tells them. A file
 /// cannot be read where it cannot be opened or a read fails, so a folder cannot. Where the cause is
-/// want of memory, `out of memory` stands in place of any.
+/// that memory was refused, the line is `out of memory` instead.
 pub(crate) fn run_files<S: FileSystem, W: Sink, F: Sink>(
     alloc: Global,
     files: &S,
@@ -44,10 +45,7 @@ pub(crate) fn run_files<S: FileSystem, W: Sink, F: Sink>(
         Ok(script) => script,
         Err(why) => return refuse_script(why, fault),
     };
-    let mut script = HeldBytes {
-        left: script.as_slice(),
-    };
-    play_status(alloc, config, &mut script, output, fault)
+    play_status(alloc, &config, script.as_slice(), output, fault)
 }
 
 /// Tells why the file of a script is not read, and gives the status 1.
@@ -60,5 +58,5 @@ fn refuse_script<F: Sink>(why: FileFault, fault: &mut F) -> u8
         FileFault::TooLong => ScriptFault::TooLong,
         FileFault::NoMemory => ScriptFault::NoMemory,
     };
-    refuse(&why, fault)
+    why.tell(fault)
 }

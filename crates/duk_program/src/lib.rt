@@ -3,6 +3,7 @@
 
 mod configuration;
 mod dispatch;
+mod ending;
 mod file_system;
 mod files;
 mod log_files;

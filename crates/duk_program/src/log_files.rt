@@ -1,4 +1,4 @@
-//! Files that keep logs, as the program sees them.
+//! Opens the file of a log as a disk, through a trait by which a contract can say which disk it is.
 //!
 //! `LogFiles` asks of its disks only that they are small, and who opens one asks that it is a
 //! `Disk`: with `Disk` as the bound of the associated type the checker refuses an impl whose disk

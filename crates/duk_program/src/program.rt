@@ -1,4 +1,4 @@
-//! One run of the program over its words and its files.
+//! One run of the program: the command that the words ask for, with the files that it needs.
 
 ghost use Rattle.std.specs.Prelude.{◌≡◌};
 ghost use Rattle.std.specs.Io.KnownBytes.{Keeps};
@@ -20,7 +20,7 @@ use duk_store::Disk;
 use std::alloc::Global;
 
 /// Does what the words ask, the first of which is the program's name, and gives the status: 0 where
-/// all is done, 1 behind the line of a fault, 2 where the words were refused.
+/// all is done, 1 after the line of a fault, 2 where the words were refused.
 ///
 /// `serve` takes its frames from `input`. What a command prints goes to `output`, and so does help
 /// that was asked for; the line of a fault and the text that refuses the words go to `fault`.

@@ -1,21 +1,22 @@
-//! The files of `serve`.
+//! The command `serve` with its files: reads the configuration, opens the log, and serves.
 
 ghost use Rattle.std.specs.Prelude.{◌≡◌, ◌⊎◌};
 ghost use Rattle.std.specs.Option.{option_map};
+ghost use Rattle.duk_config.specs.NewHost.{new_host_of};
 ghost use Rattle.duk_host.specs.Serve.{supply};
 ghost use Rattle.duk_io.specs.Sink.{IsTried, IsUntouched};
 ghost use Rattle.duk_program.specs.Serve.{HasNotServed, HasServed, over_log, serving};
 ghost use Rattle.duk_program.specs.ServeFiles.{HasNotServedFiles, HasServedFiles, IsServedOnDisk, IsUnservedOnDisk, file_service, unopened_line};
-ghost use Rattle.duk_script.specs.Opening.{new_host_of};
 ghost use Rattle.duk_store.specs.MemoryLog.{memory_log_meaning, new_log};
 
 use crate::configuration::read_configuration;
+use crate::ending::EndingFault;
 use crate::file_system::FileSystem;
 use crate::log_files::LogFiles;
-use crate::serve::{refuse_host, serve_with};
+use crate::serve::serve_with;
+use duk_config::Config;
 use duk_host::HostFault;
 use duk_io::{Sink, Source, write_text};
-use duk_script::Config;
 use duk_store::{Disk, DiskLog, MemLog};
 use std::alloc::Global;
 
@@ -23,8 +24,8 @@ use std::alloc::Global;
 /// memory, and gives the status: 0, or 1 with a line on `fault`.
 ///
 /// The faults, in this order: those of the configuration's file; `log: cannot open`; those of
-/// serving, as `serve_with` tells them. Where the cause is want of memory, `out of memory` stands in
-/// place of any.
+/// serving, as `serve_with` tells them. Where the cause is that memory was refused, the line is `out
+/// of memory` instead.
 pub(crate) fn serve_files<S: FileSystem + LogFiles, R: Source, W: Sink, F: Sink>(
     alloc: Global,
     files: &S,
@@ -85,7 +86,7 @@ fn serve_in_memory<R: Source, W: Sink, F: Sink>(
     duk_io::laws::writes();
     match MemLog::new(alloc, config.log as usize) {
         Ok(log) => serve_with(alloc, config, log, input, output, fault),
-        Err(_) => refuse_host(HostFault::NoMemory, fault),
+        Err(_) => HostFault::NoMemory.tell(fault),
     }
 }
 

@@ -5,17 +5,17 @@ use Rattle.duk_program.proofs.dispatch.command.Goals as goal
 
 pub returns-in-Exit-eq0-clause-fault : goal.returns-in-Exit-eq0-clause-fault
 returns-in-Exit-eq0-clause-fault g c failed =
-    record { why = WriteFailed; line = c.writes.ensures.tried_later _ _ _ _ (c.in-Exit-eq0.ensures.no_fault c.in-Exit-eq0.field-0-test) (c.flush.ensures.fault failed) }
+    record { why = WriteFailed; line = c.writes.ensures.tried_later _ _ _ _ (c.in-Exit-eq0.ensures.no_fault c.in-Exit-eq0.field-0-test) (c.hand_on.ensures.lost failed).line }
 
 pub returns-in-Exit-eq0-clause-done : goal.returns-in-Exit-eq0-clause-done
 returns-in-Exit-eq0-clause-done g c zero =
-    answered_still _ _ _ _ _ _ _ (c.in-Exit-eq0.ensures.done c.in-Exit-eq0.field-0-test) (c.flush.ensures.kept zero) (c.flush.ensures.no_fault zero)
+    answered_still _ _ _ _ _ _ _ (c.in-Exit-eq0.ensures.done c.in-Exit-eq0.field-0-test) (c.hand_on.ensures.kept zero) (c.hand_on.ensures.no_fault zero)
 
 pub returns-in-Exit-eq0-clause-not_done : goal.returns-in-Exit-eq0-clause-not_done
 returns-in-Exit-eq0-clause-not_done g c one = inr (record {
   written = _;
   told = _;
   answered = c.in-Exit-eq0.ensures.done c.in-Exit-eq0.field-0-test;
-  lost = c.flush.ensures.lost one;
-  line = c.writes.ensures.tried_later _ _ _ _ (c.in-Exit-eq0.ensures.no_fault c.in-Exit-eq0.field-0-test) (c.flush.ensures.fault one);
+  lost = (c.hand_on.ensures.lost one).flush;
+  line = c.writes.ensures.tried_later _ _ _ _ (c.in-Exit-eq0.ensures.no_fault c.in-Exit-eq0.field-0-test) (c.hand_on.ensures.lost one).line;
 })

@@ -14,5 +14,5 @@ returns-in-Err-NoMemory-clause-not_done g c one =
     let refused = rw c.in-Err-NoMemory.field-0-is at c.in-Err-NoMemory.ensures.refused in
     elim c.refuse_memory.ensures.told [
       | inl kept ↦ inl (record { why = NoMemory; refused = refused_still _ _ _ _ _ _ refused kept.0; line = kept.1 })
-      | inr lost ↦ inr (record { written = _; played = inr refused; lost = lost.0; line = lost.1 })
+      | inr lost ↦ inr (record { written = _; played = inr refused; tells = lost })
     ]

@@ -1,0 +1,22 @@
+-- The end of a command, where what its output still holds back is handed on (this project's own).
+use Rattle.std.specs.Prelude.{◌⊎◌, ℕ, List}
+use Rattle.std.specs.Io.KnownBytes.{Keeps}
+use Rattle.duk_io.specs.Known.{Known, Rose}
+use Rattle.duk_io.specs.Sink.{IsTried, IsUntouched}
+
+-- what was held back could not be handed on, and the bytes are the same
+pub record IsFlushLost (old new : Known) : Type 0 where
+  pub bytes : Keeps old.contents new.contents
+  pub failed : Rose old.failures new.failures
+
+-- what was held back could not be handed on, and this line tells it
+pub record IsFlushTold (lost : List ℕ) (output output' fault fault' : Known) : Type 0 where
+  pub flush : IsFlushLost output output'
+  pub line : IsTried fault fault' lost
+
+-- what was held back was handed on, and the first line tells a fault; or it could not be, and the
+-- second line tells that
+abbrev pub IsToldAfter : List ℕ → List ℕ → Known → Known → Known → Known → Type 0
+IsToldAfter why lost output output' fault fault' =
+    (IsUntouched output output' × IsTried fault fault' why)
+    ⊎ IsFlushTold lost output output' fault fault'
