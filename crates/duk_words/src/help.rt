@@ -1,4 +1,4 @@
-//! What stands at the end of each help: examples, faults and statuses.
+//! The text at the end of each help: examples, faults and statuses.
 
 /// At the end of the program's help.
 pub(crate) const PROGRAM: &str = "\
@@ -18,7 +18,7 @@ the command line stand in the list of processes and in the shell's history.";
 
 /// At the end of the help of `derive`.
 pub(crate) const DERIVE: &str = "\
-The initial key is the same at every number of a terminal. A KSN of 16 digits is written with FFFF
+The initial key is the same at every number of a terminal. A KSN of 16 digits is refused: write FFFF
 before it.
 
 Example:
@@ -38,7 +38,7 @@ Faults, on standard error with status 1, the first alone:
 pub(crate) const WALK: &str = "\
 The terminal is loaded with the initial key of IKSN, and skips K numbers. Then it takes up to COUNT
 numbers. `spent` is printed where a number is to be taken and none is left. An IKSN of 16 digits is
-written with FFFF before it.
+refused: write FFFF before it.
 
 Examples:
   $ dukpt walk 0123456789ABCDEFFEDCBA9876543210 FFFF9876543210E00000 1
@@ -150,7 +150,7 @@ Faults, on standard error with status 1, the first alone:
   config: ..                    The configuration, as of `run`
   log: cannot open              FILE is missing, cannot be opened, or is in use by another service
   log: failed                   FILE is damaged, or a device step failed
-  serve: read failed            Standard input cannot be read
+  serve: read failed            Standard input cannot be read, or took 1000000 reads
   serve: input ends in a frame  Standard input ended inside a frame
   serve: frame too long         A length above 62 where a frame begins
   serve: write failed           Standard output takes no more
