@@ -144,7 +144,7 @@ HasPrintedInPart initial alone old count output output' =
     × IsPrinted (number_line initial old.iksn alone) old.counter reached text
     × IsCut output output' text
 
--- the same behind numbers that are passed
+-- the same after numbers that are passed
 abbrev pub HasWalked : List ℕ → Bool → RegisterSet → ℕ → ℕ → Known → Known → Type 0
 HasWalked initial alone old skip count output output' =
     (text : List ℕ) × IsPassed (number_line initial old.iksn alone) old.counter skip count text

@@ -1,4 +1,4 @@
-//! Why a command ends with status 1, and the line that tells it.
+//! Why a command ends with status 1, and the line of each fault.
 
 ghost use Rattle.std.specs.Prelude.{◌≡◌, ◌≤◌, length};
 ghost use Rattle.duk_io.specs.Sink.{IsTried};

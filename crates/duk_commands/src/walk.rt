@@ -156,7 +156,7 @@ fn push_number(lines: &mut Buffer, ksn: Ksn, key: &Key<16>, alone: bool)
     lines.push(b'\n');
 }
 
-/// Appends the line that tells that no number is left.
+/// Appends the line that says that no number is left.
 fn push_spent(lines: &mut Buffer)
     requires { array_vec_len lines.old + LONGEST_LINE ≤ BUFFER_ROOM }
     ensures { lines.new.items ≡ lines.old.items ++ spent_line }
