@@ -1,19 +1,16 @@
 //! Requests of payments, and a host that handles them over a log in memory.
 
 use crate::random::Random;
-use anyhow::Result;
-use duk_config::{open_hsm, read_config};
+use anyhow::{Result, bail};
+use duk_config::read_config;
 use duk_frame::payment_request;
 use duk_host::{Host, TableIssuer};
 use duk_pin::{Pan, Pin};
 use duk_store::{MemLog, UsedLog};
-use duk_tdes::Key;
+use duk_tdes::{Key, KeyBytes};
 use duk_tree::derive;
 use std::alloc::Global;
 use std::io::Write;
-
-/// The local master key of the host's security module.
-const LMK: u128 = 0xDD7515F2_BFC17F85_CE48F3CA_25CB21F6;
 
 /// The configuration of the host: one base derivation key, and one card.
 const BANK: &[u8] = b"
@@ -59,7 +56,7 @@ pub fn write_requests<W: Write>(count: u32, output: &mut W) -> Result<()> {
     Ok(())
 }
 
-/// Handles requests that stand one behind the other, over a log of so many used numbers, and writes
+/// Handles requests that stand one after the other, over a log of so many used numbers, and writes
 /// the frames of the answers.
 pub fn handle_requests<W: Write>(
     alloc: Global,
@@ -92,7 +89,8 @@ fn log_of(alloc: Global, used: u32, room: usize) -> Result<MemLog> {
 /// A stopped host of the configuration over this log.
 fn new_host(alloc: Global, log: MemLog) -> Result<MemoryHost> {
     let config = read_config(alloc, BANK)?;
-    let hsm = open_hsm(&Key::<16>::new(LMK.to_be_bytes()), &config)?;
-    let issuer = TableIssuer::new(config.zone, config.cards);
-    Ok(Host::new(alloc, hsm, issuer, log))
+    let KeyBytes::Double(lmk) = &config.lmk else {
+        bail!("the local master key has not 16 bytes");
+    };
+    Ok(duk_config::new_host(alloc, lmk, &config, log)?)
 }

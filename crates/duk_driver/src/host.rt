@@ -1,14 +1,13 @@
 //! A host by itself, over a log on a disk.
 
-ghost use Rattle.std.specs.Prelude.{◌≡◌, IfOk, IsSome, None};
+ghost use Rattle.std.specs.Prelude.{◌≡◌, IfOk, None};
 
 use crate::disks::{Habit, disk_of, new_log};
 use crate::streams::{Drip, Tap, streams_of};
 use crate::texts::{Told, bytes, done, fault, number, serial, with_bytes, yes_or_no};
 use crate::trouble::Trouble;
-use duk_config::{Config, open_hsm, read_config};
+use duk_config::read_config;
 use duk_host::{Host, TableIssuer, serve};
-use duk_hsm::Hsm;
 use duk_store::{DiskLog, MemDisk};
 use duk_tdes::KeyBytes;
 use std::alloc::Global;
@@ -16,36 +15,16 @@ use std::alloc::Global;
 /// A host over a log on a disk. Its local master key has 16 bytes.
 pub type DiskHost = Host<16, DiskLog<MemDisk>, TableIssuer>;
 
-/// The security module of a configuration, which holds its zone key, and its issuer.
-pub fn module_and_issuer(alloc: Global, config: &[u8]) -> Result<(Hsm<16>, TableIssuer), Trouble>
-    ensures { IfOk result (λ made. IsSome made.0.zone) }
-{
-    let config = read_config(alloc, config)?;
-    let hsm = module_of(&config)?;
-    if !hsm.has_zone() {
-        return Err(Trouble::NotAStep);
-    }
-    Ok((hsm, TableIssuer::new(config.zone, config.cards)))
-}
-
-/// The security module of a configuration.
-fn module_of(config: &Config) -> Result<Hsm<16>, Trouble> {
-    let KeyBytes::Double(lmk) = &config.lmk else {
-        return Err(Trouble::NotAStep);
-    };
-    match open_hsm(lmk, config) {
-        Ok(hsm) => Ok(hsm),
-        Err(_) => Err(Trouble::NotAStep),
-    }
-}
-
 /// A stopped host of a configuration over a log.
 pub fn new_host(alloc: Global, config: &[u8], log: DiskLog<MemDisk>) -> Result<DiskHost, Trouble>
     ensures log { IfOk result (λ host. host.log ≡ log) }
     ensures stopped { IfOk result (λ host. host.state ≡ None) }
 {
-    let (hsm, issuer) = module_and_issuer(alloc, config)?;
-    Ok(Host::new(alloc, hsm, issuer, log))
+    let config = read_config(alloc, config)?;
+    let KeyBytes::Double(lmk) = &config.lmk else {
+        return Err(Trouble::NotAStep);
+    };
+    Ok(duk_config::new_host(alloc, lmk, &config, log)?)
 }
 
 /// Makes a host, over a new log of so many records or over a disk that holds bytes, or does something

@@ -1,5 +1,5 @@
 //! Calls to which memory is refused at one growth, one call and one growth a run: whether each
-//! answers want of memory, and what it leaves.
+//! answers that it is out of memory, and what it leaves.
 
 mod files;
 mod hosts;
@@ -9,15 +9,15 @@ use crate::trouble::Trouble;
 use duk_store::{MemDisk, MemLog, StoreFault};
 use std::alloc::Global;
 
-/// The number of the allocation that is to fail, behind those of the program's words.
+/// The number of the allocation that is to fail, after those of the program's words.
 const REFUSED_AT: u32 = 4000;
 
 /// What came of a call to which memory was refused, or not.
 #[derive(Clone, Copy)]
 pub enum Answer {
-    /// The call answered want of memory, and left what it is to leave.
+    /// The call answered that it is out of memory, and left what it is to leave.
     Refused,
-    /// It did so behind some events that it had done.
+    /// It did so after some events that it had done.
     Midway,
     /// The call was done.
     Whole,
@@ -26,8 +26,8 @@ pub enum Answer {
 }
 
 impl Answer {
-    /// Want of memory, behind some events or behind none.
-    pub fn refused_behind(has_events: bool) -> Answer {
+    /// Out of memory, after some events or after none.
+    pub fn refused_after(has_events: bool) -> Answer {
         if has_events {
             Answer::Midway
         } else {

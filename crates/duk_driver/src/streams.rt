@@ -7,7 +7,7 @@ use std::alloc::Global;
 use std::io;
 use std::io::{ErrorKind, Read, Write};
 
-/// A reader of at most so many bytes at a time, of which the call behind so many fails.
+/// A reader of at most so many bytes at a time, of which the call after so many fails.
 #[derive(Drop)]
 pub struct Drip<'a> {
     left: &'a [u8],
@@ -23,7 +23,7 @@ impl Read for Drip<'_> {
     }
 }
 
-/// A writer of at most so many bytes at a time, of which the call behind so many fails.
+/// A writer of at most so many bytes at a time, of which the call after so many fails.
 #[derive(Drop)]
 pub struct Tap {
     pub held: Vec<u8>,

@@ -1,6 +1,6 @@
 //! Why the program ends before its last step.
 
-use duk_script::ScriptFault;
+use duk_config::ScriptFault;
 use duk_store::StoreFault;
 use hex::FromHexError;
 use std::alloc::{AllocError, AllocFailed};

@@ -97,7 +97,7 @@ fn act(alloc: Global, world: &mut DiskWorld, words: &[&str], step: &str) -> Told
     }
 }
 
-/// Lets events happen in one call, and tells their outcomes, each with `;` behind it.
+/// Lets events happen in one call, and tells their outcomes, each with `;` after it.
 fn happen(alloc: Global, world: &mut DiskWorld, step: &str) -> Told {
     let script = step.replace(alloc, ';', "\n")?;
     let events = parse_script(alloc, script.as_bytes())?;

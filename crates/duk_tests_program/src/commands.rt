@@ -6,7 +6,7 @@ use duk_tests_support::streams::{Tap, Wrong};
 use std::alloc::{AllocError, Global};
 use std::io::ErrorKind;
 
-/// The words of a command, behind the program's name.
+/// The words of a command, after the program's name.
 pub fn words_of(alloc: Global, command: &[&str]) -> Result<Vec<String>, AllocError> {
     let mut words = Vec::new(alloc);
     words.push(String::from_str(alloc, "dukpt")?)?;
@@ -28,7 +28,7 @@ pin 042666B49184CF5C68DE9628D0397B36
 ";
 
 /// Whether a command of which a write at a place goes wrong tells that, and has written what stands
-/// before it. At the place behind the last one all is written.
+/// before it. At the place after the last one all is written.
 fn stops_writing(alloc: Global, place: usize, wrong: Wrong) -> Option<bool> {
     let words = words_of(alloc, &DERIVE).ok()?;
     let mut writer = Tap::failing(alloc, 1, place, wrong);

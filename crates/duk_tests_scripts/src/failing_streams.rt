@@ -1,6 +1,7 @@
 //! A script of which one read fails, or one write of its lines, at each place.
 
-use duk_script::{ScriptFault, run_script};
+use duk_config::ScriptFault;
+use duk_script::run_script;
 use duk_tests_support::files::BANK;
 use duk_tests_support::streams::{Drip, Tap, Wrong};
 use std::alloc::Global;
@@ -52,7 +53,7 @@ fn a_script_that_cannot_be_read(rt: HostRuntime) {
 }
 
 /// Whether a script whose write of a byte at a place goes wrong tells that, and has written what
-/// stands before it. At the place behind the last one all is written.
+/// stands before it. At the place after the last one all is written.
 fn stops_writing(alloc: Global, place: usize, wrong: Wrong) -> bool {
     let mut reader = SCRIPT.as_bytes();
     let mut writer = Tap::failing(alloc, 1, place, wrong);

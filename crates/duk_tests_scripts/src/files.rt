@@ -1,7 +1,7 @@
 //! What is read in a configuration and a script, what the script writes, and the lines of faults.
 
-use duk_config::Config;
-use duk_script::{ConfigKey, ScriptFault, parse_script, read_config, run_script};
+use duk_config::{Config, ConfigKey, ScriptFault, read_config};
+use duk_script::{parse_script, run_script};
 use duk_tdes::KeyBytes;
 use duk_tests_support::files::{BANK, LINES, SCRIPT};
 use duk_tests_support::printed::misprinted;

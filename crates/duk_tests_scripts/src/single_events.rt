@@ -3,13 +3,15 @@
 ghost use Rattle.std.specs.Prelude.{◌≡◌, ◌∷◌, [], IfSome};
 ghost use Rattle.duk_net.specs.InMemory.{new_terminal};
 
-use duk_host::{Host, TableIssuer};
+use duk_config::{new_host, read_config};
+use duk_host::TableIssuer;
 use duk_net::{Outcome, World, run};
-use duk_script::{open_hsm, outcome_line, parse_script, read_config};
+use duk_script::{outcome_line, parse_script};
 use duk_store::{MemCell, MemLog};
+use duk_tdes::KeyBytes;
 use duk_term::Terminal;
 use duk_tests_support::files::BANK;
-use duk_tests_support::sample::{LMK, LOADING, key};
+use duk_tests_support::sample::{LOADING, key};
 use std::alloc::Global;
 
 type SmallWorld = World<16, MemCell, MemLog, TableIssuer>;
@@ -26,12 +28,11 @@ fn terminals(alloc: Global) -> Option<Vec<Terminal<MemCell>>>
 /// A host of the configuration, and a terminal, over new stores in memory.
 fn world(alloc: Global) -> Option<SmallWorld> {
     let config = read_config(alloc, BANK.as_bytes()).ok()?;
-    let hsm = open_hsm(&key(LMK), &config).ok()?;
-    if !hsm.has_zone() {
+    let KeyBytes::Double(lmk) = &config.lmk else {
         return None;
-    }
+    };
     let log = MemLog::new(alloc, 100).ok()?;
-    let host = Host::new(alloc, hsm, TableIssuer::new(config.zone, config.cards), log);
+    let host = new_host(alloc, lmk, &config, log).ok()?;
     Some(World::new(alloc, host, key(LOADING), terminals(alloc)?))
 }
 

@@ -5,9 +5,10 @@ use super::{Answer, Tried};
 use crate::disks::Habit;
 use crate::trouble::Trouble;
 use crate::world::{DiskWorld, new_world};
+use duk_config::{ScriptFault, read_config};
 use duk_net::{Event, NetFault, Outcome, run};
 use duk_program::{Todo, command, run_status};
-use duk_script::{ScriptFault, outcome_line, parse_script, read_config, run_script};
+use duk_script::{outcome_line, parse_script, run_script};
 use std::alloc::Global;
 use std::io;
 use std::io::Write;
@@ -42,7 +43,7 @@ pub fn try_run_script(alloc: Global) -> Tried {
     match told {
         Ok(()) => Ok(Answer::Whole.where_holds(lines == LINES.as_bytes(), "other lines")),
         Err(ScriptFault::NoMemory) => {
-            let refused = Answer::refused_behind(!lines.is_empty());
+            let refused = Answer::refused_after(!lines.is_empty());
             Ok(refused.where_holds(are_first_lines(lines), "other lines before"))
         }
         Err(_) => Ok(Answer::Wrong("another fault")),
@@ -87,7 +88,7 @@ pub fn try_run_status(alloc: Global) -> Tried {
     let told = status == 1 && fault.as_slice() == b"out of memory\n".as_slice();
     let lines = output.held.as_slice();
     Ok(
-        Answer::refused_behind(!lines.is_empty())
+        Answer::refused_after(!lines.is_empty())
             .where_holds(told, "another fault")
             .where_holds(are_first_lines(lines), "other lines before")
             .where_holds(is_handed_on, "lines are held back"),
@@ -110,7 +111,7 @@ fn have_first_lines(outcomes: &[Outcome]) -> bool {
     let mut rest = LINES.as_bytes();
     for outcome in outcomes {
         match rest.strip_prefix(outcome_line(*outcome).as_slice()) {
-            Some(behind) => rest = behind,
+            Some(later) => rest = later,
             None => return false,
         }
     }
@@ -134,9 +135,9 @@ pub fn try_run(alloc: Global) -> Tried {
             let again = run(&mut world, rest, &mut outcomes).is_ok();
             let whole = outcomes.len() == 15 && have_first_lines(outcomes.as_slice());
             Ok(
-                Answer::refused_behind(done > 0)
+                Answer::refused_after(done > 0)
                     .where_holds(before, "other outcomes before")
-                    .where_holds(again && whole, "other outcomes behind"),
+                    .where_holds(again && whole, "other outcomes later"),
             )
         }
     }

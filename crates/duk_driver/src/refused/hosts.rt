@@ -2,11 +2,12 @@
 
 use super::sample::{BANK, FIRST, FIRST_REPLY, SECOND, SECOND_REPLY, log_of, number};
 use super::{Answer, Tried};
-use crate::host::module_and_issuer;
 use crate::trouble::Trouble;
+use duk_config::{new_host, read_config};
 use duk_frame::Frame;
 use duk_host::{Host, HostFault, TableIssuer, serve};
 use duk_store::MemLog;
+use duk_tdes::KeyBytes;
 use std::alloc::{AllocError, Global};
 
 /// A host over a log in memory.
@@ -17,8 +18,12 @@ const USED: (u16, u16) = (10, 40);
 
 /// A stopped host over a log that keeps these numbers.
 fn stopped_host(alloc: Global, used: (u16, u16)) -> Result<MemoryHost, Trouble> {
-    let (hsm, issuer) = module_and_issuer(alloc, BANK.as_bytes())?;
-    Ok(Host::new(alloc, hsm, issuer, log_of(alloc, used.0, used.1)?))
+    let config = read_config(alloc, BANK.as_bytes())?;
+    let KeyBytes::Double(lmk) = &config.lmk else {
+        return Err(Trouble::NotAStep);
+    };
+    let log = log_of(alloc, used.0, used.1)?;
+    Ok(new_host(alloc, lmk, &config, log)?)
 }
 
 /// A restart that is refused memory stops the host, and a second one finds all numbers.
@@ -106,7 +111,7 @@ pub fn try_repeat(alloc: Global) -> Tried {
     Ok(Answer::Whole.where_holds(is_first_reply(&told), "another answer"))
 }
 
-/// Two frames, one behind the other.
+/// Two frames, one after the other.
 fn both(alloc: Global, first: &[u8], second: &[u8]) -> Result<Vec<u8>, AllocError> {
     let mut frames = Vec::from_slice(alloc, first)?;
     frames.extend_from_slice(second)?;
