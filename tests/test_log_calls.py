@@ -11,7 +11,8 @@ from typing import Sequence
 from .support.client import Exchange, payments
 from .support.log_file import RECORD, log_image
 from .support.program import Ended, Program
-from .support.service_case import CANNOT_OPEN, ServiceCase, answers_to, numbers_of, stream_of
+from .support.service_case import (
+    CANNOT_OPEN, LOG_FAILED, ServiceCase, answers_to, numbers_of, stream_of)
 from .test_files import REFUSED_FILES
 
 # One line of strace: the process, the call, its arguments and what it gave.
@@ -119,6 +120,12 @@ class Opens(TracedCase):
         with open(self.log, "rb") as other:
             fcntl.flock(other, fcntl.LOCK_EX)
             self.check_steps(CANNOT_OPEN, [OPENED, LOCKED])
+
+    def test_a_damaged_size(self) -> None:
+        """A log of such a size is neither synced nor read."""
+        for size in (0, RECORD - 1, RECORD + 1):
+            self.write("log", bytes(size))
+            self.check_steps(LOG_FAILED, [OPENED, LOCKED, LENGTH])
 
     def check_steps(
         self, fault: str, wanted: Sequence[str], configuration: str = "bank.toml"
