@@ -1,6 +1,7 @@
 -- The bytes of a body, read back.
-use Rattle.std.proofs.Common.{◌≡◌, ◌-◌, ℕ, List, [], ◌++◌, Option, Some, None, Result, Ok, IfSome, take, drop, replicate, length, inl, inr, IsSome, refl, subst, sym, ap, ◌∙◌}
+use Rattle.std.proofs.Common.{◌≡◌, ◌-◌, ℕ, List, [], ◌++◌, Option, Some, None, Result, Ok, Err, IfSome, take, drop, replicate, length, inl, inr, IsSome, refl, subst, sym, ap, ◌∙◌, ◌↔◌}
 use Rattle.std.proofs.Math.Seq.{drop-append_seam, take-append_seam}
+use Rattle.std.proofs.lemmas.Bool.{false≢true}
 use Rattle.std.proofs.lemmas.List.{take-append-drop}
 use Rattle.std.specs.Prelude.{slice_index}
 use Rattle.std.specs.Option.{ok_or}
@@ -98,3 +99,9 @@ pub if_read : {E : Type 0} (found : Option RegisterSet) (set : RegisterSet) (P :
     → told ≡ ok_or found why → told ≡ Ok set → IfSome found P → P set
 if_read None set P why told value is holds = absurd (cc)
 if_read (Some read) set P why told value is holds = subst P (cc) holds
+
+-- where no registers are found, the fault is the one that was given for that, and the body is none
+pub none_found : {E P : Type 0} (found : Option RegisterSet) (why fault : E) (told : Result RegisterSet E)
+    → told ≡ ok_or found why → told ≡ Err fault → IsSome found ↔ P → (fault ≡ why) × ¬ P
+none_found None why fault told value is only = (cc, λ p. absurd (false≢true (only.1 p)))
+none_found (Some read) why fault told value is only = absurd (cc)

@@ -1,5 +1,9 @@
 -- What a restart would find where an image was not kept.
 use Rattle.std.proofs.Common.{◌≡◌, ◌≢◌, ◌⊎◌, ℕ, List, Some, None, Result, Ok, Err, IfOk, IfErr, inl, inr, refl, sym, subst}
+use Rattle.duk_block.specs.KeyUse.{HasNoKeyFor, IsDoubleKeyFor}
+use Rattle.duk_block.specs.declared.fault.KeyFault.{KeyFault}
+use Rattle.duk_block.specs.declared.fault.KeyFault.TheVariants as key_fault
+use Rattle.duk_block.specs.declared.key_use.KeyUse.TheVariants.{InitialKey}
 use Rattle.duk_regs.specs.Registers.{HaveSixteenBytes, RegisterSet}
 use Rattle.duk_store.specs.Cell.{CellMeaning, IsPut, Kept, PutFailed}
 use Rattle.duk_store.specs.StoreState.{StoreState}
@@ -8,6 +12,7 @@ use Rattle.duk_store.specs.declared.fault.StoreFault.TheVariants as store_fault
 use Rattle.duk_term.specs.Begin.{BeginRefused, TakesFrom}
 use Rattle.duk_term.specs.Body.{body_bytes}
 use Rattle.duk_term.specs.Load.{IsFirstSet, IsTerminalLoaded, KeepsState, LoadRefused, Loading, MayTake}
+use Rattle.duk_term.specs.Loading.{term_fault_of}
 use Rattle.duk_term.specs.Terminal.{Agrees, CellHoldsRegisters, HasRegistersIn, IsImageNotKept, PromisesBody, TerminalOf}
 use Rattle.duk_term.specs.declared.fault.TermFault.{TermFault}
 use Rattle.duk_term.specs.declared.fault.TermFault.TheVariants as fault
@@ -95,3 +100,9 @@ pub promises_kept :
     → IfOk result (λ _. meaning.after_put new.cell (body_bytes set)) → IfOk result (λ _. PromisesBody meaning new)
 promises_kept meaning new set (Ok _) state promised = (set, None, state, promised)
 promises_kept meaning new set (Err _) state promised = promised
+
+-- a load whose block has no initial key is refused for that, and changes nothing
+pub load_without_key : {C : Type 0} (meaning : CellMeaning C) (asked : Loading) (old : TerminalOf C) (why : KeyFault)
+    → MayTake old.state asked.iksn → HasNoKeyFor (IsDoubleKeyFor InitialKey) asked.loading_key asked.block why → LoadRefused meaning asked old old (term_fault_of why)
+load_without_key meaning asked old (key_fault.Block why) may refused = (may, refused, refl)
+load_without_key meaning asked old key_fault.WrongUse may refused = (may, refused, refl)

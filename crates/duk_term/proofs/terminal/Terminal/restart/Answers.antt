@@ -1,6 +1,8 @@
-use Rattle.std.proofs.Common.{sym, subst}
+use Rattle.std.proofs.Common.{inr, refl, sym, subst}
+use Rattle.std.proofs.lemmas.Result.{err_from_is_err_and}
+use Rattle.duk_store.specs.Restart.{Restarted}
 use Rattle.duk_term.specs.Terminal.{Agrees}
-use Rattle.duk_term.proofs.BodyIsFoundAgain.{if_read}
+use Rattle.duk_term.proofs.BodyIsFoundAgain.{if_read, none_found}
 use Rattle.duk_term.proofs.terminal.Terminal.restart.Goals as goal
 use Rattle.duk_term.proofs.terminal.Terminal.restart.Goals.{in-None, in-Some+in_ok-ok_or-in-Some}
 
@@ -18,3 +20,20 @@ invariant_of-self-2 g c =
             finds = λ honest. (c.in-Ok.kept, settles.finds (settles.nature.honest.1 honest), (w.in-Some.body, w.in-Some.is, keeps));
           })
     ]
+
+pub returns-in_err-ok_or-in-Some-clause-refused : goal.returns-in_err-ok_or-in-Some-clause-refused
+returns-in_err-ok_or-in-Some-clause-refused g c =
+    let meaning = g.C.Cell.meaning in
+    let p = err_from_is_err_and c.from_residual.result c.from_residual.ensures.1 in
+    let none = none_found c.registers_in.result _ c.in_err-ok_or-in-Some.field-0.0 c.ok_or.result c.ok_or.ensures.value c.in_err-ok_or-in-Some.was c.registers_in.ensures.found in
+    rw (p.1, p.2, none.0, ← c.self.view_is) (record {
+      stopped = refl;
+      cause = inr (
+        refl,
+        record {
+          bytes = c.in-Some.body;
+          cell = subst (Restarted (meaning.state_of c.self.inside.cell) (meaning.state_of c.restart.new.self)) c.in-Some.is c.in-Ok.ensures.found;
+          no_body = none.1;
+        },
+      );
+    })
