@@ -1,5 +1,5 @@
 -- The keys of the requests and the accepted replies that were sent, and why a host refuses a request.
-use Rattle.std.proofs.Common.{◌≡◌, ◌⊎◌, ℕ, List, Option, Some, None, All, inl, inr, refl, sym, ap, subst, ◌∙◌, arith}
+use Rattle.std.proofs.Common.{◌≡◌, ◌⊎◌, ℕ, List, Some, All, inl, inr, refl, sym, ap, subst, ◌∙◌, arith}
 use Rattle.std.specs.List.{Contains, slice_get}
 use Rattle.std.proofs.lemmas.List.Elements.{All-nil, All-push}
 use Rattle.std.proofs.lemmas.Option.{get_or_from_slice_get, slice_get_within}
@@ -12,8 +12,6 @@ use Rattle.duk_frame.specs.declared.code.Code.{Code}
 use Rattle.duk_frame.specs.declared.request.Request.{Request}
 use Rattle.duk_host.specs.Host.{basis_of}
 use Rattle.duk_host.specs.Judgement.{JudgementBasis, IsAuthentic, IsReplyWith, IsReasonAgainst, IsRefusedRequest, reason_number}
-use Rattle.duk_host.specs.declared.reason.Reason.{Reason}
-use Rattle.duk_host.specs.declared.reason.Reason.TheVariants as reason
 use Rattle.duk_hsm.specs.Keys.{HsmKeys, key_set_of}
 use Rattle.duk_pin.specs.PinBlock.{IsPinBlock, pin_block}
 use Rattle.duk_regs.specs.Registers.{IsTaken, RegisterSet, StandsFor}
@@ -63,17 +61,9 @@ all_at P things place thing all is = subst P (get_or_from_slice_get things place
 all_among : {A : Type 0} (P : A → Type 0) (things : List A) (thing : A) → All P things → Contains things thing → P thing
 all_among P things thing all (place, within, is) = subst P is (all place thing within)
 
-no_key_set : {A : Type 0} (found : Option A) (value : A) → found ≡ None → found ≡ Some value → ⊥
-no_key_set found value none some = cc
-
 -- against an authentic request there is no reason but that its number is used or that the log is full
-used_or_full : (basis : JudgementBasis) (request : Request) (why : Reason) → IsAuthentic basis.keys request → IsReasonAgainst basis request why → (reason_number why ≡ 5) ⊎ (reason_number why ≡ 6)
-used_or_full basis request reason.Malformed authentic first = absurd first.fails
-used_or_full basis request reason.UnknownKeySet authentic first = absurd (no_key_set _ _ first.fails authentic.key_is.held)
-used_or_full basis request reason.BadCounter authentic first = absurd (first.fails authentic.key_is.usable)
-used_or_full basis request reason.BadMac authentic first = absurd (first.fails authentic)
-used_or_full basis request reason.Used authentic first = inl refl
-used_or_full basis request reason.LogFull authentic first = inr refl
+used_or_full : (basis : JudgementBasis) (request : Request) (why : _) → IsAuthentic basis.keys request → IsReasonAgainst basis request why → (reason_number why ≡ 5) ⊎ (reason_number why ≡ 6)
+used_or_full basis request why authentic first = grind (arith, first.fails, authentic.key_is.held, authentic.key_is.usable, authentic)
 
 -- a quiet outcome is no refusal
 quiet_refusal : (outcome : Outcome) → IsQuiet outcome → IsRefusedAsUsedOrFull outcome
