@@ -53,10 +53,9 @@ fn refuse_script<F: Sink>(why: FileFault, fault: &mut F) -> u8
     ensures status { result ≡ 1 }
     ensures line { IsTried (F.known fault.old) (F.known fault.new) (script_line why) }
 {
-    let why = match why {
-        FileFault::CannotRead => ScriptFault::CannotRead,
-        FileFault::TooLong => ScriptFault::TooLong,
-        FileFault::NoMemory => ScriptFault::NoMemory,
-    };
-    why.tell(fault)
+    match why {
+        FileFault::CannotRead => ScriptFault::CannotRead.tell(fault),
+        FileFault::TooLong => ScriptFault::TooLong.tell(fault),
+        FileFault::NoMemory => ScriptFault::NoMemory.tell(fault),
+    }
 }

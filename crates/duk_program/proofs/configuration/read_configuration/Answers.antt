@@ -11,5 +11,5 @@ returns-clause-told g c = record {
     cause = rw c.as_slice.ensures.value at c.in-Err-read_config.ensures.refused;
     line_is = refl;
   });
-  line_told = c.refuse.ensures.line;
+  line_told = c.tell.ensures.line;
 }
