@@ -12,6 +12,7 @@ SIGNATURE = re.compile(
     r"(?:abbrev |unfoldable )?(?:pub )?(?:record |data )?(?P<name>[^\s:(){}]+)(?:\s|$)")
 KEYWORDS = ("abbrev ", "unfoldable ", "pub ", "record ", "data ")
 USE = re.compile(r"^(pub )?use (\S+?)(?:\.\{(.*)\}| as (\S+))?$")
+TEXT = re.compile(r'"(?:\\.|[^"\\])*"')
 BINDERS = re.compile(r"[({]\s*([^\s(){}:]+(?:\s+[^\s(){}:]+)*)\s+:\s|λ ([^.]*)\.|\blet (\S+) ")
 # Files below this folder of specs/ hold what no public clause reaches.
 INNER = "inner"
@@ -118,7 +119,7 @@ class Reader:
             self.file.definitions.append(self.now)
             self.comment = []
         if self.now and line.strip():
-            self.now.text += "\n" + line.partition("--")[0]
+            self.now.text += "\n" + TEXT.sub('""', line).partition("--")[0]
             self.now.last = number
 
     def begins(self, line: str) -> Optional[str]:
