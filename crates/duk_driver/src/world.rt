@@ -82,7 +82,7 @@ pub fn take_world_step(
     }
 }
 
-/// Tells something of a world, or lets events happen in it: those of a script's lines, with `;` in
+/// Reports something of a world, or lets events happen in it: those of a script's lines, with `;` in
 /// place of their ends.
 fn act(alloc: Global, world: &mut DiskWorld, words: &[&str], step: &str) -> Told {
     match words {

@@ -38,7 +38,7 @@ pub(crate) fn read_configuration<S: FileSystem, F: Sink>(
     }
 }
 
-/// Tells why the file of a configuration is not read, and gives the status 1.
+/// Reports why the file of a configuration is not read, and gives the status 1.
 fn refuse_config<F: Sink>(why: FileFault, fault: &mut F) -> u8
     ensures status { result ≡ 1 }
     ensures line { IsTried (F.known fault.old) (F.known fault.new) (config_line why) }
@@ -50,7 +50,7 @@ fn refuse_config<F: Sink>(why: FileFault, fault: &mut F) -> u8
     }
 }
 
-/// Tells that the file of a configuration cannot be read, and gives the status 1.
+/// Reports that the file of a configuration cannot be read, and gives the status 1.
 fn refuse_unread<F: Sink>(fault: &mut F) -> u8
     ensures status { result ≡ 1 }
     ensures line { IsTried (F.known fault.old) (F.known fault.new)

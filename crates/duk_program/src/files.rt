@@ -48,7 +48,7 @@ pub(crate) fn run_files<S: FileSystem, W: Sink, F: Sink>(
     play_status(alloc, &config, script.as_slice(), output, fault)
 }
 
-/// Tells why the file of a script is not read, and gives the status 1.
+/// Reports why the file of a script is not read, and gives the status 1.
 fn refuse_script<F: Sink>(why: FileFault, fault: &mut F) -> u8
     ensures status { result ≡ 1 }
     ensures line { IsTried (F.known fault.old) (F.known fault.new) (script_line why) }

@@ -121,7 +121,7 @@ where
     }
 }
 
-/// Tells that the file of a log cannot be opened, and gives the status 1.
+/// Reports that the file of a log cannot be opened, and gives the status 1.
 fn refuse_log<F: Sink>(fault: &mut F) -> u8
     ensures status { result ≡ 1 }
     ensures line { IsTried (F.known fault.old) (F.known fault.new) unopened_line }

@@ -203,7 +203,7 @@ fn go_on(played: &mut Played, end: End, event: Event) -> Option<()> {
     deliver_all(played)
 }
 
-/// Lets an event happen, and goes on where a store fails. Tells whether one did.
+/// Lets an event happen, and goes on where a store fails. Answers whether one did.
 fn happen(played: &mut Played, event: Event) -> Option<bool> {
     if !fails(played, event)? {
         return Some(false);
@@ -213,7 +213,7 @@ fn happen(played: &mut Played, event: Event) -> Option<bool> {
     Some(true)
 }
 
-/// A payment: a begin, and the last request and the last answer delivered. Tells whether a store
+/// A payment: a begin, and the last request and the last answer delivered. Answers whether a store
 /// failed.
 fn pay(played: &mut Played, n: u32) -> Option<bool> {
     let end = End::Term(1);
@@ -228,7 +228,7 @@ fn pay(played: &mut Played, n: u32) -> Option<bool> {
     Some(begun || answered || done)
 }
 
-/// Restarts both ends, loads the terminal and pays twice. Tells whether a store failed.
+/// Restarts both ends, loads the terminal and pays twice. Answers whether a store failed.
 fn play(played: &mut Played, armed: u32) -> Option<bool> {
     let host = happen(played, Event::RestartHost)?;
     let terminal = happen(played, Event::RestartTerm { t: 1 })?;

@@ -12,7 +12,7 @@ pub fn process_words<R: Env + AllocGlobal>(rt: &R) -> io::Result<Vec<String>> {
     Ok(env::args(rt)?.collect(rt.alloc())?)
 }
 
-/// Tells why the words of the process could not be read, and gives the status.
+/// Reports why the words of the process could not be read, and gives the status.
 pub fn refuse_words<F: Sink>(error: &io::Error, fault: &mut F) -> u8
     ensures { IsStatus result }
 {
