@@ -25,7 +25,7 @@ files and in those of the crates below it.
 """
 OF_FILES = """\
 The files of definitions, with their lines. A definition has the line at which it begins, what it says,
-and behind < the public calls whose clauses name it; where none does, behind <- definitions that do.
+and after < the public calls whose clauses name it; where none does, after <- definitions that do.
 """
 # The call that makes a world: what it asks belongs to each law.
 FIRST = ("duk_net", "World::new")

@@ -1,5 +1,5 @@
 //! Work to be timed: what it does over the crates, a program in `bench/openssl` does over OpenSSL.
-//! The same words have the same output there, but for the work of a host.
+//! The same arguments have the same output there, but for the work of a host.
 #![tactic(auto)]
 
 mod derivations;
@@ -17,22 +17,27 @@ use std::rt::Env;
 use std::{env, io};
 
 fn main(rt: HostRuntime) -> Result<()> {
-    let words: Vec<String> = env::args(&rt)?.collect(rt.alloc())?;
+    let arguments: Vec<String> = env::args(&rt)?.collect(rt.alloc())?;
     let mut output = BufWriter::new(rt.alloc(), rt.stdout())?;
-    do_work(rt.alloc(), words.as_slice(), &mut rt.stdin(), &mut output)?;
+    do_work(
+        rt.alloc(),
+        arguments.as_slice(),
+        &mut rt.stdin(),
+        &mut output,
+    )?;
     output.flush()?;
     Ok(())
 }
 
-/// Does the work that the words name: `derive COUNT`, `requests COUNT`, `handle USED` with the
+/// Does the work that the arguments name: `derive COUNT`, `requests COUNT`, `handle USED` with the
 /// requests from `input`, and `cmac`, `retail`, `cbc-encrypt` and `cbc-decrypt LENGTH COUNT`.
 fn do_work<R: Read, W: Write>(
     alloc: Global,
-    words: &[String],
+    arguments: &[String],
     input: &mut R,
     output: &mut W,
 ) -> Result<()> {
-    match words {
+    match arguments {
         [_, name, number] => do_keyed(alloc, name.as_str(), number.parse()?, input, output),
         [_, name, length, count] => {
             do_messages(

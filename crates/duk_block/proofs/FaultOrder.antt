@@ -4,7 +4,7 @@ use Rattle.std.proofs.lemmas.Bool.{cases_lt}
 use Rattle.hex.proofs.HexLemmas.{decode_of-ok}
 use Rattle.duk_block.specs.declared.fault.BlockFault.{BlockFault}
 use Rattle.duk_block.specs.declared.fault.BlockFault.TheVariants.{Length, Version, HeaderField, OptionalBlock, Hex, Mac, Payload, PadLength}
-use Rattle.duk_block.specs.Faults.{HasBody, HasHeader, HasPayload, IsFirstFault, Meets, MetBefore, rank}
+use Rattle.duk_block.specs.Faults.{HasSealedPart, HasHeader, HasPayload, IsFirstFault, Meets, MetBefore, rank}
 use Rattle.duk_block.specs.declared.header.Header.{Header}
 use Rattle.std.specs.List.{All}
 use Rattle.duk_block.specs.HeaderText.{IsPrintable}
@@ -53,9 +53,9 @@ met_before_optional text key header count has =
     let P : List ℕ → Type 0 = All IsPrintable in
     met_next text key HeaderField OptionalBlock refl (met_before_field text key has.length_is has.version_is) (subst P has.fields_are has.header_is.printable, (count, has.count_is))
 
-pub met_before_hex : (text key : List ℕ) (header : Header) (count : ℕ) → HasHeader text header count → (body : List ℕ) → HasBody text body → MetBefore text key Hex
-met_before_hex text key header count has body of_body =
-    met_next text key OptionalBlock Hex refl (met_before_optional text key header count has) (body, of_body)
+pub met_before_hex : (text key : List ℕ) (header : Header) (count : ℕ) → HasHeader text header count → (sealed_part : List ℕ) → HasSealedPart text sealed_part → MetBefore text key Hex
+met_before_hex text key header count has sealed_part of_sealed_part =
+    met_next text key OptionalBlock Hex refl (met_before_optional text key header count has) (sealed_part, of_sealed_part)
 
 -- there is one first fault
 pub IsFirstFault-same : (text key : List ℕ) (a b : BlockFault) → IsFirstFault text key a → IsFirstFault text key b → a ≡ b
@@ -71,7 +71,7 @@ IsFirstFault-same text key a b first other =
 pub met_before_payload : (text key : List ℕ) (header : Header) (count : ℕ) → HasHeader text header count → (payload : List ℕ) → HasPayload text key payload → MetBefore text key Payload
 met_before_payload text key header count has payload opened =
     let parts = opened.parts in
-    let read = decode_of-ok parts.body (opened.ciphertext ++ opened.mac) parts.body_is_read in
+    let read = decode_of-ok parts.sealed_part (opened.ciphertext ++ opened.mac) parts.sealed_part_is_read in
     met_next text key Mac Payload refl
-    (met_next text key Hex Mac refl (met_before_hex text key header count has parts.body parts.body_is) (parts.body, parts.body_is, read.1))
+    (met_next text key Hex Mac refl (met_before_hex text key header count has parts.sealed_part parts.sealed_part_is) (parts.sealed_part, parts.sealed_part_is, read.1))
     (payload, opened)

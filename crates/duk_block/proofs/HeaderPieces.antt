@@ -7,7 +7,7 @@ use Rattle.duk_block.specs.Digits.{four_digits}
 use Rattle.duk_block.specs.HeaderText.{fields, header_text}
 use Rattle.duk_block.specs.Faults.{Carries, HasHeader, HasPayload}
 use Rattle.duk_block.specs.KeyBlock.{IsKeyBlock}
-use Rattle.duk_block.proofs.OneBody.{HasCount-same}
+use Rattle.duk_block.proofs.OneSealedPart.{HasCount-same}
 
 -- cut after the first n of what follows i characters
 cut : (text : List ℕ) (i n : ℕ) → drop i text ≡ take n (drop i text) ++ drop (i + n) text
@@ -48,32 +48,32 @@ pub block_read : (text protection_key : List ℕ) (header : Header) (count : ℕ
 block_read text protection_key header count payload key has opened carries =
     let reserved : List ℕ = take 2 (drop 14 text) in
     let parts = opened.parts in
-    let leaves = parts.body_is.leaves in
+    let leaves = parts.sealed_part_is.leaves in
     let blocks = leaves.optional_blocks in
-    let count_same : length blocks ≡ count = leaves.count_is ∙ HasCount-same text parts.body_is.count count parts.body_is.count_is has.count_is in
+    let count_same : length blocks ≡ count = leaves.count_is ∙ HasCount-same text parts.sealed_part_is.count count parts.sealed_part_is.count_is has.count_is in
     let front_text : List ℕ = header_text (length text) header (length blocks) reserved ++ concat blocks in
-    let whole : text ≡ front_text ++ parts.body =
+    let whole : text ≡ front_text ++ parts.sealed_part =
     header_is_read text header count has
     ∙ ap (λ n. header_text (length text) header n reserved ++ drop 16 text) (sym count_same)
     ∙ ap (λ rest. header_text (length text) header (length blocks) reserved ++ rest) leaves.laid_out
-    ∙ sym (append_assoc (header_text (length text) header (length blocks) reserved) (concat blocks) parts.body) in
+    ∙ sym (append_assoc (header_text (length text) header (length blocks) reserved) (concat blocks) parts.sealed_part) in
     let limits = has.length_is.limits in
     record {
       reserved = reserved;
       optional_blocks = blocks;
       front = opened.front;
-      body = parts.body;
+      sealed_part = parts.sealed_part;
       ciphertext = opened.ciphertext;
       mac = opened.mac;
       padding = carries.padding;
       laid_out = parts.front_is;
-      front_is = append_cancel_right opened.front front_text parts.body (sym parts.front_is ∙ whole);
+      front_is = append_cancel_right opened.front front_text parts.sealed_part (sym parts.front_is ∙ whole);
       length_has_four_digits = omega (arith, limits.most);
       header_is = has.header_is;
       reserved_width = length-take-le 2 (drop 14 text) (omega (arith, length-drop 14 text, limits.least));
       count_has_two_digits = omega (arith, count_same, has.count_is.below);
       each_optional = leaves.each;
-      body_is_read = parts.body_is_read;
+      sealed_part_is_read = parts.sealed_part_is_read;
       mac_width = parts.mac_width;
       key_is = carries.key_is;
       payload_is = rw (← carries.payload_is) opened.payload_is;

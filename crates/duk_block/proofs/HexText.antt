@@ -1,4 +1,4 @@
--- Text in hexadecimal, of bytes and of those behind them.
+-- Text in hexadecimal, of bytes and of those after them.
 use Rattle.std.proofs.Common.{◌≡◌, ℕ, ◌/◌, ◌%◌, List, [], ◌∷◌, ◌++◌, slice_index, refl, ap}
 use Rattle.hex.specs.Hex.{encode_with}
 

@@ -5,7 +5,7 @@ pub mod HeaderLength
 pub mod HexBytes
 pub mod OptionalBlocks
 pub mod FaultOrder
-pub mod OneBody
+pub mod OneSealedPart
 pub mod CarriedKey
 pub mod DecoderAnswers
 pub mod HeaderPieces

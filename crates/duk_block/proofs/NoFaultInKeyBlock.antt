@@ -19,9 +19,9 @@ all_met text protection_key header key limits block opened HeaderField =
       subst P (fields_at text protection_key header key block) block.header_is.printable,
       (_, count_at text protection_key header key block),
     )
-all_met text protection_key header key limits block opened OptionalBlock = (opened.parts.body, opened.parts.body_is)
+all_met text protection_key header key limits block opened OptionalBlock = (opened.parts.sealed_part, opened.parts.sealed_part_is)
 all_met text protection_key header key limits block opened Hex =
-    (opened.parts.body, opened.parts.body_is, (decode_of-ok opened.parts.body (opened.ciphertext ++ opened.mac) opened.parts.body_is_read).1)
+    (opened.parts.sealed_part, opened.parts.sealed_part_is, (decode_of-ok opened.parts.sealed_part (opened.ciphertext ++ opened.mac) opened.parts.sealed_part_is_read).1)
 all_met text protection_key header key limits block opened Mac = (payload_of key block.padding, opened)
 all_met text protection_key header key limits block opened Payload =
     (payload_of key block.padding, key, opened, record { padding = block.padding; key_is = block.key_is; payload_is = refl })

@@ -25,18 +25,18 @@ part_at text before part after i n laid start width =
 
 -- the whole text, from the header on
 pub whole_text : (text protection_key : List ℕ) (header : Header) (key : List ℕ) (block : IsKeyBlock text protection_key header key)
-    → text ≡ header_text (length text) header (length block.optional_blocks) block.reserved ++ (concat block.optional_blocks ++ block.body)
+    → text ≡ header_text (length text) header (length block.optional_blocks) block.reserved ++ (concat block.optional_blocks ++ block.sealed_part)
 whole_text text protection_key header key block =
     block.laid_out
-    ∙ ap (λ front. front ++ block.body) block.front_is
-    ∙ append_assoc (header_text (length text) header (length block.optional_blocks) block.reserved) (concat block.optional_blocks) block.body
+    ∙ ap (λ front. front ++ block.sealed_part) block.front_is
+    ∙ append_assoc (header_text (length text) header (length block.optional_blocks) block.reserved) (concat block.optional_blocks) block.sealed_part
 
 -- the text with one piece of the header set apart
 pub fields_at : (text protection_key : List ℕ) (header : Header) (key : List ℕ) (block : IsKeyBlock text protection_key header key)
     → fields header ≡ take 7 (drop 5 text)
 fields_at text protection_key header key block =
     let n = length block.optional_blocks in
-    let rest : List ℕ = concat block.optional_blocks ++ block.body in
+    let rest : List ℕ = concat block.optional_blocks ++ block.sealed_part in
     let before : List ℕ = codes "B" ++ four_digits (length text) in
     let laid : text ≡ before ++ (fields header ++ (two_digits n ++ (block.reserved ++ rest))) =
     whole_text text protection_key header key block
@@ -49,7 +49,7 @@ pub count_at : (text protection_key : List ℕ) (header : Header) (key : List �
     → HasCount text (length block.optional_blocks)
 count_at text protection_key header key block =
     let n = length block.optional_blocks in
-    let rest : List ℕ = concat block.optional_blocks ++ block.body in
+    let rest : List ℕ = concat block.optional_blocks ++ block.sealed_part in
     let before : List ℕ = codes "B" ++ four_digits (length text) ++ fields header in
     let laid : text ≡ before ++ (two_digits n ++ (block.reserved ++ rest)) =
     whole_text text protection_key header key block
@@ -65,7 +65,7 @@ pub version_at : (text protection_key : List ℕ) (header : Header) (key : List 
     → (take 1 text ≡ codes "B") × (take 4 (drop 1 text) ≡ four_digits (length text))
 version_at text protection_key header key block =
     let n = length block.optional_blocks in
-    let rest : List ℕ = concat block.optional_blocks ++ block.body in
+    let rest : List ℕ = concat block.optional_blocks ++ block.sealed_part in
     let four : List ℕ = four_digits (length text) in
     let after : List ℕ = fields header ++ (two_digits n ++ (block.reserved ++ rest)) in
     let laid : text ≡ codes "B" ++ (four ++ after) =
@@ -79,40 +79,40 @@ version_at text protection_key header key block =
     )
 
 -- what CBC's laws say of lengths
-abbrev pub KeepsLength : Type 0
-KeepsLength = (key initial_vector bytes : List ℕ) → IsTdesKey key → IsBlock initial_vector → AreWholeBlocks bytes → length (cbc_encrypted key initial_vector bytes) ≡ length bytes
+abbrev pub PreservesLength : Type 0
+PreservesLength = (key initial_vector bytes : List ℕ) → IsTdesKey key → IsBlock initial_vector → AreWholeBlocks bytes → length (cbc_encrypted key initial_vector bytes) ≡ length bytes
 
 -- the MAC is a block, since it was read
-pub IsBlock-mac : (body ciphertext mac : List ℕ) → IsHexadecimal body (ciphertext ++ mac) → length mac ≡ 8 → IsBlock mac
-IsBlock-mac body ciphertext mac read eight =
-    let bytes = (decode_of-ok body (ciphertext ++ mac) read).3 in
+pub IsBlock-mac : (sealed_part ciphertext mac : List ℕ) → IsHexadecimal sealed_part (ciphertext ++ mac) → length mac ≡ 8 → IsBlock mac
+IsBlock-mac sealed_part ciphertext mac read eight =
+    let bytes = (decode_of-ok sealed_part (ciphertext ++ mac) read).3 in
     record {
       eight = eight;
       bytes_fit = All-from_get_or (λ byte. byte < 2 ^ 8) mac 0 (λ i below. omega (arith, bytes (length ciphertext + i), get_or-append-add ciphertext mac i 0));
     }
 
-pub payload_at : KeepsLength → (text protection_key : List ℕ) (header : Header) (key : List ℕ) (block : IsKeyBlock text protection_key header key)
+pub payload_at : PreservesLength → (text protection_key : List ℕ) (header : Header) (key : List ℕ) (block : IsKeyBlock text protection_key header key)
     → IsTdesKey (derived_key encryption_usage protection_key) → HasPayload text protection_key (payload_of key block.padding)
 payload_at keeps text protection_key header key block derived =
     let payload : List ℕ = payload_of key block.padding in
     let n = length block.optional_blocks in
     let head : List ℕ = header_text (length text) header n block.reserved in
-    let rest : List ℕ = concat block.optional_blocks ++ block.body in
+    let rest : List ℕ = concat block.optional_blocks ++ block.sealed_part in
     let sixteen : length head ≡ 16 = length-header_text (length text) header n block.reserved block.header_is.widths block.reserved_width in
-    let mac : IsBlock block.mac = IsBlock-mac block.body block.ciphertext block.mac block.body_is_read block.mac_width in
+    let mac : IsBlock block.mac = IsBlock-mac block.sealed_part block.ciphertext block.mac block.sealed_part_is_read block.mac_width in
     let cipher_width : length block.ciphertext ≡ length payload =
     ap length block.enciphered ∙ keeps (derived_key encryption_usage protection_key) block.mac payload derived mac block.payload_is in
-    let body_width = (decode_of-ok block.body (block.ciphertext ++ block.mac) block.body_is_read).2 in
+    let sealed_part_width = (decode_of-ok block.sealed_part (block.ciphertext ++ block.mac) block.sealed_part_is_read).2 in
     let payload_width : length payload ≡ 2 + length key + length block.padding = omega (arith, length-append key block.padding) in
     let key_width : 16 ≤ length key = elim block.key_is.length_is [ inl double ↦ omega arith | inr triple ↦ omega arith ] in
-    let twice : length block.body ≡ 2 * (length payload + 8) = omega (arith, body_width, length-append block.ciphertext block.mac, block.mac_width, cipher_width) in
+    let twice : length block.sealed_part ≡ 2 * (length payload + 8) = omega (arith, sealed_part_width, length-append block.ciphertext block.mac, block.mac_width, cipher_width) in
     record {
       front = block.front;
       ciphertext = block.ciphertext;
       mac = block.mac;
       parts = record {
-        body = block.body;
-        body_is = record {
+        sealed_part = block.sealed_part;
+        sealed_part_is = record {
           count = n;
           count_is = count_at text protection_key header key block;
           leaves = record {
@@ -125,7 +125,7 @@ payload_at keeps text protection_key header key block derived =
           whole = omega (arith, twice, block.payload_is.whole);
         };
         front_is = block.laid_out;
-        body_is_read = block.body_is_read;
+        sealed_part_is_read = block.sealed_part_is_read;
         mac_width = block.mac_width;
       };
       payload_is = block.payload_is;

@@ -43,10 +43,10 @@ refuses_of : (text protection_key : List ℕ) → Exact text protection_key → 
     → RefusesFirstFaults answer text protection_key
 refuses_of text protection_key exact (Ok answer) found refused fault =
     (λ same. cc, λ first. absurd (first.fails (exact.no_fault answer.0 (bytes_of answer.1) found fault)))
-refuses_of text protection_key exact (Err told) found refused fault =
+refuses_of text protection_key exact (Err reported) found refused fault =
     let P : BlockFault → Type 0 = IsFirstFault text protection_key in (
-      λ same. subst P (fault_same told fault same) refused,
-      λ first. ap Err (IsFirstFault-same text protection_key told fault refused first),
+      λ same. subst P (fault_same reported fault same) refused,
+      λ first. ap Err (IsFirstFault-same text protection_key reported fault refused first),
     )
 
 pub reads : (text protection_key : List ℕ) (answer : Result (Header × KeyBytes) BlockFault) → Exact text protection_key → Sound text protection_key answer → ReadsKeyBlocks answer text protection_key

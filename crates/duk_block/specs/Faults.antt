@@ -32,21 +32,21 @@ pub record HasCount (text : List ℕ) (count : ℕ) : Type 0 where
   pub below : count < 100
   pub written : take 2 (drop 12 text) ≡ two_digits count
 
--- as many optional blocks as characters 12 and 13 say stand after the header, and then the body:
--- hexadecimal digits of a ciphertext of at least 24 bytes, in whole blocks, and of the MAC
-pub record HasBody (text body : List ℕ) : Type 0 where
+-- as many optional blocks as characters 12 and 13 say stand after the header, and then the sealed
+-- part: hexadecimal digits of a ciphertext of at least 24 bytes, in whole blocks, and of the MAC
+pub record HasSealedPart (text sealed_part : List ℕ) : Type 0 where
   pub count : ℕ
   pub count_is : HasCount text count
-  pub leaves : Leaves count (drop 16 text) body
-  pub least : 64 ≤ length body
-  pub whole : length body % 16 ≡ 0
+  pub leaves : Leaves count (drop 16 text) sealed_part
+  pub least : 64 ≤ length sealed_part
+  pub whole : length sealed_part % 16 ≡ 0
 
--- the body is this ciphertext and this MAC, and front is what stands before it
+-- the sealed part is this ciphertext and this MAC, and front is what stands before it
 pub record HasParts (text front ciphertext mac : List ℕ) : Type 0 where
-  pub body : List ℕ
-  pub body_is : HasBody text body
-  pub front_is : text ≡ front ++ body
-  pub body_is_read : IsHexadecimal body (ciphertext ++ mac)
+  pub sealed_part : List ℕ
+  pub sealed_part_is : HasSealedPart text sealed_part
+  pub front_is : text ≡ front ++ sealed_part
+  pub sealed_part_is_read : IsHexadecimal sealed_part (ciphertext ++ mac)
   pub mac_width : length mac ≡ 8
 
 -- under the protection key the parts are those of this payload, whatever it is
@@ -70,8 +70,9 @@ abbrev pub Meets : List ℕ → List ℕ → BlockFault → Type 0
 Meets text protection_key Length = HasLength text
 Meets text protection_key Version = HasVersion text
 Meets text protection_key HeaderField = HasFields text × ((count : ℕ) × HasCount text count)
-Meets text protection_key OptionalBlock = (body : List ℕ) × HasBody text body
-Meets text protection_key Hex = (body : List ℕ) × HasBody text body × AllPass is_hex_digit body
+Meets text protection_key OptionalBlock = (sealed_part : List ℕ) × HasSealedPart text sealed_part
+Meets text protection_key Hex =
+    (sealed_part : List ℕ) × HasSealedPart text sealed_part × AllPass is_hex_digit sealed_part
 Meets text protection_key Mac = (payload : List ℕ) × HasPayload text protection_key payload
 Meets text protection_key Payload =
     (payload key : List ℕ) × HasPayload text protection_key payload × Carries payload key

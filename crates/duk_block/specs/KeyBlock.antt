@@ -27,18 +27,18 @@ ciphertext_of protection_key mac payload =
     cbc_encrypted (derived_key encryption_usage protection_key) mac payload
 
 -- The text is a key block that binds the header to the key under the protection key. In front stand
--- the header's characters and the optional blocks; the body after them is the ciphertext and the
--- MAC in hexadecimal. This project's own: the reserved characters may be anything, the header's
+-- the header's characters and the optional blocks; the sealed part after them is the ciphertext and
+-- the MAC in hexadecimal. This project's own: the reserved characters may be anything, the header's
 -- fields can be printed, and the key has 16 or 24 bytes.
 pub record IsKeyBlock (text protection_key : List ℕ) (header : Header) (key : List ℕ) : Type 0 where
   pub reserved : List ℕ
   pub optional_blocks : List (List ℕ)
   pub front : List ℕ
-  pub body : List ℕ
+  pub sealed_part : List ℕ
   pub ciphertext : List ℕ
   pub mac : List ℕ
   pub padding : List ℕ
-  pub laid_out : text ≡ front ++ body
+  pub laid_out : text ≡ front ++ sealed_part
   pub front_is : front
       ≡ header_text (length text) header (length optional_blocks) reserved ++ concat optional_blocks
   pub length_has_four_digits : length text < 10000
@@ -46,7 +46,7 @@ pub record IsKeyBlock (text protection_key : List ℕ) (header : Header) (key : 
   pub reserved_width : length reserved ≡ 2
   pub count_has_two_digits : length optional_blocks < 100
   pub each_optional : All IsOptionalBlock optional_blocks
-  pub body_is_read : IsHexadecimal body (ciphertext ++ mac)
+  pub sealed_part_is_read : IsHexadecimal sealed_part (ciphertext ++ mac)
   pub mac_width : length mac ≡ 8
   pub key_is : IsTdesKey key
   pub payload_is : AreWholeBlocks (payload_of key padding)
@@ -88,7 +88,7 @@ pub record IsWrittenKeyBlock (text protection_key : List ℕ) (header : Header) 
   pub no_optional : block.optional_blocks ≡ []
   pub reserved_zeros : block.reserved ≡ codes "00"
   pub padding_is : block.padding ≡ padding
-  pub upper_case : block.body ≡ encode_upper (block.ciphertext ++ block.mac)
+  pub upper_case : block.sealed_part ≡ encode_upper (block.ciphertext ++ block.mac)
 
 -- a key and padding of these lengths fit a key block with no optional block: the payload, with two
 -- bytes for the key's length in front, is made of whole blocks, and the text is within the limits

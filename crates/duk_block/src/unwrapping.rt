@@ -7,7 +7,7 @@ ghost use Rattle.duk_tdes.specs.Tdes.{IsTdesLength};
 ghost use Rattle.duk_block.specs.Hexadecimal.{IsHexadecimal};
 ghost use Rattle.duk_block.specs.KeyBlock.{Wraps};
 ghost use Rattle.duk_tdes.specs.KeyBytes.{bytes_of, key_from};
-ghost use Rattle.duk_block.specs.Faults.{Carries, HasBody, HasCount, HasHeader, HasPayload, IsFirstFault, MetBefore};
+ghost use Rattle.duk_block.specs.Faults.{Carries, HasSealedPart, HasCount, HasHeader, HasPayload, IsFirstFault, MetBefore};
 ghost use Rattle.duk_block.specs.Unwrapped.{ReadsKeyBlocks, RefusesFirstFaults};
 
 use crate::digits::hex_bytes;
@@ -48,10 +48,10 @@ fn read<const N: usize>(kbpk: &Key<N>, text: &[u8]) -> Result<(Header, KeyBytes)
     ensures refused { IfErr result (IsFirstFault text.now kbpk.now) }
 {
     let (header, count) = header_of(text)?;
-    let Some(body) = body_of(text, count) else {
+    let Some(sealed_part) = sealed_part_of(text, count) else {
         return Err(BlockFault::OptionalBlock);
     };
-    let payload = open_payload(kbpk, text, body)?;
+    let payload = open_payload(kbpk, text, sealed_part)?;
     match key_in(payload.as_slice()) {
         Some(key) => Ok((header, key)),
         None => Err(BlockFault::Payload),
@@ -81,29 +81,29 @@ fn header_of(text: &[u8]) -> Result<(Header, u8), BlockFault>
 }
 
 /// What stands after the optional blocks, where ciphertext and MAC have room in it.
-fn body_of(text: &[u8], count: u8) -> Option<&[u8]>
+fn sealed_part_of(text: &[u8], count: u8) -> Option<&[u8]>
     requires header { 16 ≤ length text.now }
     requires count { HasCount text.now count }
-    ensures { MatchOption result ((body : List ℕ) → HasBody text.now body → ⊥)
-        (λ body. HasBody text.now body.now) }
+    ensures { MatchOption result ((sealed_part : List ℕ) → HasSealedPart text.now sealed_part → ⊥)
+        (λ sealed_part. HasSealedPart text.now sealed_part.now) }
 {
-    let body = after_optional(count, &text[16..])?;
-    if body.len() >= 64 && body.len() % 16 == 0 {
-        Some(body)
+    let sealed_part = after_optional(count, &text[16..])?;
+    if sealed_part.len() >= 64 && sealed_part.len() % 16 == 0 {
+        Some(sealed_part)
     } else {
         None
     }
 }
 
-/// The payload, where the body is hexadecimal and has the right MAC.
+/// The payload, where the sealed part is hexadecimal and has the right MAC.
 fn open_payload<const N: usize>(
     kbpk: &Key<N>,
     text: &[u8],
-    body: &[u8],
+    sealed_part: &[u8],
 ) -> Result<BlockText, BlockFault>
     requires key { IsTdesLength N }
     requires most { length text.now ≤ MAX_TEXT }
-    requires body { HasBody text.now body.now }
+    requires sealed_part { HasSealedPart text.now sealed_part.now }
     requires met { MetBefore text.now kbpk.now BlockFault.Hex }
     ensures found { IfOk result (λ payload. HasPayload text.now kbpk.now payload.items) }
     ensures length { IfOk result (λ payload. 24 ≤ length payload.items) }
@@ -111,11 +111,11 @@ fn open_payload<const N: usize>(
         (other : List ℕ) → HasPayload text.now kbpk.now other → other ≡ payload.items) }
     ensures refused { IfErr result (IsFirstFault text.now kbpk.now) }
 {
-    let front = &text[..text.len() - body.len()];
-    let Some(bytes) = hex_bytes(body) else {
+    let front = &text[..text.len() - sealed_part.len()];
+    let Some(bytes) = hex_bytes(sealed_part) else {
         return Err(BlockFault::Hex);
     };
-    let (ciphertext, mac) = bytes.as_slice().split_at(body.len() / 2 - 8);
+    let (ciphertext, mac) = bytes.as_slice().split_at(sealed_part.len() / 2 - 8);
     let mac = array_of(mac);
     let payload = decipher(kbpk, mac, ciphertext);
     if block_mac(kbpk, front, payload.as_slice()) == mac {

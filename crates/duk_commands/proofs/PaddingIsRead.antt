@@ -23,14 +23,14 @@ pub long_fits_none : (text padding : List ℕ) (key : ℕ) → 481 < length text
 long_fits_none text padding key long read fits = omega (arith, (decode_of-ok text padding read).2, fits.most)
 
 -- what the decoder found in the text, where it found something
-found : (text out : List ℕ) (n : ℕ) (read : Result (List ℕ) FromHexError) (told : Result Unit FromHexError) → decode_sized text n ≡ read
-    → MatchResult read (λ bytes. (told ≡ Ok tt) × (out ≡ bytes)) (λ e. told ≡ Err e) → result_ok told ≡ Some tt → IsHexadecimal text out
-found text out n (Ok bytes) told is h ok = rw h.1 (sym (decode_sized-twice text n (decode_sized-ok text n bytes is)) ∙ is)
-found text out n (Err e) told is h ok = cc (rw h at ok)
+found : (text out : List ℕ) (n : ℕ) (read : Result (List ℕ) FromHexError) (reported : Result Unit FromHexError) → decode_sized text n ≡ read
+    → MatchResult read (λ bytes. (reported ≡ Ok tt) × (out ≡ bytes)) (λ e. reported ≡ Err e) → result_ok reported ≡ Some tt → IsHexadecimal text out
+found text out n (Ok bytes) reported is h ok = rw h.1 (sym (decode_sized-twice text n (decode_sized-ok text n bytes is)) ∙ is)
+found text out n (Err e) reported is h ok = cc (rw h at ok)
 
 -- a vector, over which the decoder wrote as many bytes as it had
-pub read_over : (text out held : List ℕ) (n : ℕ) (told : Result Unit FromHexError) → length out ≡ length held
-    → MatchResult (decode_sized text n) (λ bytes. (told ≡ Ok tt) × (out ≡ bytes)) (λ e. told ≡ Err e) → result_ok told ≡ Some tt
+pub read_over : (text out held : List ℕ) (n : ℕ) (reported : Result Unit FromHexError) → length out ≡ length held
+    → MatchResult (decode_sized text n) (λ bytes. (reported ≡ Ok tt) × (out ≡ bytes)) (λ e. reported ≡ Err e) → result_ok reported ≡ Some tt
     → IsHexadecimal text (take (length held) (out ++ drop (length out) held))
-read_over text out held n told same h ok =
-    rw (← same, take-append_seam) (found text out n (decode_sized text n) told refl h ok)
+read_over text out held n reported same h ok =
+    rw (← same, take-append_seam) (found text out n (decode_sized text n) reported refl h ok)

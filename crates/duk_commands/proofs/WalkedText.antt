@@ -6,7 +6,7 @@ use Rattle.duk_tree.specs.Serial.{Serial}
 use Rattle.duk_regs.specs.Registers.{RegisterSet}
 use Rattle.duk_commands.specs.Walk.{Asked, IsPrinted, IsPassed, IsLoaded, Passes, IsSpentWithin, HasPrinted, HasPrintedInPart, HasWalked, HasWalkedInPart, number_text, number_line, spent_line}
 
--- a line more is held, behind what is left of the lines before
+-- a line more is held, after what is left of the lines before
 pub text_more : (written held part left line rest pushed : List ℕ) → held ≡ part ++ left → pushed ≡ left ++ line
     → written ++ held ++ (line ++ rest) ≡ (written ++ part) ++ pushed ++ rest
 text_more written held part left line rest pushed split more = rw (split, more) (simp append_assoc)

@@ -2,11 +2,11 @@
 use Rattle.std.specs.Prelude.{◌⊎◌, ℕ, List}
 use Rattle.duk_io.specs.Known.{Known}
 use Rattle.duk_io.specs.Sink.{IsCut, IsTried, IsUntouched, IsWritten}
-use Rattle.duk_commands.specs.Fault.{line_telling}
+use Rattle.duk_commands.specs.Fault.{report_line}
 use Rattle.duk_commands.specs.declared.fault.Fault.{Fault}
 use Rattle.duk_commands.specs.declared.fault.Fault.TheVariants.{WriteFailed}
 
--- what a command makes of its words: the texts that they ask it to write, the texts that it may
+-- what a command makes of its arguments: the texts that they ask it to write, the texts that it may
 -- have begun to write where a write failed, and the faults for which they are refused
 pub record Command : Type 1 where
   pub writes : List ℕ → Type 0
@@ -38,33 +38,33 @@ pub record HasWritten (text : List ℕ) (s : Streams) : Type 0 where
   pub no_fault : IsUntouched s.fault_before s.fault_after
 
 -- no output was written, and the line of this fault was
-pub record HasTold (why : Fault) (s : Streams) : Type 0 where
+pub record HasReported (why : Fault) (s : Streams) : Type 0 where
   pub no_output : IsUntouched s.output_before s.output_after
-  pub line : IsTried s.fault_before s.fault_after (line_telling why)
+  pub line : IsTried s.fault_before s.fault_after (report_line why)
 
--- a write failed, a prefix of this text was written, and the line that tells it
-pub record HasFailed (text : List ℕ) (s : Streams) : Type 0 where
+-- a write failed, a prefix of this text was written, and the line that reports it
+pub record HasWriteFailed (text : List ℕ) (s : Streams) : Type 0 where
   pub prefix : IsCut s.output_before s.output_after text
-  pub line : IsTried s.fault_before s.fault_after (line_telling WriteFailed)
+  pub line : IsTried s.fault_before s.fault_after (report_line WriteFailed)
 
--- status 0: a text that the words ask for was written
+-- status 0: a text that the arguments ask for was written
 pub record IsDone (command : Command) (s : Streams) : Type 0 where
   pub text : List ℕ
   pub asked : command.writes text
   pub written : HasWritten text s
 
--- the words were refused, and that was told
+-- the arguments were refused, and that was reported
 pub record IsRefused (command : Command) (s : Streams) : Type 0 where
   pub why : Fault
   pub cause : command.refuses why
-  pub told : HasTold why s
+  pub reported : HasReported why s
 
 -- such a text was begun, and a write failed
 pub record IsCutShort (command : Command) (s : Streams) : Type 0 where
   pub text : List ℕ
   pub asked : command.begins text
-  pub failed : HasFailed text s
+  pub failed : HasWriteFailed text s
 
--- status 1: the words were refused, or a write failed
+-- status 1: the arguments were refused, or a write failed
 abbrev pub IsNotDone : Command → Streams → Type 0
 IsNotDone command s = IsRefused command s ⊎ IsCutShort command s

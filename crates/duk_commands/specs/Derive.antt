@@ -1,4 +1,4 @@
--- What `derive` makes of its words (this project's own, over the standard's keys).
+-- What `derive` makes of its arguments (this project's own, over the standard's keys).
 use Rattle.std.specs.Prelude.{◌≡◌, ◌++◌, ℕ, List, codes, Some, None, IsSome}
 use Rattle.duk_tdes.specs.KeyText.{double_key_of_text}
 use Rattle.duk_tree.specs.Serial.{Serial, ksn_of_text}
@@ -9,17 +9,17 @@ use Rattle.duk_commands.specs.Lines.{named_line}
 use Rattle.duk_commands.specs.declared.fault.Fault.{Fault}
 use Rattle.duk_commands.specs.declared.fault.Fault.TheVariants.{BdkRefused, KsnRefused, CounterRefused}
 
--- the words are a base derivation key and a key serial number
-pub record AreDeriveWords (bdk ksn : List ℕ) (key : List ℕ) (serial : Serial) : Type 0 where
+-- the arguments are a base derivation key and a key serial number
+pub record AreDeriveArguments (bdk ksn : List ℕ) (key : List ℕ) (serial : Serial) : Type 0 where
   pub key_read : double_key_of_text bdk ≡ Some key
   pub serial_read : ksn_of_text ksn ≡ Some serial
 
--- why the words are refused: the first that holds of these three
+-- why the arguments are refused: the first that holds of these three
 abbrev pub IsDeriveRefused : List ℕ → List ℕ → Fault → Type 0
 IsDeriveRefused bdk ksn BdkRefused = double_key_of_text bdk ≡ None
 IsDeriveRefused bdk ksn KsnRefused = IsSome (double_key_of_text bdk) × (ksn_of_text ksn ≡ None)
 IsDeriveRefused bdk ksn CounterRefused =
-    (key : List ℕ) × (serial : Serial) × AreDeriveWords bdk ksn key serial
+    (key : List ℕ) × (serial : Serial) × AreDeriveArguments bdk ksn key serial
     × ¬ IsUsable serial.counter
 IsDeriveRefused bdk ksn _ = ⊥
 
@@ -30,14 +30,14 @@ key_lines bdk serial =
     ++ named_line (codes "key") (derived_key_of bdk serial)
     ++ named_line (codes "pin") (pin_key_of (derived_key_of bdk serial))
 
--- the words are read, the counter may be used, and this is the text of its three lines
+-- the arguments are read, the counter may be used, and this is the text of its three lines
 pub record IsDeriveText (bdk ksn text : List ℕ) : Type 0 where
   pub key : List ℕ
   pub serial : Serial
-  pub words : AreDeriveWords bdk ksn key serial
+  pub arguments : AreDeriveArguments bdk ksn key serial
   pub usable : IsUsable serial.counter
   pub text_is : text ≡ key_lines key serial
 
--- the command over these words
+-- the command over these arguments
 abbrev pub derive_of : List ℕ → List ℕ → Command
 derive_of bdk ksn = command_of (IsDeriveText bdk ksn) (IsDeriveRefused bdk ksn)

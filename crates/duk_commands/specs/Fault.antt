@@ -1,4 +1,4 @@
--- The lines that tell why a command ends with status 1 (this project's own).
+-- The lines that report why a command ends with status 1 (this project's own).
 use Rattle.std.specs.Prelude.{ℕ, List, [], ◌∷◌, ◌++◌, codes}
 use Rattle.duk_block.specs.FaultName.{block_fault_name}
 use Rattle.duk_io.specs.Known.{Known}
@@ -11,7 +11,7 @@ use Rattle.duk_commands.specs.declared.fault.Fault.TheVariants.{BdkRefused, KsnR
 abbrev pub line_end : List ℕ
 line_end = 10 ∷ []
 
--- what is told of a fault
+-- what is reported of a fault
 abbrev pub fault_text : Fault → List ℕ
 fault_text BdkRefused = codes "BDK refused"
 fault_text KsnRefused = codes "KSN refused"
@@ -28,10 +28,10 @@ fault_text OutOfMemory = codes "out of memory"
 fault_text WriteFailed = codes "write failed"
 
 -- the line of a fault
-abbrev pub line_telling : Fault → List ℕ
-line_telling fault = fault_text fault ++ line_end
+abbrev pub report_line : Fault → List ℕ
+report_line fault = fault_text fault ++ line_end
 
 -- the line of some fault was written, but for what a failed write cut off
-pub record IsFaultTold (old new : Known) : Type 0 where
+pub record IsFaultReported (old new : Known) : Type 0 where
   pub why : Fault
-  pub line : IsTried old new (line_telling why)
+  pub line : IsTried old new (report_line why)

@@ -1,4 +1,4 @@
--- What `pin` makes of its words (this project's own, over ISO 9564-1 format 0).
+-- What `pin` makes of its arguments (this project's own, over ISO 9564-1 format 0).
 use Rattle.std.specs.Prelude.{◌≡◌, ◌⊎◌, ◌<◌, ℕ, List, [], ◌++◌, length, codes, Option, Some, None, Any, ⊤}
 use Rattle.std.specs.Char.{IsNotAsciiDigit}
 use Rattle.duk_pin.specs.Pan.{HasPanLength, IsPan}
@@ -12,28 +12,28 @@ use Rattle.duk_commands.specs.Lines.{named_line}
 use Rattle.duk_commands.specs.declared.fault.Fault.{Fault}
 use Rattle.duk_commands.specs.declared.fault.Fault.TheVariants.{KeyRefused, PinRefused}
 
--- the key that an optional word writes, where it is given
-abbrev pub IsKeyWord : Option (List ℕ) → Option (List ℕ) → Type 0
-IsKeyWord None None = ⊤
-IsKeyWord None (Some key) = ⊥
-IsKeyWord (Some text) None = ⊥
-IsKeyWord (Some text) (Some key) = double_key_of_text text ≡ Some key
+-- the key that an optional argument writes, where it is given
+abbrev pub IsKeyArgument : Option (List ℕ) → Option (List ℕ) → Type 0
+IsKeyArgument None None = ⊤
+IsKeyArgument None (Some key) = ⊥
+IsKeyArgument (Some text) None = ⊥
+IsKeyArgument (Some text) (Some key) = double_key_of_text text ≡ Some key
 
 -- a key is given and is not 32 hexadecimal digits
-abbrev pub IsKeyWordRefused : Option (List ℕ) → Type 0
-IsKeyWordRefused None = ⊥
-IsKeyWordRefused (Some text) = double_key_of_text text ≡ None
+abbrev pub IsKeyArgumentRefused : Option (List ℕ) → Type 0
+IsKeyArgumentRefused None = ⊥
+IsKeyArgumentRefused (Some text) = double_key_of_text text ≡ None
 
--- why the words are refused: the first that holds of these
+-- why the arguments are refused: the first that holds of these
 abbrev pub IsPinRefused : List ℕ → List ℕ → Option (List ℕ) → Fault → Type 0
-IsPinRefused pin pan word (PinRefused PinLength) = (length pin < 4) ⊎ (12 < length pin)
-IsPinRefused pin pan word (PinRefused PinDigit) = HasPinLength pin × Any IsNotAsciiDigit pin
-IsPinRefused pin pan word (PinRefused PanLength) =
+IsPinRefused pin pan argument (PinRefused PinLength) = (length pin < 4) ⊎ (12 < length pin)
+IsPinRefused pin pan argument (PinRefused PinDigit) = HasPinLength pin × Any IsNotAsciiDigit pin
+IsPinRefused pin pan argument (PinRefused PanLength) =
     IsPin pin × ((length pan < 12) ⊎ (19 < length pan))
-IsPinRefused pin pan word (PinRefused PanDigit) =
+IsPinRefused pin pan argument (PinRefused PanDigit) =
     IsPin pin × HasPanLength pan × Any IsNotAsciiDigit pan
-IsPinRefused pin pan word KeyRefused = IsPin pin × IsPan pan × IsKeyWordRefused word
-IsPinRefused pin pan word _ = ⊥
+IsPinRefused pin pan argument KeyRefused = IsPin pin × IsPan pan × IsKeyArgumentRefused argument
+IsPinRefused pin pan argument _ = ⊥
 
 -- the second line, where a key is given: the block enciphered under it
 abbrev pub enciphered_line : Option (List ℕ) → List ℕ → List ℕ
@@ -45,14 +45,14 @@ abbrev pub block_lines : List ℕ → List ℕ → Option (List ℕ) → List �
 block_lines pin pan key =
     named_line (codes "block") (pin_block pin pan) ++ enciphered_line key (pin_block pin pan)
 
--- the words are a PIN, a PAN and, where it is given, a key, and this is the text of their lines
-pub record IsPinText (pin pan : List ℕ) (word : Option (List ℕ)) (text : List ℕ) : Type 0 where
+-- the arguments are a PIN, a PAN and, where it is given, a key, and this is the text of their lines
+pub record IsPinText (pin pan : List ℕ) (argument : Option (List ℕ)) (text : List ℕ) : Type 0 where
   pub key : Option (List ℕ)
   pub pin_read : IsPin pin
   pub pan_read : IsPan pan
-  pub key_read : IsKeyWord word key
+  pub key_read : IsKeyArgument argument key
   pub text_is : text ≡ block_lines pin pan key
 
--- the command over these words
+-- the command over these arguments
 abbrev pub pin_of : List ℕ → List ℕ → Option (List ℕ) → Command
-pin_of pin pan word = command_of (IsPinText pin pan word) (IsPinRefused pin pan word)
+pin_of pin pan argument = command_of (IsPinText pin pan argument) (IsPinRefused pin pan argument)

@@ -1,10 +1,10 @@
--- What `walk` makes of its words (this project's own, over the standard's keys).
+-- What `walk` makes of its arguments (this project's own, over the standard's keys).
 use Rattle.std.specs.Prelude.{◌≡◌, ◌⊎◌, ◌+◌, ◌*◌, ◌-◌, ◌<◌, ◌≤◌, ℕ, zero, suc, Bool, List, [], ◌++◌, length, fold, codes, Option, Some, None, IsSome, if◌then◌else◌, All}
 use Rattle.std.specs.Char.{IsAsciiDigit}
 use Rattle.hex.specs.Hex.{encode_upper}
 use Rattle.duk_io.specs.Known.{Known}
 use Rattle.duk_io.specs.Sink.{IsCut, IsWritten}
-use Rattle.duk_regs.specs.Registers.{RegisterSet, StandsFor}
+use Rattle.duk_regs.specs.Registers.{RegisterSet, AreFutureKeysOf}
 use Rattle.duk_tdes.specs.KeyText.{double_key_of_text}
 use Rattle.duk_tree.specs.Derivation.{initial_key_of, transaction_key_of}
 use Rattle.duk_tree.specs.Next.{spent_counter, ComesAfter}
@@ -34,39 +34,39 @@ pub record IsCount (text : List ℕ) (count : ℕ) : Type 0 where
 abbrev pub IsNoCount : List ℕ → Type 0
 IsNoCount text = (count : ℕ) → IsCount text count → ⊥
 
--- the number of an optional word, which is zero where it is not given
+-- the number of an optional argument, which is zero where it is not given
 abbrev pub IsSkip : Option (List ℕ) → ℕ → Type 0
 IsSkip None skip = skip ≡ 0
 IsSkip (Some text) skip = IsCount text skip
 
--- an optional word is given and writes no such number
+-- an optional argument is given and writes no such number
 abbrev pub IsNoSkip : Option (List ℕ) → Type 0
 IsNoSkip None = ⊥
 IsNoSkip (Some text) = IsNoCount text
 
--- the words, as written, and whether the key serial numbers alone are asked for
-pub record WalkWords : Type 0 where
+-- the arguments, as written, and whether the key serial numbers alone are asked for
+pub record WalkArguments : Type 0 where
   pub bdk : List ℕ
   pub iksn : List ℕ
   pub count : List ℕ
   pub skip : Option (List ℕ)
   pub alone : Bool
 
--- those words
-abbrev pub walk_words : List ℕ → List ℕ → List ℕ → Option (List ℕ) → Bool → WalkWords
-walk_words bdk iksn count skip alone =
+-- those arguments
+abbrev pub walk_arguments : List ℕ → List ℕ → List ℕ → Option (List ℕ) → Bool → WalkArguments
+walk_arguments bdk iksn count skip alone =
     record { bdk = bdk; iksn = iksn; count = count; skip = skip; alone = alone }
 
--- what the words ask for: the terminal's initial key and number, and how many numbers it passes and
--- prints
+-- what the arguments ask for: the terminal's initial key and number, and how many numbers it passes
+-- and prints
 pub record Asked : Type 0 where
   pub initial : List ℕ
   pub iksn : ℕ
   pub skip : ℕ
   pub count : ℕ
 
--- the words are read
-pub record AreWalkWords (bdk iksn count : List ℕ) (skip : Option (List ℕ)) (asked : Asked)
+-- the arguments are read
+pub record AreWalkArguments (bdk iksn count : List ℕ) (skip : Option (List ℕ)) (asked : Asked)
     : Type 0 where
   pub key : List ℕ
   pub key_read : double_key_of_text bdk ≡ Some key
@@ -75,7 +75,7 @@ pub record AreWalkWords (bdk iksn count : List ℕ) (skip : Option (List ℕ)) (
   pub count_read : IsCount count asked.count
   pub skip_read : IsSkip skip asked.skip
 
--- why the words are refused: the first that holds of these three
+-- why the arguments are refused: the first that holds of these three
 abbrev pub IsWalkRefused : List ℕ → List ℕ → List ℕ → Option (List ℕ) → Fault → Type 0
 IsWalkRefused bdk iksn count skip BdkRefused = double_key_of_text bdk ≡ None
 IsWalkRefused bdk iksn count skip IksnRefused =
@@ -121,7 +121,7 @@ IsPassed line counter (suc skip) count text =
 -- they were
 pub record Passes (old : RegisterSet) (skip : ℕ) (new : RegisterSet) : Type 0 where
   pub same_iksn : new.iksn ≡ old.iksn
-  pub stands : (initial : List ℕ) → StandsFor initial old → StandsFor initial new
+  pub future_keys : (initial : List ℕ) → AreFutureKeysOf initial old → AreFutureKeysOf initial new
   pub lines : (line : ℕ → List ℕ) (count : ℕ) (text : List ℕ)
       → IsPrinted line new.counter count text
       → IsPassed line old.counter skip count text
@@ -156,33 +156,34 @@ HasWalkedInPart initial alone old skip count output output' =
     × IsPassed (number_line initial old.iksn alone) old.counter skip reached text
     × IsCut output output' text
 
--- a terminal that was loaded as the words ask
+-- a terminal that was loaded as the arguments ask
 pub record IsLoaded (asked : Asked) (registers : RegisterSet) (skip count : ℕ) : Type 0 where
-  pub stands : StandsFor asked.initial registers
+  pub future_keys : AreFutureKeysOf asked.initial registers
   pub same_iksn : registers.iksn ≡ asked.iksn
   pub first : registers.counter ≡ 1
   pub same_skip : skip ≡ asked.skip
   pub same_count : count ≡ asked.count
 
--- the words are read, and this is the text of the lines that they ask for
-pub record IsWalkText (words : WalkWords) (text : List ℕ) : Type 0 where
+-- the arguments are read, and this is the text of the lines that they ask for
+pub record IsWalkText (arguments : WalkArguments) (text : List ℕ) : Type 0 where
   pub asked : Asked
-  pub read : AreWalkWords words.bdk words.iksn words.count words.skip asked
-  pub lines : IsPassed (number_line asked.initial asked.iksn words.alone) 1 asked.skip asked.count
+  pub read : AreWalkArguments arguments.bdk arguments.iksn arguments.count arguments.skip asked
+  pub lines : IsPassed (number_line asked.initial asked.iksn arguments.alone) 1 asked.skip asked.count
       text
 
--- the words are read, and this is the text of the lines of so many of those numbers as were reached
-pub record IsWalkStart (words : WalkWords) (text : List ℕ) : Type 0 where
+-- the arguments are read, and this is the text of the lines of so many of those numbers as were
+-- reached
+pub record IsWalkStart (arguments : WalkArguments) (text : List ℕ) : Type 0 where
   pub asked : Asked
   pub reached : ℕ
-  pub read : AreWalkWords words.bdk words.iksn words.count words.skip asked
+  pub read : AreWalkArguments arguments.bdk arguments.iksn arguments.count arguments.skip asked
   pub not_more : reached ≤ asked.count
-  pub lines : IsPassed (number_line asked.initial asked.iksn words.alone) 1 asked.skip reached text
+  pub lines : IsPassed (number_line asked.initial asked.iksn arguments.alone) 1 asked.skip reached text
 
--- the command over these words: its lines are written as they are made
-abbrev pub walk_of : WalkWords → Command
-walk_of words = record {
-  writes = IsWalkText words;
-  begins = IsWalkStart words;
-  refuses = IsWalkRefused words.bdk words.iksn words.count words.skip;
+-- the command over these arguments: its lines are written as they are made
+abbrev pub walk_of : WalkArguments → Command
+walk_of arguments = record {
+  writes = IsWalkText arguments;
+  begins = IsWalkStart arguments;
+  refuses = IsWalkRefused arguments.bdk arguments.iksn arguments.count arguments.skip;
 }

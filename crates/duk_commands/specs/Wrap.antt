@@ -1,4 +1,4 @@
--- What `wrap` makes of its words (this project's own, over key blocks of ANSI X9.143).
+-- What `wrap` makes of its arguments (this project's own, over key blocks of ANSI X9.143).
 use Rattle.std.specs.Prelude.{◌≡◌, ◌≢◌, ◌++◌, ℕ, List, Some, None, IsSome, length}
 use Rattle.duk_block.specs.HeaderText.{HasWidths, IsHeader, fields}
 use Rattle.duk_block.specs.Hexadecimal.{IsHexadecimal}
@@ -14,18 +14,19 @@ use Rattle.duk_commands.specs.Fault.{line_end}
 use Rattle.duk_commands.specs.declared.fault.Fault.{Fault}
 use Rattle.duk_commands.specs.declared.fault.Fault.TheVariants.{KbpkRefused, FieldsRefused, KeyRefused, PadRefused, BlockRefused}
 
--- the words, as written
-pub record WrapWords : Type 0 where
+-- the arguments, as written
+pub record WrapArguments : Type 0 where
   pub kbpk : List ℕ
   pub fields : List ℕ
   pub key : List ℕ
   pub pad : List ℕ
 
--- the four words
-abbrev pub wrap_words : List ℕ → List ℕ → List ℕ → List ℕ → WrapWords
-wrap_words kbpk fields key pad = record { kbpk = kbpk; fields = fields; key = key; pad = pad }
+-- the four arguments
+abbrev pub wrap_arguments : List ℕ → List ℕ → List ℕ → List ℕ → WrapArguments
+wrap_arguments kbpk fields key pad = record { kbpk = kbpk; fields = fields; key = key; pad = pad }
 
--- what the words ask for: to wrap a key with this header and this padding under a protection key
+-- what the arguments ask for: to wrap a key with this header and this padding under a protection
+-- key
 pub record Wrapping : Type 0 where
   pub protection_key : KeyBytes
   pub header : Header
@@ -42,12 +43,12 @@ pub record IsFieldsText (text : List ℕ) (header : Header) : Type 0 where
   pub widths : HasWidths header
   pub fields_are : fields header ≡ text
 
--- the words are read
-pub record AreWrapWords (words : WrapWords) (asked : Wrapping) : Type 0 where
-  pub protection_key_read : tdes_key_of_text words.kbpk ≡ Some asked.protection_key
-  pub fields_read : IsFieldsText words.fields asked.header
-  pub key_read : tdes_key_of_text words.key ≡ Some asked.key
-  pub pad_read : IsHexadecimal words.pad asked.padding
+-- the arguments are read
+pub record AreWrapArguments (arguments : WrapArguments) (asked : Wrapping) : Type 0 where
+  pub protection_key_read : tdes_key_of_text arguments.kbpk ≡ Some asked.protection_key
+  pub fields_read : IsFieldsText arguments.fields asked.header
+  pub key_read : tdes_key_of_text arguments.key ≡ Some asked.key
+  pub pad_read : IsHexadecimal arguments.pad asked.padding
 
 -- the text is no pairs of hexadecimal digits
 abbrev pub IsNoPadText : List ℕ → Type 0
@@ -71,30 +72,33 @@ IsWrapFault header key padding _ = ⊥
 abbrev pub IsNotWrapped : Wrapping → BlockFault → Type 0
 IsNotWrapped asked = IsWrapFault asked.header (length (bytes_of asked.key)) (length asked.padding)
 
--- the first words of a wrapping are read
-pub record AreFirstWords (words : WrapWords) : Type 0 where
-  pub protection_key_read : IsSome (tdes_key_of_text words.kbpk)
-  pub seven_fields : length words.fields ≡ 7
+-- the first arguments of a wrapping are read
+pub record AreFirstArguments (arguments : WrapArguments) : Type 0 where
+  pub protection_key_read : IsSome (tdes_key_of_text arguments.kbpk)
+  pub seven_fields : length arguments.fields ≡ 7
 
--- why the words are refused: the first that holds of these
-abbrev pub IsWrapRefused : WrapWords → Fault → Type 0
-IsWrapRefused words KbpkRefused = tdes_key_of_text words.kbpk ≡ None
-IsWrapRefused words FieldsRefused = IsSome (tdes_key_of_text words.kbpk) × (length words.fields ≢ 7)
-IsWrapRefused words KeyRefused = AreFirstWords words × (tdes_key_of_text words.key ≡ None)
-IsWrapRefused words PadRefused =
-    AreFirstWords words × IsSome (tdes_key_of_text words.key) × IsNoPadText words.pad
-IsWrapRefused words (BlockRefused fault) =
-    (asked : Wrapping) × AreWrapWords words asked × IsNotWrapped asked fault
-IsWrapRefused words _ = ⊥
+-- why the arguments are refused: the first that holds of these
+abbrev pub IsWrapRefused : WrapArguments → Fault → Type 0
+IsWrapRefused arguments KbpkRefused = tdes_key_of_text arguments.kbpk ≡ None
+IsWrapRefused arguments FieldsRefused =
+    IsSome (tdes_key_of_text arguments.kbpk) × (length arguments.fields ≢ 7)
+IsWrapRefused arguments KeyRefused =
+    AreFirstArguments arguments × (tdes_key_of_text arguments.key ≡ None)
+IsWrapRefused arguments PadRefused =
+    AreFirstArguments arguments × IsSome (tdes_key_of_text arguments.key)
+    × IsNoPadText arguments.pad
+IsWrapRefused arguments (BlockRefused fault) =
+    (asked : Wrapping) × AreWrapArguments arguments asked × IsNotWrapped asked fault
+IsWrapRefused arguments _ = ⊥
 
--- the words are read, and this is the line of their key block
-pub record IsWrapText (words : WrapWords) (text : List ℕ) : Type 0 where
+-- the arguments are read, and this is the line of their key block
+pub record IsWrapText (arguments : WrapArguments) (text : List ℕ) : Type 0 where
   pub asked : Wrapping
   pub block : List ℕ
-  pub read : AreWrapWords words asked
+  pub read : AreWrapArguments arguments asked
   pub block_is : IsWrapping asked block
   pub text_is : text ≡ block ++ line_end
 
--- the command over these words
-abbrev pub wrap_of : WrapWords → Command
-wrap_of words = command_of (IsWrapText words) (IsWrapRefused words)
+-- the command over these arguments
+abbrev pub wrap_of : WrapArguments → Command
+wrap_of arguments = command_of (IsWrapText arguments) (IsWrapRefused arguments)

@@ -1,9 +1,9 @@
 //! How a command answers, once its lines or its fault are known.
 
 ghost use Rattle.std.specs.Prelude.{◌≡◌, ◌⊎◌, MatchResult, IsOkAnd};
-ghost use Rattle.duk_commands.specs.Answer.{HasFailed, HasTold, HasWritten, streams};
+ghost use Rattle.duk_commands.specs.Answer.{HasWriteFailed, HasReported, HasWritten, streams};
 
-use crate::fault::{Fault, tell};
+use crate::fault::{Fault, report};
 use crate::lines::Lines;
 use duk_io::{Sink, write_text};
 
@@ -15,18 +15,18 @@ pub fn finish<W: Sink, F: Sink>(lines: Result<Lines, Fault>, output: &mut W, fau
         (streams (W.known output.old) (W.known output.new)
         (F.known fault.old) (F.known fault.new))) }
     ensures not_done { result ≡ 1 → MatchResult lines
-        (λ lines. HasFailed lines.items
+        (λ lines. HasWriteFailed lines.items
         (streams (W.known output.old) (W.known output.new) (F.known fault.old) (F.known fault.new)))
-        (λ why. HasTold why
+        (λ why. HasReported why
         (streams (W.known output.old) (W.known output.new)
         (F.known fault.old) (F.known fault.new))) }
 {
     let lines = match lines {
         Ok(lines) => lines,
-        Err(why) => return tell(fault, why),
+        Err(why) => return report(fault, why),
     };
     match write_text(output, lines.as_slice()) {
         Ok(()) => 0,
-        Err(_) => tell(fault, Fault::WriteFailed),
+        Err(_) => report(fault, Fault::WriteFailed),
     }
 }

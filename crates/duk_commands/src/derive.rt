@@ -29,7 +29,7 @@ pub fn derive_command<W: Sink, F: Sink>(bdk: &str, ksn: &str, output: &mut W, fa
     finish(derive_lines(bdk, ksn), output, fault)
 }
 
-/// The three lines of the two words, or their first fault.
+/// The three lines of the two arguments, or their first fault.
 fn derive_lines(bdk: &str, ksn: &str) -> Result<Lines, Fault>
     ensures lines { IfOk result (λ lines. IsDeriveText bdk.now ksn.now lines.items) }
     ensures refused { IfErr result (IsDeriveRefused bdk.now ksn.now) }

@@ -2,7 +2,7 @@
 
 ghost use Rattle.std.specs.Prelude.{◌≡◌, ◌≤◌, length};
 ghost use Rattle.duk_io.specs.Sink.{IsTried};
-ghost use Rattle.duk_commands.specs.Fault.{fault_text, line_telling};
+ghost use Rattle.duk_commands.specs.Fault.{fault_text, report_line};
 
 use crate::lines::{Lines, push_end, push_text};
 use duk_block::BlockFault;
@@ -41,7 +41,7 @@ pub enum Fault {
 }
 
 impl Fault {
-    /// What is told of the fault.
+    /// What is reported of the fault.
     pub fn text(self) -> &'static str
         ensures text { result.now ≡ fault_text self }
         ensures short { length result.now ≤ 15 }
@@ -65,9 +65,9 @@ impl Fault {
 }
 
 /// Writes the line of the fault and gives the status 1. What cannot be written of the line is lost.
-pub fn tell<F: Sink>(fault: &mut F, why: Fault) -> u8
+pub fn report<F: Sink>(fault: &mut F, why: Fault) -> u8
     ensures status { result ≡ 1 }
-    ensures line { IsTried (F.known fault.old) (F.known fault.new) (line_telling why) }
+    ensures line { IsTried (F.known fault.old) (F.known fault.new) (report_line why) }
 {
     let mut line = Lines::new();
     push_text(&mut line, why.text().as_bytes());

@@ -1,5 +1,5 @@
-//! The commands over keys, PINs and key blocks, each over the words that it is given: what it reads
-//! of them, the lines that it writes, and the faults that it tells.
+//! The commands over keys, PINs and key blocks, each over the arguments that it is given: what it
+//! reads of them, the lines that it writes, and the faults that it reports.
 #![tactic(auto)]
 
 mod answer;
@@ -13,7 +13,7 @@ mod walk;
 mod wrap;
 
 pub use derive::derive_command;
-pub use fault::{Fault, tell};
+pub use fault::{Fault, report};
 pub use pin::pin_command;
 pub use unwrap::unwrap_command;
 pub use walk::walk_command;

@@ -3,7 +3,7 @@
 ghost use Rattle.std.specs.Prelude.{◌≡◌, ◌⊎◌, IfOk, IfErr, MatchResult};
 ghost use Rattle.std.specs.Option.{option_copied};
 ghost use Rattle.duk_commands.specs.Answer.{IsDone, IsNotDone, streams};
-ghost use Rattle.duk_commands.specs.Pin.{IsKeyWord, IsKeyWordRefused, IsPinRefused, IsPinText, block_lines, pin_of};
+ghost use Rattle.duk_commands.specs.Pin.{IsKeyArgument, IsKeyArgumentRefused, IsPinRefused, IsPinText, block_lines, pin_of};
 
 use crate::answer::finish;
 use crate::fault::Fault;
@@ -36,7 +36,7 @@ pub fn pin_command<W: Sink, F: Sink>(
     finish(pin_lines(pin, pan, key), output, fault)
 }
 
-/// The lines of the words, or their first fault.
+/// The lines of the arguments, or their first fault.
 fn pin_lines(pin: &str, pan: &str, key: Option<&str>) -> Result<Lines, Fault>
     ensures lines { IfOk result
         (λ lines. IsPinText pin.now pan.now (option_copied key.entry) lines.items) }
@@ -44,16 +44,16 @@ fn pin_lines(pin: &str, pan: &str, key: Option<&str>) -> Result<Lines, Fault>
 {
     let pin = Pin::parse(pin).map_err(Fault::PinRefused)?;
     let pan = Pan::parse(pan).map_err(Fault::PinRefused)?;
-    let key = read_key_word(key)?;
+    let key = read_key_argument(key)?;
     Ok(block_lines(&pin, &pan, key))
 }
 
 /// The key of `--key`, where it is given.
-fn read_key_word(word: Option<&str>) -> Result<Option<Key<16>>, Fault>
-    ensures { MatchResult result (IsKeyWord (option_copied word.entry))
-        (λ why. (why ≡ Fault.KeyRefused) × IsKeyWordRefused (option_copied word.entry)) }
+fn read_key_argument(argument: Option<&str>) -> Result<Option<Key<16>>, Fault>
+    ensures { MatchResult result (IsKeyArgument (option_copied argument.entry))
+        (λ why. (why ≡ Fault.KeyRefused) × IsKeyArgumentRefused (option_copied argument.entry)) }
 {
-    match word {
+    match argument {
         None => Ok(None),
         Some(text) => match Key::<16>::parse(text) {
             None => Err(Fault::KeyRefused),

@@ -38,7 +38,7 @@ pub fn unwrap_command<W: Sink, F: Sink>(
     finish(unwrap_lines(kbpk, block), output, fault)
 }
 
-/// The lines of the words, or their first fault.
+/// The lines of the arguments, or their first fault.
 fn unwrap_lines(kbpk: &str, block: &str) -> Result<Lines, Fault>
     ensures lines { IfOk result (λ lines. IsUnwrapText kbpk.now block.now lines.items) }
     ensures refused { IfErr result (IsUnwrapRefused kbpk.now block.now) }

@@ -3,12 +3,12 @@
 ghost use Rattle.std.specs.Prelude.{◌≡◌, ◌⊎◌, ◌+◌, ◌≤◌, ◌++◌, ℕ, List, OnOk, OnErr, IfOk, IfErr, IfSome, IfNone};
 ghost use Rattle.std.specs.Option.{option_copied};
 ghost use Rattle.arrayvec.specs.ArrayVec.{array_vec_len};
-ghost use Rattle.duk_regs.specs.Registers.{StandsFor};
+ghost use Rattle.duk_regs.specs.Registers.{AreFutureKeysOf};
 ghost use Rattle.duk_commands.specs.Answer.{IsDone, IsNotDone, streams};
-ghost use Rattle.duk_commands.specs.Walk.{AreWalkWords, Asked, HasPrinted, HasPrintedInPart, HasWalked, HasWalkedInPart, IsLoaded, IsSpentWithin, IsWalkRefused, Passes, number_text, spent_line, walk_of, walk_words};
+ghost use Rattle.duk_commands.specs.Walk.{AreWalkArguments, Asked, HasPrinted, HasPrintedInPart, HasWalked, HasWalkedInPart, IsLoaded, IsSpentWithin, IsWalkRefused, Passes, number_text, spent_line, walk_of, walk_arguments};
 
 use crate::count::{read_count, read_skip};
-use crate::fault::{Fault, tell};
+use crate::fault::{Fault, report};
 use duk_io::{
     BUFFER_ROOM, Buffer, Sink, WriteFailed, append_hex, make_room, write_out, write_text,
 };
@@ -19,7 +19,7 @@ use duk_tree::{Iksn, Ksn, initial_key};
 /// The bytes of the longest line: 20 digits, a space, 32 digits and LF.
 const LONGEST_LINE: usize = 54;
 
-/// What the words ask for: a terminal, and how many numbers it passes and then prints.
+/// What the arguments ask for: a terminal, and how many numbers it passes and then prints.
 #[derive(Drop)]
 struct Walk {
     registers: Registers,
@@ -46,30 +46,30 @@ pub fn walk_command<W: Sink, F: Sink>(
 ) -> u8
     ensures status { (result ≡ 0) ⊎ (result ≡ 1) }
     ensures done { result ≡ 0
-        → IsDone (walk_of (walk_words bdk.now iksn.now count.now (option_copied skip.entry) alone))
+        → IsDone (walk_of (walk_arguments bdk.now iksn.now count.now (option_copied skip.entry) alone))
         (streams (W.known output.old) (W.known output.new)
         (F.known fault.old) (F.known fault.new)) }
     ensures not_done { result ≡ 1
         → IsNotDone (walk_of
-        (walk_words bdk.now iksn.now count.now (option_copied skip.entry) alone))
+        (walk_arguments bdk.now iksn.now count.now (option_copied skip.entry) alone))
         (streams (W.known output.old) (W.known output.new)
         (F.known fault.old) (F.known fault.new)) }
 {
     duk_io::laws::writes();
     let walk = match read_walk(bdk, iksn, count, skip) {
         Ok(walk) => walk,
-        Err(why) => return tell(fault, why),
+        Err(why) => return report(fault, why),
     };
     match write_walk(walk, alone, output) {
         Ok(()) => 0,
-        Err(_) => tell(fault, Fault::WriteFailed),
+        Err(_) => report(fault, Fault::WriteFailed),
     }
 }
 
-/// What the words ask for, or their first fault.
+/// What the arguments ask for, or their first fault.
 fn read_walk(bdk: &str, iksn: &str, count: &str, skip: Option<&str>) -> Result<Walk, Fault>
     ensures loaded { IfOk result (λ walk. (asked : Asked)
-        × AreWalkWords bdk.now iksn.now count.now (option_copied skip.entry) asked
+        × AreWalkArguments bdk.now iksn.now count.now (option_copied skip.entry) asked
         × IsLoaded asked walk.registers walk.skip walk.count) }
     ensures refused { IfErr result
         (IsWalkRefused bdk.now iksn.now count.now (option_copied skip.entry)) }
@@ -88,10 +88,10 @@ fn read_walk(bdk: &str, iksn: &str, count: &str, skip: Option<&str>) -> Result<W
 
 /// Passes numbers and writes the lines of those after them.
 fn write_walk<W: Sink>(walk: Walk, alone: bool, output: &mut W) -> Result<(), WriteFailed>
-    ensures written { (initial : List ℕ) → StandsFor initial walk.registers → OnOk result
+    ensures written { (initial : List ℕ) → AreFutureKeysOf initial walk.registers → OnOk result
         (HasWalked initial alone walk.registers walk.skip walk.count
         (W.known output.old) (W.known output.new)) }
-    ensures cut { (initial : List ℕ) → StandsFor initial walk.registers → OnErr result
+    ensures cut { (initial : List ℕ) → AreFutureKeysOf initial walk.registers → OnErr result
         (HasWalkedInPart initial alone walk.registers walk.skip walk.count
         (W.known output.old) (W.known output.new)) }
 {
@@ -124,9 +124,9 @@ fn write_numbers<W: Sink>(
     alone: bool,
     output: &mut W,
 ) -> Result<(), WriteFailed>
-    ensures written { (initial : List ℕ) → StandsFor initial registers → OnOk result
+    ensures written { (initial : List ℕ) → AreFutureKeysOf initial registers → OnOk result
         (HasPrinted initial alone registers count (W.known output.old) (W.known output.new)) }
-    ensures cut { (initial : List ℕ) → StandsFor initial registers → OnErr result
+    ensures cut { (initial : List ℕ) → AreFutureKeysOf initial registers → OnErr result
         (HasPrintedInPart initial alone registers count (W.known output.old) (W.known output.new)) }
 {
     duk_io::laws::writes();

@@ -7,7 +7,7 @@ ghost use Rattle.duk_tdes.specs.KeyBytes.{bytes_of};
 ghost use Rattle.duk_tdes.specs.Tdes.{IsTdesLength};
 ghost use Rattle.duk_commands.specs.Answer.{IsDone, IsNotDone, streams};
 ghost use Rattle.duk_commands.specs.Fault.{line_end};
-ghost use Rattle.duk_commands.specs.Wrap.{IsFieldsText, IsNoPadText, IsNotWrapped, IsWrapFault, IsWrapRefused, IsWrapText, IsWrapping, wrap_of, wrap_words, wrapping};
+ghost use Rattle.duk_commands.specs.Wrap.{IsFieldsText, IsNoPadText, IsNotWrapped, IsWrapFault, IsWrapRefused, IsWrapText, IsWrapping, wrap_of, wrap_arguments, wrapping};
 
 use crate::answer::finish;
 use crate::fault::Fault;
@@ -37,23 +37,23 @@ pub fn wrap_command<W: Sink, F: Sink>(
     fault: &mut F,
 ) -> u8
     ensures status { (result ≡ 0) ⊎ (result ≡ 1) }
-    ensures done { result ≡ 0 → IsDone (wrap_of (wrap_words kbpk.now fields.now key.now pad.now))
+    ensures done { result ≡ 0 → IsDone (wrap_of (wrap_arguments kbpk.now fields.now key.now pad.now))
         (streams (W.known output.old) (W.known output.new)
         (F.known fault.old) (F.known fault.new)) }
     ensures not_done { result ≡ 1
-        → IsNotDone (wrap_of (wrap_words kbpk.now fields.now key.now pad.now))
+        → IsNotDone (wrap_of (wrap_arguments kbpk.now fields.now key.now pad.now))
         (streams (W.known output.old) (W.known output.new)
         (F.known fault.old) (F.known fault.new)) }
 {
     finish(wrap_line(kbpk, fields, key, pad), output, fault)
 }
 
-/// The line of the words, or their first fault.
+/// The line of the arguments, or their first fault.
 fn wrap_line(kbpk: &str, fields: &str, key: &str, pad: &str) -> Result<Lines, Fault>
     ensures line { IfOk result
-        (λ lines. IsWrapText (wrap_words kbpk.now fields.now key.now pad.now) lines.items) }
+        (λ lines. IsWrapText (wrap_arguments kbpk.now fields.now key.now pad.now) lines.items) }
     ensures refused { IfErr result
-        (IsWrapRefused (wrap_words kbpk.now fields.now key.now pad.now)) }
+        (IsWrapRefused (wrap_arguments kbpk.now fields.now key.now pad.now)) }
 {
     let kbpk = KeyBytes::parse(kbpk).ok_or(Fault::KbpkRefused)?;
     let header = read_fields(fields.as_bytes()).ok_or(Fault::FieldsRefused)?;
@@ -107,7 +107,7 @@ fn read_pad(text: &str) -> Option<ArrayVec<u8, MOST_PADDING>>
 }
 
 /// Why a key is not wrapped with padding that fits no key block: a field that cannot be printed is
-/// told first.
+/// reported first.
 fn long_pad_fault(header: &Header) -> BlockFault
     ensures { (key padding : ℕ) → ¬ FitsKeyBlock key padding
         → IsWrapFault header.now key padding result }

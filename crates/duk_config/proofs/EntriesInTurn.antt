@@ -1,4 +1,4 @@
--- Entries, and one more behind them.
+-- Entries, and one more after them.
 use Rattle.std.proofs.Common.{◌≡◌, ℕ, zero, suc, ◌+◌, ◌<◌, List, [], ◌∷◌, ◌++◌, length, map, take, drop, get_or, ap, sym, ◌∙◌, arith}
 use Rattle.std.specs.List.{AllZip}
 use Rattle.std.proofs.lemmas.List.{length-map, length-take-le, map-append, take_more}
@@ -8,7 +8,7 @@ use Rattle.toml.specs.View.{view}
 use Rattle.toml.specs.declared.value.Value.{Value}
 use Rattle.duk_config.specs.Entries.{AreEntries, IsBadAfter, IsFirstBadEntry, IsNextEntry}
 
--- one more pair behind the others
+-- one more pair after the others
 zip_push : {A B : Type 0} (R : A → B → Type 0) (xs : List A) (ys : List B) (x : A) (y : B) → AllZip R xs ys → R x y → AllZip R (xs ++ x ∷ []) (ys ++ y ∷ [])
 zip_push R [] [] x y zipped pair = (pair, tt)
 zip_push R [] (b ∷ ys) x y zipped pair = absurd zipped

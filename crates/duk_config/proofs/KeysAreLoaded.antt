@@ -14,7 +14,7 @@ use Rattle.std.proofs.lemmas.List.{get_or-take, length-map, length-take, map-app
 use Rattle.std.proofs.lemmas.Slice.Eq.{bytes_eq-Decides}
 use Rattle.duk_hsm.specs.Keys.{bdk_with}
 use Rattle.duk_hsm.specs.Load.{key_set}
-use Rattle.duk_config.specs.BaseKeys.{BaseKey, key_of, prefix_of}
+use Rattle.duk_config.specs.BaseKeys.{BaseKey, bdk_key_of, bdk_prefix_of}
 use Rattle.duk_config.specs.Opened.{WrapsAlone, key_sets_of}
 use Rattle.duk_config.specs.Settings.{HaveDistinctPrefixes}
 
@@ -66,31 +66,31 @@ zone_loaded keys new lmk text header zone (Err fault.BadPinBlock) same free wrap
 
 -- the key sets of the first base derivation keys, and of one more
 pub key_sets_more : (bdks : List BaseKey) (i : ℕ) (bdk : BaseKey) → i < length bdks → bdk ≡ get_or bdks i bdk
-    → key_sets_of (take (i + 1) bdks) ≡ key_sets_of (take i bdks) ++ key_set (prefix_of bdk) (key_of bdk) ∷ []
+    → key_sets_of (take (i + 1) bdks) ≡ key_sets_of (take i bdks) ++ key_set (bdk_prefix_of bdk) (bdk_key_of bdk) ∷ []
 key_sets_more bdks i bdk within at =
     ap key_sets_of (take_more bdks i bdk within)
-    ∙ (map-append (λ b. key_set (prefix_of b) (key_of b)) (take i bdks) (get_or bdks i bdk ∷ [])
-    ∙ ap (λ b. key_sets_of (take i bdks) ++ key_set (prefix_of b) (key_of b) ∷ []) (sym at))
+    ∙ (map-append (λ b. key_set (bdk_prefix_of b) (bdk_key_of b)) (take i bdks) (get_or bdks i bdk ∷ [])
+    ∙ ap (λ b. key_sets_of (take i bdks) ++ key_set (bdk_prefix_of b) (bdk_key_of b) ∷ []) (sym at))
 
 -- a prefix that no base derivation key has, has no key set
-none_with : (prefix : List ℕ) (d : BaseKey) (bdks : List BaseKey) → ((k : ℕ) → k < length bdks → prefix_of (get_or bdks k d) ≢ prefix)
+none_with : (prefix : List ℕ) (d : BaseKey) (bdks : List BaseKey) → ((k : ℕ) → k < length bdks → bdk_prefix_of (get_or bdks k d) ≢ prefix)
     → bdk_with prefix (key_sets_of bdks) ≡ None
 none_with prefix d [] differ = refl
 none_with prefix d (bdk ∷ bdks) differ =
-    let head : prefix_of bdk ≢ prefix = differ 0 (omega arith) in
+    let head : bdk_prefix_of bdk ≢ prefix = differ 0 (omega arith) in
     let tail : bdk_with prefix (key_sets_of bdks) ≡ None = none_with prefix d bdks (λ k within. differ (suc k) (omega arith)) in
-    let other : bytes_eq (prefix_of bdk) prefix ≡ false = grind (arith, bytes_eq-Decides (prefix_of bdk) prefix) in
+    let other : bytes_eq (bdk_prefix_of bdk) prefix ≡ false = grind (arith, bytes_eq-Decides (bdk_prefix_of bdk) prefix) in
     rw other tail
 
 -- each prefix is free as its base derivation key is loaded
 pub prefix_free : (bdks : List BaseKey) (i : ℕ) (bdk : BaseKey) → HaveDistinctPrefixes bdks → i < length bdks → bdk ≡ get_or bdks i bdk
-    → bdk_with (prefix_of bdk) (key_sets_of (take i bdks)) ≡ None
+    → bdk_with (bdk_prefix_of bdk) (key_sets_of (take i bdks)) ≡ None
 prefix_free bdks i bdk distinct within at =
-    none_with (prefix_of bdk) bdk (take i bdks)
+    none_with (bdk_prefix_of bdk) bdk (take i bdks)
     (λ k below same.
     let shorter : k < i = omega (arith, length-take i bdks) in
-    distinct k i bdk shorter within (ap prefix_of (sym (get_or-take i bdks k bdk shorter)) ∙ (same ∙ ap prefix_of at)))
+    distinct k i bdk shorter within (ap bdk_prefix_of (sym (get_or-take i bdks k bdk shorter)) ∙ (same ∙ ap bdk_prefix_of at)))
 
 -- as many key sets are held as base derivation keys were loaded
 pub slots_left : (bdks : List BaseKey) (i : ℕ) → i < length bdks → length bdks ≤ 8 → length (key_sets_of (take i bdks)) < 8
-slots_left bdks i within most = omega (arith, length-map (take i bdks) (λ b. key_set (prefix_of b) (key_of b)), length-take i bdks)
+slots_left bdks i within most = omega (arith, length-map (take i bdks) (λ b. key_set (bdk_prefix_of b) (bdk_key_of b)), length-take i bdks)

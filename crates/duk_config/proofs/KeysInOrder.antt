@@ -36,7 +36,7 @@ rank_once a b same = sym (key_at_rank a) ∙ (ap key_at same ∙ key_at_rank b)
 below_or_at : (m n : ℕ) → m < suc n → (m < n) ⊎ (n ≡ m)
 below_or_at m n below = grind arith
 
--- before the first key none is told
+-- before the first key none is reported
 pub first_right : (document : Members) → has_only is_config_key document ≡ true → IsRightBefore document key.Lmk
 first_right document known = record { no_other_key = known; earlier_right = λ earlier lower. absurd (omega arith) }
 

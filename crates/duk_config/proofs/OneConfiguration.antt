@@ -7,7 +7,7 @@ use Rattle.std.proofs.lemmas.Option.{same_Some}
 use Rattle.std.specs.List.{AllPairs, AllZip, Any, list_all}
 use Rattle.duk_pin.specs.declared.card.Card.{Card}
 use Rattle.toml.specs.Data.{Data, Members, table}
-use Rattle.duk_config.specs.BaseKeys.{BaseKey, key_of, prefix_of}
+use Rattle.duk_config.specs.BaseKeys.{BaseKey, bdk_key_of, bdk_prefix_of}
 use Rattle.duk_config.specs.declared.fault.ConfigKey.{ConfigKey}
 use Rattle.duk_config.specs.declared.fault.ConfigKey.TheVariants as key
 use Rattle.duk_config.specs.declared.fault.ScriptFault.{ScriptFault}
@@ -28,7 +28,7 @@ no_value o x some none = let both : Some x ≡ None = sym some ∙ none in cc
 one_table : (value : Data) (a b : Members) → value ≡ table a → value ≡ table b → a ≡ b
 one_table value a b first second = cc
 
-base_key_same : (x y : BaseKey) → prefix_of x ≡ prefix_of y → key_of x ≡ key_of y → x ≡ y
+base_key_same : (x y : BaseKey) → bdk_prefix_of x ≡ bdk_prefix_of y → bdk_key_of x ≡ bdk_key_of y → x ≡ y
 base_key_same x y prefix key = ap (λ p. let k : BaseKey = (p, x.1) in k) prefix ∙ ap (λ p. let k : BaseKey = (y.0, p) in k) key
 
 -- a value states one base derivation key
@@ -186,7 +186,7 @@ no_bad_entry document config key.Terminals place is bad = bad
 no_bad_entry document config key.Log place is bad = bad
 no_bad_entry document config key.Stores place is bad = bad
 
--- a table that states a configuration is refused for want of memory alone
+-- a table that states a configuration is refused as out of memory alone
 pub no_fault : (document : Members) (config : Settings) (why : ScriptFault) → IsConfigOf document config → IsFirstTableFault document why → why ≡ fault.NoMemory
 no_fault document config (fault.UnknownKey name) is first = absurd (none_unknown _ document (string_bytes name) is.no_other_key first)
 no_fault document config (fault.BadKey k) is first = absurd (none_wrong document config k is first.1)
@@ -210,7 +210,7 @@ no_table_fault bytes config why file has =
     let same : has.document ≡ file.document = one_value _ _ _ has.table.table file.table.table in
     no_fault file.document config why file.config_is (subst (λ m. IsFirstTableFault m why) same has.first)
 
--- a file that states a configuration is refused for want of memory alone
+-- a file that states a configuration is refused as out of memory alone
 pub no_file_fault : (bytes : List ℕ) (config : Settings) (why : ScriptFault) → IsConfigFile bytes config → IsConfigFault bytes why → why ≡ fault.NoMemory
 no_file_fault bytes config (fault.UnknownKey name) file has = no_table_fault bytes config (fault.UnknownKey name) file has
 no_file_fault bytes config (fault.BadKey k) file has = no_table_fault bytes config (fault.BadKey k) file has

@@ -169,7 +169,7 @@ one_of_key document why other k first second =
       ]
     ]
 
--- the fault is an unknown key, or of a key behind right ones
+-- the fault is an unknown key, or of a key after right ones
 abbrev IsOfTable : Members → ScriptFault → Type 0
 IsOfTable document why =
     ((name : String Global) × (why ≡ fault.UnknownKey name) × IsFirstUnknown is_config_key document (string_bytes name))

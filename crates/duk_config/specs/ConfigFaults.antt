@@ -47,7 +47,7 @@ HasBadEntry document key.Card place =
     × IsFirstBadEntry StatesCard HaveOnePan values place
 HasBadEntry document _ place = ⊥
 
--- the order in which the keys are told
+-- the order in which the keys are reported
 abbrev pub key_rank : ConfigKey → ℕ
 key_rank key.Lmk = 0
 key_rank key.Zone = 1
@@ -58,12 +58,12 @@ key_rank key.Stores = 5
 key_rank key.Bdk = 6
 key_rank key.Card = 7
 
--- there is no unknown key, and each key that is told before this one is right
+-- there is no unknown key, and each key that is reported before this one is right
 pub record IsRightBefore (document : Members) (key : ConfigKey) : Type 0 where
   pub no_other_key : has_only is_config_key document ≡ true
   pub earlier_right : AllBefore key_rank (IsRight document) key
 
--- the first fault of a table; any may be refused for want of memory
+-- the first fault of a table; any may be refused as out of memory
 abbrev pub IsFirstTableFault : Members → ScriptFault → Type 0
 IsFirstTableFault document (fault.UnknownKey name) =
     IsFirstUnknown is_config_key document (string_bytes name)

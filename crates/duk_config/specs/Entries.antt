@@ -5,7 +5,7 @@ use Rattle.duk_pin.specs.Pan.{IsPan}
 use Rattle.duk_pin.specs.Pin.{IsPin}
 use Rattle.duk_pin.specs.declared.card.Card.{Card}
 use Rattle.toml.specs.Data.{Data, Members, table, Items, no_items, item}
-use Rattle.duk_config.specs.BaseKeys.{BaseKey, key_of, prefix_of}
+use Rattle.duk_config.specs.BaseKeys.{BaseKey, bdk_key_of, bdk_prefix_of}
 use Rattle.duk_config.specs.ConfigKeys.{is_bdk_key, is_card_key}
 use Rattle.duk_io.specs.FirstFault.{IsFirstItem}
 use Rattle.duk_config.specs.Names.{has_only}
@@ -22,8 +22,8 @@ pub record StatesBaseKey (value : Data) (bdk : BaseKey) : Type 0 where
   pub members : Members
   pub is_table : value ≡ table members
   pub nothing_else : has_only is_bdk_key members ≡ true
-  pub prefix : prefix_at (codes "prefix") members ≡ Some (prefix_of bdk)
-  pub key : double_key_at (codes "key") members ≡ Some (key_of bdk)
+  pub prefix : prefix_at (codes "prefix") members ≡ Some (bdk_prefix_of bdk)
+  pub key : double_key_at (codes "key") members ≡ Some (bdk_key_of bdk)
 
 -- the value is a table that states this card, and nothing else: its account number, its PIN, and a
 -- limit
@@ -39,7 +39,7 @@ pub record StatesCard (value : Data) (card : Card) : Type 0 where
 
 -- two base derivation keys for one prefix
 abbrev pub HaveOnePrefix : BaseKey → BaseKey → Type 0
-HaveOnePrefix a b = prefix_of a ≡ prefix_of b
+HaveOnePrefix a b = bdk_prefix_of a ≡ bdk_prefix_of b
 
 -- two cards with one account number
 abbrev pub HaveOnePan : Card → Card → Type 0

@@ -10,7 +10,7 @@ use Rattle.duk_config.specs.Entries.{IsFirstBadEntry}
 -- an entry of this key is the first that is bad, or memory is refused
 abbrev pub IsEntriesFault : {Entry : Type 0} → (Data → Entry → Type 0) → (Entry → Entry → Type 0)
     → ConfigKey → List Data → ScriptFault → Type 0
-IsEntriesFault States Repeats key values (fault.BadEntry told place) =
-    (told ≡ key) × IsFirstBadEntry States Repeats values place
+IsEntriesFault States Repeats key values (fault.BadEntry reported place) =
+    (reported ≡ key) × IsFirstBadEntry States Repeats values place
 IsEntriesFault States Repeats key values fault.NoMemory = Unit {0}
 IsEntriesFault States Repeats key values _ = ⊥

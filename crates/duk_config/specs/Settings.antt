@@ -2,7 +2,7 @@
 use Rattle.std.specs.Prelude.{◌≢◌, ◌≤◌, ℕ, Bool, List, AllPairs, length}
 use Rattle.duk_pin.specs.declared.card.Card.{Card}
 use Rattle.duk_tdes.specs.declared.key.KeyBytes.{KeyBytes}
-use Rattle.duk_config.specs.BaseKeys.{BaseKey, prefix_of}
+use Rattle.duk_config.specs.BaseKeys.{BaseKey, bdk_prefix_of}
 
 -- the local master key, the loading key, the zone key, the number of terminals, the room of the
 -- log, whether the stores are disks, the base derivation keys and the cards
@@ -32,7 +32,7 @@ settings lmk loading zone terminals log disk bdks cards =
 
 -- no two of the base derivation keys have one prefix
 abbrev pub HaveDistinctPrefixes : List BaseKey → Type 0
-HaveDistinctPrefixes = AllPairs (λ a b. prefix_of a ≢ prefix_of b)
+HaveDistinctPrefixes = AllPairs (λ a b. bdk_prefix_of a ≢ bdk_prefix_of b)
 
 -- no two of the cards have one account number
 abbrev pub HaveDistinctPans : List Card → Type 0

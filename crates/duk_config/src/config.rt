@@ -20,7 +20,7 @@ pub struct Config {
     pub log: u32,
     /// Whether the terminals' cells and the host's log are on disks, or in memory.
     pub disk: bool,
-    /// The base derivation keys, 1 to 8, each behind the first five bytes of the key serial numbers
+    /// The base derivation keys, 1 to 8, each after the first five bytes of the key serial numbers
     /// that it is for, which differ.
     pub bdks: Vec<([u8; 5], Key<16>)>,
     /// The cards that the issuer knows, at most 1,000, with account numbers that differ.

@@ -7,7 +7,7 @@ ghost use Rattle.duk_block.specs.declared.key_use.KeyUse.{KeyUse};
 ghost use Rattle.duk_tdes.specs.KeyBytes.{bytes_of};
 ghost use Rattle.duk_hsm.specs.Keys.{key_set_of};
 ghost use Rattle.duk_hsm.specs.Load.{with_key_set};
-ghost use Rattle.duk_config.specs.BaseKeys.{key_of, prefix_of};
+ghost use Rattle.duk_config.specs.BaseKeys.{bdk_key_of, bdk_prefix_of};
 ghost use Rattle.duk_config.specs.Opened.{WrapsAlone, keys_for};
 
 use crate::config::Config;
@@ -41,10 +41,10 @@ fn load_base_key<const N: usize>(
 ) -> Result<(), HsmFault>
     requires length { IsTdesLength N }
     requires lmk { hsm.old.lmk ≡ lmk.now }
-    requires prefix { key_set_of hsm.old (prefix_of bdk.now) ≡ None }
+    requires prefix { key_set_of hsm.old (bdk_prefix_of bdk.now) ≡ None }
     requires slot { length hsm.old.key_sets < 8 }
     ensures ok { IsOk result }
-    ensures keys { hsm.new ≡ with_key_set hsm.old (prefix_of bdk.now) (key_of bdk.now) }
+    ensures keys { hsm.new ≡ with_key_set hsm.old (bdk_prefix_of bdk.now) (bdk_key_of bdk.now) }
 {
     let block = wrap_key(lmk, KeyUse::BaseDerivationKey, &bdk.1);
     hsm.load_bdk(bdk.0, block.as_slice())

@@ -52,7 +52,7 @@ all_words =
     words_for 1 (9 ∷ 17 ∷ 23 ∷ 31 ∷ []) ++ (words_for 2 (13 ∷ 28 ∷ 2 ∷ 18 ∷ []) ++ (words_for 3 (24 ∷ 16 ∷ 30 ∷ 6 ∷ []) ++ (words_for 4 (26 ∷ 20 ∷ 10 ∷ 1 ∷ []) ++
     (words_for 5 (8 ∷ 14 ∷ 25 ∷ 3 ∷ []) ++ (words_for 6 (4 ∷ 29 ∷ 11 ∷ 19 ∷ []) ++ (words_for 7 (32 ∷ 12 ∷ 22 ∷ 7 ∷ []) ++ words_for 8 (5 ∷ 27 ∷ 15 ∷ 21 ∷ [])))))))
 
--- the same where the words of the box stand behind those of the boxes before it
+-- the same where the words of the box stand after those of the boxes before it
 pub entry_in : (start number : ℕ) (places : List ℕ) (x : ℕ) → x < 64 → take 64 (drop start all_words) ≡ words_for number places
     → length places ≡ 4 → gathers 32 (bits_at places) (four_places number) ≡ true
     → ((n : ℕ) → permute (four_places number) (bits_of 4 n) ≡ permute output_places (at_box number (bits_of 4 n)))

@@ -5,7 +5,7 @@ use Rattle.std.proofs.Math.Seq.{take-append_seam, drop-append_seam}
 use Rattle.std.proofs.lemmas.List.{reverse-append, reverse-reverse, take-append-drop}
 use Rattle.duk_des.specs.Bits.{xor_bits, permute, bits_of_bytes, bytes_of_bits}
 use Rattle.duk_des.specs.Block.{IsBlock}
-use Rattle.duk_des.specs.Des.{Halves, cipher_function, round, rounds, des_computation, round_keys, encipher, decipher, encrypted, decrypted}
+use Rattle.duk_des.specs.Des.{Halves, cipher_function, round, rounds, des_computation, round_keys, encipher, decipher, des_encrypted, des_decrypted}
 use Rattle.duk_des.specs.Tables.{initial_places, final_places}
 use Rattle.duk_des.proofs.BitsOfNumbers.{length-bits_of_bytes, bits_of_bytes-bytes_of_bits, bytes_of_bits-bits_of_bytes, block_of_bits}
 use Rattle.duk_des.proofs.SideBySide.{consed}
@@ -155,8 +155,8 @@ length-block_bits block h = length-bits_of_bytes block ∙ ap (λ n. n * 8) h.ei
 block-bits : (block : List ℕ) → IsBlock block → bytes_of_bits 8 (bits_of_bytes block) ≡ block
 block-bits block h = ap (λ n. bytes_of_bits n (bits_of_bytes block)) (sym h.eight) ∙ bytes_of_bits-bits_of_bytes block h.bytes_fit
 
-pub decrypted-encrypted : (key block : List ℕ) → IsBlock block → decrypted key (encrypted key block) ≡ block
-unfolding encrypted decrypted
+pub decrypted-encrypted : (key block : List ℕ) → IsBlock block → des_decrypted key (des_encrypted key block) ≡ block
+unfolding des_encrypted des_decrypted
 decrypted-encrypted key block h =
     let key_bits = bits_of_bytes key in
     let bits = bits_of_bytes block in
@@ -164,8 +164,8 @@ decrypted-encrypted key block h =
     ∙ ap (bytes_of_bits 8) (decipher-encipher key_bits bits (length-block_bits block h))
     ∙ block-bits block h
 
-pub encrypted-decrypted : (key block : List ℕ) → IsBlock block → encrypted key (decrypted key block) ≡ block
-unfolding encrypted decrypted
+pub encrypted-decrypted : (key block : List ℕ) → IsBlock block → des_encrypted key (des_decrypted key block) ≡ block
+unfolding des_encrypted des_decrypted
 encrypted-decrypted key block h =
     let key_bits = bits_of_bytes key in
     let bits = bits_of_bytes block in
@@ -173,10 +173,10 @@ encrypted-decrypted key block h =
     ∙ ap (bytes_of_bits 8) (encipher-decipher key_bits bits (length-block_bits block h))
     ∙ block-bits block h
 
-pub IsBlock-encrypted : (key block : List ℕ) → IsBlock (encrypted key block)
-unfolding encrypted
+pub IsBlock-encrypted : (key block : List ℕ) → IsBlock (des_encrypted key block)
+unfolding des_encrypted
 IsBlock-encrypted key block = block_of_bits (encipher (bits_of_bytes key) (bits_of_bytes block))
 
-pub IsBlock-decrypted : (key block : List ℕ) → IsBlock (decrypted key block)
-unfolding decrypted
+pub IsBlock-decrypted : (key block : List ℕ) → IsBlock (des_decrypted key block)
+unfolding des_decrypted
 IsBlock-decrypted key block = block_of_bits (decipher (bits_of_bytes key) (bits_of_bytes block))

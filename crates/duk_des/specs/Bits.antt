@@ -1,4 +1,4 @@
--- Lists of bits, and the bytes that they stand for. As in NIST SP 800-67 the bits of a block are
+-- Lists of bits, and the bytes that they spell. As in NIST SP 800-67 the bits of a block are
 -- numbered from 1, from the most significant bit of its first byte on.
 use Rattle.std.specs.Prelude.{ℕ, zero, suc, ◌+◌, ◌-◌, ◌*◌, ◌/◌, ◌%◌, ◌^◌, ◌==◌, ◌&&◌, nat_lt, nat_le, Bool, true, false, List, [], ◌∷◌, ◌++◌, length, map, take, drop, slice_index_or}
 use Rattle.std.specs.Bool.{xor}

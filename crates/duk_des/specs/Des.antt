@@ -76,9 +76,9 @@ unfoldable pub decipher : List Bool → List Bool → List Bool
 decipher key block = des_computation (reverse (round_keys key)) block
 
 -- the cipher block of eight bytes under a key of eight bytes
-unfoldable pub encrypted : List ℕ → List ℕ → List ℕ
-encrypted key block = bytes_of_bits 8 (encipher (bits_of_bytes key) (bits_of_bytes block))
+unfoldable pub des_encrypted : List ℕ → List ℕ → List ℕ
+des_encrypted key block = bytes_of_bits 8 (encipher (bits_of_bytes key) (bits_of_bytes block))
 
 -- the block of eight bytes that a cipher block of eight bytes is deciphered to
-unfoldable pub decrypted : List ℕ → List ℕ → List ℕ
-decrypted key block = bytes_of_bits 8 (decipher (bits_of_bytes key) (bits_of_bytes block))
+unfoldable pub des_decrypted : List ℕ → List ℕ → List ℕ
+des_decrypted key block = bytes_of_bits 8 (decipher (bits_of_bytes key) (bits_of_bytes block))

@@ -3,7 +3,7 @@
 ghost use Rattle.std.specs.Prelude.{◌≡◌};
 ghost use Rattle.duk_des.specs.Bits.{bits_of_bytes};
 ghost use Rattle.duk_des.specs.Bytes.{xor_bytes};
-ghost use Rattle.duk_des.specs.Des.{encipher, decipher, encrypted, decrypted};
+ghost use Rattle.duk_des.specs.Des.{encipher, decipher, des_encrypted, des_decrypted};
 
 use crate::bytes::xor_bytes;
 use crate::words::{
@@ -58,7 +58,7 @@ impl Des {
 
     /// Enciphers a block of 8 bytes (NIST SP 800-67 section 2).
     pub fn encrypt(&self, block: [u8; 8]) -> [u8; 8]
-        ensures bytes { result ≡ encrypted self.now block }
+        ensures bytes { result ≡ des_encrypted self.now block }
         ensures bits { bits_of_bytes result
             ≡ encipher (bits_of_bytes self.now) (bits_of_bytes block) }
     {
@@ -67,7 +67,7 @@ impl Des {
 
     /// Deciphers a block of 8 bytes: the round keys are used in reverse order.
     pub fn decrypt(&self, block: [u8; 8]) -> [u8; 8]
-        ensures bytes { result ≡ decrypted self.now block }
+        ensures bytes { result ≡ des_decrypted self.now block }
         ensures bits { bits_of_bytes result
             ≡ decipher (bits_of_bytes self.now) (bits_of_bytes block) }
     {
@@ -83,8 +83,8 @@ pub fn encrypt_both(
     second: &Des,
     second_block: [u8; 8],
 ) -> ([u8; 8], [u8; 8])
-    ensures first { result.0 ≡ encrypted first.now first_block }
-    ensures second { result.1 ≡ encrypted second.now second_block }
+    ensures first { result.0 ≡ des_encrypted first.now first_block }
+    ensures second { result.1 ≡ des_encrypted second.now second_block }
 {
     crypt_both(&first.keys, &first_block, &second.keys, &second_block)
 }
@@ -94,7 +94,7 @@ pub fn encrypt_both(
 /// what the three calls do, in less time.
 pub fn triple_encrypt(first: &Des, second: &Des, third: &Des, block: [u8; 8]) -> [u8; 8]
     ensures { result
-        ≡ encrypted third.now (decrypted second.now (encrypted first.now block)) }
+        ≡ des_encrypted third.now (des_decrypted second.now (des_encrypted first.now block)) }
 {
     crypt_thrice(&first.keys, &second.keys, &third.keys, &block)
 }
@@ -104,14 +104,14 @@ pub fn triple_encrypt(first: &Des, second: &Des, third: &Des, block: [u8; 8]) ->
 /// 800-67 section 3).
 pub fn triple_decrypt(first: &Des, second: &Des, third: &Des, block: [u8; 8]) -> [u8; 8]
     ensures { result
-        ≡ decrypted third.now (encrypted second.now (decrypted first.now block)) }
+        ≡ des_decrypted third.now (des_encrypted second.now (des_decrypted first.now block)) }
 {
     crypt_thrice_backwards(&first.keys, &second.keys, &third.keys, &block)
 }
 
 /// Enciphers a block of 8 bytes under a key of 8 bytes (NIST SP 800-67 section 2).
 pub fn encrypt_block(key: &[u8; 8], block: [u8; 8]) -> [u8; 8]
-    ensures bytes { result ≡ encrypted key.now block }
+    ensures bytes { result ≡ des_encrypted key.now block }
     ensures bits { bits_of_bytes result ≡ encipher (bits_of_bytes key.now) (bits_of_bytes block) }
 {
     Des::new(key).encrypt(block)
@@ -119,7 +119,7 @@ pub fn encrypt_block(key: &[u8; 8], block: [u8; 8]) -> [u8; 8]
 
 /// Deciphers a block of 8 bytes under a key of 8 bytes.
 pub fn decrypt_block(key: &[u8; 8], block: [u8; 8]) -> [u8; 8]
-    ensures bytes { result ≡ decrypted key.now block }
+    ensures bytes { result ≡ des_decrypted key.now block }
     ensures bits { bits_of_bytes result ≡ decipher (bits_of_bytes key.now) (bits_of_bytes block) }
 {
     Des::new(key).decrypt(block)

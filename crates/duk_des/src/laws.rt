@@ -4,7 +4,7 @@ ghost use Rattle.std.specs.Prelude.{◌≡◌, ℕ, Bool, List, length};
 ghost use Rattle.duk_des.specs.Bits.{bits_of_bytes, xor_bits};
 ghost use Rattle.duk_des.specs.Block.{IsBlock};
 ghost use Rattle.duk_des.specs.Bytes.{xor_bytes};
-ghost use Rattle.duk_des.specs.Des.{round_keys, xor_keys, encipher, decipher, encrypted, decrypted};
+ghost use Rattle.duk_des.specs.Des.{round_keys, xor_keys, encipher, decipher, des_encrypted, des_decrypted};
 
 /// On bits: under each key deciphering undoes enciphering, and the reverse, for every block of 64
 /// bits.
@@ -17,21 +17,21 @@ pub fn inverse_on_bits()
 
 /// Whatever is enciphered or deciphered under whatever key, it comes to a block.
 pub fn blocks()
-    ensures encrypted { (key block : List ℕ) → IsBlock (encrypted key block) }
-    ensures decrypted { (key block : List ℕ) → IsBlock (decrypted key block) }
+    ensures encrypted { (key block : List ℕ) → IsBlock (des_encrypted key block) }
+    ensures decrypted { (key block : List ℕ) → IsBlock (des_decrypted key block) }
 {}
 
 /// On bytes: under each key deciphering undoes enciphering, and the reverse, for every block. Both
 /// make blocks of blocks.
 pub fn inverse()
     ensures deciphered { (key block : List ℕ) → IsBlock key → IsBlock block
-        → decrypted key (encrypted key block) ≡ block }
+        → des_decrypted key (des_encrypted key block) ≡ block }
     ensures enciphered { (key block : List ℕ) → IsBlock key → IsBlock block
-        → encrypted key (decrypted key block) ≡ block }
+        → des_encrypted key (des_decrypted key block) ≡ block }
     ensures cipher_block { (key block : List ℕ) → IsBlock key → IsBlock block
-        → IsBlock (encrypted key block) }
+        → IsBlock (des_encrypted key block) }
     ensures plain_block { (key block : List ℕ) → IsBlock key → IsBlock block
-        → IsBlock (decrypted key block) }
+        → IsBlock (des_decrypted key block) }
 {}
 
 /// The key schedule is linear over xor, since it only moves bits: the round keys of a key under a

@@ -2,7 +2,7 @@
 
 ghost use Rattle.std.specs.Prelude.{◌≡◌, ◌++◌};
 ghost use Rattle.duk_des.specs.Bits.{bits_of_bytes, permute};
-ghost use Rattle.duk_des.specs.Des.{rounds, des_computation, encipher, decipher, encrypted, decrypted};
+ghost use Rattle.duk_des.specs.Des.{rounds, des_computation, encipher, decipher, des_encrypted, des_decrypted};
 ghost use Rattle.duk_des.specs.Tables.{final_places};
 
 use crate::bits::{bits_of_bytes, bytes_of_bits, join, permute, xor};
@@ -41,7 +41,7 @@ const FINAL_PLACES: [u8; 64] = [
 
 /// Enciphers a block of 8 bytes under a key of 8 bytes (NIST SP 800-67 section 2).
 pub fn encrypt_block(key: &[u8; 8], block: [u8; 8]) -> [u8; 8]
-    ensures bytes { result ≡ encrypted key.now block }
+    ensures bytes { result ≡ des_encrypted key.now block }
     ensures bits { bits_of_bytes result ≡ encipher (bits_of_bytes key.now) (bits_of_bytes block) }
 {
     let keys = round_keys(&bits_of_bytes(key));
@@ -50,7 +50,7 @@ pub fn encrypt_block(key: &[u8; 8], block: [u8; 8]) -> [u8; 8]
 
 /// Deciphers a block of 8 bytes under a key of 8 bytes: the round keys are used in reverse order.
 pub fn decrypt_block(key: &[u8; 8], block: [u8; 8]) -> [u8; 8]
-    ensures bytes { result ≡ decrypted key.now block }
+    ensures bytes { result ≡ des_decrypted key.now block }
     ensures bits { bits_of_bytes result ≡ decipher (bits_of_bytes key.now) (bits_of_bytes block) }
 {
     let mut keys = round_keys(&bits_of_bytes(key));

@@ -33,8 +33,8 @@ impl Habit {
         passes: u32::MAX,
     };
 
-    /// The habit of these words.
-    pub fn of_words(filling: &str, passes: &str) -> Result<Habit, Trouble> {
+    /// The habit of these tokens.
+    pub fn of_tokens(filling: &str, passes: &str) -> Result<Habit, Trouble> {
         Ok(Habit {
             filling: filling_of(filling)?,
             passes: number(passes)?,
@@ -43,11 +43,11 @@ impl Habit {
 }
 
 /// `old`, `new`, or a byte in hexadecimal.
-pub fn filling_of(word: &str) -> Result<Filling, Trouble> {
-    match word {
+pub fn filling_of(token: &str) -> Result<Filling, Trouble> {
+    match token {
         "old" => Ok(Filling::Old),
         "new" => Ok(Filling::New),
-        _ => match <[u8; 1] as FromHex>::from_hex(word) {
+        _ => match <[u8; 1] as FromHex>::from_hex(token) {
             Ok(byte) => Ok(Filling::Fill(byte[0])),
             Err(_) => Err(Trouble::NotAStep),
         },

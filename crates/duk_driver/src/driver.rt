@@ -4,7 +4,7 @@ use crate::disks::DiskTerminal;
 use crate::host::{DiskHost, take_host_step};
 use crate::streams::play;
 use crate::terminal::take_terminal_step;
-use crate::texts::{Told, bytes, done};
+use crate::texts::{Reported, bytes, done};
 use crate::trouble::Trouble;
 use crate::world::{DiskWorld, take_world_step};
 use std::alloc::Global;
@@ -32,7 +32,7 @@ impl Driver {
     }
 
     /// Takes the step of a line: what it is taken on, a space, and what is done.
-    pub fn take_step(&mut self, line: &str) -> Told {
+    pub fn take_step(&mut self, line: &str) -> Reported {
         let alloc = self.alloc;
         let Some((on, step)) = line.split_once(' ') else {
             return Err(Trouble::NotAStep);

@@ -4,7 +4,7 @@ ghost use Rattle.std.specs.Prelude.{◌≡◌, IfOk, None};
 
 use crate::disks::{Habit, disk_of, new_log};
 use crate::streams::{Drip, Tap, streams_of};
-use crate::texts::{Told, bytes, done, fault, number, serial, with_bytes, yes_or_no};
+use crate::texts::{Reported, bytes, done, fault, number, serial, with_bytes, yes_or_no};
 use crate::trouble::Trouble;
 use duk_config::read_config;
 use duk_host::{Host, TableIssuer, serve};
@@ -27,34 +27,34 @@ pub fn new_host(alloc: Global, config: &[u8], log: DiskLog<MemDisk>) -> Result<D
     Ok(duk_config::new_host(alloc, lmk, &config, log)?)
 }
 
-/// Makes a host, over a new log of so many records or over a disk that holds bytes, or does something
-/// with it.
+/// Makes a host, over a new log of so many records or over a disk that holds bytes, or does
+/// something with it.
 pub fn take_host_step(
     alloc: Global,
     config: &[u8],
     host: &mut Option<DiskHost>,
     step: &str,
-) -> Told {
-    let words: Vec<&str> = step.split(' ').collect(alloc)?;
-    match words.as_slice() {
+) -> Reported {
+    let tokens: Vec<&str> = step.split(' ').collect(alloc)?;
+    match tokens.as_slice() {
         ["new", filling, passes, room] => {
-            let log = new_log(alloc, number(room)?, Habit::of_words(filling, passes)?)?;
+            let log = new_log(alloc, number(room)?, Habit::of_tokens(filling, passes)?)?;
             *host = Some(new_host(alloc, config, log)?);
             done(alloc, "ready")
         }
         ["over", filling, passes, held] => {
             let held = bytes(alloc, held)?;
-            let disk = disk_of(alloc, held.as_slice(), Habit::of_words(filling, passes)?)?;
+            let disk = disk_of(alloc, held.as_slice(), Habit::of_tokens(filling, passes)?)?;
             *host = Some(new_host(alloc, config, DiskLog::new(disk))?);
             done(alloc, "ready")
         }
-        words => act(alloc, host.as_mut().ok_or(Trouble::NotAStep)?, words),
+        tokens => act(alloc, host.as_mut().ok_or(Trouble::NotAStep)?, tokens),
     }
 }
 
 /// Does something with a host.
-fn act(alloc: Global, host: &mut DiskHost, words: &[&str]) -> Told {
-    match words {
+fn act(alloc: Global, host: &mut DiskHost, tokens: &[&str]) -> Reported {
+    match tokens {
         ["restart"] => match host.restart() {
             Ok(used) => Ok(format!(in alloc; "used {used}")?),
             Err(why) => fault(alloc, &why),
@@ -81,7 +81,7 @@ fn act(alloc: Global, host: &mut DiskHost, words: &[&str]) -> Told {
 }
 
 /// Gives a host a frame.
-fn handle(alloc: Global, host: &mut DiskHost, frame: &str) -> Told {
+fn handle(alloc: Global, host: &mut DiskHost, frame: &str) -> Reported {
     let frame = bytes(alloc, frame)?;
     match host.handle(frame.as_slice()) {
         Ok(answer) => with_bytes(alloc, "answer", answer.as_slice()),
@@ -89,17 +89,17 @@ fn handle(alloc: Global, host: &mut DiskHost, frame: &str) -> Told {
     }
 }
 
-/// Lets a host serve a stream, and tells how many frames there were, or the fault, and then what was
-/// written.
+/// Lets a host serve a stream, and reports how many frames there were, or the fault, and then what
+/// was written.
 fn serve_stream(
     alloc: Global,
     host: &mut DiskHost,
     reader: &mut Drip<'_>,
     writer: &mut Tap,
-) -> Told {
-    let told = match serve(host, reader, writer) {
+) -> Reported {
+    let reported = match serve(host, reader, writer) {
         Ok(frames) => format!(in alloc; "served {frames}")?,
         Err(why) => fault(alloc, &why)?,
     };
-    with_bytes(alloc, told.as_str(), writer.held.as_slice())
+    with_bytes(alloc, reported.as_str(), writer.held.as_slice())
 }

@@ -1,6 +1,6 @@
 //! Reads steps, one a line, and writes what came of each: of a terminal by itself, of a host by
 //! itself and of a world, over disks in memory whose device steps fail and which keep what they are
-//! told to. It shows what the library does where the built `dukpt` does not reach, and judges
+//! set to. It shows what the library does where the built `dukpt` does not reach, and judges
 //! nothing. And calls to which memory is refused.
 #![tactic(auto)]
 
@@ -15,18 +15,18 @@ mod trouble;
 mod world;
 
 use driver::Driver;
-use refused::told_of_call;
+use refused::reported_of_call;
 use std::io::Read;
 use std::process::ExitCode;
 use std::{env, io, str};
 use trouble::Trouble;
 
 fn main(rt: HostRuntime) -> io::Result<ExitCode> {
-    let words: Vec<String> = env::args(&rt)?.collect(rt.alloc())?;
-    if let [_, word, call, growth] = words.as_slice() {
-        if word.as_str() == "refuse" {
-            let told = told_of_call(rt.alloc(), call.as_str(), growth.parse().unwrap_or(0));
-            println!(rt; "{call} {growth}: {told}")?;
+    let tokens: Vec<String> = env::args(&rt)?.collect(rt.alloc())?;
+    if let [_, token, call, growth] = tokens.as_slice() {
+        if token.as_str() == "refuse" {
+            let reported = reported_of_call(rt.alloc(), call.as_str(), growth.parse().unwrap_or(0));
+            println!(rt; "{call} {growth}: {reported}")?;
             return Ok(ExitCode::SUCCESS);
         }
     }

@@ -9,7 +9,7 @@ use crate::trouble::Trouble;
 use duk_store::{MemDisk, MemLog, StoreFault};
 use std::alloc::Global;
 
-/// The number of the allocation that is to fail, after those of the program's words.
+/// The number of the allocation that is to fail, after those of the program's tokens.
 const REFUSED_AT: u32 = 4000;
 
 /// What came of a call to which memory was refused, or not.
@@ -44,10 +44,10 @@ impl Answer {
 /// What came of a call, if what it needs could be made.
 pub type Tried = Result<Answer, Trouble>;
 
-/// Tries the call of a name with an allocation that fails, the one of number `REFUSED_AT`, and tells
-/// what came of it. It takes as many before the call as put that allocation where it is wanted: at
-/// this growth, from the first of what the call needs on.
-pub fn told_of_call(alloc: Global, name: &str, growth: u32) -> &'static str {
+/// Tries the call of a name with an allocation that fails, the one of number `REFUSED_AT`, and
+/// reports what came of it. It takes as many before the call as put that allocation where it is
+/// wanted: at this growth, from the first of what the call needs on.
+pub fn reported_of_call(alloc: Global, name: &str, growth: u32) -> &'static str {
     for _ in 0..REFUSED_AT.saturating_sub(growth) {
         let _ = Vec::<u8>::with_capacity(alloc, 1);
     }

@@ -1,6 +1,6 @@
 //! Readers that give little at a time and writers that take little, of which a later call may fail.
 
-use crate::texts::{Told, bytes, done, number, with_bytes};
+use crate::texts::{Reported, bytes, done, number, with_bytes};
 use crate::trouble::Trouble;
 use duk_script::run_script;
 use std::alloc::Global;
@@ -58,7 +58,7 @@ fn pass(passes: &mut u32) -> io::Result<()> {
     }
 }
 
-/// A reader of these bytes and a writer, by the words of a step: the most bytes at a time, and how
+/// A reader of these bytes and a writer, by the tokens of a step: the most bytes at a time, and how
 /// many reads and writes pass.
 pub fn streams_of<'a>(
     alloc: Global,
@@ -81,17 +81,17 @@ pub fn streams_of<'a>(
     Ok((reader, writer))
 }
 
-/// Runs a script, and tells the fault, if one came, and then what was written.
-pub fn play(alloc: Global, config: &[u8], step: &str) -> Told {
-    let words: Vec<&str> = step.split(' ').collect(alloc)?;
-    let [most, reads, writes, script] = words.as_slice() else {
+/// Runs a script, and reports the fault, if one came, and then what was written.
+pub fn play(alloc: Global, config: &[u8], step: &str) -> Reported {
+    let tokens: Vec<&str> = step.split(' ').collect(alloc)?;
+    let [most, reads, writes, script] = tokens.as_slice() else {
         return Err(Trouble::NotAStep);
     };
     let script = bytes(alloc, script)?;
     let (mut reader, mut writer) = streams_of(alloc, most, reads, writes, script.as_slice())?;
-    let told = match run_script(alloc, config, &mut reader, &mut writer) {
+    let reported = match run_script(alloc, config, &mut reader, &mut writer) {
         Ok(()) => done(alloc, "played")?,
         Err(why) => format!(in alloc; "{why};")?,
     };
-    with_bytes(alloc, told.as_str(), writer.held.as_slice())
+    with_bytes(alloc, reported.as_str(), writer.held.as_slice())
 }

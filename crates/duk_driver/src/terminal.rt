@@ -1,7 +1,7 @@
 //! A terminal by itself, over a disk.
 
 use crate::disks::{DiskTerminal, Habit, disk_of, filling_of, new_terminal};
-use crate::texts::{Told, bytes, done, fault, next, number, with_bytes};
+use crate::texts::{Reported, bytes, done, fault, next, number, with_bytes};
 use crate::trouble::Trouble;
 use duk_pin::{Pan, Pin};
 use duk_store::{Disk, Filling, MemDisk, SlotCell};
@@ -12,27 +12,31 @@ use std::alloc::Global;
 use std::str;
 
 /// Makes a terminal, over a new disk or over one that holds bytes, or does something with it.
-pub fn take_terminal_step(alloc: Global, terminal: &mut Option<DiskTerminal>, step: &str) -> Told {
-    let words: Vec<&str> = step.split(' ').collect(alloc)?;
-    match words.as_slice() {
+pub fn take_terminal_step(
+    alloc: Global,
+    terminal: &mut Option<DiskTerminal>,
+    step: &str,
+) -> Reported {
+    let tokens: Vec<&str> = step.split(' ').collect(alloc)?;
+    match tokens.as_slice() {
         ["new", filling, passes] => {
-            *terminal = Some(new_terminal(alloc, Habit::of_words(filling, passes)?)?);
+            *terminal = Some(new_terminal(alloc, Habit::of_tokens(filling, passes)?)?);
             done(alloc, "ready")
         }
         ["over", filling, passes, held] => {
             let held = bytes(alloc, held)?;
-            let disk = disk_of(alloc, held.as_slice(), Habit::of_words(filling, passes)?)?;
+            let disk = disk_of(alloc, held.as_slice(), Habit::of_tokens(filling, passes)?)?;
             *terminal = Some(Terminal::new(SlotCell::new(disk)));
             done(alloc, "ready")
         }
         ["stop", filling] => stop(alloc, terminal, filling_of(filling)?),
-        words => act(alloc, terminal.as_mut().ok_or(Trouble::NotAStep)?, words),
+        tokens => act(alloc, terminal.as_mut().ok_or(Trouble::NotAStep)?, tokens),
     }
 }
 
-/// Stops a terminal, and tells what its disk then leaves with this filling. A new terminal over the
-/// disk takes its place.
-fn stop(alloc: Global, terminal: &mut Option<DiskTerminal>, filling: Filling) -> Told {
+/// Stops a terminal, and reports what its disk then leaves with this filling. A new terminal over
+/// the disk takes its place.
+fn stop(alloc: Global, terminal: &mut Option<DiskTerminal>, filling: Filling) -> Reported {
     let mut disk = terminal
         .take()
         .ok_or(Trouble::NotAStep)?
@@ -46,7 +50,7 @@ fn stop(alloc: Global, terminal: &mut Option<DiskTerminal>, filling: Filling) ->
 }
 
 /// All bytes of a disk.
-fn left_on(alloc: Global, disk: &mut MemDisk) -> Told {
+fn left_on(alloc: Global, disk: &mut MemDisk) -> Reported {
     let mut left = vec![in alloc; 0; disk.size() as usize]?;
     match disk.read_at(0, left.as_mut_slice()) {
         Ok(()) => with_bytes(alloc, "disk", left.as_slice()),
@@ -55,8 +59,8 @@ fn left_on(alloc: Global, disk: &mut MemDisk) -> Told {
 }
 
 /// Does something with a terminal.
-fn act(alloc: Global, terminal: &mut DiskTerminal, words: &[&str]) -> Told {
-    match words {
+fn act(alloc: Global, terminal: &mut DiskTerminal, tokens: &[&str]) -> Reported {
+    match tokens {
         ["restart"] => match terminal.restart() {
             Ok(()) => next(alloc, terminal.next()),
             Err(why) => fault(alloc, &why),
@@ -80,7 +84,7 @@ fn load(
     loading: &str,
     block: &str,
     iksn: &str,
-) -> Told {
+) -> Reported {
     let loading = Key::<16>::parse(loading).ok_or(Trouble::NotAStep)?;
     let block = bytes(alloc, block)?;
     let iksn = Iksn::parse(iksn).ok_or(Trouble::NotAStep)?;
@@ -91,7 +95,13 @@ fn load(
 }
 
 /// Begins a payment.
-fn begin(alloc: Global, terminal: &mut DiskTerminal, pan: &str, pin: &str, amount: &str) -> Told {
+fn begin(
+    alloc: Global,
+    terminal: &mut DiskTerminal,
+    pan: &str,
+    pin: &str,
+    amount: &str,
+) -> Reported {
     let (Ok(pan), Ok(pin)) = (Pan::parse(pan), Pin::parse(pin)) else {
         return Err(Trouble::NotAStep);
     };
@@ -103,7 +113,7 @@ fn begin(alloc: Global, terminal: &mut DiskTerminal, pan: &str, pin: &str, amoun
 }
 
 /// Gives a terminal an answer.
-fn reply(alloc: Global, terminal: &mut DiskTerminal, frame: &str) -> Told {
+fn reply(alloc: Global, terminal: &mut DiskTerminal, frame: &str) -> Reported {
     let frame = bytes(alloc, frame)?;
     match terminal.reply(frame.as_slice()) {
         Ok(Answer::Done(code)) => {

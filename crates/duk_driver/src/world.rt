@@ -10,7 +10,7 @@ ghost use Rattle.duk_store.specs.SlotCell.{slot_cell_meaning};
 
 use crate::disks::{DiskTerminal, Habit, new_log, new_terminal};
 use crate::host::{DiskHost, new_host};
-use crate::texts::{Told, done, next, number, serial, yes_or_no};
+use crate::texts::{Reported, done, next, number, serial, yes_or_no};
 use crate::trouble::Trouble;
 use duk_config::read_config;
 use duk_frame::Frame;
@@ -67,25 +67,30 @@ pub fn take_world_step(
     config: &[u8],
     world: &mut Option<DiskWorld>,
     step: &str,
-) -> Told {
-    let words: Vec<&str> = step.split(' ').collect(alloc)?;
-    match words.as_slice() {
+) -> Reported {
+    let tokens: Vec<&str> = step.split(' ').collect(alloc)?;
+    match tokens.as_slice() {
         ["new", h, hp, a, ap, b, bp, c, cp] => {
-            let of_host = Habit::of_words(h, hp)?;
-            let first = Habit::of_words(a, ap)?;
-            let second = Habit::of_words(b, bp)?;
-            let third = Habit::of_words(c, cp)?;
+            let of_host = Habit::of_tokens(h, hp)?;
+            let first = Habit::of_tokens(a, ap)?;
+            let second = Habit::of_tokens(b, bp)?;
+            let third = Habit::of_tokens(c, cp)?;
             *world = Some(new_world(alloc, config, of_host, [first, second, third])?);
             done(alloc, "ready")
         }
-        words => act(alloc, world.as_mut().ok_or(Trouble::NotAStep)?, words, step),
+        tokens => act(
+            alloc,
+            world.as_mut().ok_or(Trouble::NotAStep)?,
+            tokens,
+            step,
+        ),
     }
 }
 
-/// Reports something of a world, or lets events happen in it: those of a script's lines, with `;` in
-/// place of their ends.
-fn act(alloc: Global, world: &mut DiskWorld, words: &[&str], step: &str) -> Told {
-    match words {
+/// Reports something of a world, or lets events happen in it: those of a script's lines, with `;`
+/// in place of their ends.
+fn act(alloc: Global, world: &mut DiskWorld, tokens: &[&str], step: &str) -> Reported {
+    match tokens {
         ["requests"] => frames_text(alloc, world.requests()),
         ["answers"] => frames_text(alloc, world.answers()),
         ["next", place] => match world.terminals().get(number(place)? as usize) {
@@ -97,8 +102,8 @@ fn act(alloc: Global, world: &mut DiskWorld, words: &[&str], step: &str) -> Told
     }
 }
 
-/// Lets events happen in one call, and tells their outcomes, each with `;` after it.
-fn happen(alloc: Global, world: &mut DiskWorld, step: &str) -> Told {
+/// Lets events happen in one call, and reports their outcomes, each with `;` after it.
+fn happen(alloc: Global, world: &mut DiskWorld, step: &str) -> Reported {
     let script = step.replace(alloc, ';', "\n")?;
     let events = parse_script(alloc, script.as_bytes())?;
     let mut outcomes = Vec::new(alloc);
@@ -115,7 +120,7 @@ fn happen(alloc: Global, world: &mut DiskWorld, step: &str) -> Told {
 }
 
 /// Frames in hexadecimal.
-fn frames_text(alloc: Global, frames: &[Frame]) -> Told {
+fn frames_text(alloc: Global, frames: &[Frame]) -> Reported {
     let mut text = String::new(alloc);
     for frame in frames {
         text.push_str(hex::encode_upper(alloc, frame.as_slice())?.as_str())?;

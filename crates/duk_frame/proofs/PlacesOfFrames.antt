@@ -21,7 +21,7 @@ mac_text_framed text mac eight =
     let size : length (framed (text ++ mac)) - 10 ≡ length text = omega (arith, whole, eight) in
     ap (λ n. take n (text ++ mac)) size ∙ take-front (length text) text mac refl
 
--- a frame of this kind with this key serial number, and this behind it
+-- a frame of this kind with this key serial number, and this after it
 pub record Parts (bytes : List ℕ) (kind : ℕ) (serial rest : List ℕ) : Type 0 where
   pub size : length bytes ≡ 14 + length rest
   pub kind_is : get_or bytes 3 0 ≡ kind
@@ -40,11 +40,11 @@ parts_of high low version kind serial rest ten =
       rest_is = drop-front 10 serial rest ten;
     }
 
--- what stands behind the key serial number, where it begins with a byte
+-- what stands after the key serial number, where it begins with a byte
 pub get_or-next : (bytes : List ℕ) (next : ℕ) (rest : List ℕ) → drop 14 bytes ≡ next ∷ rest → get_or bytes 14 0 ≡ next
 get_or-next bytes next rest is = sym (get_or-drop 14 bytes 0 0) ∙ ap (λ xs. get_or xs 0 0) is
 
--- what stands behind that byte
+-- what stands after that byte
 pub drop-next : (bytes : List ℕ) (next : ℕ) (rest : List ℕ) → drop 14 bytes ≡ next ∷ rest → drop 15 bytes ≡ rest
 drop-next bytes next rest is = sym (drop-drop 1 14 bytes) ∙ ap (drop 1) is
 
@@ -62,7 +62,7 @@ same_mac text mac other same =
 
 -- ---- heads
 
--- a frame of at most 64 bytes has the kind that its body says
+-- a frame of at most 64 bytes has the kind that its contents says
 pub kind_of_frame : (bytes rest : List ℕ) (kind : ℕ) → bytes ≡ framed (1 ∷ kind ∷ rest) → length bytes ≤ 64
     → HasKind bytes kind
 kind_of_frame bytes rest kind laid short = record {

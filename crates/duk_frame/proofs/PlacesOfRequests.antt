@@ -18,15 +18,15 @@ pub record RequestPlaces (bytes : List ℕ) (request : Request) : Type 0 where
   pub pan : take (length request.pan) (drop 15 bytes) ≡ request.pan
   pub rest : drop (length request.pan) (drop 15 bytes) ≡ big_bytes 4 request.amount ++ (request.block ++ request.mac)
 
--- a request's fields behind its key serial number
-behind_serial : Request → List ℕ
-behind_serial request = request.pan ++ (big_bytes 4 request.amount ++ (request.block ++ request.mac))
+-- a request's fields after its key serial number
+after_serial : Request → List ℕ
+after_serial request = request.pan ++ (big_bytes 4 request.amount ++ (request.block ++ request.mac))
 
 -- the fields one after the other
 in_turn : (request : Request) (serial : List ℕ)
     → (serial ++ (length request.pan ∷ (request.pan ++ (big_bytes 4 request.amount ++ request.block)))) ++ request.mac
-    ≡ serial ++ (length request.pan ∷ behind_serial request)
-unfolding behind_serial
+    ≡ serial ++ (length request.pan ∷ after_serial request)
+unfolding after_serial
 in_turn request serial =
     let amount : List ℕ = big_bytes 4 request.amount in
     append_assoc serial (length request.pan ∷ (request.pan ++ (amount ++ request.block))) request.mac
@@ -35,21 +35,21 @@ in_turn request serial =
 
 -- a request's places follow from its parts
 places_in : (bytes : List ℕ) (request : Request) → length request.block ≡ 8 → length request.mac ≡ 8
-    → Parts bytes 1 (serial_bytes request.ksn) (length request.pan ∷ behind_serial request) → RequestPlaces bytes request
-unfolding behind_serial
+    → Parts bytes 1 (serial_bytes request.ksn) (length request.pan ∷ after_serial request) → RequestPlaces bytes request
+unfolding after_serial
 places_in bytes request block_size mac_size parts =
     let rest : List ℕ = big_bytes 4 request.amount ++ (request.block ++ request.mac) in
     let n = length request.pan in
     let whole : length (request.pan ++ rest) ≡ length request.pan + length rest = length-append request.pan rest in
     let last : length (request.block ++ request.mac) ≡ length request.block + length request.mac = length-append request.block request.mac in
-    let behind : drop 15 bytes ≡ request.pan ++ rest = drop-next bytes n (request.pan ++ rest) parts.rest_is in
+    let following : drop 15 bytes ≡ request.pan ++ rest = drop-next bytes n (request.pan ++ rest) parts.rest_is in
     record {
       size = omega (arith, parts.size, whole, last, block_size, mac_size);
       kind = parts.kind_is;
       serial = parts.serial_is;
       digits = get_or-next bytes n (request.pan ++ rest) parts.rest_is;
-      pan = ap (take n) behind ∙ take-front n request.pan rest refl;
-      rest = ap (drop n) behind ∙ drop-front n request.pan rest refl;
+      pan = ap (take n) following ∙ take-front n request.pan rest refl;
+      rest = ap (drop n) following ∙ drop-front n request.pan rest refl;
     }
 
 -- the places of a request
@@ -57,12 +57,12 @@ pub request_places : (bytes : List ℕ) (request : Request) → ((serial : Seria
     → RequestPlaces bytes request
 request_places bytes request ten is =
     let serial : List ℕ = serial_bytes request.ksn in
-    let behind : List ℕ = length request.pan ∷ behind_serial request in
+    let following : List ℕ = length request.pan ∷ after_serial request in
     let size : ℕ = length (request_text request.ksn request.pan request.amount request.block ++ request.mac) in
-    let laid : bytes ≡ big_bytes 2 size ++ (1 ∷ 1 ∷ (serial ++ behind)) =
+    let laid : bytes ≡ big_bytes 2 size ++ (1 ∷ 1 ∷ (serial ++ following)) =
     is.laid_out ∙ ap (λ fields. big_bytes 2 size ++ (1 ∷ 1 ∷ fields)) (in_turn request serial) in
     places_in bytes request is.fields.block_is.eight is.fields.mac_is.eight
-    (subst (λ (b : List ℕ). Parts b 1 serial behind) (sym laid) (parts_of _ _ 1 1 serial behind (ten request.ksn)))
+    (subst (λ (b : List ℕ). Parts b 1 serial following) (sym laid) (parts_of _ _ 1 1 serial following (ten request.ksn)))
 
 -- the number in the four bytes at the amount's place
 pub amount_at : (bytes : List ℕ) (request : Request) → IsRequest bytes request → RequestPlaces bytes request
@@ -70,13 +70,13 @@ pub amount_at : (bytes : List ℕ) (request : Request) → IsRequest bytes reque
 amount_at bytes request is places =
     ap (big_number 4) places.rest ∙ big_number-reads_back 4 request.amount (request.block ++ request.mac) is.fields.amount_fits
 
--- the block behind the amount
+-- the block after the amount
 pub block_at : (bytes : List ℕ) (request : Request) → IsRequest bytes request → RequestPlaces bytes request
     → take 8 (drop 4 (drop (length request.pan) (drop 15 bytes))) ≡ request.block
 block_at bytes request is places =
     ap (λ rest. take 8 (drop 4 rest)) places.rest ∙ take-front 8 request.block request.mac is.fields.block_is.eight
 
--- the MAC behind the block
+-- the MAC after the block
 pub mac_at : (bytes : List ℕ) (request : Request) → IsRequest bytes request → RequestPlaces bytes request
     → drop 12 (drop (length request.pan) (drop 15 bytes)) ≡ request.mac
 mac_at bytes request is places =
@@ -122,8 +122,8 @@ pub text_at : (bytes rest : List ℕ) (request : Request) (digits : ℕ) → len
     → request.block ≡ take 8 (drop 4 rest)
     → request.mac ≡ drop 12 rest
     → 1 ∷ 1 ∷ drop 4 bytes ≡ request_text request.ksn request.pan request.amount request.block ++ request.mac
-unfolding behind_serial
-text_at bytes rest request digits size digits_are serial pan behind amount block mac =
+unfolding after_serial
+text_at bytes rest request digits size digits_are serial pan following amount block mac =
     let serial_is : List ℕ = serial_bytes request.ksn in
     let amount_is : List ℕ = big_bytes 4 request.amount in
     let room : digits ≤ length (drop 15 bytes) = omega (arith, length-drop 15 bytes) in
@@ -135,7 +135,7 @@ text_at bytes rest request digits size digits_are serial pan behind amount block
     let numbers : amount_is ++ (request.block ++ request.mac) ≡ rest =
     ap (λ back. amount_is ++ back) last ∙ ap (λ front. front ++ drop 4 rest) amount ∙ take-append-drop 4 rest in
     let card : request.pan ++ (amount_is ++ (request.block ++ request.mac)) ≡ drop 15 bytes =
-    ap (λ back. request.pan ++ back) (numbers ∙ behind)
+    ap (λ back. request.pan ++ back) (numbers ∙ following)
     ∙ ap (λ front. front ++ drop digits (drop 15 bytes)) pan
     ∙ take-append-drop digits (drop 15 bytes) in
     let within : 14 < length bytes = omega arith in

@@ -8,38 +8,38 @@ use Rattle.duk_frame.specs.Feeder.{EndsFrame}
 use Rattle.duk_frame.specs.Frame.{framed}
 use Rattle.duk_frame.specs.Stream.{BeginsTooLong, BeginsWith, IsFrame, IsPart, Splits, said_length}
 
--- a length and as much of a body as it says are a frame
-frame_of : (high low body : ℕ) (rest : List ℕ) → body ≡ high * 256 + low → body ≤ 62 → body ≤ length rest
-    → IsFrame (high ∷ low ∷ take body rest)
-frame_of high low body rest said short within =
-    let size : length (take body rest) ≡ body = length-take-le body rest within in
-    let first : high ≡ length (take body rest) / 256 % 256 = omega (arith, said, short, size) in
-    let second : low ≡ length (take body rest) % 256 = omega (arith, said, short, size) in
+-- a length and as much of a contents as it says are a frame
+frame_of : (high low contents : ℕ) (rest : List ℕ) → contents ≡ high * 256 + low → contents ≤ 62 → contents ≤ length rest
+    → IsFrame (high ∷ low ∷ take contents rest)
+frame_of high low contents rest said short within =
+    let size : length (take contents rest) ≡ contents = length-take-le contents rest within in
+    let first : high ≡ length (take contents rest) / 256 % 256 = omega (arith, said, short, size) in
+    let second : low ≡ length (take contents rest) % 256 = omega (arith, said, short, size) in
     record {
-      body = take body rest;
+      contents = take contents rest;
       short = omega (arith, size, short);
-      laid_out = ap (λ byte. byte ∷ low ∷ take body rest) first ∙ ap (λ byte. length (take body rest) / 256 % 256 ∷ byte ∷ take body rest) second;
+      laid_out = ap (λ byte. byte ∷ low ∷ take contents rest) first ∙ ap (λ byte. length (take contents rest) / 256 % 256 ∷ byte ∷ take contents rest) second;
     }
 
--- where as much of a body is there as the length says, the bytes begin with a frame
-pub front_frame : (bytes : List ℕ) (body : ℕ) → body ≡ said_length bytes → body ≤ 62 → 2 + body ≤ length bytes
-    → IsFrame (take (2 + body) bytes)
-front_frame [] body said short within = absurd (omega (arith, within))
-front_frame (high ∷ []) body said short within = absurd (omega (arith, within))
-front_frame (high ∷ low ∷ rest) body said short within =
-    let two : suc (suc body) ≡ 2 + body = omega arith in
-    subst (λ count. IsFrame (take count (high ∷ low ∷ rest))) two (frame_of high low body rest (omega (arith, said)) short (omega (arith, within)))
+-- where as much of a contents is there as the length says, the bytes begin with a frame
+pub front_frame : (bytes : List ℕ) (contents : ℕ) → contents ≡ said_length bytes → contents ≤ 62 → 2 + contents ≤ length bytes
+    → IsFrame (take (2 + contents) bytes)
+front_frame [] contents said short within = absurd (omega (arith, within))
+front_frame (high ∷ []) contents said short within = absurd (omega (arith, within))
+front_frame (high ∷ low ∷ rest) contents said short within =
+    let two : suc (suc contents) ≡ 2 + contents = omega arith in
+    subst (λ count. IsFrame (take count (high ∷ low ∷ rest))) two (frame_of high low contents rest (omega (arith, said)) short (omega (arith, within)))
 
 -- as many bytes of the piece as are wanting end the frame
-pub ends_frame : (rest piece : List ℕ) (body : ℕ) → body ≡ said_length (rest ++ piece) → body ≤ 62 → length rest < 2 + body
-    → 2 + body - length rest ≤ length piece → EndsFrame rest piece (2 + body - length rest)
-ends_frame rest piece body said short wanting within =
-    let whole : length rest + (2 + body - length rest) ≡ 2 + body = omega (arith, wanting) in
+pub ends_frame : (rest piece : List ℕ) (contents : ℕ) → contents ≡ said_length (rest ++ piece) → contents ≤ 62 → length rest < 2 + contents
+    → 2 + contents - length rest ≤ length piece → EndsFrame rest piece (2 + contents - length rest)
+ends_frame rest piece contents said short wanting within =
+    let whole : length rest + (2 + contents - length rest) ≡ 2 + contents = omega (arith, wanting) in
     record {
       least = omega (arith, wanting);
       within = within;
-      is_frame = subst IsFrame (ap (λ count. take count (rest ++ piece)) (sym whole) ∙ take-append-add rest piece (2 + body - length rest))
-          (front_frame (rest ++ piece) body said short (omega (arith, within, wanting, length-append rest piece)));
+      is_frame = subst IsFrame (ap (λ count. take count (rest ++ piece)) (sym whole) ∙ take-append-add rest piece (2 + contents - length rest))
+          (front_frame (rest ++ piece) contents said short (omega (arith, within, wanting, length-append rest piece)));
     }
 
 -- the part of a frame is shorter than that frame
@@ -49,15 +49,15 @@ part_is_short [] piece (inr lacks) = omega arith
 part_is_short (high ∷ []) piece (inr lacks) = omega arith
 part_is_short (high ∷ low ∷ rest) piece (inr lacks) = lacks.short
 
-said_of_framed : (body more : List ℕ) → length body ≤ 62 → said_length (framed body ++ more) ≡ length body
-said_of_framed body more short = omega (arith, short)
+said_of_framed : (contents more : List ℕ) → length contents ≤ 62 → said_length (framed contents ++ more) ≡ length contents
+said_of_framed contents more short = omega (arith, short)
 
 -- what the length of a frame says
 said_of_frame : (frame more : List ℕ) → IsFrame frame → 2 + said_length (frame ++ more) ≡ length frame
 said_of_frame frame more is =
-    let said = said_of_framed is.body more is.short in
-    let same : said_length (frame ++ more) ≡ said_length (framed is.body ++ more) = ap (λ bytes. said_length (bytes ++ more)) is.laid_out in
-    let size : length frame ≡ length (framed is.body) = ap length is.laid_out in
+    let said = said_of_framed is.contents more is.short in
+    let same : said_length (frame ++ more) ≡ said_length (framed is.contents ++ more) = ap (λ bytes. said_length (bytes ++ more)) is.laid_out in
+    let size : length frame ≡ length (framed is.contents) = ap length is.laid_out in
     omega (arith, said, same, size)
 
 -- a frame has a length
@@ -101,11 +101,11 @@ first_frames bytes (frame ∷ frames) rest (other ∷ all) last begins splits =
     let second : bytes ≡ other ++ (concat all ++ last) = splits.begins.whole ∙ append_assoc other (concat all) last in
     let one : frame ≡ other =
     one_frame frame other (concat frames ++ rest) (concat all ++ last) (All-head IsFrame frame frames begins.each) (All-head IsFrame other all splits.begins.each) (sym first ∙ second) in
-    let behind : concat frames ++ rest ≡ concat all ++ last =
+    let following : concat frames ++ rest ≡ concat all ++ last =
     append_cancel_left frame (concat frames ++ rest) (concat all ++ last) (sym first ∙ second ∙ ap (λ front. front ++ (concat all ++ last)) (sym one)) in
     let later = first_frames (concat frames ++ rest) frames rest all last
     (record { whole = refl; each = All-tail IsFrame frame frames begins.each })
-    (record { begins = record { whole = behind; each = All-tail IsFrame other all splits.begins.each }; ends = splits.ends }) in
+    (record { begins = record { whole = following; each = All-tail IsFrame other all splits.begins.each }; ends = splits.ends }) in
     (later.0, ap (λ frame. frame ∷ all) (sym one) ∙ ap (λ all. frame ∷ all) later.1, later.2)
 
 -- what ends a stream is split into no frame
@@ -143,7 +143,7 @@ split_more bytes count is frames rest splits = record {
   begins = record {
     whole =
         sym (take-append-drop count bytes)
-        ∙ ap (λ behind. take count bytes ++ behind) splits.begins.whole
+        ∙ ap (λ following. take count bytes ++ following) splits.begins.whole
         ∙ sym (append_assoc (take count bytes) (concat frames) rest);
     each = All-cons IsFrame (take count bytes) frames is splits.begins.each;
   };

@@ -8,12 +8,12 @@ use Rattle.duk_frame.specs.declared.code.Code.{Code}
 use Rattle.duk_frame.specs.declared.answer.AnswerFrame.{AnswerFrame}
 use Rattle.duk_frame.specs.declared.answer.AnswerFrame.TheVariants.{Reply, Refusal}
 
--- the body of an accepted reply before its MAC: version 1 and kind 2, the key serial number, and
--- the code's two digits
+-- the contents of an accepted reply before its MAC: version 1 and kind 2, the key serial number,
+-- and the code's two digits
 abbrev pub reply_text : Serial → Code → List ℕ
 reply_text ksn code = 1 ∷ 2 ∷ (serial_bytes ksn ++ code_text code)
 
--- the body of a refusal: version 1 and kind 3, the ten bytes of the key serial number, and the
+-- the contents of a refusal: version 1 and kind 3, the ten bytes of the key serial number, and the
 -- reason
 abbrev pub refusal_text : List ℕ → ℕ → List ℕ
 refusal_text ksn reason = 1 ∷ 3 ∷ (ksn ++ reason ∷ [])

@@ -24,7 +24,7 @@ IsFront rest piece front.TooLong = BeginsTooLong (rest ++ piece)
 
 -- a frame is handed out: it is the rest with the bytes that were taken after it, and the new rest
 -- is empty
-pub record HandsOut (old new : Feeding) (piece : List ℕ) (taken : ℕ) (frame : List ℕ) : Type 0 where
+pub record HandsOutFrame (old new : Feeding) (piece : List ℕ) (taken : ℕ) (frame : List ℕ) : Type 0 where
   pub ends : EndsFrame old.rest piece taken
   pub whole : frame ≡ old.rest ++ take taken piece
   pub nothing_left : new.rest ≡ []

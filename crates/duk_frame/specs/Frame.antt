@@ -2,17 +2,17 @@
 use Rattle.std.specs.Prelude.{◌≡◌, ◌≤◌, ◌+◌, ◌-◌, ℕ, List, ◌∷◌, ◌++◌, length, take, drop}
 use Rattle.byteorder.specs.Endian.{big_bytes}
 
--- a frame: the length of its body in two bytes, and the body
+-- a frame: the length of its contents in two bytes, and the contents
 abbrev pub framed : List ℕ → List ℕ
-framed body = big_bytes 2 (length body) ++ body
+framed contents = big_bytes 2 (length contents) ++ contents
 
 -- what the MAC of a frame is made over: what stands between its length and the eight bytes of the
 -- MAC
 abbrev pub mac_text_of : List ℕ → List ℕ
 mac_text_of frame = take (length frame - 10) (drop 2 frame)
 
--- the bytes are a frame, no longer than any may be, whose body has version 1 and this kind: what a
--- private function tests
+-- the bytes are a frame, no longer than any may be, whose contents has version 1 and this kind:
+-- what a private function tests
 pub record HasKind (bytes : List ℕ) (kind : ℕ) : Type 0 where
   pub short : length bytes ≤ 64
   pub laid_out : bytes ≡ framed (1 ∷ kind ∷ drop 4 bytes)

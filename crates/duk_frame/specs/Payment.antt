@@ -12,7 +12,7 @@ use Rattle.duk_frame.specs.Request.{request_text}
 use Rattle.duk_frame.specs.declared.code.Code.{Code}
 use Rattle.duk_frame.specs.declared.request.Request.{Request}
 
--- a frame with the retail MAC of its body under a key
+-- a frame with the retail MAC of its contents under a key
 abbrev pub authenticated : List ℕ → List ℕ → List ℕ
 authenticated key text = framed (text ++ retail_of key text)
 

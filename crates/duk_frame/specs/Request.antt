@@ -7,7 +7,7 @@ use Rattle.duk_tree.specs.Serial.{Serial, IsSerial, serial_bytes}
 use Rattle.duk_frame.specs.Frame.{framed}
 use Rattle.duk_frame.specs.declared.request.Request.{Request}
 
--- the body of a request before its MAC: version 1 and kind 1, the key serial number, the PAN's
+-- the contents of a request before its MAC: version 1 and kind 1, the key serial number, the PAN's
 -- length and its digits, the amount in four bytes, and the enciphered PIN block
 abbrev pub request_text : Serial → List ℕ → ℕ → List ℕ → List ℕ
 request_text ksn pan amount block =

@@ -12,17 +12,17 @@ use crate::text::MacText;
 use duk_tdes::array_of;
 use duk_tree::Ksn;
 
-/// The kind of an accepted reply, in the second byte of its body.
+/// The kind of an accepted reply, in the second byte of its contents.
 const REPLY: u8 = 2;
 
-/// The bytes of its body.
-const REPLY_BODY: usize = 22;
+/// The bytes of its contents.
+const REPLY_CONTENTS: usize = 22;
 
 /// The kind of a refusal.
 const REFUSAL: u8 = 3;
 
-/// The bytes of its body.
-const REFUSAL_BODY: usize = 13;
+/// The bytes of its contents.
+const REFUSAL_CONTENTS: usize = 13;
 
 /// The fields of an answer.
 #[derive(Clone, Copy)]
@@ -53,7 +53,7 @@ pub fn reply_text(ksn: Ksn, code: Code) -> MacText
     ensures reply { (mac : List ℕ) → IsBlock mac
         → IsReply (framed (reply_text ksn code ++ mac)) ksn code mac }
 {
-    let mut frame = begin_frame(REPLY_BODY as u16, REPLY);
+    let mut frame = begin_frame(REPLY_CONTENTS as u16, REPLY);
     append(&mut frame, &ksn.bytes());
     append(&mut frame, &code.text());
     MacText::new(frame)
@@ -75,7 +75,7 @@ pub fn write_refusal(ksn: [u8; 10], reason: u8) -> Frame
     ensures refusal { (serial : Serial) → IsSerial serial → serial_bytes serial ≡ ksn
         → IsRefusal result.items serial reason }
 {
-    let mut frame = begin_frame(REFUSAL_BODY as u16, REFUSAL);
+    let mut frame = begin_frame(REFUSAL_CONTENTS as u16, REFUSAL);
     append(&mut frame, &ksn);
     append(&mut frame, &[reason]);
     frame
@@ -100,7 +100,7 @@ fn read_reply(bytes: &[u8]) -> Option<AnswerFrame>
         → result ≡ Some (AnswerFrame.Reply ksn code mac) }
 {
     duk_tree::laws::serials();
-    if bytes.len() != 2 + REPLY_BODY {
+    if bytes.len() != 2 + REPLY_CONTENTS {
         return None;
     }
     if !has_kind(bytes, REPLY) {
@@ -119,7 +119,7 @@ fn read_refusal(bytes: &[u8]) -> Option<AnswerFrame>
         → result ≡ Some (AnswerFrame.Refusal ksn reason) }
 {
     duk_tree::laws::serials();
-    if bytes.len() != 2 + REFUSAL_BODY {
+    if bytes.len() != 2 + REFUSAL_CONTENTS {
         return None;
     }
     if !has_kind(bytes, REFUSAL) {

@@ -1,7 +1,7 @@
 //! Frames out of a stream, however its bytes are cut.
 
 ghost use Rattle.std.specs.Prelude.{◌≡◌, ◌↔◌, ◌≤◌, ◌⊎◌, ◌++◌, [], false, IsTrue, IsErr, IsSome, IfOk, IfNone, IfSome, OnErr, length, slice_get};
-ghost use Rattle.duk_frame.specs.Feeder.{HandsOut, IsFront, TakesAll};
+ghost use Rattle.duk_frame.specs.Feeder.{HandsOutFrame, IsFront, TakesAll};
 ghost use Rattle.duk_frame.specs.Stream.{BeginsTooLong, IsPart, said_length};
 
 use crate::frame::{Frame, append};
@@ -13,8 +13,8 @@ use thiserror::Error;
 /// The bytes of a frame's length.
 const LENGTH: usize = 2;
 
-/// The most bytes that a body may have.
-const LONGEST_BODY: usize = 62;
+/// The most bytes that a contents may have.
+const LONGEST_CONTENTS: usize = 62;
 
 /// Why a stream holds no further frame. `Display` writes the name.
 #[derive(Debug, Clone, Copy, PartialEq, Eq, Error)]
@@ -61,7 +61,7 @@ impl Feeder {
     /// after. What is held then stays.
     pub fn feed(&mut self, piece: &[u8]) -> Result<(usize, Option<Frame>), FrameFault>
         ensures frame { IfOk result (λ answer. IfSome answer.1
-            (λ frame. HandsOut self.old self.new piece.now answer.0 frame.items)) }
+            (λ frame. HandsOutFrame self.old self.new piece.now answer.0 frame.items)) }
         ensures none { IfOk result (λ answer. IfNone answer.1
             (TakesAll self.old self.new piece.now answer.0)) }
         ensures too_long { IsErr result
@@ -112,13 +112,13 @@ fn front_of(rest: &[u8], piece: &[u8]) -> Front
     requires { IsPart rest.now }
     ensures { IsFront rest.now piece.now result }
 {
-    let Some(body) = length_said(rest, piece) else {
+    let Some(contents) = length_said(rest, piece) else {
         return Front::Part;
     };
-    if body > LONGEST_BODY {
+    if contents > LONGEST_CONTENTS {
         return Front::TooLong;
     }
-    let wanting = LENGTH + body - rest.len();
+    let wanting = LENGTH + contents - rest.len();
     if wanting > piece.len() {
         return Front::Part;
     }
@@ -128,7 +128,7 @@ fn front_of(rest: &[u8], piece: &[u8]) -> Front
 /// The length that a rest and the piece after it begin with, where both its bytes are there.
 fn length_said(rest: &[u8], piece: &[u8]) -> Option<usize>
     ensures there { IsSome result ↔ (LENGTH ≤ length (rest.now ++ piece.now)) }
-    ensures said { IfSome result (λ body. body ≡ said_length (rest.now ++ piece.now)) }
+    ensures said { IfSome result (λ contents. contents ≡ said_length (rest.now ++ piece.now)) }
 {
     let high = byte_at(rest, piece, 0)?;
     let low = byte_at(rest, piece, 1)?;

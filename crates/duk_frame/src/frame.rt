@@ -14,10 +14,10 @@ const FRAME_ROOM: usize = 64;
 /// A whole frame with its length.
 pub type Frame = ArrayVec<u8, FRAME_ROOM>;
 
-/// The bytes of a frame's head: the length of its body, and the body's version and kind.
+/// The bytes of a frame's head: the length of its contents, and the contents's version and kind.
 const HEAD: usize = 4;
 
-/// The first byte of every body.
+/// The first byte of every contents.
 const VERSION: u8 = 1;
 
 /// The bytes that the MAC of a frame is made over: those between its length, the first 2, and its
@@ -29,8 +29,8 @@ pub fn mac_text(frame: &[u8]) -> &[u8]
     &frame[2..frame.len() - 8]
 }
 
-/// Whether the bytes are a frame, and no longer than any may be, whose body has version 1 and this
-/// kind.
+/// Whether the bytes are a frame, and no longer than any may be, whose contents has version 1 and
+/// this kind.
 pub(crate) fn has_kind(bytes: &[u8], kind: u8) -> bool
     ensures { IsTrue result ↔ HasKind bytes.now kind }
 {
@@ -38,7 +38,7 @@ pub(crate) fn has_kind(bytes: &[u8], kind: u8) -> bool
         && bytes[..HEAD] == head(bytes.len() as u16 - 2, kind)[..]
 }
 
-/// A frame as far as its body's version and kind, where the body is to have this length.
+/// A frame as far as its contents's version and kind, where the contents is to have this length.
 pub(crate) fn begin_frame(length: u16, kind: u8) -> Frame
     ensures bytes { result.items ≡ big_bytes 2 length ++ 1 ∷ kind ∷ [] }
     ensures len { array_vec_len result ≡ 4 }
@@ -48,7 +48,7 @@ pub(crate) fn begin_frame(length: u16, kind: u8) -> Frame
     frame
 }
 
-/// The head of a frame: the length of its body, and the body's version and kind.
+/// The head of a frame: the length of its contents, and the contents's version and kind.
 fn head(length: u16, kind: u8) -> [u8; HEAD]
     ensures { result ≡ big_bytes 2 length ++ 1 ∷ kind ∷ [] }
 {

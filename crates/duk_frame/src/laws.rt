@@ -38,7 +38,7 @@ pub fn payments()
     duk_mac::laws::retail_is_a_block();
 }
 
-/// A request and an accepted reply are long enough for `mac_text`, which is the body before the
+/// A request and an accepted reply are long enough for `mac_text`, which is the contents before the
 /// MAC.
 pub fn mac_texts()
     ensures request { (bytes : List ℕ) (request : Request) → IsRequest bytes request

@@ -1,4 +1,4 @@
-//! The frames between terminals and host: a length of two bytes, and a body that it counts. A
+//! The frames between terminals and host: a length of two bytes, and a contents that it counts. A
 //! format of this project's own.
 //!
 //! A request goes from a terminal to the host, an accepted reply or a refusal comes back. Request

@@ -14,11 +14,11 @@ use duk_tdes::array_of;
 use duk_tree::Ksn;
 use std::str;
 
-/// The kind of a request, in the second byte of its body.
+/// The kind of a request, in the second byte of its contents.
 const KIND: u8 = 1;
 
-/// The bytes of a body without the digits of its PAN.
-const BODY: usize = 33;
+/// The bytes of a contents without the digits of its PAN.
+const CONTENTS: usize = 33;
 
 /// Where the PAN's digits begin in a frame, after their number.
 const DIGITS: usize = 15;
@@ -49,7 +49,7 @@ pub fn request_text(ksn: Ksn, pan: &Pan, amount: u32, block: [u8; 8]) -> MacText
     let digits = pan.digits().as_bytes();
     let mut amount_bytes = [0; 4];
     BigEndian::write_u32(&mut amount_bytes, amount);
-    let mut frame = begin_frame((BODY + digits.len()) as u16, KIND);
+    let mut frame = begin_frame((CONTENTS + digits.len()) as u16, KIND);
     append(&mut frame, &ksn.bytes());
     append(&mut frame, &[digits.len() as u8]);
     append(&mut frame, digits);
@@ -89,11 +89,11 @@ fn fields_at_their_places(bytes: &[u8]) -> Option<Request>
     ensures every { (request : Request) → IsRequest bytes.now request → result ≡ Some request }
 {
     duk_tree::laws::serials();
-    if bytes.len() < 2 + BODY {
+    if bytes.len() < 2 + CONTENTS {
         return None;
     }
     let digits = usize::from(bytes[DIGITS - 1]);
-    if bytes.len() != 2 + BODY + digits {
+    if bytes.len() != 2 + CONTENTS + digits {
         return None;
     }
     let (pan, rest) = bytes[DIGITS..].split_at(digits);

@@ -11,7 +11,7 @@ use std::marker::Model;
 /// The bytes of a MAC.
 pub(crate) const MAC_LENGTH: usize = 8;
 
-/// The text that the MAC of a frame is made over: all of its body but the MAC. It stands in the
+/// The text that the MAC of a frame is made over: all of its contents but the MAC. It stands in the
 /// frame that it is a part of, after the length and before the MAC's place.
 #[derive(Drop)]
 pub struct MacText {

@@ -4,7 +4,7 @@ use Rattle.duk_frame.specs.Request.{IsRequest}
 use Rattle.duk_frame.specs.declared.request.Request.{Request}
 use Rattle.duk_store.specs.Log.{IsAppended, room_of}
 use Rattle.duk_tree.specs.Serial.{Serial}
-use Rattle.duk_host.specs.Handle.{Answers, AnswersAs, AnswersReply, HandleRefused, IsNumberAdded, IsNumberKept, IsRemembered, IsReplied, IsToAccept, IsTold, IsToldReply, KeepRefused}
+use Rattle.duk_host.specs.Handle.{Answers, AnswersAs, AnswersReply, HandleRefused, IsNumberAdded, IsNumberKept, IsRemembered, IsReplied, IsToAccept, IsVerdictOn, IsAcceptedVerdict, KeepRefused}
 use Rattle.duk_host.specs.Judged.{IsSettled}
 use Rattle.duk_host.specs.Host.{LogHolds, HostMeaning, HostOf, LogAgrees, basis_of}
 use Rattle.duk_host.specs.Judgement.{Decision, IsAcceptable, IsReplyTo, basis_with}
@@ -19,7 +19,7 @@ use Rattle.duk_host.specs.declared.running.Running.{Running}
 one_running : (state : Option Running) (one other : Running) → state ≡ Some one → state ≡ Some other → one ≡ other
 one_running state one other is same = cc
 
--- the room that a running host told
+-- the room that a running host reported
 room_left :
     {L I : Type 0} (meaning : HostMeaning L I) (host : HostOf L I) (running : Running) (room : ℕ)
     → LogAgrees (meaning.log.state_of host.log) host.state → host.state ≡ Some running
@@ -28,7 +28,7 @@ room_left meaning host running room agrees runs room_is =
     let holds : LogHolds (meaning.log.state_of host.log) running.used = subst (λ state. LogAgrees (meaning.log.state_of host.log) state) runs agrees in
     room_is ∙ ap (λ running. if running then meaning.log.capacity host.log - meaning.log.count host.log else 0) holds.runs
 
--- what changes nothing, by what is told of it
+-- what changes nothing, by what is reported of it
 settled_as :
     {L I : Type 0} (meaning : HostMeaning L I) (bytes : List ℕ) (host : HostOf L I) (running : Running) (frame : List ℕ) (says : Verdict)
     → host.state ≡ Some running → IsSettled (basis_of meaning host running) bytes frame says → AnswersAs meaning bytes host host frame says
@@ -118,19 +118,19 @@ answers meaning bytes old new request frame accept is_request replied = record {
   recent = replied.recent;
 }
 
--- a request that is accepted is told as accepted
-pub answers_reply : {L I : Type 0} (meaning : HostMeaning L I) (bytes : List ℕ) (old new : HostOf L I) (frame : List ℕ) (says : Verdict) → AnswersReply meaning bytes old new frame → IsToldReply frame says → AnswersAs meaning bytes old new frame says
-answers_reply meaning bytes old new frame (Accepted ksn code) is told = is
-answers_reply meaning bytes old new frame (Repeated ksn code) is told = absurd told
-answers_reply meaning bytes old new frame (Refused ksn reason) is told = absurd told
+-- a request that is accepted is reported as accepted
+pub answers_reply : {L I : Type 0} (meaning : HostMeaning L I) (bytes : List ℕ) (old new : HostOf L I) (frame : List ℕ) (says : Verdict) → AnswersReply meaning bytes old new frame → IsAcceptedVerdict frame says → AnswersAs meaning bytes old new frame says
+answers_reply meaning bytes old new frame (Accepted ksn code) is reported = is
+answers_reply meaning bytes old new frame (Repeated ksn code) is reported = absurd reported
+answers_reply meaning bytes old new frame (Refused ksn reason) is reported = absurd reported
 
--- what is told is what the frame says
-pub reply_told : (frame : List ℕ) (says : Verdict) → IsToldReply frame says → IsTold frame says
-reply_told frame (Accepted ksn code) told = told
-reply_told frame (Repeated ksn code) told = absurd told
-reply_told frame (Refused ksn reason) told = absurd told
+-- what is reported is what the frame says
+pub reply_reported : (frame : List ℕ) (says : Verdict) → IsAcceptedVerdict frame says → IsVerdictOn frame says
+reply_reported frame (Accepted ksn code) reported = reported
+reply_reported frame (Repeated ksn code) reported = absurd reported
+reply_reported frame (Refused ksn reason) reported = absurd reported
 
--- what is done by what is told is an answer
+-- what is done by what is reported is an answer
 pub answered_as : {L I : Type 0} (meaning : HostMeaning L I) (bytes : List ℕ) (old new : HostOf L I) (frame : List ℕ) (says : Verdict) → AnswersAs meaning bytes old new frame says → Answers meaning bytes old new frame
 answered_as meaning bytes old new frame (Accepted ksn code) is = inr (inl is)
 answered_as meaning bytes old new frame (Repeated ksn code) is = inr (inr is)

@@ -47,7 +47,7 @@ short_request ten bytes ksn is =
     let request = is.request in
     let fields = is.is_request.fields in
     let amount = big_bytes 4 request.amount in
-    let behind = request.pan ++ (amount ++ request.block) in
+    let following = request.pan ++ (amount ++ request.block) in
     let text = request_text request.ksn request.pan request.amount request.block in
     let body = text ++ request.mac in
     let whole : length bytes ≡ 2 + length body = ap length is.is_request.laid_out ∙ length-append (big_bytes 2 (length body)) body ∙ ap (λ n. n + length body) (length-bytes_high_first 2 (length body)) in
@@ -55,7 +55,7 @@ short_request ten bytes ksn is =
       arith,
       whole,
       length-append text request.mac,
-      length-append (serial_bytes request.ksn) (length request.pan ∷ behind),
+      length-append (serial_bytes request.ksn) (length request.pan ∷ following),
       ten request.ksn,
       length-append request.pan (amount ++ request.block),
       length-append amount request.block,

@@ -11,7 +11,7 @@ use Rattle.duk_host.specs.Handle.{IsToAccept}
 use Rattle.duk_host.specs.Host.{HostMeaning, HostOf, basis_of}
 use Rattle.duk_host.specs.Judgement.{JudgementBasis}
 use Rattle.duk_host.specs.Serve.{AnswerFailed, FailsAtFrame, HasNoAnswer, IsAnswerCut, Service}
-use Rattle.duk_host.specs.Served.{AtMostOneMore, FailedBehind, IsCutOn, IsJudgedOn, IsLeftBy, IsStoppedOn, IsToAcceptOn, JudgesBy, LacksMemoryOn}
+use Rattle.duk_host.specs.Served.{AtMostOneMore, FailedAfter, IsCutOn, IsJudgedOn, IsLeftBy, IsStoppedOn, IsToAcceptOn, JudgesBy, IsOutOfMemoryOn}
 use Rattle.duk_host.specs.declared.fault.HostFault.{HostFault}
 use Rattle.duk_host.specs.declared.fault.HostFault.TheVariants as fault
 use Rattle.duk_host.proofs.JudgedInTurn.{judged, same_acceptable, same_numbers, same_recent}
@@ -76,10 +76,10 @@ stopped_on meaning basis mid new frame why judges failed =
       finds = finds_at_most meaning mid.host new.host basis refused.request.ksn why judges not_kept.not_appended;
     }
 
-lacks_memory_on :
+is_out_of_memory_on :
     {L I : Type 0} (meaning : HostMeaning L I) (basis : JudgementBasis) (mid new : Service L I) (frame : List ℕ)
-    → JudgesBy meaning mid.host basis → HasNoAnswer meaning mid new frame fault.NoMemory → LacksMemoryOn meaning basis mid.writer new frame
-lacks_memory_on meaning basis mid new frame judges failed =
+    → JudgesBy meaning mid.host basis → HasNoAnswer meaning mid new frame fault.NoMemory → IsOutOfMemoryOn meaning basis mid.writer new frame
+is_out_of_memory_on meaning basis mid new frame judges failed =
     let refused = failed.refused in
     record {
       ksn = refused.request.ksn;
@@ -95,7 +95,7 @@ left_by :
     {L I : Type 0} (meaning : HostMeaning L I) (basis : JudgementBasis) (mid new : Service L I) (frame : List ℕ) (why : HostFault)
     → JudgesBy meaning mid.host basis → AnswerFailed meaning mid new frame why → IsLeftBy meaning basis mid.writer new frame why
 left_by meaning basis mid new frame fault.Write judges failed = cut_on meaning basis mid new frame judges failed
-left_by meaning basis mid new frame fault.NoMemory judges failed = lacks_memory_on meaning basis mid new frame judges failed
+left_by meaning basis mid new frame fault.NoMemory judges failed = is_out_of_memory_on meaning basis mid new frame judges failed
 left_by meaning basis mid new frame (fault.Store why) judges failed = stopped_on meaning basis mid new frame why judges failed
 left_by meaning basis mid new frame fault.Stopped judges failed = absurd (not_stopped mid.host.state judges.running failed.refused.0 judges.runs)
 left_by meaning basis mid new frame fault.Read judges failed = absurd failed.refused
@@ -103,10 +103,10 @@ left_by meaning basis mid new frame fault.Truncated judges failed = absurd faile
 left_by meaning basis mid new frame fault.TooLong judges failed = absurd failed.refused
 
 -- a service fails after the first frames of a stream
-pub failed_behind :
+pub failed_after :
     {L I : Type 0} (meaning : HostMeaning L I) (old new : Service L I) (basis : JudgementBasis) (bytes : List ℕ) (why : HostFault)
-    → JudgesBy meaning old.host basis → FailsAtFrame meaning old new bytes why → FailedBehind meaning basis old new bytes why
-failed_behind meaning old new basis bytes why judges fails =
+    → JudgesBy meaning old.host basis → FailsAtFrame meaning old new bytes why → FailedAfter meaning basis old new bytes why
+failed_after meaning old new basis bytes why judges fails =
     let served = fails.served in
     let found = judged meaning old.host fails.mid.host basis served.frames served.answers judges served.serves in
     record {

@@ -16,7 +16,7 @@ use Rattle.duk_tree.specs.Serial.{Serial}
 use Rattle.duk_host.specs.Handle.{HandleRefused}
 use Rattle.duk_host.specs.Host.{HostMeaning, HostOf}
 use Rattle.duk_host.specs.Judgement.{Decision, IsAccepted, IsRefusalFor, IsRepeated, IsReplyTo, JudgementBasis, basis_with}
-use Rattle.duk_host.specs.Lifetime.{AcceptOtherNumbers, AcceptsAlike, AcceptsNumber, EndsAt, IsBroughtUpRun, IsLifetime, IsMadeOver, IsServiceRun, IsUnderOwnKey, all_answers}
+use Rattle.duk_host.specs.Lifetime.{RunsAcceptDifferentNumbers, AcceptsAlike, AcceptsNumber, EndsAt, IsBroughtUpRun, IsLifetime, IsMadeOver, IsServiceRun, IsUnderOwnKey, all_answers}
 use Rattle.duk_host.specs.Recent.{Exchange, exchange, reply_given, with_exchange}
 use Rattle.duk_host.specs.Restart.{HostRestartRefused, IsHostRestarted}
 use Rattle.duk_host.specs.Serve.{Serves}
@@ -25,9 +25,9 @@ use Rattle.duk_host.specs.Used.{IsUsed}
 use Rattle.duk_host.specs.declared.fault.HostFault.{HostFault}
 use Rattle.duk_host.specs.declared.fault.HostFault.TheVariants as fault
 
--- what is known of answers: each accepts one number at most, a refusal none, and a reply that of its
--- request; and of lists of exchanges: what is given again is on the list, and what is on the list with
--- one more was before, or is that one
+-- what is known of answers: each accepts one number at most, a refusal none, and a reply that of
+-- its request; and of lists of exchanges: what is given again is on the list, and what is on the
+-- list with one more was before, or is that one
 pub record AnswerLaws : Type 0 where
   pub one_number : (frame : List ℕ) (ksn other : Serial) → AcceptsNumber ksn frame → AcceptsNumber other frame → ksn ≡ other
   pub refused : (basis : JudgementBasis) (bytes frame : List ℕ) (ksn : Serial) → IsRefusalFor basis bytes frame → ¬ AcceptsNumber ksn frame
@@ -62,14 +62,15 @@ member_at (thing ∷ things) (suc k) d within = let rest = member_at things k d 
 abbrev AreAmong : List (List ℕ) → Numbers → Type 0
 AreAmong answers used = (answer : List ℕ) → Contains answers answer → (ksn : Serial) → AcceptsNumber ksn answer → IsUsed used ksn
 
--- what a run answers after the answers of earlier runs: those that accept one number are equal, none
--- of them accepts a number that was accepted before, and each is made under its own key
+-- what a run answers after the answers of earlier runs: those that accept one number are equal,
+-- none of them accepts a number that was accepted before, and each is made under its own key
 pub record IsSoundRun (keys : HsmKeys) (decides : Decision) (before here : List (List ℕ)) : Type 0 where
   pub alike : AcceptsAlike here
-  pub apart : AcceptOtherNumbers before here
+  pub apart : RunsAcceptDifferentNumbers before here
   pub own : (answer : List ℕ) → Contains here answer → IsUnderOwnKey keys decides answer
 
--- what is known while a run goes on: its answers are sound, and all numbers that were accepted are used
+-- what is known while a run goes on: its answers are sound, and all numbers that were accepted are
+-- used
 record AreSound (keys : HsmKeys) (decides : Decision) (before here : List (List ℕ)) (used : Numbers) : Type 0 where
   run : IsSoundRun keys decides before here
   earlier : AreAmong before used
@@ -296,15 +297,15 @@ module _ {L I : Type 0} (meaning : HostMeaning L I) where
     -- what is known of runs after earlier ones
     pub record AreSoundRuns (before : List (List ℕ)) (runs : List (List (List ℕ))) : Type 0 where
       pub alike : All AcceptsAlike runs
-      pub behind : All (λ run. AcceptOtherNumbers before run) runs
-      pub apart : AllPairs AcceptOtherNumbers runs
+      pub following : All (λ run. RunsAcceptDifferentNumbers before run) runs
+      pub apart : AllPairs RunsAcceptDifferentNumbers runs
       pub own : All (IsUnderOwnKey keys decides) (all_answers runs)
 
     -- all of them
     runs_of : (before : List (List ℕ)) (left : Numbers → Type 0) (runs : List (List (List ℕ))) → LeavesAll before left → IsLifetime meaning keys decides left runs → AreSoundRuns before runs
     runs_of before left [] leaves life = record {
       alike = All-nil AcceptsAlike;
-      behind = All-nil (λ run. AcceptOtherNumbers before run);
+      following = All-nil (λ run. RunsAcceptDifferentNumbers before run);
       apart = λ i j d before less. absurd (omega (arith, less));
       own = All-nil (IsUnderOwnKey keys decides);
     }
@@ -313,12 +314,12 @@ module _ {L I : Type 0} (meaning : HostMeaning L I) where
         let more = runs_of (before ++ answers) (found_of last) later here.1 rest in
         record {
           alike = All-cons AcceptsAlike answers later here.0.alike more.alike;
-          behind =
-              All-cons (λ run. AcceptOtherNumbers before run) answers later here.0.apart
-              (λ k d less ksn one other is_in. more.behind k d less ksn one other (Contains-append_left before answers one is_in));
+          following =
+              All-cons (λ run. RunsAcceptDifferentNumbers before run) answers later here.0.apart
+              (λ k d less ksn one other is_in. more.following k d less ksn one other (Contains-append_left before answers one is_in));
           apart =
-              AllPairs-cons AcceptOtherNumbers answers later
-              (λ k d less ksn one other is_in. more.behind k d less ksn one other (Contains-append_right before answers one is_in)) more.apart;
+              AllPairs-cons RunsAcceptDifferentNumbers answers later
+              (λ k d less ksn one other is_in. more.following k d less ksn one other (Contains-append_right before answers one is_in)) more.apart;
           own = All-append (IsUnderOwnKey keys decides) answers (all_answers later) (λ k d less. here.0.own (get_or answers k d) (member_at answers k d less)) more.own;
         }
 

@@ -3,7 +3,7 @@ use Rattle.std.proofs.Common.{◌≡◌, ℕ, List, inr}
 use Rattle.duk_frame.specs.Request.{IsRequest}
 use Rattle.duk_frame.specs.declared.request.Request.{Request}
 use Rattle.duk_tree.specs.Serial.{serial_bytes}
-use Rattle.duk_host.specs.Handle.{IsToldRefusal}
+use Rattle.duk_host.specs.Handle.{IsRefusalVerdict}
 use Rattle.duk_host.specs.Judged.{IsReasonAgainstMac, IsReasonAgainstNumber, IsSettled}
 use Rattle.duk_host.specs.Judgement.{IsAuthentic, IsNoRepeat, JudgementBasis, refusal_frame}
 use Rattle.duk_host.specs.declared.answered.Verdict.{Verdict}
@@ -25,18 +25,18 @@ against basis request reason.LogFull authentic no_repeat number = record { authe
 pub number_refuses :
     (basis : JudgementBasis) (bytes frame : List ℕ) (request : Request) (why : Reason) (says : Verdict)
     → IsRequest bytes request → IsAuthentic basis.keys request → IsNoRepeat basis request → IsReasonAgainstNumber basis.used basis.room request.ksn why
-    → frame ≡ refusal_frame (serial_bytes request.ksn) why → IsToldRefusal frame says → IsSettled basis bytes frame says
-number_refuses basis bytes frame request why (Accepted ksn code) is_request authentic no_repeat number frame_is told = absurd told
-number_refuses basis bytes frame request why (Repeated ksn code) is_request authentic no_repeat number frame_is told = absurd told
-number_refuses basis bytes frame request why (Refused ksn reason) is_request authentic no_repeat number frame_is told =
+    → frame ≡ refusal_frame (serial_bytes request.ksn) why → IsRefusalVerdict frame says → IsSettled basis bytes frame says
+number_refuses basis bytes frame request why (Accepted ksn code) is_request authentic no_repeat number frame_is reported = absurd reported
+number_refuses basis bytes frame request why (Repeated ksn code) is_request authentic no_repeat number frame_is reported = absurd reported
+number_refuses basis bytes frame request why (Refused ksn reason) is_request authentic no_repeat number frame_is reported =
     inr (record { request = request; reason = why; is_request = is_request; refuses = reason_of basis request why (against basis request why authentic no_repeat number); frame_is = frame_is })
 
 -- so is one whose MAC is not verified
 pub mac_refuses :
     (basis : JudgementBasis) (bytes frame : List ℕ) (request : Request) (why : Reason) (says : Verdict)
     → IsRequest bytes request → IsReasonAgainstMac basis.keys request why
-    → frame ≡ refusal_frame (serial_bytes request.ksn) why → IsToldRefusal frame says → IsSettled basis bytes frame says
-mac_refuses basis bytes frame request why (Accepted ksn code) is_request against frame_is told = absurd told
-mac_refuses basis bytes frame request why (Repeated ksn code) is_request against frame_is told = absurd told
-mac_refuses basis bytes frame request why (Refused ksn reason) is_request against frame_is told =
+    → frame ≡ refusal_frame (serial_bytes request.ksn) why → IsRefusalVerdict frame says → IsSettled basis bytes frame says
+mac_refuses basis bytes frame request why (Accepted ksn code) is_request against frame_is reported = absurd reported
+mac_refuses basis bytes frame request why (Repeated ksn code) is_request against frame_is reported = absurd reported
+mac_refuses basis bytes frame request why (Refused ksn reason) is_request against frame_is reported =
     inr (record { request = request; reason = why; is_request = is_request; refuses = reason_of basis request why (mac_case basis request why against); frame_is = frame_is })

@@ -3,10 +3,10 @@ use Rattle.std.proofs.Common.{◌≡◌, ◌≢◌, ℕ, zero, suc, ◌+◌, ◌
 use Rattle.std.specs.List.{slice_get}
 use Rattle.std.proofs.lemmas.List.Elements.{All-nil}
 use Rattle.duk_store.specs.Log.{LogMeaning, Numbers, IsReadAt, ReadStopped}
-use Rattle.duk_store.specs.StoreState.{StoreState, FindsAsBefore, KeepsNature, Stays}
+use Rattle.duk_store.specs.StoreState.{StoreState, FindsAsBefore, PreservesNature, Stays}
 use Rattle.duk_tree.specs.Path.{IsUsable}
 use Rattle.duk_tree.specs.Serial.{Serial}
-use Rattle.duk_host.specs.Reading.{AreBad, IsBadNumber, IsBadPlace, IsReadOne, IsReadUp, ReadOneRefused, ReadAllRefused}
+use Rattle.duk_host.specs.Reading.{AreBad, IsBadNumber, IsBadPlace, IsReadOne, AreFirstNumbers, ReadOneRefused, ReadAllRefused}
 use Rattle.duk_host.specs.Used.{AreUsable, Lists}
 use Rattle.duk_host.specs.declared.fault.HostFault.{HostFault}
 use Rattle.duk_host.specs.declared.fault.HostFault.TheVariants as fault
@@ -15,14 +15,14 @@ use Rattle.duk_host.proofs.OneNumberMore.{lists_more}
 -- so many numbers are read, and they are the used ones
 pub record IsReading {L : Type 0} (meaning : LogMeaning L) (start now : L) (place : ℕ) (used : Numbers) : Type 0 where
   pub seen : Numbers
-  pub read : IsReadUp meaning start now seen
+  pub read : AreFirstNumbers meaning start now seen
   pub counted : length seen ≡ place
   pub lists : Lists seen used
 
-nature_same : (log : StoreState Numbers) → KeepsNature log log
+nature_same : (log : StoreState Numbers) → PreservesNature log log
 nature_same log = record { honest = (λ h. h, λ h. h); sound = λ honest sound. sound; calm = λ calm. calm }
 
-pub nature_on : (a b c : StoreState Numbers) → KeepsNature a b → KeepsNature b c → KeepsNature a c
+pub nature_on : (a b c : StoreState Numbers) → PreservesNature a b → PreservesNature b c → PreservesNature a c
 nature_on a b c first second = record {
   honest = (λ h. second.honest.0 (first.honest.0 h), λ h. first.honest.1 (second.honest.1 h));
   sound = λ honest sound. second.sound (first.honest.0 honest) (first.sound honest sound);
@@ -38,7 +38,7 @@ stays_same log = record {
 }
 
 -- what may be found stays over two steps
-found_on : (a b c : StoreState Numbers) → KeepsNature a b → FindsAsBefore a b → FindsAsBefore b c → FindsAsBefore a c
+found_on : (a b c : StoreState Numbers) → PreservesNature a b → FindsAsBefore a b → FindsAsBefore b c → FindsAsBefore a c
 found_on a b c nature first second honest numbers =
     let earlier = first honest numbers in
     let later = second (nature.honest.0 honest) numbers in
@@ -69,7 +69,7 @@ take_next (first ∷ numbers) zero number is = grind (arith, is)
 take_next (first ∷ numbers) (suc place) number is = grind (arith, is, take_next numbers place number)
 
 -- one number more is read
-read_up : {L : Type 0} (meaning : LogMeaning L) (start mid now : L) (seen : Numbers) (number : Serial) → IsReadUp meaning start mid seen → IsReadAt meaning mid now (length seen) number → IsReadUp meaning start now (seen ++ number ∷ [])
+read_up : {L : Type 0} (meaning : LogMeaning L) (start mid now : L) (seen : Numbers) (number : Serial) → AreFirstNumbers meaning start mid seen → IsReadAt meaning mid now (length seen) number → AreFirstNumbers meaning start now (seen ++ number ∷ [])
 read_up meaning start mid now seen number up read = record {
   stays = stays_on (meaning.state_of start) (meaning.state_of mid) (meaning.state_of now) up.stays read.stays;
   first = λ honest numbers found.

@@ -1,4 +1,5 @@
--- Judged by one set of keys, used numbers, latest exchanges, room and issuer, bytes have one answer.
+-- Judged by one set of keys, used numbers, latest exchanges, room and issuer, bytes have one
+-- answer.
 use Rattle.std.proofs.Common.{◌≡◌, ℕ, List, Option, Some, None, IsSome, inl, inr, refl, sym, ap, subst, ◌∙◌, arith}
 use Rattle.duk_frame.specs.Payment.{payment_reply}
 use Rattle.duk_frame.specs.Request.{IsRequest, request_bytes}
@@ -136,8 +137,8 @@ module _ (basis : JudgementBasis) (one_request : OneRequest) (one_pin : OnePin) 
       let refuses : IsReasonAgainst basis request refused.reason = subst (λ request. IsReasonAgainst basis request refused.reason) same refused.refuses in
       let verdict = one_verdict basis request (Some refused.reason) None (case_of basis request refused.reason refuses) accepted.acceptable in cc
 
-  one_acceptance : (bytes frame other : List ℕ) (request again : Request) → IsAccepted basis bytes request frame → IsAccepted basis bytes again other → frame ≡ other
-  one_acceptance bytes frame other request again one two =
+  accepted_once : (bytes frame other : List ℕ) (request again : Request) → IsAccepted basis bytes request frame → IsAccepted basis bytes again other → frame ≡ other
+  accepted_once bytes frame other request again one two =
       let same : request ≡ again = one_request bytes request again one.is_request two.is_request in
       one_reply basis.keys basis.decides again frame other one_pin (subst (λ request. IsReplyTo basis.keys basis.decides request frame) same one.reply) two.reply
 
@@ -180,7 +181,7 @@ module _ (basis : JudgementBasis) (one_request : OneRequest) (one_pin : OnePin) 
   one_answer bytes frame other (inl (inr one)) (inr (inl (request, two))) = absurd (not_both bytes frame other request one two)
   one_answer bytes frame other (inr (inl (request, one))) (inl (inl two)) = absurd (two.no_request request one.is_request)
   one_answer bytes frame other (inr (inl (request, one))) (inl (inr two)) = absurd (not_both bytes other frame request two one)
-  one_answer bytes frame other (inr (inl (request, one))) (inr (inl (again, two))) = one_acceptance bytes frame other request again one two
+  one_answer bytes frame other (inr (inl (request, one))) (inr (inl (again, two))) = accepted_once bytes frame other request again one two
   one_answer bytes frame other (inl one) (inr (inr two)) = absurd (not_repeated_too bytes frame other one two)
   one_answer bytes frame other (inr (inl (request, one))) (inr (inr two)) = absurd (not_new_too bytes frame other request one two)
   one_answer bytes frame other (inr (inr one)) (inl two) = absurd (not_repeated_too bytes other frame two one)

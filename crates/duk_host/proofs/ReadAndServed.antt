@@ -5,7 +5,7 @@ use Rattle.duk_frame.specs.Stream.{IsPart}
 use Rattle.duk_io.specs.Known.{Known}
 use Rattle.duk_io.specs.Source.{AreBytesRead, AreReadsMade, IsBroken}
 use Rattle.duk_host.specs.Host.{HostMeaning}
-use Rattle.duk_host.specs.Serve.{BytesFailed, IsLastRead, IsReadUp, IsServed, IsUnread, IsUnserved, Service, ServiceFailed, Supply, most_reads}
+use Rattle.duk_host.specs.Serve.{BytesFailed, IsLastRead, IsReadToEnd, IsServed, IsServiceUnread, IsUnserved, Service, ServiceFailed, Supply, most_reads}
 use Rattle.duk_host.specs.declared.fault.HostFault.{HostFault}
 use Rattle.duk_host.specs.declared.fault.HostFault.TheVariants as fault
 use Rattle.duk_host.proofs.ServedInTurn.{WriteLaws, failed_later, served_none, served_then}
@@ -69,7 +69,7 @@ pub read_up :
     {L I : Type 0} (meaning : HostMeaning L I) → ReadLaws → (start new : Service L I) (input between left : Supply) (rest : List ℕ) (count reads : ℕ)
     → IsServing meaning start new input between rest count reads → AreReadsMade between.reads left.reads 1 → reads < most_reads
     → AreBytesRead between.known left.known [] → IsAtEnd left.known.contents
-    → IsReadUp meaning start new input left rest count
+    → IsReadToEnd meaning start new input left rest count
 read_up meaning laws start new input between left rest count reads serving made within none end = record {
   bytes = serving.bytes;
   read = subst (λ bytes. AreBytesRead input.known left.known bytes) (append-nil serving.bytes) (laws.next input.known between.known left.known serving.bytes [] serving.read none);
@@ -79,21 +79,21 @@ read_up meaning laws start new input between left rest count reads serving made 
   is_part = serving.is_part;
 }
 
--- what is told where the input has ended between two frames, and inside one
+-- what is reported where the input has ended between two frames, and inside one
 module _ {L I : Type 0} (meaning : HostMeaning L I) (start new : Service L I) (input left : Supply) (rest : List ℕ) (count : ℕ) where
-  pub ended : (result : Result ℕ HostFault) → IfOk result (λ told. (told ≡ count) × (rest ≡ [])) → IsReadUp meaning start new input left rest count → IfOk result (IsReadUp meaning start new input left [])
-  ended (Ok told) is read = subst (λ told. IsReadUp meaning start new input left [] told) (sym is.0) (subst (λ rest. IsReadUp meaning start new input left rest count) is.1 read)
+  pub ended : (result : Result ℕ HostFault) → IfOk result (λ reported. (reported ≡ count) × (rest ≡ [])) → IsReadToEnd meaning start new input left rest count → IfOk result (IsReadToEnd meaning start new input left [])
+  ended (Ok reported) is read = subst (λ reported. IsReadToEnd meaning start new input left [] reported) (sym is.0) (subst (λ rest. IsReadToEnd meaning start new input left rest count) is.1 read)
   ended (Err why) is read = tt
 
-  pub cut_off : (result : Result ℕ HostFault) → IfErr result (λ why. (why ≡ fault.Truncated) × (0 < length rest)) → IsReadUp meaning start new input left rest count → IfErr result (ServiceFailed meaning start new input left)
-  cut_off (Ok told) is read = tt
+  pub cut_off : (result : Result ℕ HostFault) → IfErr result (λ why. (why ≡ fault.Truncated) × (0 < length rest)) → IsReadToEnd meaning start new input left rest count → IfErr result (ServiceFailed meaning start new input left)
+  cut_off (Ok reported) is read = tt
   cut_off (Err why) is read = subst (λ why. ServiceFailed meaning start new input left why) (sym is.0) (record { rest = rest; count = count; read_up = read; inside = is.1 })
 
 -- a read has failed
 pub broken_off :
     {L I : Type 0} (meaning : HostMeaning L I) → ReadLaws → (start new : Service L I) (input between left : Supply) (rest : List ℕ) (count reads : ℕ)
     → IsServing meaning start new input between rest count reads → AreReadsMade between.reads left.reads 1 → reads < most_reads
-    → IsBroken between.known left.known [] → IsUnread meaning start new input left
+    → IsBroken between.known left.known [] → IsServiceUnread meaning start new input left
 broken_off meaning laws start new input between left rest count reads serving made within broken = record {
   bytes = serving.bytes;
   rest = rest;
@@ -109,7 +109,7 @@ broken_off meaning laws start new input between left rest count reads serving ma
 -- all reads are made
 pub all_reads :
     {L I : Type 0} (meaning : HostMeaning L I) (start new : Service L I) (input left : Supply) (rest : List ℕ) (count reads : ℕ)
-    → reads ≡ most_reads → IsServing meaning start new input left rest count reads → IsUnread meaning start new input left
+    → reads ≡ most_reads → IsServing meaning start new input left rest count reads → IsServiceUnread meaning start new input left
 all_reads meaning start new input left rest count reads all serving = record {
   bytes = serving.bytes;
   rest = rest;

@@ -6,7 +6,7 @@ use Rattle.duk_store.specs.Restart.{Restarted, RestartFailed}
 use Rattle.duk_store.specs.declared.fault.StoreFault.TheVariants.{Device}
 use Rattle.duk_host.specs.Host.{LogHolds, HostOf}
 use Rattle.duk_host.specs.Reading.{AreRead, ReadAllRefused}
-use Rattle.duk_host.specs.Restart.{IsHostRestarted, KeepsEnds, HostRestartNoMemory, HostRestartRefused}
+use Rattle.duk_host.specs.Restart.{IsHostRestarted, PreservesEnds, HostRestartNoMemory, HostRestartRefused}
 use Rattle.duk_host.specs.Used.{Lists}
 use Rattle.duk_host.specs.declared.fault.HostFault.{HostFault}
 use Rattle.duk_host.specs.declared.fault.HostFault.TheVariants as fault
@@ -73,7 +73,7 @@ holds_read meaning old mid new kept used restarted read =
 -- the host is brought up
 pub is_restarted :
     {L I : Type 0} (meaning : LogMeaning L) (old new : HostOf L I) (mid : L) (kept : ℕ) (running : Running)
-    → LogRestarted meaning old.log mid kept → AreRead meaning mid new.log kept running.used → KeepsEnds old new → new.state ≡ Some running → running.recent ≡ [] → IsHostRestarted meaning old new kept
+    → LogRestarted meaning old.log mid kept → AreRead meaning mid new.log kept running.used → PreservesEnds old new → new.state ≡ Some running → running.recent ≡ [] → IsHostRestarted meaning old new kept
 is_restarted meaning old new mid kept running restarted read ends runs forgets = record {
   numbers = restarted.numbers;
   running = running;
@@ -88,7 +88,7 @@ is_restarted meaning old new mid kept running restarted read ends runs forgets =
 -- the numbers are read, but there is no memory for the exchanges
 pub restart_without_memory :
     {L I : Type 0} (meaning : LogMeaning L) (old new : HostOf L I) (mid : L) (kept : ℕ) (used : Numbers)
-    → LogRestarted meaning old.log mid kept → AreRead meaning mid new.log kept used → KeepsEnds old new → new.state ≡ None → HostRestartNoMemory meaning old new
+    → LogRestarted meaning old.log mid kept → AreRead meaning mid new.log kept used → PreservesEnds old new → new.state ≡ None → HostRestartNoMemory meaning old new
 restart_without_memory meaning old new mid kept used restarted read ends stopped = record {
   numbers = restarted.numbers;
   ends = ends;
@@ -99,7 +99,7 @@ restart_without_memory meaning old new mid kept used restarted read ends stopped
 -- the numbers are not read, and the host is stopped
 pub restart_refused :
     {L I : Type 0} (meaning : LogMeaning L) (old new : HostOf L I) (mid : L) (kept : ℕ) (why : HostFault)
-    → LogRestarted meaning old.log mid kept → KeepsEnds old new → new.state ≡ None → ReadAllRefused meaning mid new.log kept why → HostRestartRefused meaning old new why
+    → LogRestarted meaning old.log mid kept → PreservesEnds old new → new.state ≡ None → ReadAllRefused meaning mid new.log kept why → HostRestartRefused meaning old new why
 restart_refused meaning old new mid kept fault.NoMemory restarted ends stopped stays = record {
   numbers = restarted.numbers;
   ends = ends;

@@ -6,7 +6,7 @@ use Rattle.duk_host.specs.Handle.{Answers, HandleRefused}
 use Rattle.duk_host.specs.Host.{HostMeaning, HostOf}
 use Rattle.duk_host.specs.Lifetime.{AreWrittenTo, IsServiceRun}
 use Rattle.duk_host.specs.Restart.{IsHostRestarted}
-use Rattle.duk_host.specs.Serve.{AnswerFailed, BytesFailed, IsReadUp, IsServed, Serves, Service, ServiceFailed, Supply}
+use Rattle.duk_host.specs.Serve.{AnswerFailed, BytesFailed, IsReadToEnd, IsServed, Serves, Service, ServiceFailed, Supply}
 use Rattle.duk_host.specs.declared.fault.HostFault.{HostFault}
 use Rattle.duk_host.specs.declared.fault.HostFault.TheVariants as fault
 use Rattle.duk_host.proofs.JudgedInTurn.{answers_counted}
@@ -82,7 +82,7 @@ module _ {L I : Type 0} (meaning : HostMeaning L I) (made : HostOf L I) (old : S
   failed_bytes new bytes fault.Truncated failed = failed_frame failed.mid new bytes (failed.frame ++ failed.rest) failed.frame failed.count fault.Truncated failed.served failed.failed
   failed_bytes new bytes fault.Write failed = failed_frame failed.mid new bytes (failed.frame ++ failed.rest) failed.frame failed.count fault.Write failed.served failed.failed
 
-  pub read_up : (new : Service L I) (input left : Supply) (rest : List ℕ) (count : ℕ) → IsReadUp meaning old new input left rest count → WholeRun new count
+  pub read_up : (new : Service L I) (input left : Supply) (rest : List ℕ) (count : ℕ) → IsReadToEnd meaning old new input left rest count → WholeRun new count
   read_up new input left rest count read = ended new read.bytes rest count read.served
 
   pub failed_service : (new : Service L I) (input left : Supply) (why : HostFault) → ServiceFailed meaning old new input left why → Run new why

@@ -5,12 +5,12 @@ use Rattle.std.proofs.Math.Seq.{take-add}
 use Rattle.std.proofs.lemmas.List.{take-append-drop}
 use Rattle.std.proofs.lemmas.List.Folds.{concat-append}
 use Rattle.std.proofs.lemmas.List.Elements.{All-append, All-cons, All-nil}
-use Rattle.duk_frame.specs.Feeder.{Feeding, HandsOut, TakesAll}
+use Rattle.duk_frame.specs.Feeder.{Feeding, HandsOutFrame, TakesAll}
 use Rattle.duk_frame.specs.Stream.{BeginsTooLong, BeginsWith, IsFrame}
 use Rattle.duk_io.specs.Known.{Known}
 use Rattle.duk_io.specs.Sink.{IsWritten}
 use Rattle.duk_host.specs.Host.{HostMeaning, HostOf}
-use Rattle.duk_host.specs.Serve.{AnswerFailed, BytesFailed, FailsAtFrame, FailsAtLength, IsAnswered, IsFrameServed, IsPieceHeld, IsServed, Serves, Service}
+use Rattle.duk_host.specs.Serve.{AnswerFailed, BytesFailed, FailsAtFrame, FailsAtLength, IsAnswerWritten, IsFrameServed, IsPieceHeld, IsServed, Serves, Service}
 use Rattle.duk_host.specs.declared.fault.HostFault.{HostFault}
 use Rattle.duk_host.specs.declared.fault.HostFault.TheVariants as fault
 
@@ -34,7 +34,7 @@ begins_then bytes rest piece last frames others first second = record {
   whole =
       ap (λ front. front ++ piece) first.whole
       ∙ append_assoc (concat frames) rest piece
-      ∙ ap (λ behind. concat frames ++ behind) second.whole
+      ∙ ap (λ following. concat frames ++ following) second.whole
       ∙ sym (append_assoc (concat frames) (concat others) last)
       ∙ ap (λ front. front ++ last) (sym (concat-append frames others));
   each = All-append IsFrame frames others first.each second.each;
@@ -67,7 +67,7 @@ served_then meaning laws old mid new bytes rest piece last count more first seco
 }
 
 -- a frame is served by its answer
-pub served_one : {L I : Type 0} (meaning : HostMeaning L I) (old new : Service L I) (frame : List ℕ) → IsFrame frame → IsAnswered meaning old new frame → IsServed meaning old new frame [] 1
+pub served_one : {L I : Type 0} (meaning : HostMeaning L I) (old new : Service L I) (frame : List ℕ) → IsFrame frame → IsAnswerWritten meaning old new frame → IsServed meaning old new frame [] 1
 served_one meaning old new frame is answered = record {
   frames = frame ∷ [];
   answers = answered.answer ∷ [];
@@ -119,7 +119,7 @@ fails_here meaning laws old new bytes frame rest why whole is failed = record {
   frame = frame;
   rest = rest;
   count = 0;
-  served = subst (λ behind. IsServed meaning old old bytes behind 0) whole (served_none meaning laws old bytes);
+  served = subst (λ following. IsServed meaning old old bytes following 0) whole (served_none meaning laws old bytes);
   is_frame = is;
   failed = failed;
 }
@@ -141,7 +141,7 @@ failed_here meaning laws old new bytes frame rest fault.TooLong whole is failed 
 -- the first frame that ends in a piece is answered
 pub frame_served :
     {L I : Type 0} (meaning : HostMeaning L I) (old new : Service L I) (before after : Feeding) (piece : List ℕ) (taken : ℕ) (frame : List ℕ)
-    → HandsOut before after piece taken frame → IsAnswered meaning old new frame → IsFrameServed meaning old new before after piece taken
+    → HandsOutFrame before after piece taken frame → IsAnswerWritten meaning old new frame → IsFrameServed meaning old new before after piece taken
 frame_served meaning old new before after piece taken frame out answered =
     let is : IsFrame frame = subst IsFrame (sym out.whole) out.ends.is_frame in
     record {
@@ -164,11 +164,11 @@ piece_held meaning laws now before after piece taken all = record {
 -- the first frame that ends in a piece is not answered
 pub frame_failed :
     {L I : Type 0} (meaning : HostMeaning L I) → WriteLaws → (old new : Service L I) (before after : Feeding) (piece : List ℕ) (taken : ℕ) (frame : List ℕ) (why : HostFault)
-    → HandsOut before after piece taken frame → AnswerFailed meaning old new frame why → BytesFailed meaning old new (before.rest ++ piece) why
+    → HandsOutFrame before after piece taken frame → AnswerFailed meaning old new frame why → BytesFailed meaning old new (before.rest ++ piece) why
 frame_failed meaning laws old new before after piece taken frame why out failed =
     let is : IsFrame frame = subst IsFrame (sym out.whole) out.ends.is_frame in
     let whole : before.rest ++ piece ≡ frame ++ drop taken piece =
-    ap (λ behind. before.rest ++ behind) (sym (take-append-drop taken piece))
+    ap (λ following. before.rest ++ following) (sym (take-append-drop taken piece))
     ∙ sym (append_assoc before.rest (take taken piece) (drop taken piece))
     ∙ ap (λ front. front ++ drop taken piece) (sym out.whole) in
     failed_here meaning laws old new (before.rest ++ piece) frame (drop taken piece) why whole is failed

@@ -9,7 +9,7 @@ use Rattle.duk_tree.specs.Serial.{Serial}
 use Rattle.duk_host.specs.Host.{HostMeaning, HostOf, basis_of}
 use Rattle.duk_host.specs.Judgement.{IsAcceptable, IsAccepted, IsRefusalFor, IsRepeated, IsReplyTo}
 use Rattle.duk_host.specs.Recent.{Exchange, IsReplyWithCode, exchange, with_exchange}
-use Rattle.duk_host.specs.Restart.{KeepsEnds}
+use Rattle.duk_host.specs.Restart.{PreservesEnds}
 use Rattle.duk_host.specs.Used.{IsOneMore}
 use Rattle.duk_host.specs.declared.answered.Verdict.{Verdict}
 use Rattle.duk_host.specs.declared.answered.Verdict.TheVariants.{Accepted, Refused, Repeated}
@@ -32,20 +32,22 @@ pub record IsNumberKept
   pub before : Running
   pub after : Running
   pub was_running : old.state ≡ Some before
-  pub ends : KeepsEnds old new
+  pub ends : PreservesEnds old new
   pub appended : IsAppended meaning.log old.log new.log ksn
   pub counted : meaning.log.count new.log ≡ meaning.log.count old.log + 1
   pub capacity : meaning.log.capacity new.log ≡ meaning.log.capacity old.log
   pub runs : new.state ≡ Some after
   pub one_more : IsOneMore before.used ksn after.used
 
--- the number is in the log, and is used, and the latest exchanges stay: what a private function does
+-- the number is in the log, and is used, and the latest exchanges stay: what a private function
+-- does
 pub record IsNumberAdded
     {L I : Type 0} (meaning : HostMeaning L I) (old new : HostOf L I) (ksn : Serial) : Type 0 where
   pub kept : IsNumberKept meaning old new ksn
   pub recent : kept.after.recent ≡ kept.before.recent
 
--- a running host keeps one exchange more in memory, and all else stays: what a private function does
+-- a running host keeps one exchange more in memory, and all else stays: what a private function
+-- does
 pub record IsRemembered
     {L I : Type 0} (old new : HostOf L I) (last : Exchange) : Type 0 where
   pub before : Running
@@ -100,25 +102,25 @@ Answers meaning bytes old new frame =
     ⊎ AnswersRepeat meaning bytes old new frame
 
 -- what is said of a frame is what it says
-abbrev pub IsTold : List ℕ → Verdict → Type 0
-IsTold frame (Accepted ksn code) = IsReplyWithCode frame ksn code
-IsTold frame (Repeated ksn code) = IsReplyWithCode frame ksn code
-IsTold frame (Refused ksn reason) = IsRefusal frame ksn reason
+abbrev pub IsVerdictOn : List ℕ → Verdict → Type 0
+IsVerdictOn frame (Accepted ksn code) = IsReplyWithCode frame ksn code
+IsVerdictOn frame (Repeated ksn code) = IsReplyWithCode frame ksn code
+IsVerdictOn frame (Refused ksn reason) = IsRefusal frame ksn reason
 
 -- what is said of a frame is the refusal that it is
-abbrev pub IsToldRefusal : List ℕ → Verdict → Type 0
-IsToldRefusal frame (Refused ksn reason) = IsRefusal frame ksn reason
-IsToldRefusal frame _ = ⊥
+abbrev pub IsRefusalVerdict : List ℕ → Verdict → Type 0
+IsRefusalVerdict frame (Refused ksn reason) = IsRefusal frame ksn reason
+IsRefusalVerdict frame _ = ⊥
 
 -- what is said of a frame is the accepted reply that it is
-abbrev pub IsToldReply : List ℕ → Verdict → Type 0
-IsToldReply frame (Accepted ksn code) = IsReplyWithCode frame ksn code
-IsToldReply frame _ = ⊥
+abbrev pub IsAcceptedVerdict : List ℕ → Verdict → Type 0
+IsAcceptedVerdict frame (Accepted ksn code) = IsReplyWithCode frame ksn code
+IsAcceptedVerdict frame _ = ⊥
 
 -- what is said of a frame is that it is an accepted reply that was given before
-abbrev pub IsToldRepeat : List ℕ → Verdict → Type 0
-IsToldRepeat frame (Repeated ksn code) = IsReplyWithCode frame ksn code
-IsToldRepeat frame _ = ⊥
+abbrev pub IsRepeatedVerdict : List ℕ → Verdict → Type 0
+IsRepeatedVerdict frame (Repeated ksn code) = IsReplyWithCode frame ksn code
+IsRepeatedVerdict frame _ = ⊥
 
 -- what a host does, by what it says of its frame: a request is accepted, is one that was accepted
 -- before, or is refused
@@ -135,7 +137,7 @@ AnswersAs meaning bytes old new frame (Refused ksn reason) =
 pub record IsNumberNotKept
     {L I : Type 0} (meaning : HostMeaning L I) (old new : HostOf L I) (ksn : Serial)
     (why : StoreFault) : Type 0 where
-  pub ends : KeepsEnds old new
+  pub ends : PreservesEnds old new
   pub stopped : new.state ≡ None
   pub capacity : meaning.log.capacity new.log ≡ meaning.log.capacity old.log
   pub not_appended : AppendFailed meaning.log old.log new.log ksn why

@@ -1,5 +1,5 @@
--- How a host judges a request: the reason for which it is refused, or the reply to it. This project's
--- own, over the transaction keys of ANSI X9.24-1:2009 annex A.
+-- How a host judges a request: the reason for which it is refused, or the reply to it. This
+-- project's own, over the transaction keys of ANSI X9.24-1:2009 annex A.
 use Rattle.std.specs.Prelude.{◌≡◌, ◌⊎◌, ◌<◌, ℕ, List, Some, None, IsSome, replicate}
 use Rattle.duk_frame.specs.Answer.{refusal_text}
 use Rattle.duk_frame.specs.Frame.{framed}
@@ -38,7 +38,7 @@ abbrev pub basis_with : HsmKeys → Numbers → List Exchange → ℕ → Decisi
 basis_with keys used recent room decides =
     record { keys = keys; used = used; recent = recent; room = room; decides = decides }
 
--- the body of a request before its MAC
+-- the contents of a request before its MAC
 abbrev pub authenticated_text : Request → List ℕ
 authenticated_text request = request_text request.ksn request.pan request.amount request.block
 
@@ -114,8 +114,8 @@ pub record IsRefusedRequest (basis : JudgementBasis) (bytes frame : List ℕ) : 
 abbrev pub IsRefusalFor : JudgementBasis → List ℕ → List ℕ → Type 0
 IsRefusalFor basis bytes frame = IsMalformed bytes frame ⊎ IsRefusedRequest basis bytes frame
 
--- the bytes are one of the latest requests that were accepted, and the frame is the reply that it was
--- given
+-- the bytes are one of the latest requests that were accepted, and the frame is the reply that it
+-- was given
 pub record IsRepeated (basis : JudgementBasis) (bytes frame : List ℕ) : Type 0 where
   pub request : Request
   pub is_request : IsRequest bytes request

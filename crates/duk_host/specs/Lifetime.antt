@@ -23,15 +23,15 @@ abbrev pub AcceptsNumber : Serial → List ℕ → Type 0
 AcceptsNumber ksn frame = (code : Code) × IsReplyWithCode frame ksn code
 
 -- the answers of a run that accept one number are all equal: a reply that is given again cannot be
--- told from the first
+-- distinguished from the first
 abbrev pub AcceptsAlike : List (List ℕ) → Type 0
 AcceptsAlike run =
     (ksn : Serial) (one other : List ℕ) → Contains run one → Contains run other
     → AcceptsNumber ksn one → AcceptsNumber ksn other → one ≡ other
 
 -- no number is accepted in two runs
-abbrev pub AcceptOtherNumbers : List (List ℕ) → List (List ℕ) → Type 0
-AcceptOtherNumbers run later =
+abbrev pub RunsAcceptDifferentNumbers : List (List ℕ) → List (List ℕ) → Type 0
+RunsAcceptDifferentNumbers run later =
     (ksn : Serial) (one other : List ℕ) → Contains run one → Contains later other
     → AcceptsNumber ksn one → ¬ AcceptsNumber ksn other
 
@@ -52,8 +52,8 @@ pub record IsMadeOver
   pub honest : (meaning.log.state_of host.log).honest
   pub within : FindsWithin (meaning.log.state_of host.log) left
 
--- a run ends once some frames are answered, whatever the cause, or at a frame that the host does not
--- answer, as where a device step of its log fails
+-- a run ends once some frames are answered, whatever the cause, or at a frame that the host does
+-- not answer, as where a device step of its log fails
 abbrev pub EndsAt : {L I : Type 0} → HostMeaning L I → HostOf L I → HostOf L I → Type 0
 EndsAt meaning mid last =
     (last ≡ mid)

@@ -50,7 +50,7 @@ ReadOneRefused meaning old new place used (fault.Store why) =
 ReadOneRefused meaning old new place used _ = ⊥
 
 -- the first numbers of the log are these
-pub record IsReadUp
+pub record AreFirstNumbers
     {L : Type 0} (meaning : LogMeaning L) (old new : L) (seen : Numbers) : Type 0 where
   pub stays : Stays (meaning.state_of old) (meaning.state_of new)
   pub first : (meaning.state_of old).honest → (numbers : Numbers)
@@ -60,14 +60,14 @@ pub record IsReadUp
 pub record AreRead
     {L : Type 0} (meaning : LogMeaning L) (old new : L) (count : ℕ) (used : Numbers) : Type 0 where
   pub seen : Numbers
-  pub read : IsReadUp meaning old new seen
+  pub read : AreFirstNumbers meaning old new seen
   pub counted : length seen ≡ count
   pub lists : Lists seen used
 
 -- the first numbers of the log, at most as many, are none that may be used
 pub record AreBad {L : Type 0} (meaning : LogMeaning L) (old new : L) (count : ℕ) : Type 0 where
   pub seen : Numbers
-  pub read : IsReadUp meaning old new seen
+  pub read : AreFirstNumbers meaning old new seen
   pub counted : length seen ≤ count
   pub not_usable : ¬ AreUsable seen
 

@@ -11,7 +11,7 @@ use Rattle.duk_host.specs.declared.fault.HostFault.TheVariants as fault
 use Rattle.duk_host.specs.declared.running.Running.{Running}
 
 -- all but the log and the state is as it was
-pub record KeepsEnds {L I : Type 0} (old new : HostOf L I) : Type 0 where
+pub record PreservesEnds {L I : Type 0} (old new : HostOf L I) : Type 0 where
   pub keys : new.keys ≡ old.keys
   pub issuer : new.issuer ≡ old.issuer
 
@@ -21,7 +21,7 @@ pub record IsHostRestarted
     {L I : Type 0} (meaning : LogMeaning L) (old new : HostOf L I) (found : ℕ) : Type 0 where
   pub numbers : Numbers
   pub running : Running
-  pub ends : KeepsEnds old new
+  pub ends : PreservesEnds old new
   pub log : Restarted (meaning.state_of old.log) (meaning.state_of new.log) numbers
   pub counted : (meaning.state_of old.log).honest → length numbers ≡ found
   pub runs : new.state ≡ Some running
@@ -38,7 +38,7 @@ pub record FoundUnusable
 -- a restart that failed: the host is stopped, since its log failed, or found such a list
 pub record HostRestartStopped
     {L I : Type 0} (meaning : LogMeaning L) (old new : HostOf L I) (why : StoreFault) : Type 0 where
-  pub ends : KeepsEnds old new
+  pub ends : PreservesEnds old new
   pub stopped : new.state ≡ None
   pub cause : RestartFailed (meaning.state_of old.log) (meaning.state_of new.log) why
       ⊎ ((why ≡ Damaged) × FoundUnusable meaning old new)
@@ -47,7 +47,7 @@ pub record HostRestartStopped
 pub record HostRestartNoMemory
     {L I : Type 0} (meaning : LogMeaning L) (old new : HostOf L I) : Type 0 where
   pub numbers : Numbers
-  pub ends : KeepsEnds old new
+  pub ends : PreservesEnds old new
   pub stopped : new.state ≡ None
   pub log : Restarted (meaning.state_of old.log) (meaning.state_of new.log) numbers
 

@@ -40,7 +40,7 @@ abbrev pub supply : Known → Option ℕ → Supply
 supply known reads = record { known = known; reads = reads }
 
 -- a frame is answered, and the answer is written whole
-pub record IsAnswered
+pub record IsAnswerWritten
     {L I : Type 0} (meaning : HostMeaning L I) (old new : Service L I)
     (frame : List ℕ) : Type 0 where
   pub answer : List ℕ
@@ -135,8 +135,8 @@ IsPieceTried meaning old new before after piece None =
 abbrev pub most_reads : ℕ
 most_reads = 1000000
 
--- the last of the reads gave no byte of these, and no more were made before it than there are bytes.
--- They are at most as many as one run makes
+-- the last of the reads gave no byte of these, and no more were made before it than there are
+-- bytes. They are at most as many as one run makes
 pub record IsLastRead (input left : Supply) (bytes : List ℕ) : Type 0 where
   pub before : ℕ
   pub no_more : before ≤ length bytes
@@ -144,7 +144,7 @@ pub record IsLastRead (input left : Supply) (bytes : List ℕ) : Type 0 where
   pub made : AreReadsMade input.reads left.reads (before + 1)
 
 -- the input is read to its end, and its frames are served, but for a part of one after them
-pub record IsReadUp
+pub record IsReadToEnd
     {L I : Type 0} (meaning : HostMeaning L I) (old new : Service L I) (input left : Supply)
     (rest : List ℕ) (count : ℕ) : Type 0 where
   pub bytes : List ℕ
@@ -160,11 +160,11 @@ pub record IsTruncated
     (input left : Supply) : Type 0 where
   pub rest : List ℕ
   pub count : ℕ
-  pub read_up : IsReadUp meaning old new input left rest count
+  pub read_up : IsReadToEnd meaning old new input left rest count
   pub inside : 0 < length rest
 
--- these bytes were read, by as many reads as one run makes, and these are no more than the bytes: the
--- last of them gave some too
+-- these bytes were read, by as many reads as one run makes, and these are no more than the bytes:
+-- the last of them gave some too
 pub record AreAllReads (input left : Supply) (bytes : List ℕ) : Type 0 where
   pub read : AreBytesRead input.known left.known bytes
   pub made : AreReadsMade input.reads left.reads most_reads
@@ -177,7 +177,7 @@ pub record IsReadBroken (input left : Supply) (bytes : List ℕ) : Type 0 where
 
 -- the frames of what was read are served, and no more is read: a read failed, or as many were made
 -- as one run makes, the last of which was not the end
-pub record IsUnread
+pub record IsServiceUnread
     {L I : Type 0} (meaning : HostMeaning L I) (old new : Service L I)
     (input left : Supply) : Type 0 where
   pub bytes : List ℕ
@@ -198,6 +198,6 @@ pub record IsUnserved
 -- why a service ends before its input does, and what that leaves
 abbrev pub ServiceFailed : {L I : Type 0} → HostMeaning L I → Service L I → Service L I → Supply
     → Supply → HostFault → Type 0
-ServiceFailed meaning old new input left fault.Read = IsUnread meaning old new input left
+ServiceFailed meaning old new input left fault.Read = IsServiceUnread meaning old new input left
 ServiceFailed meaning old new input left fault.Truncated = IsTruncated meaning old new input left
 ServiceFailed meaning old new input left why = IsUnserved meaning old new input left why

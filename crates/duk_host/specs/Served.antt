@@ -18,8 +18,8 @@ use Rattle.duk_host.specs.declared.fault.HostFault.{HostFault}
 use Rattle.duk_host.specs.declared.fault.HostFault.TheVariants as fault
 use Rattle.duk_host.specs.declared.running.Running.{Running}
 
--- one more number is used, at the end of the list, its exchange is the latest, and there is room for
--- one number less
+-- one more number is used, at the end of the list, its exchange is the latest, and there is room
+-- for one number less
 abbrev pub with_accepted : JudgementBasis → Serial → Exchange → JudgementBasis
 with_accepted basis ksn last =
     basis_with basis.keys (basis.used ++ ksn ∷ []) (with_exchange basis.recent last)
@@ -129,7 +129,7 @@ IsToAcceptOn basis frame ksn =
     (request : Request) × IsRequest frame request × IsAcceptable basis request × (request.ksn ≡ ksn)
 
 -- a request that is to be accepted was refused memory, and the host judges as before it
-pub record LacksMemoryOn
+pub record IsOutOfMemoryOn
     {L I : Type 0} (meaning : HostMeaning L I) (basis : JudgementBasis) (writer : Known)
     (new : Service L I) (frame : List ℕ) : Type 0 where
   pub ksn : Serial
@@ -160,13 +160,13 @@ abbrev pub IsLeftBy : {L I : Type 0} → HostMeaning L I → JudgementBasis → 
     → List ℕ → HostFault → Type 0
 IsLeftBy meaning basis writer new frame fault.Write = IsCutOn meaning basis writer new frame
 IsLeftBy meaning basis writer new frame fault.NoMemory =
-    LacksMemoryOn meaning basis writer new frame
+    IsOutOfMemoryOn meaning basis writer new frame
 IsLeftBy meaning basis writer new frame (fault.Store why) =
     IsStoppedOn meaning basis writer new frame
 IsLeftBy meaning basis writer new frame _ = ⊥
 
 -- a service wrote the answers to the first frames of a stream, and failed at the frame after them
-pub record FailedBehind
+pub record FailedAfter
     {L I : Type 0} (meaning : HostMeaning L I) (basis : JudgementBasis) (old new : Service L I)
     (bytes : List ℕ) (why : HostFault) : Type 0 where
   pub frames : List (List ℕ)

@@ -2,7 +2,7 @@
 
 ghost use Rattle.std.specs.Prelude.{◌≡◌, ◌≤◌, length};
 ghost use Rattle.std.specs.Str.{bytes_eq};
-ghost use Rattle.duk_host.specs.Handle.{IsToldRepeat, IsToldReply};
+ghost use Rattle.duk_host.specs.Handle.{IsRepeatedVerdict, IsAcceptedVerdict};
 ghost use Rattle.duk_host.specs.Recent.{IsReplyWithCode, IsRequestOf, exchange};
 
 use crate::answered::{Answered, Verdict};
@@ -10,8 +10,8 @@ use duk_frame::{Code, Frame};
 use duk_tree::Ksn;
 use std::marker::Model;
 
-/// A request that was accepted and its reply, each byte for byte, with the key serial number of both
-/// and the code of the reply.
+/// A request that was accepted and its reply, each byte for byte, with the key serial number of
+/// both and the code of the reply.
 #[derive(Drop)]
 pub(crate) struct Exchange {
     ksn: Ksn,
@@ -59,7 +59,7 @@ impl Exchange {
     /// The reply, given for the first time.
     pub(crate) fn accepted(&self) -> Answered
         ensures frame { result.frame.items ≡ self.now.reply }
-        ensures told { IsToldReply result.frame.items result.says }
+        ensures reported { IsAcceptedVerdict result.frame.items result.says }
     {
         Answered {
             frame: frame_of(self.reply.as_slice()),
@@ -73,7 +73,7 @@ impl Exchange {
     /// The reply, given again.
     pub(crate) fn repeated(&self) -> Answered
         ensures frame { result.frame.items ≡ self.now.reply }
-        ensures told { IsToldRepeat result.frame.items result.says }
+        ensures reported { IsRepeatedVerdict result.frame.items result.says }
     {
         Answered {
             frame: frame_of(self.reply.as_slice()),

@@ -3,11 +3,11 @@
 ghost use Rattle.std.specs.Prelude.{◌≡◌, ◌↔◌, ◌<◌, ◌-◌, [], None, IfOk, IfErr, IsSome, IsTrue};
 ghost use Rattle.duk_store.specs.StoreState.{StaysButCalm};
 ghost use Rattle.duk_frame.specs.Request.{IsRequest};
-ghost use Rattle.duk_hsm.specs.Opened.{IsOpened};
-ghost use Rattle.duk_host.specs.Handle.{Answers, AnswersAs, HandleRefused, IsNumberAdded, IsRemembered, IsReplied, IsToAccept, IsTold, IsToldReply, KeepRefused};
+ghost use Rattle.duk_hsm.specs.TransactionKeys.{AreTransactionKeys};
+ghost use Rattle.duk_host.specs.Handle.{Answers, AnswersAs, HandleRefused, IsNumberAdded, IsRemembered, IsReplied, IsToAccept, IsVerdictOn, IsAcceptedVerdict, KeepRefused};
 ghost use Rattle.duk_host.specs.Judgement.{IsReplyTo};
 ghost use Rattle.duk_host.specs.Host.{IsFreshIn, IsUsedIn, host_meaning_of};
-ghost use Rattle.duk_host.specs.Restart.{IsHostRestarted, KeepsEnds, HostRestartRefused};
+ghost use Rattle.duk_host.specs.Restart.{IsHostRestarted, PreservesEnds, HostRestartRefused};
 ghost use Rattle.duk_tree.specs.Path.{IsUsable};
 
 use crate::answered::Answered;
@@ -28,9 +28,9 @@ use std::alloc::{AllocError, Global};
 use std::marker::Model;
 
 /// A host: a security module, the issuer of the cards, and the log of the used numbers. It is made
-/// stopped. While it runs, the used numbers are in memory, and the last 64 requests that it accepted
-/// since its restart with their replies. The room for these is made once, and kept while it is
-/// stopped.
+/// stopped. While it runs, the used numbers are in memory, and the last 64 requests that it
+/// accepted since its restart with their replies. The room for these is made once, and kept while
+/// it is stopped.
 #[derive(Drop)]
 pub struct Host<const N: usize, L: UsedLog, I: Issuer> {
     alloc: Global,
@@ -120,7 +120,7 @@ impl<const N: usize, L: UsedLog, I: Issuer> Host<N, L, I> {
     /// Does with the bytes of a request what `handle` does, and answers beside the frame what it
     /// says: that the request is accepted, that it was accepted before, or that it is refused.
     pub fn answer(&mut self, bytes: &[u8]) -> Result<Answered, HostFault>
-        ensures told { IfOk result (λ answered. IsTold answered.frame.items answered.says) }
+        ensures reported { IfOk result (λ answered. IsVerdictOn answered.frame.items answered.says) }
         ensures answered { IfOk result (λ answered. AnswersAs
             (host_meaning_of L.meaning I.decides)
             bytes.now self.old self.new answered.frame.items answered.says) }
@@ -141,12 +141,12 @@ impl<const N: usize, L: UsedLog, I: Issuer> Host<N, L, I> {
         requires acceptable { IsToAccept
             (host_meaning_of L.meaning I.decides) self.old payment.now.request }
         requires request { IsRequest bytes.now payment.now.request }
-        requires opened { IsOpened
+        requires opened { AreTransactionKeys
             self.old.keys payment.now.request.ksn payment.now.transaction }
         ensures replied { IfOk result (λ answered. IsReplied
             (host_meaning_of L.meaning I.decides)
             bytes.now self.old self.new payment.now.request answered.frame.items) }
-        ensures told { IfOk result (λ answered. IsToldReply answered.frame.items answered.says) }
+        ensures reported { IfOk result (λ answered. IsAcceptedVerdict answered.frame.items answered.says) }
         ensures refused { IfErr result (KeepRefused
             (host_meaning_of L.meaning I.decides) self.old self.new payment.now.request.ksn) }
     {
@@ -160,7 +160,7 @@ impl<const N: usize, L: UsedLog, I: Issuer> Host<N, L, I> {
     /// A request that is accepted, and its reply.
     fn reply(&self, payment: &Payment, bytes: &[u8]) -> Exchange
         requires request { IsRequest bytes.now payment.now.request }
-        requires opened { IsOpened
+        requires opened { AreTransactionKeys
             self.now.keys payment.now.request.ksn payment.now.transaction }
         ensures request { result.request ≡ bytes.now }
         ensures reply { IsReplyTo
@@ -233,7 +233,7 @@ impl<const N: usize, L: UsedLog, I: Issuer> Host<N, L, I> {
             (L.meaning.state_of self.old.log) (L.meaning.state_of self.new.log) }
         ensures counted { L.meaning.count self.new.log ≡ L.meaning.count self.old.log }
         ensures capacity { L.meaning.capacity self.new.log ≡ L.meaning.capacity self.old.log }
-        ensures ends { KeepsEnds self.old self.new }
+        ensures ends { PreservesEnds self.old self.new }
         ensures state { self.new.state ≡ self.old.state }
     {
         self.log.arm(steps);

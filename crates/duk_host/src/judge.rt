@@ -3,8 +3,8 @@
 ghost use Rattle.std.specs.Prelude.{◌≡◌, ◌≤◌, ◌<◌, ℕ, List, IfOk, IfErr, OnOk, length};
 ghost use Rattle.duk_frame.specs.Frame.{mac_text_of};
 ghost use Rattle.duk_frame.specs.Request.{IsRequest};
-ghost use Rattle.duk_hsm.specs.Opened.{IsOpened};
-ghost use Rattle.duk_host.specs.Handle.{IsTold};
+ghost use Rattle.duk_hsm.specs.TransactionKeys.{AreTransactionKeys};
+ghost use Rattle.duk_host.specs.Handle.{IsVerdictOn};
 ghost use Rattle.duk_host.specs.Judged.{IfFresh, IfSettled, IsReasonAgainstMac, IsReasonAgainstNumber, IsSettled};
 ghost use Rattle.duk_host.specs.Judgement.{Decision, IsAcceptable, IsAuthentic, basis_with, authenticated_text};
 ghost use Rattle.duk_host.specs.Used.{IsUsed};
@@ -39,11 +39,11 @@ pub(crate) fn judge<const N: usize>(
         (basis_with hsm.now running.now.used running.now.recent room decides) payment.request) }
     ensures request { IfFresh result (λ payment. IsRequest bytes.now payment.request) }
     ensures opened { IfFresh result
-        (λ payment. IsOpened hsm.now payment.request.ksn payment.transaction) }
+        (λ payment. AreTransactionKeys hsm.now payment.request.ksn payment.transaction) }
     ensures settled { (decides : Decision) → IfSettled result (λ answered. IsSettled
         (basis_with hsm.now running.now.used running.now.recent room decides)
         bytes.now answered.frame.items answered.says) }
-    ensures told { IfSettled result (λ answered. IsTold answered.frame.items answered.says) }
+    ensures reported { IfSettled result (λ answered. IsVerdictOn answered.frame.items answered.says) }
 {
     let Some(request) = read_request(bytes) else {
         return Judgement::Settled(Reason::Malformed.answer(Ksn::from_bytes([0; 10])));
@@ -87,7 +87,7 @@ fn open_authentic<const N: usize>(
     text: &[u8],
 ) -> Result<Transaction, Reason>
     requires text { text.now ≡ authenticated_text request.now }
-    ensures opened { IfOk result (IsOpened hsm.now request.now.ksn) }
+    ensures opened { IfOk result (AreTransactionKeys hsm.now request.now.ksn) }
     ensures authentic { IfOk result (λ _. IsAuthentic hsm.now request.now) }
     ensures refused { IfErr result (IsReasonAgainstMac hsm.now request.now) }
 {

@@ -9,11 +9,11 @@ ghost use Rattle.duk_frame.specs.Stream.{BeginsTooLong, IsPart};
 ghost use Rattle.duk_frame.specs.declared.request.Request.{Request};
 ghost use Rattle.duk_io.specs.Sink.{IsWritten};
 ghost use Rattle.duk_host.specs.Host.{HostOf, host_meaning_of};
-ghost use Rattle.duk_host.specs.Lifetime.{AcceptOtherNumbers, AcceptsAlike, AreWrittenTo, IsLifetime, IsServiceRun, IsUnderOwnKey, all_answers};
+ghost use Rattle.duk_host.specs.Lifetime.{RunsAcceptDifferentNumbers, AcceptsAlike, AreWrittenTo, IsLifetime, IsServiceRun, IsUnderOwnKey, all_answers};
 ghost use Rattle.duk_host.specs.Recent.{Exchange, exchange, most_exchanges, reply_given, with_exchange};
 ghost use Rattle.duk_host.specs.Restart.{IsHostRestarted};
-ghost use Rattle.duk_host.specs.Serve.{FailsAtFrame, IsReadUp, IsServed, Serves, Service, ServiceFailed, Supply};
-ghost use Rattle.duk_host.specs.Served.{AreJudged, FailedBehind, IsServedStream, JudgesBy, WroteAllOf, WroteFirstOf};
+ghost use Rattle.duk_host.specs.Serve.{FailsAtFrame, IsReadToEnd, IsServed, Serves, Service, ServiceFailed, Supply};
+ghost use Rattle.duk_host.specs.Served.{AreJudged, FailedAfter, IsServedStream, JudgesBy, WroteAllOf, WroteFirstOf};
 ghost use Rattle.duk_host.specs.Used.{AreUsable};
 ghost use Rattle.duk_host.specs.View.{HaveOneRoom, host_view};
 ghost use Rattle.duk_host.specs.declared.fault.HostFault.{HostFault};
@@ -38,7 +38,8 @@ pub fn one_answer()
     duk_pin::laws::one_pin();
 }
 
-/// By keys with a zone key, any bytes have an answer, and the frames of any stream have their answers.
+/// By keys with a zone key, any bytes have an answer, and the frames of any stream have their
+/// answers.
 pub fn some_answer()
     ensures bytes { (basis : JudgementBasis) (bytes : List ℕ) → IsSome basis.keys.zone
         → (frame : List ℕ) × IsAnswerTo basis bytes frame }
@@ -85,8 +86,8 @@ pub fn exchanges()
 {}
 
 /// The frames of a stream have one list of answers, and leave one list of used numbers and one of
-/// exchanges. The first of frames in turn have the first of their answers, and the others are judged
-/// by what these left.
+/// exchanges. The first of frames in turn have the first of their answers, and the others are
+/// judged by what these left.
 pub fn one_service()
     ensures all { (basis after other : JudgementBasis) (bytes : List ℕ)
         → (answers others : List (List ℕ))
@@ -102,23 +103,21 @@ pub fn one_service()
     duk_pin::laws::one_pin();
 }
 
-/// Where frames are judged in turn, the list of used numbers that they leave has none twice, if that
-/// which they found had none. So no number is accepted twice among them, or again.
+/// Where frames are judged in turn, the list of used numbers that they leave has none twice, if
+/// that which they found had none. So no number is accepted twice among them, or again.
 pub fn used_numbers()
     ensures { (basis after : JudgementBasis) (frames answers : List (List ℕ))
         → AreJudged basis frames answers after → AreUsable basis.used → AreUsable after.used }
 {}
 
-/// What a host answers to frames in turn is their judgement, each with the lists of used numbers and
-/// of exchanges after the earlier ones, and its own are then those after the last. A host that was
-/// restarted judges by the list that its log found, and by no exchange.
+/// What a host answers to frames in turn is their judgement, each with the lists of used numbers
+/// and of exchanges after the earlier ones, and its own are then those after the last. A host that
+/// was restarted judges by the list that its log found, and by no exchange.
 pub fn services<L: UsedLog, I: Issuer>()
-    ensures judged { (old new : HostOf L I) (basis : JudgementBasis)
-        → (frames answers : List (List ℕ))
-        → JudgesBy (host_meaning_of L.meaning I.decides) old basis
-        → Serves (host_meaning_of L.meaning I.decides) old frames answers new
-        → (after : JudgementBasis) × AreJudged basis frames answers after
-        × JudgesBy (host_meaning_of L.meaning I.decides) new after }
+    ensures judged { let m = host_meaning_of L.meaning I.decides in
+        (old new : HostOf L I) (basis : JudgementBasis) → (frames answers : List (List ℕ))
+        → JudgesBy m old basis → Serves m old frames answers new → (after : JudgementBasis)
+        × AreJudged basis frames answers after × JudgesBy m new after }
     ensures restarted { (old new : HostOf L I) (found : ℕ)
         → (restarted : IsHostRestarted L.meaning old new found)
         → (L.meaning.state_of old.log).honest
@@ -127,28 +126,24 @@ pub fn services<L: UsedLog, I: Issuer>()
         (L.meaning.capacity new.log - L.meaning.count new.log) (I.decides new.issuer)) }
 {}
 
-/// What a service writes by both lists and the bytes that it read: all answers to their frames, where
-/// it served these up to a part of one or a length above 62; and else the first of them, as many as
-/// it served frames. The law also says by what its host then judges, or what its log finds where
-/// that stopped it, and so it does where the service fails at the frame after those.
+/// What a service writes by both lists and the bytes that it read: all answers to their frames,
+/// where it served these up to a part of one or a length above 62; and else the first of them, as
+/// many as it served frames. The law also says by what its host then judges, or what its log finds
+/// where that stopped it, and so it does where the service fails at the frame after those.
 pub fn served_streams<L: UsedLog, I: Issuer>()
-    ensures all { (old new : Service L I) (basis : JudgementBasis) (bytes rest : List ℕ)
-        → (count : ℕ)
-        → JudgesBy (host_meaning_of L.meaning I.decides) old.host basis
-        → IsServed (host_meaning_of L.meaning I.decides) old new bytes rest count
-        → IsPart rest ⊎ BeginsTooLong rest
-        → WroteAllOf (host_meaning_of L.meaning I.decides) basis old new bytes }
-    ensures first { (old new : Service L I) (basis after : JudgementBasis)
-        → (bytes rest : List ℕ) (count : ℕ) (answers : List (List ℕ))
-        → JudgesBy (host_meaning_of L.meaning I.decides) old.host basis
-        → IsServed (host_meaning_of L.meaning I.decides) old new bytes rest count
-        → IsServedStream basis bytes answers after
-        → WroteFirstOf (host_meaning_of L.meaning I.decides) basis old new bytes answers count }
-    ensures failed { (old new : Service L I) (basis : JudgementBasis) (bytes : List ℕ)
-        → (why : HostFault)
-        → JudgesBy (host_meaning_of L.meaning I.decides) old.host basis
-        → FailsAtFrame (host_meaning_of L.meaning I.decides) old new bytes why
-        → FailedBehind (host_meaning_of L.meaning I.decides) basis old new bytes why }
+    ensures all { let m = host_meaning_of L.meaning I.decides in
+        (old new : Service L I) (basis : JudgementBasis) (bytes rest : List ℕ) → (count : ℕ)
+        → JudgesBy m old.host basis → IsServed m old new bytes rest count → IsPart rest
+        ⊎ BeginsTooLong rest → WroteAllOf m basis old new bytes }
+    ensures first { let m = host_meaning_of L.meaning I.decides in
+        (old new : Service L I) (basis after : JudgementBasis)
+        → (bytes rest : List ℕ) (count : ℕ) (answers : List (List ℕ)) → JudgesBy m old.host basis
+        → IsServed m old new bytes rest count → IsServedStream basis bytes answers after
+        → WroteFirstOf m basis old new bytes answers count }
+    ensures failed { let m = host_meaning_of L.meaning I.decides in
+        (old new : Service L I) (basis : JudgementBasis) (bytes : List ℕ) → (why : HostFault)
+        → JudgesBy m old.host basis → FailsAtFrame m old new bytes why
+        → FailedAfter m basis old new bytes why }
 {
     duk_frame::laws::one_reading();
     duk_frame::laws::streams();
@@ -156,8 +151,8 @@ pub fn served_streams<L: UsedLog, I: Issuer>()
 }
 
 /// All that a service accepts over its whole life, in as many runs as it takes. In one run all
-/// accepted replies to a number are equal, since a reply may be given again; no number is accepted in
-/// two runs; and each accepted reply is made under the key of its number.
+/// accepted replies to a number are equal, since a reply may be given again; no number is accepted
+/// in two runs; and each accepted reply is made under the key of its number.
 pub fn lifetimes<L: UsedLog, I: Issuer>()
     ensures once { (keys : HsmKeys) (decides : Decision) (first : L)
         → (runs : List (List (List ℕ)))
@@ -168,7 +163,7 @@ pub fn lifetimes<L: UsedLog, I: Issuer>()
         → (runs : List (List (List ℕ)))
         → IsLifetime (host_meaning_of L.meaning I.decides) keys decides
         (L.meaning.state_of first).found runs
-        → AllPairs AcceptOtherNumbers runs }
+        → AllPairs RunsAcceptDifferentNumbers runs }
     ensures own_key { (keys : HsmKeys) (decides : Decision) (first : L)
         → (runs : List (List (List ℕ)))
         → IsLifetime (host_meaning_of L.meaning I.decides) keys decides
@@ -183,27 +178,24 @@ pub fn lifetimes<L: UsedLog, I: Issuer>()
 }
 
 /// What `serve` does after a restart is a run of a service, however it ends: at the end of its
-/// input, or with any fault. The answers of that run are those which the writer got, the last of them
-/// cut where a write failed.
+/// input, or with any fault. The answers of that run are those which the writer got, the last of
+/// them cut where a write failed.
 pub fn service_runs<L: UsedLog, I: Issuer>()
-    ensures ended { (made : HostOf L I) (old new : Service L I) (input left : Supply)
-        → (rest : List ℕ) (found count : ℕ)
-        → IsHostRestarted L.meaning made old.host found
-        → IsReadUp (host_meaning_of L.meaning I.decides) old new input left rest count
-        → (answers : List (List ℕ))
-        × IsServiceRun (host_meaning_of L.meaning I.decides) made answers new.host
-        × IsWritten old.writer new.writer (concat answers) × (length answers ≡ count) }
-    ensures failed { (made : HostOf L I) (old new : Service L I) (input left : Supply)
-        → (found : ℕ) (why : HostFault)
-        → IsHostRestarted L.meaning made old.host found
-        → ServiceFailed (host_meaning_of L.meaning I.decides) old new input left why
-        → (answers : List (List ℕ))
-        × IsServiceRun (host_meaning_of L.meaning I.decides) made answers new.host
-        × AreWrittenTo old.writer new.writer answers why }
+    ensures ended { let m = host_meaning_of L.meaning I.decides in
+        (made : HostOf L I) (old new : Service L I) (input left : Supply)
+        → (rest : List ℕ) (found count : ℕ) → IsHostRestarted L.meaning made old.host found
+        → IsReadToEnd m old new input left rest count → (answers : List (List ℕ))
+        × IsServiceRun m made answers new.host × IsWritten old.writer new.writer (concat answers)
+        × (length answers ≡ count) }
+    ensures failed { let m = host_meaning_of L.meaning I.decides in
+        (made : HostOf L I) (old new : Service L I) (input left : Supply)
+        → (found : ℕ) (why : HostFault) → IsHostRestarted L.meaning made old.host found
+        → ServiceFailed m old new input left why → (answers : List (List ℕ))
+        × IsServiceRun m made answers new.host × AreWrittenTo old.writer new.writer answers why }
 {}
 
-/// Nothing is hidden beside what contracts see, but for the allocator and the spare room: hosts, and
-/// the latest exchanges, that are equal to them are equal in each field.
+/// Nothing is hidden beside what contracts see, but for the allocator and the spare room: hosts,
+/// and the latest exchanges, that are equal to them are equal in each field.
 pub fn nothing_else<const N: usize, L: UsedLog, I: Issuer>()
     ensures host { (one other : host.Inside N L I) → HaveOneRoom one other
         → host_view one ≡ host_view other → one ≡ other }

@@ -2,7 +2,7 @@
 
 ghost use Rattle.std.specs.Prelude.{◌≡◌};
 ghost use Rattle.duk_tree.specs.Serial.{serial_bytes};
-ghost use Rattle.duk_host.specs.Handle.{IsToldRefusal};
+ghost use Rattle.duk_host.specs.Handle.{IsRefusalVerdict};
 ghost use Rattle.duk_host.specs.Judgement.{reason_number, refusal_frame};
 
 use crate::answered::{Answered, Verdict};
@@ -44,7 +44,7 @@ impl Reason {
     /// The refusal of a request with this key serial number.
     pub(crate) fn answer(self, ksn: Ksn) -> Answered
         ensures frame { result.frame.items ≡ refusal_frame (serial_bytes ksn) self }
-        ensures told { IsToldRefusal result.frame.items result.says }
+        ensures reported { IsRefusalVerdict result.frame.items result.says }
     {
         let reason = self.number();
         Answered {

@@ -2,7 +2,7 @@
 
 ghost use Rattle.std.specs.Prelude.{◌≡◌, [], IfOk, IfSome};
 ghost use Rattle.std.specs.Option.{option_map};
-ghost use Rattle.duk_host.specs.Handle.{IsToldRepeat};
+ghost use Rattle.duk_host.specs.Handle.{IsRepeatedVerdict};
 ghost use Rattle.duk_host.specs.Recent.{IsRequestOf, most_exchanges, reply_given, with_exchange};
 
 use crate::answered::Answered;
@@ -63,8 +63,8 @@ impl Recent {
         requires { IsRequestOf request.now ksn }
         ensures given { option_map (λ answered. answered.frame.items) result
             ≡ reply_given self.now request.now }
-        ensures told { IfSome result
-            (λ answered. IsToldRepeat answered.frame.items answered.says) }
+        ensures reported { IfSome result
+            (λ answered. IsRepeatedVerdict answered.frame.items answered.says) }
     {
         let given = self.ring.iter().find(|given| given.is_of(ksn, request))?;
         Some(given.repeated())

@@ -2,7 +2,7 @@
 
 ghost use Rattle.std.specs.Prelude.{◌≡◌, IsSome};
 ghost use Rattle.duk_hsm.specs.Keys.{HsmKeys};
-ghost use Rattle.duk_hsm.specs.Opened.{IsOpened};
+ghost use Rattle.duk_hsm.specs.TransactionKeys.{AreTransactionKeys};
 ghost use Rattle.duk_host.specs.Judgement.{IsCodeOf, IsReplyWith};
 ghost use Rattle.duk_host.specs.Recent.{IsReplyWithCode};
 
@@ -16,10 +16,10 @@ use duk_tree::Ksn;
 /// block is that of no PIN, the issuer is not asked.
 pub(crate) fn code_for<I: Issuer>(payment: &Payment, issuer: &I) -> Code
     requires opened { (keys : HsmKeys)
-        × IsOpened keys payment.now.request.ksn payment.now.transaction }
+        × AreTransactionKeys keys payment.now.request.ksn payment.now.transaction }
     requires zone { IsSome payment.now.transaction.zone }
     ensures { (keys : HsmKeys)
-        → IsOpened keys payment.now.request.ksn payment.now.transaction
+        → AreTransactionKeys keys payment.now.request.ksn payment.now.transaction
         → IsCodeOf keys (I.decides issuer.now) payment.now.request result }
 {
     let request = &payment.request;
@@ -32,7 +32,7 @@ pub(crate) fn code_for<I: Issuer>(payment: &Payment, issuer: &I) -> Code
 
 /// The accepted reply with this code.
 pub(crate) fn reply_with(transaction: &Transaction, ksn: Ksn, code: Code) -> Frame
-    ensures reply { (keys : HsmKeys) → IsOpened keys ksn transaction.now
+    ensures reply { (keys : HsmKeys) → AreTransactionKeys keys ksn transaction.now
         → IsReplyWith keys ksn code result.items }
     ensures code { IsReplyWithCode result.items ksn code }
 {

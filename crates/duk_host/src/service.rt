@@ -4,7 +4,7 @@ ghost use Rattle.std.specs.Prelude.{◌≡◌, ◌<◌, ◌≤◌, ◌++◌, [],
 ghost use Rattle.duk_frame.specs.Stream.{IsPart, IsFrame};
 ghost use Rattle.duk_host.specs.Host.{host_meaning_of};
 ghost use Rattle.duk_host.specs.declared.fault.HostFault.TheVariants.{Truncated};
-ghost use Rattle.duk_host.specs.Serve.{AnswerFailed, BytesFailed, IsAnswered, IsPieceTried, IsReadUp, IsServed, ServiceFailed, service, supply};
+ghost use Rattle.duk_host.specs.Serve.{AnswerFailed, BytesFailed, IsAnswerWritten, IsPieceTried, IsReadToEnd, IsServed, ServiceFailed, service, supply};
 
 use crate::fault::HostFault;
 use crate::host::Host;
@@ -24,15 +24,15 @@ const PIECE: usize = 4096;
 ///
 /// Refused with the first of these: `Read`, where a read failed or 1,000,000 were made, none of
 /// which gave the end, and `Truncated`, where the input ends inside a frame, each after all whole
-/// frames are answered; `TooLong`, where a length above 62 stands in the place of a frame, after all
-/// before it are; what `handle` refuses, and that frame and what is after it have no answer;
+/// frames are answered; `TooLong`, where a length above 62 stands in the place of a frame, after
+/// all before it are; what `handle` refuses, and that frame and what is after it have no answer;
 /// `Write`, where a write failed or took no byte.
 pub fn serve<const N: usize, L: UsedLog, I: Issuer, R: Source, W: Sink>(
     host: &mut Host<N, L, I>,
     reader: &mut R,
     writer: &mut W,
 ) -> Result<u64, HostFault>
-    ensures served { IfOk result (IsReadUp (host_meaning_of L.meaning I.decides)
+    ensures served { IfOk result (IsReadToEnd (host_meaning_of L.meaning I.decides)
         (service host.old (W.known writer.old)) (service host.new (W.known writer.new))
         (supply (R.known reader.old) (R.reads reader.old))
         (supply (R.known reader.new) (R.reads reader.new)) []) }
@@ -132,7 +132,7 @@ fn answer<const N: usize, L: UsedLog, I: Issuer, W: Sink>(
     frame: &[u8],
     writer: &mut W,
 ) -> Result<(), HostFault>
-    ensures answered { OnOk result (IsAnswered (host_meaning_of L.meaning I.decides)
+    ensures answered { OnOk result (IsAnswerWritten (host_meaning_of L.meaning I.decides)
         (service host.old (W.known writer.old)) (service host.new (W.known writer.new))
         frame.now) }
     ensures failed { IfErr result (AnswerFailed (host_meaning_of L.meaning I.decides)

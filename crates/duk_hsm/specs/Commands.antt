@@ -26,7 +26,7 @@ pub record IsIssued (keys : HsmKeys) (iksn : ℕ) (loading padding text : List �
   pub written :
       IsWrittenKeyBlock text loading (header_for InitialKey) (initial_key_of bdk iksn) padding
 
--- the padding does not fit, and that is what is told
+-- the padding does not fit, and that is what is reported
 pub record IsPadFault (padding : List ℕ) (why : BlockFault) : Type 0 where
   pub why_is : why ≡ block_fault.PadLength
   pub does_not_fit : ¬ FitsKeyBlock 16 (length padding)

@@ -1,5 +1,5 @@
 pub mod Keys
 pub mod Load
 pub mod Commands
-pub mod Opened
+pub mod TransactionKeys
 pub mod View

@@ -43,7 +43,7 @@ pub enum HsmFault {
 }
 
 impl From<KeyFault> for HsmFault {
-    ghost from_gives = { λ fault told. told ≡ hsm_fault_of fault };
+    ghost from_gives = { λ fault reported. reported ≡ hsm_fault_of fault };
 
     fn from(fault: KeyFault) -> HsmFault {
         match fault {

@@ -5,7 +5,7 @@ ghost use Rattle.duk_tdes.specs.Tdes.{IsTdesLength};
 ghost use Rattle.duk_hsm.specs.Keys.{AreHsmKeys, key_set_of};
 ghost use Rattle.duk_hsm.specs.Load.{IsBdkLoaded, IsZoneLoaded, LoadBdkRefused, LoadZoneRefused};
 ghost use Rattle.duk_hsm.specs.Commands.{IsIssued, IsReplyMac, IsRequestMac, IsTranslated, IssueRefused, NoTransactionKey, TranslateRefused, VerifyRefused};
-ghost use Rattle.duk_hsm.specs.Opened.{IsOpened};
+ghost use Rattle.duk_hsm.specs.TransactionKeys.{AreTransactionKeys};
 
 use crate::fault::HsmFault;
 use crate::key_set::{KeySet, SLOTS, bdk_with};
@@ -133,7 +133,7 @@ impl<const N: usize> Hsm<N> {
     /// Refused with `NoKeySet`, and then with `BadCounter`, where the counter numbers no
     /// transaction.
     pub fn open(&self, ksn: Ksn) -> Result<Transaction, HsmFault>
-        ensures opened { IfOk result (IsOpened self.now ksn) }
+        ensures opened { IfOk result (AreTransactionKeys self.now ksn) }
         ensures refused { IfErr result (NoTransactionKey self.now ksn) }
     {
         let bdk = self.key_set(&ksn.prefix()).ok_or(HsmFault::NoKeySet)?;

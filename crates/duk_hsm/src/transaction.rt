@@ -7,7 +7,7 @@ ghost use Rattle.std.specs.Prelude.{◌≡◌, ◌↔◌, ◌<◌, IfOk, IfErr, 
 ghost use Rattle.duk_tree.specs.Serial.{Serial};
 ghost use Rattle.duk_hsm.specs.Keys.{HsmKeys};
 ghost use Rattle.duk_hsm.specs.Commands.{IsReplyMac, IsRequestMac, IsTranslated, TranslateRefused, VerifyRefused};
-ghost use Rattle.duk_hsm.specs.Opened.{IsOpened, opened_with};
+ghost use Rattle.duk_hsm.specs.TransactionKeys.{AreTransactionKeys, transaction_keys};
 
 use crate::fault::HsmFault;
 use crate::pin_block::pin_in;
@@ -29,17 +29,17 @@ pub struct Transaction {
 }
 
 impl Model for Transaction {
-    ghost use Rattle.duk_hsm.specs.Opened.{Opened, opened_with};
+    ghost use Rattle.duk_hsm.specs.TransactionKeys.{TransactionKeys, transaction_keys};
 
-    ghost Value = { Opened };
+    ghost Value = { TransactionKeys };
 
-    ghost view = { λ transaction. opened_with transaction.key transaction.zone };
+    ghost view = { λ transaction. transaction_keys transaction.key transaction.zone };
 }
 
 impl Transaction {
     /// The transaction with this key, in a module that holds this zone key.
     pub(crate) fn new(key: Key<16>, zone: Option<KeyBytes>) -> Self
-        ensures { result ≡ opened_with key zone }
+        ensures { result ≡ transaction_keys key zone }
     {
         Transaction { key, zone }
     }
@@ -48,9 +48,9 @@ impl Transaction {
     /// key's variant for requests. Refused with `BadMac`.
     pub fn verify(&self, text: &[u8], mac: [u8; 8]) -> Result<(), HsmFault>
         requires { 0 < length text.now }
-        ensures verified { (keys : HsmKeys) (ksn : Serial) → IsOpened keys ksn self.now
+        ensures verified { (keys : HsmKeys) (ksn : Serial) → AreTransactionKeys keys ksn self.now
             → IsOk result ↔ IsRequestMac keys ksn text.now mac }
-        ensures refused { (keys : HsmKeys) (ksn : Serial) → IsOpened keys ksn self.now
+        ensures refused { (keys : HsmKeys) (ksn : Serial) → AreTransactionKeys keys ksn self.now
             → IfErr result (VerifyRefused keys ksn text.now mac) }
     {
         if retail(&request_key(&self.key), text) == mac {
@@ -64,7 +64,7 @@ impl Transaction {
     /// responses.
     pub fn reply_mac(&self, text: &[u8]) -> [u8; 8]
         requires { 0 < length text.now }
-        ensures made { (keys : HsmKeys) (ksn : Serial) → IsOpened keys ksn self.now
+        ensures made { (keys : HsmKeys) (ksn : Serial) → AreTransactionKeys keys ksn self.now
             → IsReplyMac keys ksn text.now result }
     {
         retail(&response_key(&self.key), text)
@@ -77,9 +77,9 @@ impl Transaction {
     /// Refused with `NoZone`, and then with `BadPinBlock`, where the deciphered block is that of no
     /// PIN under the PAN.
     pub fn translate(&self, block: [u8; 8], pan: &Pan) -> Result<[u8; 8], HsmFault>
-        ensures translated { (keys : HsmKeys) (ksn : Serial) → IsOpened keys ksn self.now
+        ensures translated { (keys : HsmKeys) (ksn : Serial) → AreTransactionKeys keys ksn self.now
             → IfOk result (IsTranslated keys ksn block pan.now) }
-        ensures refused { (keys : HsmKeys) (ksn : Serial) → IsOpened keys ksn self.now
+        ensures refused { (keys : HsmKeys) (ksn : Serial) → AreTransactionKeys keys ksn self.now
             → IfErr result (TranslateRefused keys ksn block pan.now) }
     {
         let zone = self.zone.as_ref().ok_or(HsmFault::NoZone)?;

@@ -1,6 +1,6 @@
 -- The retail MAC (ANSI X9.19; ISO/IEC 9797-1, MAC algorithm 3 with padding method 1).
 use Rattle.std.specs.Prelude.{ℕ, ◌-◌, ◌%◌, List, ◌++◌, length, replicate}
-use Rattle.duk_des.specs.Des.{encrypted, decrypted}
+use Rattle.duk_des.specs.Des.{des_encrypted, des_decrypted}
 use Rattle.duk_tdes.specs.Blocks.{blocks_of}
 use Rattle.duk_tdes.specs.Tdes.{first_key, second_key}
 use Rattle.duk_mac.specs.Chain.{zero_block, chained}
@@ -13,5 +13,5 @@ zero_filled message = message ++ replicate ((8 - length message % 8) % 8) 0
 -- the second half and enciphered under the first again
 unfoldable pub retail_of : List ℕ → List ℕ → List ℕ
 retail_of key message =
-    let last = chained (encrypted (first_key key)) zero_block (blocks_of (zero_filled message)) in
-    encrypted (first_key key) (decrypted (second_key key) last)
+    let last = chained (des_encrypted (first_key key)) zero_block (blocks_of (zero_filled message)) in
+    des_encrypted (first_key key) (des_decrypted (second_key key) last)

@@ -3,7 +3,7 @@
 ghost use Rattle.std.specs.Prelude.{◌≡◌, ◌<◌, ◌≤◌, ◌-◌, ◌++◌, length, replicate};
 ghost use Rattle.duk_mac.specs.Cmac.{padded};
 
-/// The block with zero bytes behind what is there.
+/// The block with zero bytes after what is there.
 pub fn fill_block(part: &[u8]) -> [u8; 8]
     requires { length part.now ≤ 8 }
     ensures { result ≡ part.now ++ replicate (8 - length part.now) 0 }
@@ -13,7 +13,7 @@ pub fn fill_block(part: &[u8]) -> [u8; 8]
     block
 }
 
-/// The block with a one bit and zero bits behind what is there, which is less than a block.
+/// The block with a one bit and zero bits after what is there, which is less than a block.
 pub fn pad_block(part: &[u8]) -> [u8; 8]
     requires { length part.now < 8 }
     ensures { result ≡ padded part.now }

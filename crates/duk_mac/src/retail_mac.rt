@@ -8,7 +8,7 @@ use duk_des::{Des, decrypt_block};
 use duk_tdes::{Key, array_of, xor_bytes};
 
 /// The retail MAC of a message that is not empty. It is filled with zero bytes to whole blocks, so
-/// a message and the same message with zero bytes behind it, within its last block, have one MAC.
+/// a message and the same message with zero bytes after it, within its last block, have one MAC.
 pub fn retail(key: &Key<16>, message: &[u8]) -> [u8; 8]
     requires { 0 < length message.now }
     ensures { result ≡ retail_of key.now message.now }

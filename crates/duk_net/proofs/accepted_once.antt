@@ -1,3 +1,3 @@
 -- The host accepts each number at most once.
 pub mod RepeatsWereSent
-pub mod AcceptedIsKept
+pub mod AcceptedOnce

@@ -1,3 +1,3 @@
 -- The host derives the terminal's own key for each number.
 pub mod IssuedForTerminal
-pub mod FramesUnderOwnKeys
+pub mod OwnKey

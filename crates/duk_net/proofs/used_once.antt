@@ -4,4 +4,4 @@ pub mod AboveUsed
 pub mod TerminalStaysAboveUsed
 pub mod LoadStaysAboveUsed
 pub mod BeginStaysAboveUsed
-pub mod WorldStaysAboveUsed
+pub mod UsedOnce

@@ -1,7 +1,7 @@
 -- The store of an end of a world is armed: this project's own.
 use Rattle.std.specs.Prelude.{◌≡◌, ℕ}
 use Rattle.duk_host.specs.Host.{HostOf}
-use Rattle.duk_host.specs.Restart.{KeepsEnds}
+use Rattle.duk_host.specs.Restart.{PreservesEnds}
 use Rattle.duk_store.specs.StoreState.{StaysButCalm}
 use Rattle.duk_term.specs.Terminal.{TerminalOf}
 use Rattle.duk_net.specs.World.{HasNone, Meanings, ChangesTerminal, WorldOf}
@@ -24,7 +24,7 @@ pub record ArmsLog
   pub stays : StaysButCalm (m.host.log.state_of before.log) (m.host.log.state_of after.log)
   pub counted : m.host.log.count after.log ≡ m.host.log.count before.log
   pub capacity : m.host.log.capacity after.log ≡ m.host.log.capacity before.log
-  pub ends : KeepsEnds before after
+  pub ends : PreservesEnds before after
   pub state : after.state ≡ before.state
 
 -- what comes of arming the host's log

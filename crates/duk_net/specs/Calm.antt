@@ -43,41 +43,41 @@ IsLogFault (host_fault.Store why) fault = why ≡ fault
 IsLogFault _ fault = ⊥
 
 -- an outcome says that the store of an end failed so
-abbrev pub TellsFault : Outcome → End → StoreFault → Type 0
-TellsFault (came.TermFaulted u why) (end.Term t) fault = (u ≡ t) × IsCellFault why fault
-TellsFault (came.HostFaulted why) end.Host fault = IsLogFault why fault
-TellsFault _ _ fault = ⊥
+abbrev pub ReportsFault : Outcome → End → StoreFault → Type 0
+ReportsFault (came.TermFaulted u why) (end.Term t) fault = (u ≡ t) × IsCellFault why fault
+ReportsFault (came.HostFaulted why) end.Host fault = IsLogFault why fault
+ReportsFault _ _ fault = ⊥
 
 -- an outcome says of no end that its store is damaged
-abbrev pub TellsNoDamage : Outcome → Type 0
-TellsNoDamage outcome = (end : End) → ¬ TellsFault outcome end Damaged
+abbrev pub ReportsNoDamage : Outcome → Type 0
+ReportsNoDamage outcome = (end : End) → ¬ ReportsFault outcome end Damaged
 
 -- the outcome is that the store of an end was armed
-abbrev pub TellsArming : End → Outcome → Type 0
-TellsArming end (came.Armed armed steps) = armed ≡ end
-TellsArming end _ = ⊥
+abbrev pub ReportsArming : End → Outcome → Type 0
+ReportsArming end (came.Armed armed steps) = armed ≡ end
+ReportsArming end _ = ⊥
 
 -- where outcomes say that a device step of an end's store failed, one before it says that the
 -- store was armed
 abbrev pub FailsOnceArmed : End → List Outcome → Type 0
 FailsOnceArmed end outcomes =
     (earlier later : List Outcome) (outcome : Outcome)
-    → outcomes ≡ earlier ++ outcome ∷ later → TellsFault outcome end Device
-    → Any (TellsArming end) earlier
+    → outcomes ≡ earlier ++ outcome ∷ later → ReportsFault outcome end Device
+    → Any (ReportsArming end) earlier
 
 -- the store of an end is calm yet, unless one of the outcomes says that it was armed
 abbrev pub StaysCalm : {C L I : Type 0} → Meanings C L I → End → WorldOf C L I → List Outcome
     → Type 0
-StaysCalm m end world outcomes = Any (TellsArming end) outcomes ⊎ IsCalmAt m world end
+StaysCalm m end world outcomes = Any (ReportsArming end) outcomes ⊎ IsCalmAt m world end
 
 -- a restart of an end that is there
-abbrev pub IsRestart : {C L I : Type 0} → WorldOf C L I → Event → Type 0
-IsRestart world (event.RestartTerm t) = HasOne world.terminals t
-IsRestart world event.RestartHost = Unit {0}
-IsRestart world _ = ⊥
+abbrev pub IsRestartEvent : {C L I : Type 0} → WorldOf C L I → Event → Type 0
+IsRestartEvent world (event.RestartTerm t) = HasOne world.terminals t
+IsRestartEvent world event.RestartHost = Unit {0}
+IsRestartEvent world _ = ⊥
 
 -- the outcome is that an end was brought up
-abbrev pub IsBroughtUp : Outcome → Type 0
-IsBroughtUp (came.TermNext t next) = Unit {0}
-IsBroughtUp (came.HostUsed used) = Unit {0}
-IsBroughtUp _ = ⊥
+abbrev pub ReportsBroughtUp : Outcome → Type 0
+ReportsBroughtUp (came.TermNext t next) = Unit {0}
+ReportsBroughtUp (came.HostUsed used) = Unit {0}
+ReportsBroughtUp _ = ⊥

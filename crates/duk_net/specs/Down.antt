@@ -1,6 +1,6 @@
 -- An answer reaches a terminal of a world: this project's own.
 use Rattle.std.specs.Prelude.{◌≡◌, ◌⊎◌, ℕ}
-use Rattle.duk_term.specs.Reply.{IsPending, IsTold, ReplyRefused, after_answer}
+use Rattle.duk_term.specs.Reply.{IsPending, ReportsAnswer, ReplyRefused, after_answer}
 use Rattle.duk_term.specs.Terminal.{TerminalOf}
 use Rattle.duk_term.specs.declared.answer.Answer.{Answer}
 use Rattle.duk_term.specs.declared.answer.Answer.TheVariants.{Done, Refused}
@@ -11,21 +11,21 @@ use Rattle.duk_net.specs.declared.outcome.Outcome.{Outcome}
 use Rattle.duk_net.specs.declared.outcome.Outcome.TheVariants as came
 
 -- a frame says this to a terminal, of its pending transaction, which has this number
-pub record IsToldOf
+pub record ReportsAnswerOf
     {C : Type 0} (frame : Frame) (ksn : Serial) (answer : Answer)
     (before after : TerminalOf C) : Type 0 where
   pub pending : Pending
   pub was_pending : IsPending before.state pending
   pub ksn_is : ksn ≡ pending.ksn
-  pub told : IsTold before.state frame.items answer
+  pub reported : ReportsAnswer before.state frame.items answer
   pub after_is : after ≡ record { cell = before.cell; state = after_answer before.state answer }
 
 -- what a terminal makes of a frame that comes back
 abbrev pub TakesAnswer : {C : Type 0} → ℕ → Frame → Outcome → TerminalOf C → TerminalOf C → Type 0
 TakesAnswer t frame (came.Done u ksn code) before after =
-    (u ≡ t) × IsToldOf frame ksn (Done code) before after
+    (u ≡ t) × ReportsAnswerOf frame ksn (Done code) before after
 TakesAnswer t frame (came.GotRefusal u ksn reason) before after =
-    (u ≡ t) × IsToldOf frame ksn (Refused reason) before after
+    (u ≡ t) × ReportsAnswerOf frame ksn (Refused reason) before after
 TakesAnswer t frame (came.TermFaulted u why) before after =
     (u ≡ t) × ReplyRefused before.state frame.items why × (after ≡ before)
 TakesAnswer t frame _ before after = ⊥

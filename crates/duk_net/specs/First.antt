@@ -35,7 +35,7 @@ pub record IsNewHost {C L I : Type 0} (m : Meanings C L I) (host : HostOf L I) :
   pub log : IsUnused (m.host.log.state_of host.log) []
 
 -- all ends are newly made, and nothing was sent
-pub record IsFirst {C L I : Type 0} (m : Meanings C L I) (world : WorldOf C L I) : Type 0 where
+pub record IsFirstWorld {C L I : Type 0} (m : Meanings C L I) (world : WorldOf C L I) : Type 0 where
   pub host : IsNewHost m world.host
   pub terminals : All (IsNewTerminal m) world.terminals
   pub no_requests : world.requests ≡ []

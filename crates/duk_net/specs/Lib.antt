@@ -13,11 +13,11 @@ pub mod Run
 pub mod InMemory
 pub mod Reached
 pub mod Gained
-pub mod UsedNumbers
+pub mod UsedOnce
 pub mod Sent
-pub mod UnusedKeys
+pub mod NoUsedKey
 pub mod Images
-pub mod Accepted
+pub mod AcceptedOnce
 pub mod OwnKey
-pub mod Completed
+pub mod CompletedByHost
 pub mod Calm

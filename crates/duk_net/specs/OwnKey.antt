@@ -17,7 +17,7 @@ use Rattle.duk_net.specs.declared.outcome.Outcome.TheVariants as outcome
 -- the frame is the request of a payment under the transaction key of its number, which comes from
 -- the initial key that the held base derivation key gives the terminal: its MAC is that of its text
 -- under that key, and its PIN is found again under that key
-pub record IsOwnRequest (keys : HsmKeys) (frame : Frame) : Type 0 where
+pub record IsOwnKeyRequest (keys : HsmKeys) (frame : Frame) : Type 0 where
   pub request : Request
   pub pin : List ℕ
   pub is_request : IsRequest frame.items request
@@ -27,8 +27,8 @@ pub record IsOwnRequest (keys : HsmKeys) (frame : Frame) : Type 0 where
   pub pin_is_found : IsPinOf authentic.key request.block request.pan pin
 
 -- where the frame is an accepted reply, it is the one under the transaction key of its number
-abbrev pub IsOwnReply : HsmKeys → Frame → Type 0
-IsOwnReply keys frame =
+abbrev pub IsOwnKeyReply : HsmKeys → Frame → Type 0
+IsOwnKeyReply keys frame =
     (ksn : Serial) (code : Code) (mac : List ℕ) → IsReply frame.items ksn code mac
     → IsReplyWith keys ksn code frame.items
 

@@ -1,6 +1,6 @@
 -- The worlds that there may be: this project's own.
 use Rattle.std.specs.Prelude.{◌≡◌, ◌⊎◌, ℕ, zero, suc, List}
-use Rattle.duk_net.specs.First.{IsFirst}
+use Rattle.duk_net.specs.First.{IsFirstWorld}
 use Rattle.duk_net.specs.Restart.{IsHostLeft}
 use Rattle.duk_net.specs.Run.{Run}
 use Rattle.duk_net.specs.Step.{Step}
@@ -20,7 +20,7 @@ Moves m old new = Happens m old new ⊎ IsHostLeft m old new
 
 -- after so many moves from a world in which nothing had happened yet
 abbrev pub IsReachedBy : {C L I : Type 0} → Meanings C L I → ℕ → WorldOf C L I → Type 0
-IsReachedBy m zero world = IsFirst m world
+IsReachedBy m zero world = IsFirstWorld m world
 IsReachedBy {C} {L} {I} m (suc moves) world =
     (before : WorldOf C L I) × IsReachedBy m moves before × Moves m before world
 

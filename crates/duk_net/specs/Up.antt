@@ -19,7 +19,7 @@ verdict_outcome n (Repeated ksn code) = outcome.Repeated n ksn code
 verdict_outcome n (Refused ksn reason) = outcome.Refused n ksn reason
 
 -- the host answers, and the answer is sent
-pub record IsAnswered
+pub record IsAnswerSent
     {C L I : Type 0} (old : WorldOf C L I) (n : ℕ) (frame : Frame)
     (new : WorldOf C L I) : Type 0 where
   pub number : n ≡ length old.answers + 1
@@ -34,8 +34,8 @@ pub record UpAccepted
   pub mac : List ℕ
   pub sent : IsAt old.requests k request
   pub accepted : AnswersReply m.host request.items old.host new.host frame.items
-  pub told : IsReply frame.items ksn code mac
-  pub answered : IsAnswered old n frame new
+  pub reported : IsReply frame.items ksn code mac
+  pub answered : IsAnswerSent old n frame new
 
 -- the host had accepted the request of this number before, and the answer is the reply that it gave
 -- then, with this code
@@ -47,8 +47,8 @@ pub record UpRepeated
   pub mac : List ℕ
   pub sent : IsAt old.requests k request
   pub repeated : AnswersRepeat m.host request.items old.host new.host frame.items
-  pub told : IsReply frame.items ksn code mac
-  pub answered : IsAnswered old n frame new
+  pub reported : IsReply frame.items ksn code mac
+  pub answered : IsAnswerSent old n frame new
 
 -- the host refuses the request of this number for this reason
 pub record UpRefused
@@ -58,8 +58,8 @@ pub record UpRefused
   pub frame : Frame
   pub sent : IsAt old.requests k request
   pub refused : AnswersRefusal m.host request.items old.host new.host frame.items
-  pub told : IsRefusal frame.items ksn reason
-  pub answered : IsAnswered old n frame new
+  pub reported : IsRefusal frame.items ksn reason
+  pub answered : IsAnswerSent old n frame new
 
 -- the host does not answer, for another fault than out of memory
 pub record UpFaulted

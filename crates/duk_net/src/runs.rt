@@ -1,19 +1,19 @@
 //! Runs of events.
 
 ghost use Rattle.std.specs.Prelude.{◌≡◌, ◌++◌, ◌∷◌, [], ℕ, All, Some, IfOk, IfErr, OnErr};
-ghost use Rattle.duk_net.specs.Accepted.{AcceptsOnce, KeepsAccepted};
-ghost use Rattle.duk_net.specs.Calm.{FailsOnceArmed, HasSoundStores, IsCalmAt, StaysCalm, TellsNoDamage};
-ghost use Rattle.duk_net.specs.Completed.{Completed};
+ghost use Rattle.duk_net.specs.AcceptedOnce.{AcceptedOnce, KeepsAccepted};
+ghost use Rattle.duk_net.specs.Calm.{FailsOnceArmed, HasSoundStores, IsCalmAt, StaysCalm, ReportsNoDamage};
+ghost use Rattle.duk_net.specs.CompletedByHost.{CompletedByHost};
 ghost use Rattle.duk_net.specs.declared.event.End.{End};
-ghost use Rattle.duk_net.specs.Gained.{EachGained, HoldsOfGained};
+ghost use Rattle.duk_net.specs.Gained.{EachGained, GainedMeet};
 ghost use Rattle.duk_net.specs.Images.{FindVersion2};
-ghost use Rattle.duk_net.specs.UsedNumbers.{AreOwned, IsSentByOwner, NoneTwice};
+ghost use Rattle.duk_net.specs.UsedOnce.{AreUsedOwned, IsSentByOwner, UsedOnce};
 ghost use Rattle.duk_net.specs.Owner.{owner_of};
-ghost use Rattle.duk_net.specs.OwnKey.{IsOwnReply, IsOwnRequest, IsRefusedAsUsedOrFull};
+ghost use Rattle.duk_net.specs.OwnKey.{IsOwnKeyReply, IsOwnKeyRequest, IsRefusedAsUsedOrFull};
 ghost use Rattle.duk_net.specs.Run.{IsRefusedMemory, IsRun, IsStepInto, RunRefused};
 ghost use Rattle.duk_net.specs.Sent.{SentByOwners};
 ghost use Rattle.duk_net.specs.Step.{Step};
-ghost use Rattle.duk_net.specs.UnusedKeys.{HoldNoUsedKey, HoldsOfTerminals, OwnsAboveUsed};
+ghost use Rattle.duk_net.specs.NoUsedKey.{NoUsedKey, InEachTerminal, OwnsAboveUsed};
 ghost use Rattle.duk_net.specs.World.{meanings_of};
 
 use crate::event::{End, Event};
@@ -66,52 +66,51 @@ pub fn run<const N: usize, C: Cell, L: UsedLog, I: Issuer>(
     ensures keys_stay { world.new.host.keys ≡ world.old.host.keys }
     // No two transactions use one number, and each is sent by the terminal that owned its initial
     // key serial number just before, and owns it at the end.
-    ensures none_twice { NoneTwice world.new.requests }
-    ensures owned { AreOwned world.new.requests world.new.owners }
-    ensures owned_before { HoldsOfGained
+    ensures used_once { UsedOnce world.new.requests }
+    ensures used_are_owned { AreUsedOwned world.new.requests world.new.owners }
+    ensures owned_when_sent { GainedMeet
         (SentByOwners (meanings_of C.meaning L.meaning I.decides) world.old)
         out.old.items out.new.items }
-    ensures by_owner { EachGained (IsSentByOwner world.new.owners) out.old.items out.new.items }
+    ensures sent_by_owner { EachGained (IsSentByOwner world.new.owners) out.old.items out.new.items }
     // The host accepts each number at most once.
-    ensures accepted_once { HoldsOfGained
-        (AcceptsOnce world.old.answers) out.old.items out.new.items }
+    ensures accepted_once { GainedMeet
+        (AcceptedOnce world.old.answers) out.old.items out.new.items }
     ensures accepted_is_kept { KeepsAccepted (meanings_of C.meaning L.meaning I.decides) world.new }
     // Each request and each reply is made under the terminal's own key.
-    ensures own_requests { All (IsOwnRequest world.new.host.keys) world.new.requests }
-    ensures own_replies { All (IsOwnReply world.new.host.keys) world.new.answers }
-    ensures refusals { EachGained IsRefusedAsUsedOrFull out.old.items out.new.items }
+    ensures own_key_of_requests { All (IsOwnKeyRequest world.new.host.keys) world.new.requests }
+    ensures own_key_of_replies { All (IsOwnKeyReply world.new.host.keys) world.new.answers }
+    ensures refused_as_used_or_full { EachGained IsRefusedAsUsedOrFull out.old.items out.new.items }
     // A terminal completes only with the host's reply to its number.
-    ensures completed { HoldsOfGained
-        (Completed (meanings_of C.meaning L.meaning I.decides) world.old world.new.terminals)
+    ensures completed_by_host { GainedMeet
+        (CompletedByHost (meanings_of C.meaning L.meaning I.decides) world.old world.new.terminals)
         out.old.items out.new.items }
-    // No terminal holds the key of a used number or of its ancestors, nor finds it after a stop. Its
-    // registers remember each initial key serial number under which it sent, its present one or a
-    // past one, so that a load of one of these is refused. All images are of version 2.
-    ensures above_used { HoldsOfTerminals (meanings_of C.meaning L.meaning I.decides)
+    // No terminal holds the key of a used number or of its ancestors, nor finds it after a stop.
+    // Its registers remember each initial key serial number under which it sent, its present one or
+    // a past one, so that a load of one of these is refused. All images are of version 2.
+    ensures above_used { InEachTerminal (meanings_of C.meaning L.meaning I.decides)
         (OwnsAboveUsed world.new.host.keys world.new.requests world.new.owners)
         world.new.terminals }
-    ensures no_used_key { HoldsOfTerminals (meanings_of C.meaning L.meaning I.decides)
-        (λ t. HoldNoUsedKey world.new.host.keys world.new.requests) world.new.terminals }
+    ensures no_used_key { InEachTerminal (meanings_of C.meaning L.meaning I.decides)
+        (λ t. NoUsedKey world.new.host.keys world.new.requests) world.new.terminals }
     ensures version_2 { FindVersion2
         (meanings_of C.meaning L.meaning I.decides) world.new.terminals }
     // Sound stores report no damage, and calm ones fail only once they were armed.
-    ensures sound { HasSoundStores (meanings_of C.meaning L.meaning I.decides) world.old
-        → HasSoundStores (meanings_of C.meaning L.meaning I.decides) world.new }
+    ensures sound { let m = meanings_of C.meaning L.meaning I.decides in
+        HasSoundStores m world.old → HasSoundStores m world.new }
     ensures no_damage { HasSoundStores (meanings_of C.meaning L.meaning I.decides) world.old
-        → EachGained TellsNoDamage out.old.items out.new.items }
-    ensures calm { (end : End)
-        → IsCalmAt (meanings_of C.meaning L.meaning I.decides) world.old end
-        → HoldsOfGained (StaysCalm (meanings_of C.meaning L.meaning I.decides) end world.new)
-        out.old.items out.new.items }
+        → EachGained ReportsNoDamage out.old.items out.new.items }
+    ensures calm { let m = meanings_of C.meaning L.meaning I.decides in
+        (end : End) → IsCalmAt m world.old end
+        → GainedMeet (StaysCalm m end world.new) out.old.items out.new.items }
     ensures once_armed { (end : End)
         → IsCalmAt (meanings_of C.meaning L.meaning I.decides) world.old end
-        → HoldsOfGained (FailsOnceArmed end) out.old.items out.new.items }
+        → GainedMeet (FailsOnceArmed end) out.old.items out.new.items }
 {
-    laws::no_number_twice::<C, L, I>();
+    laws::used_once::<C, L, I>();
     laws::no_used_key::<C, L, I>();
-    laws::one_acceptance::<C, L, I>();
+    laws::accepted_once::<C, L, I>();
     laws::own_key::<C, L, I>();
-    laws::completion_by_host::<C, L, I>();
+    laws::completed_by_host::<C, L, I>();
     laws::calm_stores::<C, L, I>();
     laws::what_stays::<C, L, I>();
     run_system(&mut world.system, events, out)

@@ -1,12 +1,12 @@
 //! A world of terminals and one host.
 
 ghost use Rattle.std.specs.Prelude.{◌≡◌, All};
-ghost use Rattle.duk_net.specs.Accepted.{KeepsAccepted};
+ghost use Rattle.duk_net.specs.AcceptedOnce.{KeepsAccepted};
 ghost use Rattle.duk_net.specs.First.{IsNewHost, IsNewTerminal, first_world};
 ghost use Rattle.duk_net.specs.Images.{FindVersion2};
-ghost use Rattle.duk_net.specs.UsedNumbers.{AreOwned, NoneTwice};
-ghost use Rattle.duk_net.specs.OwnKey.{IsOwnReply, IsOwnRequest};
-ghost use Rattle.duk_net.specs.UnusedKeys.{HoldNoUsedKey, HoldsOfTerminals, OwnsAboveUsed};
+ghost use Rattle.duk_net.specs.UsedOnce.{AreUsedOwned, UsedOnce};
+ghost use Rattle.duk_net.specs.OwnKey.{IsOwnKeyReply, IsOwnKeyRequest};
+ghost use Rattle.duk_net.specs.NoUsedKey.{NoUsedKey, InEachTerminal, OwnsAboveUsed};
 ghost use Rattle.duk_net.specs.World.{meanings_of};
 
 use crate::laws;
@@ -55,22 +55,22 @@ impl<const N: usize, C: Cell, L: UsedLog, I: Issuer> World<N, C, L, I> {
         requires terminals { All (IsNewTerminal (meanings_of C.meaning L.meaning I.decides))
             terminals.items }
         ensures first { result ≡ first_world host loading terminals.items }
-        ensures none_twice { NoneTwice result.requests }
-        ensures owned { AreOwned result.requests result.owners }
+        ensures used_once { UsedOnce result.requests }
+        ensures owned { AreUsedOwned result.requests result.owners }
         ensures accepted_is_kept { KeepsAccepted
             (meanings_of C.meaning L.meaning I.decides) result }
-        ensures own_requests { All (IsOwnRequest result.host.keys) result.requests }
-        ensures own_replies { All (IsOwnReply result.host.keys) result.answers }
-        ensures above_used { HoldsOfTerminals (meanings_of C.meaning L.meaning I.decides)
+        ensures own_key_of_requests { All (IsOwnKeyRequest result.host.keys) result.requests }
+        ensures own_key_of_replies { All (IsOwnKeyReply result.host.keys) result.answers }
+        ensures above_used { InEachTerminal (meanings_of C.meaning L.meaning I.decides)
             (OwnsAboveUsed result.host.keys result.requests result.owners) result.terminals }
-        ensures no_used_key { HoldsOfTerminals (meanings_of C.meaning L.meaning I.decides)
-            (λ t. HoldNoUsedKey result.host.keys result.requests) result.terminals }
+        ensures no_used_key { InEachTerminal (meanings_of C.meaning L.meaning I.decides)
+            (λ t. NoUsedKey result.host.keys result.requests) result.terminals }
         ensures version_2 { FindVersion2
             (meanings_of C.meaning L.meaning I.decides) result.terminals }
     {
-        laws::no_number_twice::<C, L, I>();
+        laws::used_once::<C, L, I>();
         laws::no_used_key::<C, L, I>();
-        laws::one_acceptance::<C, L, I>();
+        laws::accepted_once::<C, L, I>();
         laws::own_key::<C, L, I>();
         World {
             system: System {

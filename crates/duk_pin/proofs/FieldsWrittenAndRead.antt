@@ -55,15 +55,15 @@ pin_field_written pin all is =
     ap (λ l. take 2 l ++ values pin ++ drop (2 + length pin) l) is
     ∙ ap (λ rest. 0 ∷ length pin ∷ values pin ++ rest) (sym (drop-drop (length pin) 2 (0 ∷ length pin ∷ replicate 14 15)) ∙ drop-replicate (length pin) 14 15)
 
--- the zeros before and behind up to 12 digits at the end of a field
+-- the zeros before and after up to 12 digits at the end of a field
 zeros_before : (count : ℕ) → count ≤ 12 → take {A = ℕ} (16 - count) (replicate 16 0) ≡ replicate 4 0 ++ replicate (12 - count) 0
 zeros_before count short =
     let fits : 16 - count ≤ 16 = omega arith in
     let parts : 16 - count ≡ 4 + (12 - count) = omega arith in
     take-replicate (16 - count) 16 0 fits ∙ ap (λ n. replicate n 0) parts ∙ sym (replicate-append-replicate 4 (12 - count) 0)
 
-zeros_behind : (count : ℕ) → count ≤ 12 → drop {A = ℕ} (16 - count + count) (replicate 16 0) ≡ []
-zeros_behind count short =
+zeros_after : (count : ℕ) → count ≤ 12 → drop {A = ℕ} (16 - count + count) (replicate 16 0) ≡ []
+zeros_after count short =
     let none : 16 - (16 - count + count) ≡ 0 = omega arith in
     drop-replicate (16 - count + count) 16 0 ∙ ap (λ n. replicate n 0) none
 
@@ -74,7 +74,7 @@ account_field_written pan account all is zeros =
     let short : length account ≤ 12 = omega (arith, ap length is, length-drop (length (without_check_digit pan) - 12) (without_check_digit pan)) in
     ap (λ l. take (16 - length account) l ++ values account ++ drop (16 - length account + length account) l) zeros
     ∙ ap (λ l. l ++ values account ++ drop (16 - length account + length account) (replicate 16 0)) (zeros_before (length account) short)
-    ∙ ap (λ l. replicate 4 0 ++ replicate (12 - length account) 0 ++ values account ++ l) (zeros_behind (length account) short)
+    ∙ ap (λ l. replicate 4 0 ++ replicate (12 - length account) 0 ++ values account ++ l) (zeros_after (length account) short)
     ∙ append-nil (replicate 4 0 ++ replicate (12 - length account) 0 ++ values account)
     ∙ ap (λ a. replicate 4 0 ++ (replicate (12 - length a) 0 ++ values a)) is
 

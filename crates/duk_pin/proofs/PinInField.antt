@@ -12,7 +12,7 @@ use Rattle.duk_pin.specs.Reading.{ReadsAsPin}
 both : (a b : Bool) → a ≡ true → b ≡ true → (a && b) ≡ true
 both a b first second = ap (λ x. x && b) first ∙ second
 
--- the test of nibbles, and what it tells
+-- the test of nibbles, and what it reports
 abbrev is_pin_field : ℕ → ℕ → List ℕ → Bool
 is_pin_field control count nibbles = is_pin_start control count && are_digits_and_fill count nibbles
 

@@ -3,7 +3,7 @@ use Rattle.std.specs.Prelude.{ℕ, List, codes}
 use Rattle.duk_pin.specs.declared.fault.PinFault.{PinFault}
 use Rattle.duk_pin.specs.declared.fault.PinFault.TheVariants as fault
 
--- a fault's name, as each command and each line that tells it writes it
+-- a fault's name, as each command and each line that reports it writes it
 abbrev pub pin_fault_name : PinFault → List ℕ
 pin_fault_name fault.PinLength = codes "PinLength"
 pin_fault_name fault.PinDigit = codes "PinDigit"

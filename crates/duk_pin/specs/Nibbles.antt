@@ -7,10 +7,10 @@ nibbles [] = []
 nibbles (byte ∷ bytes) = byte / 16 ∷ byte % 16 ∷ nibbles bytes
 
 -- the bytes with these nibbles, of which there are two for each
-abbrev pub bytes_of : List ℕ → List ℕ
-bytes_of [] = []
-bytes_of (left ∷ []) = []
-bytes_of (left ∷ right ∷ rest) = (16 * left + right) ∷ bytes_of rest
+abbrev pub bytes_of_nibbles : List ℕ → List ℕ
+bytes_of_nibbles [] = []
+bytes_of_nibbles (left ∷ []) = []
+bytes_of_nibbles (left ∷ right ∷ rest) = (16 * left + right) ∷ bytes_of_nibbles rest
 
 -- two lists of nibbles of one length, xored
 abbrev pub xor_nibbles : List ℕ → List ℕ → List ℕ

@@ -2,12 +2,12 @@
 use Rattle.std.specs.Prelude.{◌≡◌, ℕ, ◌-◌, Bool, ◌&&◌, ◌==◌, nat_lt, nat_le, if◌then◌else◌, List, [], ◌∷◌, ◌++◌, length, take, drop, replicate, Option, Some, None}
 use Rattle.std.specs.List.{list_all}
 use Rattle.duk_pin.specs.Digits.{ascii_of, values}
-use Rattle.duk_pin.specs.Nibbles.{nibbles, bytes_of, xor_nibbles}
+use Rattle.duk_pin.specs.Nibbles.{nibbles, bytes_of_nibbles, xor_nibbles}
 use Rattle.duk_pin.specs.Pin.{IsPin}
 use Rattle.duk_pin.specs.Pan.{IsPan}
 
--- the PIN field of a PIN: the control field 0, the length, the digits, and the fill digit F up to 16
--- nibbles
+-- the PIN field of a PIN: the control field 0, the length, the digits, and the fill digit F up to
+-- 16 nibbles
 unfoldable pub pin_field : List ℕ → List ℕ
 pin_field pin = 0 ∷ length pin ∷ values pin ++ replicate (14 - length pin) 0xF
 
@@ -34,9 +34,9 @@ pub record IsPinBlock (pin pan block : List ℕ) : Type 0 where
 
 -- the bytes of that block
 unfoldable pub pin_block : List ℕ → List ℕ → List ℕ
-pin_block pin pan = bytes_of (xor_nibbles (pin_field pin) (account_field pan))
+pin_block pin pan = bytes_of_nibbles (xor_nibbles (pin_field pin) (account_field pan))
 
--- the nibbles of a PIN field behind the first two: as many decimal digits as the length says, and F
+-- the nibbles of a PIN field after the first two: as many decimal digits as the length says, and F
 -- up to the end
 abbrev pub are_digits_and_fill : ℕ → List ℕ → Bool
 are_digits_and_fill count nibbles =

@@ -108,7 +108,7 @@ impl Eq for Digits {
     ghost laws = { nat_list_eq_equiv };
 }
 
-/// The ASCII digits with these values, and zeros behind them.
+/// The ASCII digits with these values, and zeros after them.
 #[tactic(auto, using(crate::proofs::DigitValues::ascii_next))]
 fn ascii_digits(numbers: &[u8]) -> [u8; MAX_DIGITS]
     requires fits { length numbers.now ≤ MAX_DIGITS }

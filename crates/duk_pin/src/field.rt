@@ -17,7 +17,7 @@ use std::marker::Model;
 /// The first nibble of a PIN field of format 0.
 const FORMAT: u8 = 0;
 
-/// What stands behind the digits of a PIN.
+/// What stands after the digits of a PIN.
 const FILLER: u8 = 0xF;
 
 /// Sixteen nibbles, from the left.
@@ -139,7 +139,7 @@ impl Field {
         usize::from(self.nibbles[1])
     }
 
-    /// What stands behind the length in a PIN field: the digits and the filler.
+    /// What stands after the length in a PIN field: the digits and the filler.
     fn body(&self) -> &[u8]
         ensures nibbles { result.now ≡ drop 2 self.now }
         ensures field { IsField self.now }

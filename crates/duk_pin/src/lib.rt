@@ -1,6 +1,6 @@
 //! PINs, PANs, cards and the PIN blocks of ISO 9564-1 format 0.
 //!
-//! A PIN block hides a PIN of 4 to 12 digits behind the PAN of its card: 8 bytes, the exclusive or
+//! A PIN block masks a PIN of 4 to 12 digits with the PAN of its card: 8 bytes, the exclusive or
 //! of a PIN field and an account field. It is no encryption: whoever knows the PAN and the block
 //! can read the PIN.
 //!

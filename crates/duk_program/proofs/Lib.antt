@@ -1,4 +1,4 @@
 mod Answered
-mod FaultIsTold
+mod FaultIsReported
 mod Results
 mod WrittenStaysWritten

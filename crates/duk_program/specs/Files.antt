@@ -10,22 +10,22 @@ abbrev pub FileKnown : Type 0
 FileKnown = Option (Option (List ℕ))
 
 -- the file has these bytes
-abbrev pub IsHeld : FileKnown → List ℕ → Type 0
-IsHeld None bytes = ⊤
-IsHeld (Some None) bytes = ⊥
-IsHeld (Some (Some held)) bytes = bytes ≡ held
+abbrev pub HasBytes : FileKnown → List ℕ → Type 0
+HasBytes None bytes = ⊤
+HasBytes (Some None) bytes = ⊥
+HasBytes (Some (Some held)) bytes = bytes ≡ held
 
 -- there is a file that can be read
-abbrev pub IsReadable : FileKnown → Type 0
-IsReadable None = ⊤
-IsReadable (Some None) = ⊥
-IsReadable (Some (Some held)) = ⊤
+abbrev pub IsReadableFile : FileKnown → Type 0
+IsReadableFile None = ⊤
+IsReadableFile (Some None) = ⊥
+IsReadableFile (Some (Some held)) = ⊤
 
 -- there is no file that can be read
-abbrev pub IsUnreadable : FileKnown → Type 0
-IsUnreadable None = ⊤
-IsUnreadable (Some None) = ⊤
-IsUnreadable (Some (Some held)) = ⊥
+abbrev pub IsUnreadableFile : FileKnown → Type 0
+IsUnreadableFile None = ⊤
+IsUnreadableFile (Some None) = ⊤
+IsUnreadableFile (Some (Some held)) = ⊥
 
 -- the file has more bytes than this
 abbrev pub IsLongerThan : ℕ → FileKnown → Type 0
@@ -35,11 +35,11 @@ IsLongerThan most (Some (Some held)) = most < length held
 
 -- the file has these bytes, and they are not too many
 pub record IsFileRead (held : FileKnown) (most : ℕ) (bytes : List ℕ) : Type 0 where
-  pub bytes_are : IsHeld held bytes
+  pub bytes_are : HasBytes held bytes
   pub fits : length bytes ≤ most
 
 -- why a file is not read; memory is refused only where the file can be read
 abbrev pub IsFileUnread : FileKnown → ℕ → FileFault → Type 0
-IsFileUnread held most fault.CannotRead = IsUnreadable held
+IsFileUnread held most fault.CannotRead = IsUnreadableFile held
 IsFileUnread held most fault.TooLong = IsLongerThan most held
-IsFileUnread held most fault.NoMemory = IsReadable held
+IsFileUnread held most fault.NoMemory = IsReadableFile held

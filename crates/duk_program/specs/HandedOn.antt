@@ -9,14 +9,14 @@ pub record IsFlushLost (old new : Known) : Type 0 where
   pub bytes : Keeps old.contents new.contents
   pub failed : Rose old.failures new.failures
 
--- what was held back could not be handed on, and this line tells it
-pub record IsFlushTold (lost : List ℕ) (output output' fault fault' : Known) : Type 0 where
+-- what was held back could not be handed on, and this line reports it
+pub record IsFlushReported (lost : List ℕ) (output output' fault fault' : Known) : Type 0 where
   pub flush : IsFlushLost output output'
   pub line : IsTried fault fault' lost
 
--- what was held back was handed on, and the first line tells a fault; or it could not be, and the
--- second line tells that
-abbrev pub IsToldAfter : List ℕ → List ℕ → Known → Known → Known → Known → Type 0
-IsToldAfter why lost output output' fault fault' =
+-- what was held back was handed on, and the first line reports a fault; or it could not be, and the
+-- second line reports that
+abbrev pub IsReportedAfter : List ℕ → List ℕ → Known → Known → Known → Known → Type 0
+IsReportedAfter why lost output output' fault fault' =
     (IsUntouched output output' × IsTried fault fault' why)
-    ⊎ IsFlushTold lost output output' fault fault'
+    ⊎ IsFlushReported lost output output' fault fault'

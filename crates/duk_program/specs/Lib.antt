@@ -10,4 +10,4 @@ pub mod RunFiles
 pub mod Serve
 pub mod ServeFiles
 pub mod Status
-pub mod Told
+pub mod Reported

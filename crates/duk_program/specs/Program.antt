@@ -4,16 +4,16 @@ use Rattle.std.specs.Prelude.{◌⊎◌, ℕ, List, Option}
 use Rattle.std.specs.Option.{option_map}
 use Rattle.duk_commands.specs.Answer.{IsDone, IsNotDone, Streams, streams}
 use Rattle.duk_io.specs.Known.{Known}
-use Rattle.duk_program.specs.Commands.{HasLostAnswer, HasShown, IsNotShown, command_for}
+use Rattle.duk_program.specs.Commands.{HasLostCommandOutput, HasShown, IsNotShown, command_for}
 use Rattle.duk_program.specs.Files.{FileKnown}
 use Rattle.duk_program.specs.LogFiles.{DiskKnown}
-use Rattle.duk_program.specs.RunFiles.{FileRun, HasRunFiles, HasToldFault, file_run}
+use Rattle.duk_program.specs.RunFiles.{FileRun, HasRunFiles, HasReportedFault, file_run}
 use Rattle.duk_program.specs.Serve.{Serving}
 use Rattle.duk_program.specs.ServeFiles.{FileService, HasNotServedFiles, HasServedFiles, file_service}
 use Rattle.duk_store.specs.Disk.{DiskMeaning}
-use Rattle.duk_words.specs.Asked.{Asks}
-use Rattle.duk_words.specs.declared.request.Request.{Request}
-use Rattle.duk_words.specs.declared.request.Request.TheVariants as request
+use Rattle.duk_arguments.specs.Asked.{Asks}
+use Rattle.duk_arguments.specs.declared.request.Request.{Request}
+use Rattle.duk_arguments.specs.declared.request.Request.TheVariants as request
 
 -- what files make known of each path, and what the streams make known before and after
 pub record Scene (D : Type 0) : Type 0 where
@@ -55,33 +55,33 @@ IsRequestDone meaning s (request.Serve config log) =
     HasServedFiles meaning (service_in s config.now (option_map (λ path. s.disks path.now) log))
 IsRequestDone meaning s asked = IsDone (command_for asked) (writers_of s)
 
--- status 1 of a request: of files, the first fault in the order that is told there
+-- status 1 of a request: of files, the first fault in the order that is reported there
 abbrev pub IsRequestNotDone : {D : Type 0} → DiskMeaning D → Scene D → Request → Type 0
 IsRequestNotDone meaning s (request.Run config script) =
-    HasToldFault (run_in s config.now script.now)
+    HasReportedFault (run_in s config.now script.now)
 IsRequestNotDone meaning s (request.Serve config log) =
     HasNotServedFiles meaning (service_in s config.now (option_map (λ path. s.disks path.now) log))
 IsRequestNotDone meaning s asked = IsNotDone (command_for asked) (writers_of s)
 
--- the words ask for a request that is done
-pub record HasDone {D : Type 0} (meaning : DiskMeaning D) (words : List (List ℕ)) (s : Scene D)
+-- the arguments ask for a request that is done
+pub record HasDone {D : Type 0} (meaning : DiskMeaning D) (arguments : List (List ℕ)) (s : Scene D)
     : Type 0 where
   pub request : Request
-  pub asked : Asks words request
+  pub asked : Asks arguments request
   pub done : IsRequestDone meaning s request
 
 -- status 0
 abbrev pub IsProgramDone : {D : Type 0} → DiskMeaning D → List (List ℕ) → Scene D → Type 0
-IsProgramDone meaning words s = HasDone meaning words s ⊎ HasShown words (writers_of s)
+IsProgramDone meaning arguments s = HasDone meaning arguments s ⊎ HasShown arguments (writers_of s)
 
--- the words ask for a request that is not done
-pub record HasNotDone {D : Type 0} (meaning : DiskMeaning D) (words : List (List ℕ)) (s : Scene D)
+-- the arguments ask for a request that is not done
+pub record HasNotDone {D : Type 0} (meaning : DiskMeaning D) (arguments : List (List ℕ)) (s : Scene D)
     : Type 0 where
   pub request : Request
-  pub asked : Asks words request
+  pub asked : Asks arguments request
   pub not_done : IsRequestNotDone meaning s request
 
 -- status 1
 abbrev pub IsProgramNotDone : {D : Type 0} → DiskMeaning D → List (List ℕ) → Scene D → Type 0
-IsProgramNotDone meaning words s = HasNotDone meaning words s
-    ⊎ IsNotShown words (writers_of s) ⊎ HasLostAnswer words (writers_of s)
+IsProgramNotDone meaning arguments s = HasNotDone meaning arguments s
+    ⊎ IsNotShown arguments (writers_of s) ⊎ HasLostCommandOutput arguments (writers_of s)

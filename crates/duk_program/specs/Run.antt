@@ -5,31 +5,31 @@ use Rattle.duk_config.specs.declared.fault.ScriptFault.{ScriptFault}
 use Rattle.duk_config.specs.declared.fault.ScriptFault.TheVariants.{NoMemory, WriteFailed}
 use Rattle.duk_io.specs.Known.{Known}
 use Rattle.duk_io.specs.Sink.{IsTried, IsUntouched}
-use Rattle.duk_program.specs.HandedOn.{IsFlushTold}
+use Rattle.duk_program.specs.HandedOn.{IsFlushReported}
 use Rattle.duk_script.specs.FaultLine.{fault_line}
 
--- status 0: the script is done, and no fault is told
+-- status 0: the script is done, and no fault is reported
 pub record HasRun (Done : Known → Type 0) (output' fault fault' : Known) : Type 0 where
   pub done : Done output'
   pub no_fault : IsUntouched fault fault'
 
 -- status 1 where the script is refused: the line of its fault
-pub record HasRefused (Refused : Known → ScriptFault → Type 0) (output' fault fault' : Known)
+pub record HasRefusedRun (Refused : Known → ScriptFault → Type 0) (output' fault fault' : Known)
     : Type 0 where
   pub why : ScriptFault
   pub refused : Refused output' why
   pub line : IsTried fault fault' (fault_line why)
 
 -- status 1 where the script is done, or was refused memory, and then its lines could not be handed
--- on: that is told
+-- on: that is reported
 pub record HasLostOutput (Done : Known → Type 0) (Refused : Known → ScriptFault → Type 0)
     (output' fault fault' : Known) : Type 0 where
   pub written : Known
   pub played : Done written ⊎ Refused written NoMemory
-  pub tells : IsFlushTold (fault_line WriteFailed) written output' fault fault'
+  pub reports : IsFlushReported (fault_line WriteFailed) written output' fault fault'
 
 -- status 1
 abbrev pub HasNotRun : (Known → Type 0) → (Known → ScriptFault → Type 0) → Known → Known → Known
     → Type 0
 HasNotRun Done Refused output' fault fault' =
-    HasRefused Refused output' fault fault' ⊎ HasLostOutput Done Refused output' fault fault'
+    HasRefusedRun Refused output' fault fault' ⊎ HasLostOutput Done Refused output' fault fault'

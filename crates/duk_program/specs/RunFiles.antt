@@ -1,13 +1,13 @@
--- What `run` answers over files (this project's own, over what the script of a file does). Where files
--- make nothing known, what they hold may be any bytes.
+-- What `run` answers over files (this project's own, over what the script of a file does). Where
+-- files make nothing known, what they hold may be any bytes.
 use Rattle.std.specs.Prelude.{◌⊎◌, ℕ, List}
 use Rattle.duk_config.specs.ConfigFile.{longest_file}
 use Rattle.duk_config.specs.Settings.{Settings}
 use Rattle.duk_config.specs.declared.fault.ScriptFault.TheVariants as fault
 use Rattle.duk_io.specs.Known.{Known}
 use Rattle.duk_io.specs.Sink.{IsTried, IsUntouched}
-use Rattle.duk_program.specs.Configured.{IsConfigFaultTold, IsConfigured}
-use Rattle.duk_program.specs.Files.{FileKnown, IsFileUnread, IsHeld}
+use Rattle.duk_program.specs.Configured.{IsConfigFaultReported, IsConfigured}
+use Rattle.duk_program.specs.Files.{FileKnown, IsFileUnread, HasBytes}
 use Rattle.duk_program.specs.declared.file_system.FileFault.{FileFault}
 use Rattle.duk_program.specs.declared.file_system.FileFault.TheVariants as file
 use Rattle.duk_program.specs.Run.{HasNotRun, HasRun}
@@ -35,12 +35,12 @@ file_run config_held script_held output_before output_after fault_before fault_a
 }
 
 -- status 0: the script of its file was played to its end under the configuration of its file, and
--- nothing was told as a fault
+-- nothing was reported as a fault
 pub record HasRunFiles (r : FileRun) : Type 0 where
   pub config : Settings
   pub configured : IsConfigured r.config_held config
   pub script : List ℕ
-  pub script_held : IsHeld r.script_held script
+  pub script_held : HasBytes r.script_held script
   pub run : HasRun (IsScriptDone config script r.output_before) r.output_after
       r.fault_before r.fault_after
 
@@ -50,15 +50,15 @@ script_line file.CannotRead = fault_line fault.CannotRead
 script_line file.TooLong = fault_line fault.TooLong
 script_line file.NoMemory = fault_line fault.NoMemory
 
--- a line was told, but for what a failed write cut off, and nothing was written to the output
-pub record TellsOnlyFault (r : FileRun) (line : List ℕ) : Type 0 where
+-- a line was reported, but for what a failed write cut off, and nothing was written to the output
+pub record ReportsOnlyFault (r : FileRun) (line : List ℕ) : Type 0 where
   pub quiet : IsUntouched r.output_before r.output_after
-  pub told : IsTried r.fault_before r.fault_after line
+  pub reported : IsTried r.fault_before r.fault_after line
 
--- the configuration's file states none, and that is told
-pub record HasNoConfig (r : FileRun) : Type 0 where
+-- the configuration's file states none, and that is reported
+pub record HasNoRunConfig (r : FileRun) : Type 0 where
   pub quiet : IsUntouched r.output_before r.output_after
-  pub tells : IsConfigFaultTold r.config_held r.fault_before r.fault_after
+  pub reports : IsConfigFaultReported r.config_held r.fault_before r.fault_after
 
 -- there is a configuration, and the script's file is not read
 pub record HasUnreadScript (r : FileRun) : Type 0 where
@@ -66,7 +66,7 @@ pub record HasUnreadScript (r : FileRun) : Type 0 where
   pub configured : IsConfigured r.config_held config
   pub why : FileFault
   pub cause : IsFileUnread r.script_held longest_file why
-  pub told : TellsOnlyFault r (script_line why)
+  pub reported : ReportsOnlyFault r (script_line why)
 
 -- both files are read, and the script is refused under the configuration, or what it wrote could
 -- not be handed on
@@ -74,11 +74,11 @@ pub record HasFailedRun (r : FileRun) : Type 0 where
   pub config : Settings
   pub configured : IsConfigured r.config_held config
   pub script : List ℕ
-  pub script_held : IsHeld r.script_held script
+  pub script_held : HasBytes r.script_held script
   pub run : HasNotRun (IsScriptDone config script r.output_before)
       (IsScriptRefused config script r.output_before) r.output_after
       r.fault_before r.fault_after
 
 -- status 1: the first of these
-abbrev pub HasToldFault : FileRun → Type 0
-HasToldFault r = HasNoConfig r ⊎ HasUnreadScript r ⊎ HasFailedRun r
+abbrev pub HasReportedFault : FileRun → Type 0
+HasReportedFault r = HasNoRunConfig r ⊎ HasUnreadScript r ⊎ HasFailedRun r

@@ -1,14 +1,14 @@
 -- What `serve` answers (this project's own, over what a host does with a stream of frames).
-use Rattle.std.specs.Prelude.{◌≡◌, ◌⊎◌, ℕ, List, [], codes}
+use Rattle.std.specs.Prelude.{◌≡◌, ◌⊎◌, ℕ, List, [], codes, Option}
 use Rattle.duk_host.specs.Host.{HostMeaning, HostOf, host_meaning_of}
 use Rattle.duk_host.specs.Restart.{HostRestartRefused, IsHostRestarted}
-use Rattle.duk_host.specs.Serve.{IsReadUp, ServiceFailed, Supply, service}
+use Rattle.duk_host.specs.Serve.{IsReadToEnd, ServiceFailed, Supply, service, supply}
 use Rattle.duk_host.specs.Table.{CardTable, table_decision}
 use Rattle.duk_host.specs.declared.fault.HostFault.{HostFault}
 use Rattle.duk_host.specs.declared.fault.HostFault.TheVariants as fault
 use Rattle.duk_io.specs.Known.{Known}
 use Rattle.duk_io.specs.Sink.{IsUntouched}
-use Rattle.duk_program.specs.HandedOn.{IsFlushTold, IsToldAfter}
+use Rattle.duk_program.specs.HandedOn.{IsFlushReported, IsReportedAfter}
 use Rattle.duk_store.specs.Log.{LogMeaning}
 
 -- what a log and the issuer of a configuration mean
@@ -30,12 +30,20 @@ serving input_before input_after output_before output_after = record {
   output_after = output_after;
 }
 
+-- what a reader of frames and a writer of answers make known before and after, by what each makes
+-- known at all
+abbrev pub serving_of : {R W : Type 0} → (R → Known) → (R → Option ℕ) → (W → Known) → R → R → W → W
+    → Serving
+serving_of known reads written input input' output output' =
+    serving (supply (known input) (reads input)) (supply (known input') (reads input'))
+    (written output) (written output')
+
 -- the writer of answers made this known when they were written
 abbrev pub answered_at : Serving → Known → Serving
 answered_at s written = serving s.input_before s.input_after s.output_before written
 
 -- a host was brought up over its log
-pub record IsUp {L I : Type 0} (meaning : HostMeaning L I) (made up : HostOf L I) : Type 0 where
+pub record IsHostUp {L I : Type 0} (meaning : HostMeaning L I) (made up : HostOf L I) : Type 0 where
   pub found : ℕ
   pub restarted : IsHostRestarted meaning.log made up found
 
@@ -45,12 +53,12 @@ pub record IsServedUp
     (count : ℕ) : Type 0 where
   pub up : HostOf L I
   pub last : HostOf L I
-  pub is_up : IsUp meaning made up
-  pub read_up : IsReadUp meaning (service up s.output_before) (service last s.output_after)
+  pub is_up : IsHostUp meaning made up
+  pub read_up : IsReadToEnd meaning (service up s.output_before) (service last s.output_after)
       s.input_before s.input_after [] count
 
 -- nothing was read or written
-pub record IsIdle (s : Serving) : Type 0 where
+pub record HasNothingServed (s : Serving) : Type 0 where
   pub unread : s.input_after ≡ s.input_before
   pub quiet : s.output_after ≡ s.output_before
 
@@ -58,7 +66,7 @@ pub record IsIdle (s : Serving) : Type 0 where
 pub record IsNotUp
     {L I : Type 0} (meaning : HostMeaning L I) (made : HostOf L I) (s : Serving)
     (why : HostFault) : Type 0 where
-  pub idle : IsIdle s
+  pub idle : HasNothingServed s
   pub last : HostOf L I
   pub refused : HostRestartRefused meaning.log made last why
 
@@ -68,7 +76,7 @@ pub record IsServingStopped
     (why : HostFault) : Type 0 where
   pub up : HostOf L I
   pub last : HostOf L I
-  pub is_up : IsUp meaning made up
+  pub is_up : IsHostUp meaning made up
   pub failed : ServiceFailed meaning (service up s.output_before) (service last s.output_after)
       s.input_before s.input_after why
 
@@ -79,7 +87,7 @@ HostRefused meaning made s why = IsNotUp meaning made s why ⊎ IsServingStopped
 
 -- memory was refused before there was a host
 pub record IsNotMade (s : Serving) (why : HostFault) : Type 0 where
-  pub idle : IsIdle s
+  pub idle : HasNothingServed s
   pub memory : why ≡ fault.NoMemory
 
 -- why the input is not served to its end by this host, or there is none
@@ -110,26 +118,28 @@ serve_line fault.TooLong = codes "serve: frame too long\n"
 abbrev pub lost_answers_line : List ℕ
 lost_answers_line = serve_line fault.Write
 
--- serving was refused, and that is told after the answers, or that they could not be handed on
-pub record HasRefused
+-- serving was refused, and that is reported after the answers, or that they could not be handed on
+pub record HasRefusedService
     {L I : Type 0} (meaning : HostMeaning L I) (made : HostOf L I) (s : Serving)
-    (told told' : Known) : Type 0 where
+    (reported reported' : Known) : Type 0 where
   pub why : HostFault
   pub written : Known
   pub refused : ServeRefused meaning made (answered_at s written) why
-  pub tells : IsToldAfter (serve_line why) lost_answers_line written s.output_after told told'
+  pub reports : IsReportedAfter (serve_line why) lost_answers_line written s.output_after reported reported'
 
--- the input was served to its end, and then the answers could not be handed on, and that is told
+-- the input was served to its end, and then the answers could not be handed on, and that is
+-- reported
 pub record HasLostAnswers
     {L I : Type 0} (meaning : HostMeaning L I) (made : HostOf L I) (s : Serving)
-    (told told' : Known) : Type 0 where
+    (reported reported' : Known) : Type 0 where
   pub count : ℕ
   pub written : Known
   pub served : IsServedUp meaning made (answered_at s written) count
-  pub tells : IsFlushTold lost_answers_line written s.output_after told told'
+  pub reports : IsFlushReported lost_answers_line written s.output_after reported reported'
 
 -- status 1
 abbrev pub HasNotServed : {L I : Type 0} → HostMeaning L I → HostOf L I → Serving → Known → Known
     → Type 0
-HasNotServed meaning made s told told' =
-    HasRefused meaning made s told told' ⊎ HasLostAnswers meaning made s told told'
+HasNotServed meaning made s reported reported' =
+    HasRefusedService meaning made s reported reported'
+    ⊎ HasLostAnswers meaning made s reported reported'

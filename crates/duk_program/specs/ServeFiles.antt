@@ -4,10 +4,10 @@ use Rattle.duk_config.specs.NewHost.{new_host_of}
 use Rattle.duk_config.specs.Settings.{Settings}
 use Rattle.duk_io.specs.Known.{Known}
 use Rattle.duk_io.specs.Sink.{IsTried, IsUntouched}
-use Rattle.duk_program.specs.Configured.{IsConfigFaultTold, IsConfigured}
+use Rattle.duk_program.specs.Configured.{IsConfigFaultReported, IsConfigured}
 use Rattle.duk_program.specs.Files.{FileKnown}
 use Rattle.duk_program.specs.LogFiles.{DiskKnown, IsDisk, IsNoDisk}
-use Rattle.duk_program.specs.Serve.{HasNotServed, HasServed, IsIdle, Serving, over_log}
+use Rattle.duk_program.specs.Serve.{HasNotServed, HasServed, HasNothingServed, Serving, over_log}
 use Rattle.duk_store.specs.Disk.{DiskMeaning}
 use Rattle.duk_store.specs.DiskLog.{disk_log_meaning, new_disk_log}
 use Rattle.duk_store.specs.MemoryLog.{memory_log_meaning, new_log}
@@ -53,39 +53,40 @@ IsServedOver meaning None config s =
     HasServed (over_log memory_log_meaning) (new_host_of config (new_log config.log)) s
 IsServedOver meaning (Some known) config s = IsServedOnDisk meaning known config s
 
--- no disk can be opened for the log's file, nothing is read or written, and that is told
-pub record HasNoDisk {D : Type 0} (known : DiskKnown D) (s : Serving) (told told' : Known)
+-- no disk can be opened for the log's file, nothing is read or written, and that is reported
+pub record HasNoDisk {D : Type 0} (known : DiskKnown D) (s : Serving) (reported reported' : Known)
     : Type 0 where
   pub unopened : IsNoDisk known
-  pub idle : IsIdle s
-  pub line : IsTried told told' unopened_line
+  pub idle : HasNothingServed s
+  pub line : IsTried reported reported' unopened_line
 
 -- the disk of a log's file is opened, and there is no host over it, or it did not serve to the end
--- of the input, or its answers could not be handed on, and that is told
+-- of the input, or its answers could not be handed on, and that is reported
 pub record HasDisk
     {D : Type 0} (meaning : DiskMeaning D) (known : DiskKnown D) (config : Settings) (s : Serving)
-    (told told' : Known) : Type 0 where
+    (reported reported' : Known) : Type 0 where
   pub disk : D
   pub opened : IsDisk known disk
   pub failed : HasNotServed (over_log (disk_log_meaning meaning))
-      (new_host_of config (new_disk_log disk)) s told told'
+      (new_host_of config (new_disk_log disk)) s reported reported'
 
--- the input is not served to its end over the log of a file, and that is told: the first of these
+-- the input is not served to its end over the log of a file, and that is reported: the first of
+-- these
 abbrev pub IsUnservedOnDisk : {D : Type 0} → DiskMeaning D → DiskKnown D → Settings → Serving
     → Known → Known → Type 0
-IsUnservedOnDisk meaning known config s told told' =
-    HasNoDisk known s told told' ⊎ HasDisk meaning known config s told told'
+IsUnservedOnDisk meaning known config s reported reported' =
+    HasNoDisk known s reported reported' ⊎ HasDisk meaning known config s reported reported'
 
 -- the same over that log or over one in memory
 abbrev pub IsUnservedOver : {D : Type 0} → DiskMeaning D → Option (DiskKnown D) → Settings → Serving
     → Known → Known → Type 0
-IsUnservedOver meaning None config s told told' =
-    HasNotServed (over_log memory_log_meaning) (new_host_of config (new_log config.log)) s told told'
-IsUnservedOver meaning (Some known) config s told told' =
-    IsUnservedOnDisk meaning known config s told told'
+IsUnservedOver meaning None config s reported reported' =
+    HasNotServed (over_log memory_log_meaning) (new_host_of config (new_log config.log)) s reported reported'
+IsUnservedOver meaning (Some known) config s reported reported' =
+    IsUnservedOnDisk meaning known config s reported reported'
 
 -- status 0: the configuration's file states one, and a host of it served to the end of the input,
--- and nothing was told as a fault
+-- and nothing was reported as a fault
 pub record HasServedFiles {D : Type 0} (meaning : DiskMeaning D) (r : FileService D)
     : Type 0 where
   pub config : Settings
@@ -93,12 +94,12 @@ pub record HasServedFiles {D : Type 0} (meaning : DiskMeaning D) (r : FileServic
   pub served : IsServedOver meaning r.log_file config r.streams
   pub no_fault : IsUntouched r.fault_before r.fault_after
 
--- the configuration's file states none, and that is told
-pub record HasNoConfig {D : Type 0} (r : FileService D) : Type 0 where
-  pub idle : IsIdle r.streams
-  pub tells : IsConfigFaultTold r.config_held r.fault_before r.fault_after
+-- the configuration's file states none, and that is reported
+pub record HasNoServiceConfig {D : Type 0} (r : FileService D) : Type 0 where
+  pub idle : HasNothingServed r.streams
+  pub reports : IsConfigFaultReported r.config_held r.fault_before r.fault_after
 
--- the configuration's file states one, and the input is not served to its end, and that is told
+-- the configuration's file states one, and the input is not served to its end, and that is reported
 pub record HasFailedService {D : Type 0} (meaning : DiskMeaning D) (r : FileService D)
     : Type 0 where
   pub config : Settings
@@ -107,4 +108,4 @@ pub record HasFailedService {D : Type 0} (meaning : DiskMeaning D) (r : FileServ
 
 -- status 1: the first of these
 abbrev pub HasNotServedFiles : {D : Type 0} → DiskMeaning D → FileService D → Type 0
-HasNotServedFiles meaning r = HasNoConfig r ⊎ HasFailedService meaning r
+HasNotServedFiles meaning r = HasNoServiceConfig r ⊎ HasFailedService meaning r

@@ -1,12 +1,12 @@
--- What is left to do when the words are dealt with (this project's own).
+-- What is left to do when the arguments are dealt with (this project's own).
 use Rattle.std.specs.Prelude.{◌≡◌, ◌⊎◌, ℕ, List}
-use Rattle.duk_words.specs.Asked.{Asks}
-use Rattle.duk_words.specs.declared.request.Request.{Request}
-use Rattle.duk_words.specs.declared.request.Request.TheVariants as request
+use Rattle.duk_arguments.specs.Asked.{Asks}
+use Rattle.duk_arguments.specs.declared.request.Request.{Request}
+use Rattle.duk_arguments.specs.declared.request.Request.TheVariants as request
 use Rattle.duk_program.specs.declared.dispatch.Todo.{Todo}
 use Rattle.duk_program.specs.declared.dispatch.Todo.TheVariants.{Exit, Run, Serve}
 
--- 0 where all is done, 1 after the line of a fault, 2 where the words were refused
+-- 0 where all is done, 1 after the line of a fault, 2 where the arguments were refused
 abbrev pub IsStatus : ℕ → Type 0
 IsStatus status = (status ≡ 0) ⊎ (status ≡ 1) ⊎ (status ≡ 2)
 
@@ -34,8 +34,9 @@ RunsRequest asked (Exit status) = Unit {0}
 RunsRequest asked (Run config script) = asked ≡ request.Run config script
 RunsRequest asked (Serve config log) = asked ≡ request.Serve config log
 
--- a script is left to run, or frames to serve, only where the words ask for it, with these paths
+-- a script is left to run, or frames to serve, only where the arguments ask for it, with these
+-- paths
 abbrev pub RunsAsked : List (List ℕ) → Todo → Type 0
-RunsAsked words (Exit status) = Unit {0}
-RunsAsked words (Run config script) = Asks words (request.Run config script)
-RunsAsked words (Serve config log) = Asks words (request.Serve config log)
+RunsAsked arguments (Exit status) = Unit {0}
+RunsAsked arguments (Run config script) = Asks arguments (request.Run config script)
+RunsAsked arguments (Serve config log) = Asks arguments (request.Serve config log)

@@ -2,7 +2,7 @@
 
 ghost use Rattle.std.specs.Prelude.{◌≡◌, IfErr, IfOk, OnErr, OnOk};
 ghost use Rattle.duk_io.specs.Sink.{IsTried};
-ghost use Rattle.duk_program.specs.Configured.{IsConfigFaultTold, IsConfigured, config_line};
+ghost use Rattle.duk_program.specs.Configured.{IsConfigFaultReported, IsConfigured, config_line};
 
 use crate::ending::EndingFault;
 use crate::file_system::{FileFault, FileSystem};
@@ -11,7 +11,7 @@ use duk_io::{Sink, write_text};
 use std::alloc::Global;
 
 /// The configuration that the file under a path states. Where it states none, the line of the fault
-/// is told, and the status is given, which is 1.
+/// is reported, and the status is given, which is 1.
 ///
 /// The faults, in this order: `config: cannot read` and `config: too long`, then those of the
 /// configuration. A file cannot be read where it cannot be opened or a read fails, so a folder
@@ -25,7 +25,7 @@ pub(crate) fn read_configuration<S: FileSystem, F: Sink>(
     ensures configured { IfOk result (IsConfigured (S.held files.now path.now)) }
     ensures silent { OnOk result (F.known fault.new ≡ F.known fault.old) }
     ensures status { IfErr result (λ status. status ≡ 1) }
-    ensures told { OnErr result (IsConfigFaultTold (S.held files.now path.now)
+    ensures reported { OnErr result (IsConfigFaultReported (S.held files.now path.now)
         (F.known fault.old) (F.known fault.new)) }
 {
     let bytes = match files.read_file(alloc, path, LONGEST_FILE) {
@@ -34,7 +34,7 @@ pub(crate) fn read_configuration<S: FileSystem, F: Sink>(
     };
     match read_config(alloc, bytes.as_slice()) {
         Ok(config) => Ok(config),
-        Err(why) => Err(why.tell(fault)),
+        Err(why) => Err(why.report(fault)),
     }
 }
 
@@ -45,8 +45,8 @@ fn refuse_config<F: Sink>(why: FileFault, fault: &mut F) -> u8
 {
     match why {
         FileFault::CannotRead => refuse_unread(fault),
-        FileFault::TooLong => ScriptFault::ConfigTooLong.tell(fault),
-        FileFault::NoMemory => ScriptFault::NoMemory.tell(fault),
+        FileFault::TooLong => ScriptFault::ConfigTooLong.report(fault),
+        FileFault::NoMemory => ScriptFault::NoMemory.report(fault),
     }
 }
 

@@ -1,27 +1,27 @@
-//! Finds the command that the words ask for, and does it unless it needs files.
+//! Finds the command that the arguments ask for, and does it unless it needs files.
 
 ghost use Rattle.std.specs.Prelude.{◌≡◌, ℕ, List};
 ghost use Rattle.std.specs.Io.KnownBytes.{Keeps};
 ghost use Rattle.duk_commands.specs.Answer.{IsDone, IsNotDone, streams};
-ghost use Rattle.duk_commands.specs.Fault.{IsFaultTold};
+ghost use Rattle.duk_commands.specs.Fault.{IsFaultReported};
 ghost use Rattle.duk_io.specs.Sink.{IsUntouched};
-ghost use Rattle.duk_program.specs.Commands.{HasShown, IsAnswered, IsNotShown, IsUnanswered, command_for};
+ghost use Rattle.duk_program.specs.Commands.{HasShown, IsCommandLineDone, IsNotShown, IsCommandLineFailed, command_for};
 ghost use Rattle.duk_program.specs.Status.{EndsWith, IsLeftToDo, IsStatus, IsToRun, RunsAsked, RunsRequest};
-ghost use Rattle.duk_words.specs.Asked.{AreRefused, StandsFor, texts_of};
+ghost use Rattle.duk_arguments.specs.Asked.{AreRefused, IsNoRequestOf, texts_of};
 
 use crate::ending::hand_on;
+use duk_arguments::{NoRequest, Request, read_request};
 use duk_commands::{
-    Fault, derive_command, pin_command, tell, unwrap_command, walk_command, wrap_command,
+    Fault, derive_command, pin_command, report, unwrap_command, walk_command, wrap_command,
 };
 use duk_io::{Sink, write_text};
-use duk_words::{NoRequest, Request, read_request};
 use std::alloc::Global;
 
-/// What is left to do when the words are dealt with.
+/// What is left to do when the arguments are dealt with.
 #[derive(Clone, Copy, Debug, PartialEq, Eq)]
 pub enum Todo<'a> {
-    /// To end with this status: 0 where all is done, 1 after the line of a fault, 2 where the words
-    /// were refused.
+    /// To end with this status: 0 where all is done, 1 after the line of a fault, 2 where the
+    /// arguments were refused.
     Exit(u8),
     /// To run a script under a configuration. Nothing is written yet.
     Run {
@@ -39,75 +39,76 @@ pub enum Todo<'a> {
     },
 }
 
-/// Does what the words ask, the first of which is the program's name. What they ask of files is
+/// Does what the arguments ask, the first of which is the program's name. What they ask of files is
 /// left to do.
 ///
 /// What a command prints goes to `output`, and so does help that was asked for; the line of a fault
-/// and the text that refuses the words go to `fault`. Where all is done, `output` is flushed before
-/// the status is given.
+/// and the text that refuses the arguments go to `fault`. Where all is done, `output` is flushed
+/// before the status is given.
 pub fn command<'a, W: Sink, F: Sink>(
     alloc: Global,
-    words: &'a [String],
+    arguments: &'a [String],
     output: &mut W,
     fault: &mut F,
 ) -> Todo<'a>
     ensures status { IsLeftToDo result }
     ensures no_fault { EndsWith result 0 → IsUntouched (F.known fault.old) (F.known fault.new) }
-    ensures fault { EndsWith result 1 → IsFaultTold (F.known fault.old) (F.known fault.new) }
+    ensures fault { EndsWith result 1 → IsFaultReported (F.known fault.old) (F.known fault.new) }
     ensures refused { EndsWith result 2
         → Keeps (W.known output.old).contents (W.known output.new).contents }
-    ensures words_refused { EndsWith result 2 → AreRefused (texts_of words.now) }
-    ensures done { EndsWith result 0 → IsAnswered (texts_of words.now)
+    ensures arguments_refused { EndsWith result 2 → AreRefused (texts_of arguments.now) }
+    ensures done { EndsWith result 0 → IsCommandLineDone (texts_of arguments.now)
         (streams (W.known output.old) (W.known output.new)
         (F.known fault.old) (F.known fault.new)) }
-    ensures not_done { EndsWith result 1 → IsUnanswered (texts_of words.now)
+    ensures not_done { EndsWith result 1 → IsCommandLineFailed (texts_of arguments.now)
         (streams (W.known output.old) (W.known output.new)
         (F.known fault.old) (F.known fault.new)) }
-    ensures asked { RunsAsked (texts_of words.now) result }
+    ensures asked { RunsAsked (texts_of arguments.now) result }
     ensures quiet { IsToRun result → W.known output.new ≡ W.known output.old }
     ensures silent { IsToRun result → F.known fault.new ≡ F.known fault.old }
 {
     duk_io::laws::writes();
-    match answer_words(alloc, words, output, fault) {
+    match dispatch_arguments(alloc, arguments, output, fault) {
         Todo::Exit(0) => Todo::Exit(hand_on(&Fault::WriteFailed, output, fault)),
         todo => todo,
     }
 }
 
-/// Does what the words ask and tells what is left to do; what is printed may still be held back.
-fn answer_words<'a, W: Sink, F: Sink>(
+/// Does what the arguments ask and reports what is left to do; what is printed may still be held
+/// back.
+fn dispatch_arguments<'a, W: Sink, F: Sink>(
     alloc: Global,
-    words: &'a [String],
+    arguments: &'a [String],
     output: &mut W,
     fault: &mut F,
 ) -> Todo<'a>
     ensures status { IsLeftToDo result }
     ensures no_fault { EndsWith result 0 → IsUntouched (F.known fault.old) (F.known fault.new) }
-    ensures fault { EndsWith result 1 → IsFaultTold (F.known fault.old) (F.known fault.new) }
+    ensures fault { EndsWith result 1 → IsFaultReported (F.known fault.old) (F.known fault.new) }
     ensures refused { EndsWith result 2
         → Keeps (W.known output.old).contents (W.known output.new).contents }
-    ensures words_refused { EndsWith result 2 → AreRefused (texts_of words.now) }
-    ensures done { EndsWith result 0 → IsAnswered (texts_of words.now)
+    ensures arguments_refused { EndsWith result 2 → AreRefused (texts_of arguments.now) }
+    ensures done { EndsWith result 0 → IsCommandLineDone (texts_of arguments.now)
         (streams (W.known output.old) (W.known output.new)
         (F.known fault.old) (F.known fault.new)) }
-    ensures not_done { EndsWith result 1 → IsUnanswered (texts_of words.now)
+    ensures not_done { EndsWith result 1 → IsCommandLineFailed (texts_of arguments.now)
         (streams (W.known output.old) (W.known output.new)
         (F.known fault.old) (F.known fault.new)) }
-    ensures asked { RunsAsked (texts_of words.now) result }
+    ensures asked { RunsAsked (texts_of arguments.now) result }
     ensures quiet { IsToRun result → W.known output.new ≡ W.known output.old }
     ensures silent { IsToRun result → F.known fault.new ≡ F.known fault.old }
 {
-    match read_request(alloc, words) {
+    match read_request(alloc, arguments) {
         Ok(request) => do_request(request, output, fault),
         Err(answer) => Todo::Exit(show(&answer, output, fault)),
     }
 }
 
-/// Does the command of a request, where that needs no file, and tells what is left to do.
+/// Does the command of a request, where that needs no file, and reports what is left to do.
 fn do_request<'a, W: Sink, F: Sink>(request: Request<'a>, output: &mut W, fault: &mut F) -> Todo<'a>
     ensures status { IsLeftToDo result }
     ensures no_fault { EndsWith result 0 → IsUntouched (F.known fault.old) (F.known fault.new) }
-    ensures fault { EndsWith result 1 → IsFaultTold (F.known fault.old) (F.known fault.new) }
+    ensures fault { EndsWith result 1 → IsFaultReported (F.known fault.old) (F.known fault.new) }
     ensures not_refused { ¬ EndsWith result 2 }
     ensures done { EndsWith result 0 → IsDone (command_for request.entry)
         (streams (W.known output.old) (W.known output.new)
@@ -145,28 +146,28 @@ fn do_request<'a, W: Sink, F: Sink>(request: Request<'a>, output: &mut W, fault:
 fn show<W: Sink, F: Sink>(answer: &NoRequest, output: &mut W, fault: &mut F) -> u8
     ensures status { IsStatus result }
     ensures no_fault { result ≡ 0 → IsUntouched (F.known fault.old) (F.known fault.new) }
-    ensures fault { result ≡ 1 → IsFaultTold (F.known fault.old) (F.known fault.new) }
+    ensures fault { result ≡ 1 → IsFaultReported (F.known fault.old) (F.known fault.new) }
     ensures refused { result ≡ 2
         → Keeps (W.known output.old).contents (W.known output.new).contents }
-    ensures words_refused { (words : List (List ℕ)) → StandsFor words answer.now → result ≡ 2
-        → AreRefused words }
-    ensures shown { (words : List (List ℕ)) → StandsFor words answer.now → result ≡ 0
-        → HasShown words (streams (W.known output.old) (W.known output.new)
+    ensures arguments_refused { (arguments : List (List ℕ)) → IsNoRequestOf arguments answer.now → result ≡ 2
+        → AreRefused arguments }
+    ensures shown { (arguments : List (List ℕ)) → IsNoRequestOf arguments answer.now → result ≡ 0
+        → HasShown arguments (streams (W.known output.old) (W.known output.new)
         (F.known fault.old) (F.known fault.new)) }
-    ensures not_shown { (words : List (List ℕ)) → StandsFor words answer.now → result ≡ 1
-        → IsNotShown words (streams (W.known output.old) (W.known output.new)
+    ensures not_shown { (arguments : List (List ℕ)) → IsNoRequestOf arguments answer.now → result ≡ 1
+        → IsNotShown arguments (streams (W.known output.old) (W.known output.new)
         (F.known fault.old) (F.known fault.new)) }
 {
     duk_io::laws::writes();
     match answer {
-        NoRequest::NoMemory => tell(fault, Fault::OutOfMemory),
+        NoRequest::NoMemory => report(fault, Fault::OutOfMemory),
         NoRequest::Refused(text) => {
             let _ = write_text(fault, text.as_bytes());
             2
         }
         NoRequest::Help(text) => match write_text(output, text.as_bytes()) {
             Ok(()) => 0,
-            Err(_) => tell(fault, Fault::WriteFailed),
+            Err(_) => report(fault, Fault::WriteFailed),
         },
     }
 }

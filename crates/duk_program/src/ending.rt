@@ -1,13 +1,13 @@
 //! The end of a command: hands on what the output still holds back, and writes the line of a fault.
 
 ghost use Rattle.std.specs.Prelude.{◌≡◌, ◌⊎◌, ℕ, List};
-ghost use Rattle.duk_commands.specs.Fault.{line_telling};
+ghost use Rattle.duk_commands.specs.Fault.{report_line};
 ghost use Rattle.duk_io.specs.Sink.{IsTried, IsUntouched};
-ghost use Rattle.duk_program.specs.HandedOn.{IsFlushTold, IsToldAfter};
+ghost use Rattle.duk_program.specs.HandedOn.{IsFlushReported, IsReportedAfter};
 ghost use Rattle.duk_program.specs.Serve.{serve_line};
 ghost use Rattle.duk_script.specs.FaultLine.{fault_line};
 
-use duk_commands::{Fault, tell};
+use duk_commands::{Fault, report};
 use duk_config::ScriptFault;
 use duk_host::HostFault;
 use duk_io::{Sink, write_text};
@@ -20,17 +20,17 @@ pub(crate) trait EndingFault {
 
     /// Writes the line of the fault and gives the status 1. What cannot be written of the line is
     /// lost.
-    fn tell<F: Sink>(&self, fault: &mut F) -> u8
+    fn report<F: Sink>(&self, fault: &mut F) -> u8
         ensures status { result ≡ 1 }
         ensures line { IsTried (F.known fault.old) (F.known fault.new) (line self.now) };
 }
 
 /// A fault of a command over keys, PINs and key blocks.
 impl EndingFault for Fault {
-    ghost line = { line_telling };
+    ghost line = { report_line };
 
-    fn tell<F: Sink>(&self, fault: &mut F) -> u8 {
-        tell(fault, *self)
+    fn report<F: Sink>(&self, fault: &mut F) -> u8 {
+        report(fault, *self)
     }
 }
 
@@ -38,7 +38,7 @@ impl EndingFault for Fault {
 impl EndingFault for ScriptFault {
     ghost line = { fault_line };
 
-    fn tell<F: Sink>(&self, fault: &mut F) -> u8 {
+    fn report<F: Sink>(&self, fault: &mut F) -> u8 {
         print_fault(self, fault);
         1
     }
@@ -48,7 +48,7 @@ impl EndingFault for ScriptFault {
 impl EndingFault for HostFault {
     ghost line = { serve_line };
 
-    fn tell<F: Sink>(&self, fault: &mut F) -> u8 {
+    fn report<F: Sink>(&self, fault: &mut F) -> u8 {
         let _ = write_text(fault, host_line(*self).as_bytes());
         1
     }
@@ -78,30 +78,30 @@ pub(crate) fn hand_on<T: EndingFault, W: Sink, F: Sink>(
     ensures status { (result ≡ 0) ⊎ (result ≡ 1) }
     ensures kept { result ≡ 0 → IsUntouched (W.known output.old) (W.known output.new) }
     ensures no_fault { result ≡ 0 → IsUntouched (F.known fault.old) (F.known fault.new) }
-    ensures lost { result ≡ 1 → IsFlushTold (T.line lost.now)
+    ensures lost { result ≡ 1 → IsFlushReported (T.line lost.now)
         (W.known output.old) (W.known output.new) (F.known fault.old) (F.known fault.new) }
 {
     duk_io::laws::writes();
     match output.flush() {
         Ok(()) => 0,
-        Err(_) => lost.tell(fault),
+        Err(_) => lost.report(fault),
     }
 }
 
 /// Hands on what was written before a fault, and gives the status 1: with the line of that fault,
 /// or with that of `lost` where it cannot be handed on.
-pub(crate) fn tell_after<T: EndingFault, W: Sink, F: Sink>(
+pub(crate) fn report_after<T: EndingFault, W: Sink, F: Sink>(
     why: &T,
     lost: &T,
     output: &mut W,
     fault: &mut F,
 ) -> u8
     ensures status { result ≡ 1 }
-    ensures told { IsToldAfter (T.line why.now) (T.line lost.now)
+    ensures reported { IsReportedAfter (T.line why.now) (T.line lost.now)
         (W.known output.old) (W.known output.new) (F.known fault.old) (F.known fault.new) }
 {
     match output.flush() {
-        Ok(()) => why.tell(fault),
-        Err(_) => lost.tell(fault),
+        Ok(()) => why.report(fault),
+        Err(_) => lost.report(fault),
     }
 }

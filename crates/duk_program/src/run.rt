@@ -2,12 +2,12 @@
 
 ghost use Rattle.std.specs.Prelude.{◌≡◌, ◌⊎◌};
 ghost use Rattle.duk_config.specs.declared.fault.ScriptFault.{ScriptFault};
-ghost use Rattle.duk_program.specs.HandedOn.{IsToldAfter};
+ghost use Rattle.duk_program.specs.HandedOn.{IsReportedAfter};
 ghost use Rattle.duk_program.specs.Run.{HasNotRun, HasRun};
 ghost use Rattle.duk_script.specs.FaultLine.{fault_line};
 ghost use Rattle.duk_script.specs.Session.{IsRunDone, IsRunRefused, IsScriptDone, IsScriptRefused, session};
 
-use crate::ending::{EndingFault, hand_on, tell_after};
+use crate::ending::{EndingFault, hand_on, report_after};
 use duk_config::{Config, ScriptFault};
 use duk_io::{Sink, Source};
 use duk_script::{play_script, run_script};
@@ -20,7 +20,7 @@ use std::alloc::Global;
 /// the script, before which nothing is written; then, as they come, `out of memory` and `script:
 /// write failed`. After the last line, and after the lines of the events that were done before
 /// memory was refused, `output` is flushed; where it cannot hand on what it holds back, that is
-/// told, as `script: write failed`, in place of `out of memory` too.
+/// reported, as `script: write failed`, in place of `out of memory` too.
 pub fn run_status<R: Source, W: Sink, F: Sink>(
     alloc: Global,
     config: &[u8],
@@ -41,7 +41,7 @@ pub fn run_status<R: Source, W: Sink, F: Sink>(
     match run_script(alloc, config, reader, output) {
         Ok(()) => hand_on(&ScriptFault::WriteFailed, output, fault),
         Err(ScriptFault::NoMemory) => refuse_memory(output, fault),
-        Err(why) => why.tell(fault),
+        Err(why) => why.report(fault),
     }
 }
 
@@ -64,16 +64,16 @@ pub(crate) fn play_status<W: Sink, F: Sink>(
     match play_script(alloc, config, script, output) {
         Ok(()) => hand_on(&ScriptFault::WriteFailed, output, fault),
         Err(ScriptFault::NoMemory) => refuse_memory(output, fault),
-        Err(cause) => cause.tell(fault),
+        Err(cause) => cause.report(fault),
     }
 }
 
 /// Writes the line `out of memory` after the lines of the events that were done before.
 fn refuse_memory<W: Sink, F: Sink>(output: &mut W, fault: &mut F) -> u8
     ensures status { result ≡ 1 }
-    ensures told { IsToldAfter (fault_line ScriptFault.NoMemory) (fault_line ScriptFault.WriteFailed)
+    ensures reported { IsReportedAfter (fault_line ScriptFault.NoMemory) (fault_line ScriptFault.WriteFailed)
         (W.known output.old) (W.known output.new) (F.known fault.old) (F.known fault.new) }
 {
     let (why, lost) = (ScriptFault::NoMemory, ScriptFault::WriteFailed);
-    tell_after(&why, &lost, output, fault)
+    report_after(&why, &lost, output, fault)
 }

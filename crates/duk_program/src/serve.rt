@@ -7,15 +7,14 @@
 
 ghost use Rattle.std.specs.Prelude.{◌≡◌, ◌⊎◌, IfErr, IfOk};
 ghost use Rattle.duk_host.specs.Host.{host_meaning_of};
-ghost use Rattle.duk_host.specs.Serve.{supply};
 ghost use Rattle.duk_config.specs.NewHost.{new_host_of};
 ghost use Rattle.duk_io.specs.Sink.{IsUntouched};
 ghost use Rattle.duk_program.specs.HostSize.{HostFits, HostsFit};
-ghost use Rattle.duk_program.specs.Serve.{HasNotServed, HasServed, HostRefused, IsServedUp, ServeRefused, over_log, serving};
+ghost use Rattle.duk_program.specs.Serve.{HasNotServed, HasServed, HostRefused, IsServedUp, ServeRefused, over_log, serving_of};
 ghost use Rattle.duk_tdes.specs.KeyBytes.{bytes_of};
 ghost use Rattle.duk_tdes.specs.Tdes.{IsTdesLength};
 
-use crate::ending::{hand_on, tell_after};
+use crate::ending::{hand_on, report_after};
 use duk_config::{Config, new_host};
 use duk_host::{Host, HostFault, Issuer, serve};
 use duk_io::{Sink, Source};
@@ -45,24 +44,21 @@ pub fn serve_with<L: UsedLog, R: Source, W: Sink, F: Sink>(
     requires fits { HostsFit L.row L.UsedLog }
     ensures status { (result ≡ 0) ⊎ (result ≡ 1) }
     ensures done { result ≡ 0 → HasServed (over_log L.meaning) (new_host_of config.now log)
-        (serving (supply (R.known input.old) (R.reads input.old))
-        (supply (R.known input.new) (R.reads input.new))
-        (W.known output.old) (W.known output.new)) }
+        (serving_of R.known R.reads W.known input.old input.new output.old output.new) }
     ensures no_fault { result ≡ 0 → IsUntouched (F.known fault.old) (F.known fault.new) }
     ensures not_done { result ≡ 1 → HasNotServed (over_log L.meaning) (new_host_of config.now log)
-        (serving (supply (R.known input.old) (R.reads input.old))
-        (supply (R.known input.new) (R.reads input.new))
-        (W.known output.old) (W.known output.new))
+        (serving_of R.known R.reads W.known input.old input.new output.old output.new)
         (F.known fault.old) (F.known fault.new) }
 {
     duk_io::laws::writes();
     match serve_config(alloc, config, log, input, output) {
         Ok(_) => hand_on(&HostFault::Write, output, fault),
-        Err(why) => tell_after(&why, &HostFault::Write, output, fault),
+        Err(why) => report_after(&why, &HostFault::Write, output, fault),
     }
 }
 
-/// Brings the host of a configuration up over a log, and serves: tells how many frames there were.
+/// Brings the host of a configuration up over a log, and serves: reports how many frames there
+/// were.
 fn serve_config<L: UsedLog, R: Source, W: Sink>(
     alloc: Global,
     config: &Config,
@@ -72,13 +68,9 @@ fn serve_config<L: UsedLog, R: Source, W: Sink>(
 ) -> Result<u64, HostFault>
     requires fits { HostsFit L.row L.UsedLog }
     ensures served { IfOk result (IsServedUp (over_log L.meaning) (new_host_of config.now log)
-        (serving (supply (R.known input.old) (R.reads input.old))
-        (supply (R.known input.new) (R.reads input.new))
-        (W.known output.old) (W.known output.new))) }
+        (serving_of R.known R.reads W.known input.old input.new output.old output.new)) }
     ensures refused { IfErr result (ServeRefused (over_log L.meaning) (new_host_of config.now log)
-        (serving (supply (R.known input.old) (R.reads input.old))
-        (supply (R.known input.new) (R.reads input.new))
-        (W.known output.old) (W.known output.new))) }
+        (serving_of R.known R.reads W.known input.old input.new output.old output.new)) }
 {
     match &config.lmk {
         KeyBytes::Double(lmk) => serve_under(alloc, lmk, config, log, input, output),
@@ -99,13 +91,9 @@ fn serve_under<const N: usize, L: UsedLog, R: Source, W: Sink>(
     requires lmk { lmk.now ≡ bytes_of config.now.lmk }
     requires fits { HostFits N.row L.row L.UsedLog }
     ensures served { IfOk result (IsServedUp (over_log L.meaning) (new_host_of config.now log)
-        (serving (supply (R.known input.old) (R.reads input.old))
-        (supply (R.known input.new) (R.reads input.new))
-        (W.known output.old) (W.known output.new))) }
+        (serving_of R.known R.reads W.known input.old input.new output.old output.new)) }
     ensures refused { IfErr result (ServeRefused (over_log L.meaning) (new_host_of config.now log)
-        (serving (supply (R.known input.old) (R.reads input.old))
-        (supply (R.known input.new) (R.reads input.new))
-        (W.known output.old) (W.known output.new))) }
+        (serving_of R.known R.reads W.known input.old input.new output.old output.new)) }
 {
     match new_host(alloc, lmk, config, log) {
         Ok(mut host) => serve_host(&mut host, input, output),
@@ -113,7 +101,7 @@ fn serve_under<const N: usize, L: UsedLog, R: Source, W: Sink>(
     }
 }
 
-/// Brings a host up, and serves: tells how many frames there were. Where it does not come up,
+/// Brings a host up, and serves: reports how many frames there were. Where it does not come up,
 /// nothing is read.
 fn serve_host<const N: usize, L: UsedLog, I: Issuer, R: Source, W: Sink>(
     host: &mut Host<N, L, I>,
@@ -121,13 +109,9 @@ fn serve_host<const N: usize, L: UsedLog, I: Issuer, R: Source, W: Sink>(
     output: &mut W,
 ) -> Result<u64, HostFault>
     ensures served { IfOk result (IsServedUp (host_meaning_of L.meaning I.decides) host.old
-        (serving (supply (R.known input.old) (R.reads input.old))
-        (supply (R.known input.new) (R.reads input.new))
-        (W.known output.old) (W.known output.new))) }
+        (serving_of R.known R.reads W.known input.old input.new output.old output.new)) }
     ensures refused { IfErr result (HostRefused (host_meaning_of L.meaning I.decides) host.old
-        (serving (supply (R.known input.old) (R.reads input.old))
-        (supply (R.known input.new) (R.reads input.new))
-        (W.known output.old) (W.known output.new))) }
+        (serving_of R.known R.reads W.known input.old input.new output.old output.new)) }
 {
     match host.restart() {
         Ok(_) => serve(host, input, output),

@@ -3,9 +3,8 @@
 ghost use Rattle.std.specs.Prelude.{◌≡◌, ◌⊎◌};
 ghost use Rattle.std.specs.Option.{option_map};
 ghost use Rattle.duk_config.specs.NewHost.{new_host_of};
-ghost use Rattle.duk_host.specs.Serve.{supply};
 ghost use Rattle.duk_io.specs.Sink.{IsTried, IsUntouched};
-ghost use Rattle.duk_program.specs.Serve.{HasNotServed, HasServed, over_log, serving};
+ghost use Rattle.duk_program.specs.Serve.{HasNotServed, HasServed, over_log, serving_of};
 ghost use Rattle.duk_program.specs.ServeFiles.{HasNotServedFiles, HasServedFiles, IsServedOnDisk, IsUnservedOnDisk, file_service, unopened_line};
 ghost use Rattle.duk_store.specs.MemoryLog.{memory_log_meaning, new_log};
 
@@ -24,8 +23,8 @@ use std::alloc::Global;
 /// memory, and gives the status: 0, or 1 with a line on `fault`.
 ///
 /// The faults, in this order: those of the configuration's file; `log: cannot open`; those of
-/// serving, as `serve_with` tells them. Where the cause is that memory was refused, the line is `out
-/// of memory` instead.
+/// serving, as `serve_with` reports them. Where the cause is that memory was refused, the line is
+/// `out of memory` instead.
 pub(crate) fn serve_files<S: FileSystem + LogFiles, R: Source, W: Sink, F: Sink>(
     alloc: Global,
     files: &S,
@@ -38,18 +37,14 @@ pub(crate) fn serve_files<S: FileSystem + LogFiles, R: Source, W: Sink, F: Sink>
 where
     S::Disk: Disk,
     ensures status { (result ≡ 0) ⊎ (result ≡ 1) }
-    ensures done { result ≡ 0 → HasServedFiles S.Disk.meaning
-        (file_service (S.held files.now config.now) (option_map (λ path. S.disks files.now path.now) log.entry)
-        (serving (supply (R.known input.old) (R.reads input.old))
-        (supply (R.known input.new) (R.reads input.new))
-        (W.known output.old) (W.known output.new))
-        (F.known fault.old) (F.known fault.new)) }
-    ensures told { result ≡ 1 → HasNotServedFiles S.Disk.meaning
-        (file_service (S.held files.now config.now) (option_map (λ path. S.disks files.now path.now) log.entry)
-        (serving (supply (R.known input.old) (R.reads input.old))
-        (supply (R.known input.new) (R.reads input.new))
-        (W.known output.old) (W.known output.new))
-        (F.known fault.old) (F.known fault.new)) }
+    ensures done { result ≡ 0 → HasServedFiles S.Disk.meaning (file_service (S.held files.now
+        config.now) (option_map (λ path. S.disks files.now path.now) log.entry) (serving_of
+        R.known R.reads W.known input.old input.new output.old output.new) (F.known fault.old)
+        (F.known fault.new)) }
+    ensures reported { result ≡ 1 → HasNotServedFiles S.Disk.meaning (file_service (S.held
+        files.now config.now) (option_map (λ path. S.disks files.now path.now) log.entry)
+        (serving_of R.known R.reads W.known input.old input.new output.old output.new) (F.known
+        fault.old) (F.known fault.new)) }
 {
     let config = match read_configuration(alloc, files, config, fault) {
         Ok(config) => config,
@@ -72,21 +67,17 @@ fn serve_in_memory<R: Source, W: Sink, F: Sink>(
     ensures status { (result ≡ 0) ⊎ (result ≡ 1) }
     ensures done { result ≡ 0 → HasServed (over_log memory_log_meaning)
         (new_host_of config.now (new_log config.now.log))
-        (serving (supply (R.known input.old) (R.reads input.old))
-        (supply (R.known input.new) (R.reads input.new))
-        (W.known output.old) (W.known output.new)) }
+        (serving_of R.known R.reads W.known input.old input.new output.old output.new) }
     ensures no_fault { result ≡ 0 → IsUntouched (F.known fault.old) (F.known fault.new) }
     ensures not_done { result ≡ 1 → HasNotServed (over_log memory_log_meaning)
         (new_host_of config.now (new_log config.now.log))
-        (serving (supply (R.known input.old) (R.reads input.old))
-        (supply (R.known input.new) (R.reads input.new))
-        (W.known output.old) (W.known output.new))
+        (serving_of R.known R.reads W.known input.old input.new output.old output.new)
         (F.known fault.old) (F.known fault.new) }
 {
     duk_io::laws::writes();
     match MemLog::new(alloc, config.log as usize) {
         Ok(log) => serve_with(alloc, config, log, input, output, fault),
-        Err(_) => HostFault::NoMemory.tell(fault),
+        Err(_) => HostFault::NoMemory.report(fault),
     }
 }
 
@@ -105,14 +96,10 @@ where
     S::Disk: Disk,
     ensures status { (result ≡ 0) ⊎ (result ≡ 1) }
     ensures done { result ≡ 0 → IsServedOnDisk S.Disk.meaning (S.disks files.now path.now)
-        config.now (serving (supply (R.known input.old) (R.reads input.old))
-        (supply (R.known input.new) (R.reads input.new))
-        (W.known output.old) (W.known output.new)) }
+        config.now (serving_of R.known R.reads W.known input.old input.new output.old output.new) }
     ensures no_fault { result ≡ 0 → IsUntouched (F.known fault.old) (F.known fault.new) }
     ensures not_done { result ≡ 1 → IsUnservedOnDisk S.Disk.meaning (S.disks files.now path.now)
-        config.now (serving (supply (R.known input.old) (R.reads input.old))
-        (supply (R.known input.new) (R.reads input.new))
-        (W.known output.old) (W.known output.new))
+        config.now (serving_of R.known R.reads W.known input.old input.new output.old output.new)
         (F.known fault.old) (F.known fault.new) }
 {
     match files.open_disk(path) {

@@ -5,18 +5,18 @@ use Rattle.std.proofs.lemmas.List.{ext_get_or}
 use Rattle.std.proofs.lemmas.Bool.{cases_lt, cases_order}
 use Rattle.duk_tree.specs.Path.{value_of, path_of, last_place, IsPath, IsUsable}
 use Rattle.duk_tree.specs.Next.{ComesAfter}
-use Rattle.duk_tree.specs.Frontier.{candidate_at, parent_of, IsHeld, IsChild}
+use Rattle.duk_tree.specs.Frontier.{candidate_at, parent_of, IsInFrontier, IsChild}
 use Rattle.duk_tree.specs.Derivation.{step_of, node_key, transaction_key_of}
 use Rattle.duk_tree.specs.Serial.{IsIksn, low_bytes}
-use Rattle.duk_regs.specs.Registers.{RegisterSet, IsRegisterSet, StandsFor, HoldsNode, IsTaken, IsEmptyAt, LeavesEmpty, lowest_place, empty_register, register_at}
+use Rattle.duk_regs.specs.Registers.{RegisterSet, IsRegisterSet, AreFutureKeysOf, IsKeyOfNode, IsTaken, IsEmptyAt, LeavesEmpty, lowest_place, empty_register, register_at}
 
 -- what the key tree promises
 pub record TreeLaws : Type 0 where
   pub usable : (counter : ℕ) → IsUsable counter → (counter < 2 ^ 21) × (1 ≤ length (path_of counter)) × (length (path_of counter) ≤ 10)
   pub value : (counter : ℕ) → counter < 2 ^ 21 → value_of (path_of counter) ≡ counter
-  pub places : (counter a b : ℕ) → IsHeld counter a → IsHeld counter b → last_place (path_of a) ≡ last_place (path_of b) → a ≡ b
+  pub places : (counter a b : ℕ) → IsInFrontier counter a → IsInFrontier counter b → last_place (path_of a) ≡ last_place (path_of b) → a ≡ b
   pub moves : (counter next node : ℕ) → IsUsable counter → ComesAfter counter next
-      → IsHeld next node ↔ ((IsHeld counter node × (node ≢ counter)) ⊎ (IsUsable node × IsChild counter node))
+      → IsInFrontier next node ↔ ((IsInFrontier counter node × (node ≢ counter)) ⊎ (IsUsable node × IsChild counter node))
   pub child : (counter place : ℕ) → IsUsable counter → length (path_of counter) < 10 → place < last_place (path_of counter)
       → IsUsable (counter + 2 ^ place) × (path_of (counter + 2 ^ place) ≡ place ∷ path_of counter)
   pub child_value : (counter child place : ℕ) → IsUsable counter → IsUsable child → path_of child ≡ place ∷ path_of counter
@@ -27,7 +27,7 @@ parent_below [] some = absurd (omega arith)
 parent_below (place ∷ parent) some = omega (arith, pow_pos place)
 
 -- the next number is on the frontier
-self_held : TreeLaws → (counter : ℕ) → IsUsable counter → IsHeld counter counter
+self_held : TreeLaws → (counter : ℕ) → IsUsable counter → IsInFrontier counter counter
 self_held laws counter is_usable =
     let bounds = laws.usable counter is_usable in
     record {
@@ -62,11 +62,11 @@ child_holds laws initial old new key is_usable taken is_key node place node_usab
 
 -- a node that stays on the frontier keeps its register
 stays_holds : TreeLaws → (initial : List ℕ) (old new : RegisterSet) (key : List ℕ) → IsUsable old.counter → IsTaken old key new
-    → StandsFor initial old → key ≡ transaction_key_of initial old.iksn old.counter
-    → (node : ℕ) → IsHeld new.counter node → IsHeld old.counter node → node ≢ old.counter
+    → AreFutureKeysOf initial old → key ≡ transaction_key_of initial old.iksn old.counter
+    → (node : ℕ) → IsInFrontier new.counter node → IsInFrontier old.counter node → node ≢ old.counter
     → register_at new.registers (lowest_place node) ≡ transaction_key_of initial new.iksn node
-stays_holds laws initial old new key is_usable taken stands is_key node held_now held_before other =
-    let before = stands.holds node held_before ∙ ap (λ iksn. transaction_key_of initial iksn node) (sym taken.same_iksn) in
+stays_holds laws initial old new key is_usable taken future_keys is_key node held_now held_before other =
+    let before = future_keys.holds node held_before ∙ ap (λ iksn. transaction_key_of initial iksn node) (sym taken.same_iksn) in
     elim (cases_order (lowest_place node) (lowest_place old.counter)) [
       | inl same ↦ absurd (other (laws.places old.counter node old.counter held_before (self_held laws old.counter is_usable) same))
       | inr apart ↦
@@ -84,9 +84,9 @@ stays_holds laws initial old new key is_usable taken stands is_key node held_now
           ]
     ]
 
-pub taken_key : TreeLaws → (initial : List ℕ) (old new : RegisterSet) (key : List ℕ) → IsUsable old.counter → IsTaken old key new → StandsFor initial old
+pub taken_key : TreeLaws → (initial : List ℕ) (old new : RegisterSet) (key : List ℕ) → IsUsable old.counter → IsTaken old key new → AreFutureKeysOf initial old
     → key ≡ transaction_key_of initial old.iksn old.counter
-taken_key laws initial old new key is_usable taken stands = taken.key_is ∙ stands.holds old.counter (self_held laws old.counter is_usable)
+taken_key laws initial old new key is_usable taken future_keys = taken.key_is ∙ future_keys.holds old.counter (self_held laws old.counter is_usable)
 
 -- an old register that keeps nothing
 stays_empty : TreeLaws → (old new : RegisterSet) (key : List ℕ) → IsUsable old.counter → IsTaken old key new → LeavesEmpty old.counter old.registers
@@ -114,18 +114,18 @@ taken_empty laws old new key is_usable taken leaves_empty place within empty =
           ]
     ]
 
-pub taken_stands : TreeLaws → (initial : List ℕ) (old new : RegisterSet) (key : List ℕ) → IsUsable old.counter → IsTaken old key new → StandsFor initial old
-    → StandsFor initial new
-taken_stands laws initial old new key is_usable taken stands =
-    let is_key = taken_key laws initial old new key is_usable taken stands in
+pub taken_future_keys : TreeLaws → (initial : List ℕ) (old new : RegisterSet) (key : List ℕ) → IsUsable old.counter → IsTaken old key new → AreFutureKeysOf initial old
+    → AreFutureKeysOf initial new
+taken_future_keys laws initial old new key is_usable taken future_keys =
+    let is_key = taken_key laws initial old new key is_usable taken future_keys in
     record {
-      are_21 = taken.same_length ∙ stands.are_21;
+      are_21 = taken.same_length ∙ future_keys.are_21;
       holds = λ node held.
           elim ((laws.moves old.counter new.counter node is_usable taken.next_counter).0 held) [
-            | inl stays ↦ stays_holds laws initial old new key is_usable taken stands is_key node held stays.0 stays.1
+            | inl stays ↦ stays_holds laws initial old new key is_usable taken future_keys is_key node held stays.0 stays.1
             | inr child ↦ child_holds laws initial old new key is_usable taken is_key node child.1.0 child.0 child.1.1
           ];
-      leaves_empty = taken_empty laws old new key is_usable taken stands.leaves_empty;
+      leaves_empty = taken_empty laws old new key is_usable taken future_keys.leaves_empty;
     }
 
 pub taken_set : TreeLaws → (old new : RegisterSet) (key : List ℕ) → IsUsable old.counter → IsTaken old key new → IsRegisterSet old → IsRegisterSet new
@@ -155,48 +155,48 @@ first_key initial iksn place =
     ap (λ n. step_of initial (low_bytes (record { iksn = iksn; counter = n }))) value
 
 -- the registers of the powers of two
-pub first_stands : ((path : List ℕ) → IsPath path → path_of (value_of path) ≡ path)
-    → ((node : ℕ) → IsHeld 1 node ↔ ((place : ℕ) × (place < 21) × (node ≡ 2 ^ place)))
+pub first_future_keys : ((path : List ℕ) → IsPath path → path_of (value_of path) ≡ path)
+    → ((node : ℕ) → IsInFrontier 1 node ↔ ((place : ℕ) × (place < 21) × (node ≡ 2 ^ place)))
     → (initial : List ℕ) (set : RegisterSet) → set.counter ≡ 1 → length set.registers ≡ 21
     → ((place : ℕ) → place < 21 → register_at set.registers place ≡ step_of initial (low_bytes (record { iksn = set.iksn; counter = 2 ^ place })))
-    → StandsFor initial set
-first_stands only first initial set is_first are_21 keys =
+    → AreFutureKeysOf initial set
+first_future_keys only first initial set is_first are_21 keys =
     let path = λ (place : ℕ) (within : place < 21). first_path only place within in
     record {
       are_21 = are_21;
       holds = λ node held.
-          let power = (first node).0 (subst (λ counter. IsHeld counter node) is_first held) in
+          let power = (first node).0 (subst (λ counter. IsInFrontier counter node) is_first held) in
           let same : path_of node ≡ power.0 ∷ [] = ap path_of power.2 ∙ path power.0 power.1 in
           ap (λ path. register_at set.registers (last_place path)) same ∙ keys power.0 power.1 ∙ sym (ap (node_key initial set.iksn) same ∙ first_key initial set.iksn power.0);
       leaves_empty = λ place within empty.
           let held = (first (2 ^ place)).1 (place, within, refl) in
-          absurd (empty (2 ^ place) (subst (λ counter. IsHeld counter (2 ^ place)) (sym is_first) held) (ap last_place (path place within)));
+          absurd (empty (2 ^ place) (subst (λ counter. IsInFrontier counter (2 ^ place)) (sym is_first) held) (ap last_place (path place within)));
     }
 
 -- ---- what a register may hold
 
 abbrev pub Candidates : Type 0
 Candidates = (counter place : ℕ) → 1 ≤ counter → place < 21
-    → (IsHeld counter (candidate_at counter place) × (last_place (path_of (candidate_at counter place)) ≡ place))
-    ⊎ ((node : ℕ) → IsHeld counter node → last_place (path_of node) ≢ place)
+    → (IsInFrontier counter (candidate_at counter place) × (last_place (path_of (candidate_at counter place)) ≡ place))
+    ⊎ ((node : ℕ) → IsInFrontier counter node → last_place (path_of node) ≢ place)
 
-pub register_either : Candidates → (initial : List ℕ) (set : RegisterSet) (place : ℕ) → 1 ≤ set.counter → StandsFor initial set → place < 21
-    → (register_at set.registers place ≡ empty_register) ⊎ HoldsNode initial set place
-register_either candidates initial set place some stands within =
+pub register_either : Candidates → (initial : List ℕ) (set : RegisterSet) (place : ℕ) → 1 ≤ set.counter → AreFutureKeysOf initial set → place < 21
+    → (register_at set.registers place ≡ empty_register) ⊎ IsKeyOfNode initial set place
+register_either candidates initial set place some future_keys within =
     elim (candidates set.counter place some within) [
-      | inr empty ↦ inl (stands.leaves_empty place within empty)
+      | inr empty ↦ inl (future_keys.leaves_empty place within empty)
       | inl held ↦
           inr
           (record {
             node = candidate_at set.counter place;
-            is_held = held.0;
+            is_in_frontier = held.0;
             is_at = held.1;
-            holds = ap (register_at set.registers) (sym held.1) ∙ stands.holds (candidate_at set.counter place) held.0;
+            holds = ap (register_at set.registers) (sym held.1) ∙ future_keys.holds (candidate_at set.counter place) held.0;
           })
     ]
 
 same_register : Candidates → (initial : List ℕ) (one other : RegisterSet) → 1 ≤ one.counter → one.iksn ≡ other.iksn → one.counter ≡ other.counter
-    → StandsFor initial one → StandsFor initial other
+    → AreFutureKeysOf initial one → AreFutureKeysOf initial other
     → (place : ℕ) → place < 21 → register_at one.registers place ≡ register_at other.registers place
 same_register candidates initial one other some iksn counter first second place within =
     elim (candidates one.counter place some within) [
@@ -206,12 +206,12 @@ same_register candidates initial one other some iksn counter first second place 
           ap (register_at one.registers) (sym held.1)
           ∙ first.holds node held.0
           ∙ ap (λ n. transaction_key_of initial n node) iksn
-          ∙ sym (second.holds node (subst (λ n. IsHeld n node) counter held.0))
+          ∙ sym (second.holds node (subst (λ n. IsInFrontier n node) counter held.0))
           ∙ ap (register_at other.registers) held.1
     ]
 
 pub same_set : Candidates → (initial : List ℕ) (one other : RegisterSet) → 1 ≤ one.counter → one.iksn ≡ other.iksn → one.counter ≡ other.counter → one.past ≡ other.past
-    → StandsFor initial one → StandsFor initial other
+    → AreFutureKeysOf initial one → AreFutureKeysOf initial other
     → one ≡ other
 same_set candidates initial one other some iksn counter past first second =
     let registers : one.registers ≡ other.registers =

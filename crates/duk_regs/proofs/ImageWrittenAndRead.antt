@@ -39,7 +39,7 @@ pub register_written : (image bytes : List ℕ) (start size after : ℕ) → len
     → take after (put_mid start size image bytes) ≡ take start image ++ bytes
 register_written image bytes start size after is_350 within is_16 is_after = take-put_mid start size image bytes after (omega arith) (omega arith)
 
--- nothing is behind the part that was written
+-- nothing is after the part that was written
 pub rest_gone : (start size : ℕ) (xs : List ℕ) → drop size (take size (drop start xs)) ≡ []
 rest_gone start size xs = drop_all size (take size (drop start xs)) (omega (arith, length-take size (drop start xs)))
 
@@ -120,7 +120,7 @@ present_bytes-set_in image long fit serial no_counter =
     ∙ ap (λ serial. serial ++ take 339 (drop 11 image)) iksn
     ∙ whole
 
--- both parts, behind the version
+-- both parts, after the version
 pub version_2_again : (image present past : List ℕ) → length image ≡ 431 → get_or image 0 0 ≡ 2 → present ≡ take 349 (drop 1 image) → past ≡ drop 350 image
     → 2 ∷ (present ++ past) ≡ image
 version_2_again image present past is_431 version is_present is_past =
@@ -199,7 +199,7 @@ pub record IsWritable (set : RegisterSet) : Type 0 where
   pub set_is : IsRegisterSet set
   pub are_16 : HaveSixteenBytes set.registers
 
--- what stands behind a version, and before more
+-- what stands after a version, and before more
 abbrev image_with : ℕ → RegisterSet → List ℕ → List ℕ
 image_with version set rest = version ∷ (present_bytes set ++ rest)
 
@@ -221,18 +221,18 @@ serial_found version set rest writable =
     ∙ ap serial_of_bytes (take_at (iksn_bytes set.iksn) (big_bytes 3 set.counter ++ (concat set.registers ++ rest)) 10 (writable.ten set.iksn))
     ∙ writable.found set.iksn writable.set_is.iksn_is
 
-behind_serial : (version : ℕ) (set : RegisterSet) (rest : List ℕ) → IsWritable set → drop 11 (image_with version set rest) ≡ big_bytes 3 set.counter ++ (concat set.registers ++ rest)
-behind_serial version set rest writable =
+after_serial : (version : ℕ) (set : RegisterSet) (rest : List ℕ) → IsWritable set → drop 11 (image_with version set rest) ≡ big_bytes 3 set.counter ++ (concat set.registers ++ rest)
+after_serial version set rest writable =
     ap (drop 10) (present_then set rest)
     ∙ drop_at (iksn_bytes set.iksn) (big_bytes 3 set.counter ++ (concat set.registers ++ rest)) 10 (writable.ten set.iksn)
 
 counter_found : (version : ℕ) (set : RegisterSet) (rest : List ℕ) → IsWritable set → counter_in (image_with version set rest) ≡ set.counter
 counter_found version set rest writable =
-    ap (λ bytes. big_number 3 (take 3 bytes)) (behind_serial version set rest writable)
+    ap (λ bytes. big_number 3 (take 3 bytes)) (after_serial version set rest writable)
     ∙ big_number-reads_back 3 set.counter [] writable.fits
 
-behind_counter : (version : ℕ) (set : RegisterSet) (rest : List ℕ) → IsWritable set → drop 14 (image_with version set rest) ≡ concat set.registers ++ rest
-behind_counter version set rest writable = sym (drop-drop 3 11 (image_with version set rest)) ∙ ap (drop 3) (behind_serial version set rest writable)
+after_counter : (version : ℕ) (set : RegisterSet) (rest : List ℕ) → IsWritable set → drop 14 (image_with version set rest) ≡ concat set.registers ++ rest
+after_counter version set rest writable = sym (drop-drop 3 11 (image_with version set rest)) ∙ ap (drop 3) (after_serial version set rest writable)
 
 registers_found : (version : ℕ) (set : RegisterSet) (rest : List ℕ) → IsWritable set → registers_in (image_with version set rest) ≡ set.registers
 unfolding registers_in
@@ -240,7 +240,7 @@ registers_found version set rest writable =
     let image = image_with version set rest in
     sym (fill_by_all (λ (place : ℕ). take 16 (drop (14 + 16 * place) image)) set.registers 21 empty_register writable.set_is.are_21 (λ place within.
     let here : place < length set.registers = omega (arith, writable.set_is.are_21) in
-    sym (ap (take 16) (sym (drop-drop (16 * place) 14 image) ∙ ap (drop (16 * place)) (behind_counter version set rest writable)) ∙ piece_found 16 set.registers rest place empty_register (sixteen set writable) here)))
+    sym (ap (take 16) (sym (drop-drop (16 * place) 14 image) ∙ ap (drop (16 * place)) (after_counter version set rest writable)) ∙ piece_found 16 set.registers rest place empty_register (sixteen set writable) here)))
 
 present_found : (version : ℕ) (set : RegisterSet) (rest : List ℕ) → IsWritable set → IsPresentPart (image_with version set rest)
 present_found version set rest writable =

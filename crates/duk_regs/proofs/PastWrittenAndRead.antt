@@ -15,7 +15,7 @@ each_is_10 past ten k within = ap (λ piece. length piece) (get_or-map iksn_byte
 
 -- ---- written
 
--- one number more stands behind the others
+-- one number more stands after the others
 pub place_written : (past bytes part : List ℕ) (place size after default : ℕ) → place < length past → length bytes ≡ 81 → length past ≤ 8 → length part ≡ 10 → after ≡ 1 + 10 * place + 10
     → part ≡ iksn_bytes (get_or past place default)
     → take (1 + 10 * place) bytes ≡ length past ∷ concat (map iksn_bytes (take place past))
@@ -27,10 +27,10 @@ place_written past bytes part place size after default within is_81 at_most_8 is
     ∙ ap (λ rest. length past ∷ rest) (sym (concat-push (map iksn_bytes (take place past)) (iksn_bytes (get_or past place default))))
     ∙ ap (λ pieces. length past ∷ concat pieces) (sym (map_more iksn_bytes past place default within))
 
--- and zeros behind it
-zeros_behind : (bytes : List ℕ) (place after : ℕ) → place < 8 → after ≡ 1 + 10 * place + 10 → drop (1 + 10 * place) bytes ≡ replicate (10 * (8 - place)) 0
+-- and zeros after it
+zeros_after : (bytes : List ℕ) (place after : ℕ) → place < 8 → after ≡ 1 + 10 * place + 10 → drop (1 + 10 * place) bytes ≡ replicate (10 * (8 - place)) 0
     → drop after bytes ≡ replicate (10 * (8 - (place + 1))) 0
-zeros_behind bytes place after within is_after zeros =
+zeros_after bytes place after within is_after zeros =
     let left : 10 * (8 - place) - 10 ≡ 10 * (8 - (place + 1)) = omega arith in
     ap (λ n. drop n bytes) is_after
     ∙ sym (drop-drop 10 (1 + 10 * place) bytes)
@@ -43,7 +43,7 @@ pub zeros_left : (bytes part : List ℕ) (place size after : ℕ) → place < 8 
     → drop after (put_mid (1 + 10 * place) size bytes part) ≡ replicate (10 * (8 - (place + 1))) 0
 zeros_left bytes part place size after within is_81 is_size is_10 is_after zeros =
     let stays = drop-put_mid (1 + 10 * place) size bytes part after (omega arith) (omega arith) (omega arith) in
-    stays ∙ zeros_behind bytes place after within is_after zeros
+    stays ∙ zeros_after bytes place after within is_after zeros
 
 -- the count and eight places
 pub length-past_bytes : (past : List ℕ) → ((iksn : ℕ) → length (iksn_bytes iksn) ≡ 10) → length past ≤ 8 → length (past_bytes past) ≡ 81
@@ -98,7 +98,7 @@ places_written image count again at_most_8 no_counter =
     ∙ iksn_written image place again (omega arith) (no_counter place within)))
     ∙ pieces_from 10 351 image count 0
 
--- what is behind the places that are used
+-- what is after the places that are used
 pub unused_zeros : (image : List ℕ) (count : ℕ) → length image ≡ 431 → count ≤ 8
     → take (length image - (351 + 10 * count)) (drop (351 + 10 * count) image) ≡ replicate (length (take (length image - (351 + 10 * count)) (drop (351 + 10 * count) image))) 0
     → drop (351 + 10 * count) image ≡ replicate (10 * (8 - count)) 0
@@ -121,7 +121,7 @@ past_bytes-counted_past_in image is_431 again part =
 
 -- ---- written and read
 
--- an image has these numbers behind its registers
+-- an image has these numbers after its registers
 pub record HasPast (image past : List ℕ) : Type 0 where
   pub ten : (iksn : ℕ) → length (iksn_bytes iksn) ≡ 10
   pub found : (iksn : ℕ) → IsIksn iksn → serial_of_bytes (iksn_bytes iksn) ≡ record { iksn = iksn; counter = 0 }
@@ -134,13 +134,13 @@ count_found image past has = sym (get_or-drop 350 image 0 0) ∙ ap (λ bytes. g
 are_10 : (image past : List ℕ) → HasPast image past → (k : ℕ) → k < length (map iksn_bytes past) → length (get_or (map iksn_bytes past) k []) ≡ 10
 are_10 image past has k within = each_is_10 past has.ten k (omega (arith, length-map past iksn_bytes))
 
-behind_count : (image past : List ℕ) → HasPast image past → drop 351 image ≡ concat (map iksn_bytes past) ++ replicate (10 * (8 - length past)) 0
-behind_count image past has = sym (drop-drop 1 350 image) ∙ ap (drop 1) has.bytes
+after_count : (image past : List ℕ) → HasPast image past → drop 351 image ≡ concat (map iksn_bytes past) ++ replicate (10 * (8 - length past)) 0
+after_count image past has = sym (drop-drop 1 350 image) ∙ ap (drop 1) has.bytes
 
 past_serial_found : (image past : List ℕ) (place : ℕ) → HasPast image past → place < length past → past_serial_in image place ≡ record { iksn = get_or past place 0; counter = 0 }
 past_serial_found image past place has within =
     let inside : place < length (map iksn_bytes past) = omega (arith, length-map past iksn_bytes) in
-    ap (λ bytes. serial_of_bytes (take 10 bytes)) (sym (drop-drop (10 * place) 351 image) ∙ ap (drop (10 * place)) (behind_count image past has))
+    ap (λ bytes. serial_of_bytes (take 10 bytes)) (sym (drop-drop (10 * place) 351 image) ∙ ap (drop (10 * place)) (after_count image past has))
     ∙ ap serial_of_bytes (piece_found 10 (map iksn_bytes past) (replicate (10 * (8 - length past)) 0) place [] (are_10 image past has) inside ∙ get_or-map iksn_bytes past place 0 [] within)
     ∙ has.found (get_or past place 0) (has.iksns place 0 within)
 
@@ -154,7 +154,7 @@ unused_found : (image past : List ℕ) → HasPast image past → drop (351 + 10
 unused_found image past has =
     let pieces = map iksn_bytes past in
     sym (drop-drop (10 * length past) 351 image)
-    ∙ ap (drop (10 * length past)) (behind_count image past has)
+    ∙ ap (drop (10 * length past)) (after_count image past has)
     ∙ drop_at (concat pieces) (replicate (10 * (8 - length past)) 0) (10 * length past) (length-concat 10 pieces [] (are_10 image past has) ∙ ap (λ n. 10 * n) (length-map past iksn_bytes))
 
 pub IsPastPart-written : (image past : List ℕ) → HasPast image past → length past ≤ 8 → AllPairs (λ one other. one ≢ other) past → ¬ Contains past (serial_in image).iksn → IsPastPart image

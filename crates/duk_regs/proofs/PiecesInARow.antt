@@ -1,4 +1,4 @@
--- Pieces of one width, one behind the other.
+-- Pieces of one width, one after the other.
 use Rattle.std.proofs.Common.{◌≡◌, ℕ, zero, suc, ◌+◌, ◌*◌, ◌<◌, ◌≤◌, List, [], ◌∷◌, ◌++◌, length, take, drop, map, get_or, sym, ap, ◌∙◌, arith}
 use Rattle.std.proofs.lemmas.List.{append_assoc, append-nil, length-append, length-drop, length-take, length-take-le, take-take, drop-take, take_at, drop_at, drop-drop, take-append-drop}
 use Rattle.std.specs.List.{concat, range_with_len}

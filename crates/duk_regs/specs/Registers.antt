@@ -3,12 +3,12 @@ use Rattle.std.specs.Prelude.{◌≡◌, ◌≢◌, ◌⊎◌, ◌<◌, ◌≤�
 use Rattle.duk_tree.specs.Serial.{IsIksn, low_bytes}
 use Rattle.duk_tree.specs.Path.{IsUsable, path_of, last_place}
 use Rattle.duk_tree.specs.Next.{spent_counter, ComesAfter}
-use Rattle.duk_tree.specs.Frontier.{IsHeld}
+use Rattle.duk_tree.specs.Frontier.{IsInFrontier}
 use Rattle.duk_tree.specs.Derivation.{step_of, transaction_key_of}
 
 -- what a terminal keeps: its initial key serial number, the counter that it uses next, its
--- registers, and (this project's own) the initial key serial numbers that it had before, in order of
--- their loading
+-- registers, and (this project's own) the initial key serial numbers that it had before, in order
+-- of their loading
 pub record RegisterSet : Type 0 where
   pub iksn : ℕ
   pub counter : ℕ
@@ -38,7 +38,7 @@ lowest_place counter = last_place (path_of counter)
 
 -- at this counter the frontier has no node whose lowest one bit is at this place
 abbrev pub IsEmptyAt : ℕ → ℕ → Type 0
-IsEmptyAt counter place = (node : ℕ) → IsHeld counter node → lowest_place node ≢ place
+IsEmptyAt counter place = (node : ℕ) → IsInFrontier counter node → lowest_place node ≢ place
 
 -- each register that has no node of the frontier holds no key
 abbrev pub LeavesEmpty : ℕ → List (List ℕ) → Type 0
@@ -61,24 +61,24 @@ pub record IsRegisterSet (set : RegisterSet) : Type 0 where
   pub past_are_different : AllPairs (λ one other. one ≢ other) set.past
   pub iksn_is_not_past : ¬ IsPastOf set.iksn set
 
--- registers stand for an initial key: each node of the frontier has its key in the register of its
--- lowest one bit, and each other register is empty
-pub record StandsFor (initial : List ℕ) (set : RegisterSet) : Type 0 where
+-- registers hold the future keys of an initial key: each node of the frontier has its key in the
+-- register of its lowest one bit, and each other register is empty
+pub record AreFutureKeysOf (initial : List ℕ) (set : RegisterSet) : Type 0 where
   pub are_21 : length set.registers ≡ 21
-  pub holds : (node : ℕ) → IsHeld set.counter node
+  pub holds : (node : ℕ) → IsInFrontier set.counter node
       → register_at set.registers (lowest_place node) ≡ transaction_key_of initial set.iksn node
   pub leaves_empty : LeavesEmpty set.counter set.registers
 
 -- the register of a place holds the key of a node of the frontier
-pub record HoldsNode (initial : List ℕ) (set : RegisterSet) (place : ℕ) : Type 0 where
+pub record IsKeyOfNode (initial : List ℕ) (set : RegisterSet) (place : ℕ) : Type 0 where
   pub node : ℕ
-  pub is_held : IsHeld set.counter node
+  pub is_in_frontier : IsInFrontier set.counter node
   pub is_at : lowest_place node ≡ place
   pub holds : register_at set.registers place ≡ transaction_key_of initial set.iksn node
 
 -- how a transaction changes what a terminal keeps (`Set Bit`, `New Key`), whatever its registers
--- stand for: the register of the lowest one bit gives its key and is emptied, and under ten one bits
--- the registers below it get the keys of the children
+-- stand for: the register of the lowest one bit gives its key and is emptied, and under ten one
+-- bits the registers below it get the keys of the children
 pub record IsTaken (old : RegisterSet) (key : List ℕ) (new : RegisterSet) : Type 0 where
   pub same_iksn : new.iksn ≡ old.iksn
   pub same_past : new.past ≡ old.past

@@ -5,40 +5,41 @@ ghost use Rattle.duk_tdes.specs.Key.{IsKey};
 ghost use Rattle.duk_tree.specs.Path.{IsUsable};
 ghost use Rattle.duk_tree.specs.Derivation.{step_of, transaction_key_of};
 ghost use Rattle.duk_tree.specs.Serial.{low_bytes};
-ghost use Rattle.duk_regs.specs.Registers.{HaveSixteenBytes, RegisterSet, IsRegisterSet, StandsFor, IsTaken, HoldsNode, register_at, empty_register};
+ghost use Rattle.duk_regs.specs.Registers.{HaveSixteenBytes, RegisterSet, IsRegisterSet, AreFutureKeysOf, IsTaken, IsKeyOfNode, register_at, empty_register};
 ghost use Rattle.duk_regs.specs.Image.{IsImage, IsImageOfVersion1, IsImageOfVersion2, image_bytes, image_bytes_of_version_1, set_in};
 ghost use Rattle.duk_regs.specs.declared.past.Past.TheInside as past;
 ghost use Rattle.duk_regs.specs.declared.past.Past.TheView as past_view;
 ghost use Rattle.duk_regs.specs.declared.registers.Registers.TheInside as registers;
 ghost use Rattle.duk_regs.specs.declared.registers.Registers.TheView as registers_view;
 
-/// Registers with the keys of the powers of two stand for the initial key at the first number.
+/// Registers with the keys of the powers of two hold the future keys of the initial key at the
+/// first number.
 pub fn first()
     ensures usable { IsUsable 1 }
-    ensures stands { (initial : List ℕ) (set : RegisterSet) → set.counter ≡ 1
+    ensures future_keys { (initial : List ℕ) (set : RegisterSet) → set.counter ≡ 1
         → length set.registers ≡ 21
         → ((place : ℕ) → place < 21
         → register_at set.registers place
         ≡ step_of initial (low_bytes (record { iksn = set.iksn; counter = 2 ^ place })))
-        → StandsFor initial set }
+        → AreFutureKeysOf initial set }
 {
     duk_tree::laws::paths();
     duk_tree::laws::bits();
     duk_tree::laws::moves();
 }
 
-/// A transaction takes the key of its number from registers that stand for an initial key, and
-/// leaves registers that stand for it at the next number.
+/// A transaction takes the key of its number from registers with the future keys of an initial key,
+/// and leaves registers with the future keys of it at the next number.
 pub fn transactions()
     ensures key { (initial : List ℕ) (old new : RegisterSet) (key : List ℕ) → IsUsable old.counter
         → IsTaken old key new
-        → StandsFor initial old
+        → AreFutureKeysOf initial old
         → key ≡ transaction_key_of initial old.iksn old.counter }
-    ensures stands { (initial : List ℕ) (old new : RegisterSet) (key : List ℕ)
+    ensures future_keys { (initial : List ℕ) (old new : RegisterSet) (key : List ℕ)
         → IsUsable old.counter
         → IsTaken old key new
-        → StandsFor initial old
-        → StandsFor initial new }
+        → AreFutureKeysOf initial old
+        → AreFutureKeysOf initial new }
     ensures set { (old new : RegisterSet) (key : List ℕ) → IsUsable old.counter
         → IsTaken old key new
         → IsRegisterSet old
@@ -51,24 +52,24 @@ pub fn transactions()
     duk_tree::laws::children();
 }
 
-/// Each register holds no key or that of a node of the frontier. So an initial key, a serial number,
-/// a counter and the past serial numbers determine what a terminal keeps.
+/// Each register holds no key or that of a node of the frontier. So an initial key, a serial
+/// number, a counter and the past serial numbers determine what a terminal keeps.
 pub fn uniqueness()
     ensures register { (initial : List ℕ) (set : RegisterSet) (place : ℕ) → 1 ≤ set.counter
-        → StandsFor initial set → place < 21
-        → (register_at set.registers place ≡ empty_register) ⊎ HoldsNode initial set place }
+        → AreFutureKeysOf initial set → place < 21
+        → (register_at set.registers place ≡ empty_register) ⊎ IsKeyOfNode initial set place }
     ensures same { (initial : List ℕ) (one other : RegisterSet) → 1 ≤ one.counter
         → one.iksn ≡ other.iksn → one.counter ≡ other.counter → one.past ≡ other.past
-        → StandsFor initial one → StandsFor initial other
+        → AreFutureKeysOf initial one → AreFutureKeysOf initial other
         → one ≡ other }
 {
     duk_tree::laws::candidates();
 }
 
-/// Registers that stand for an initial key have sixteen bytes each.
+/// Registers with the future keys of an initial key have sixteen bytes each.
 pub fn sixteen_bytes()
     ensures { (initial : List ℕ) (set : RegisterSet) → IsKey 16 initial → IsRegisterSet set
-        → StandsFor initial set
+        → AreFutureKeysOf initial set
         → HaveSixteenBytes set.registers }
 {
     duk_tree::laws::keys();

@@ -5,7 +5,7 @@ ghost use Rattle.duk_tree.specs.Derivation.{transaction_key_of};
 ghost use Rattle.duk_tree.specs.Next.{spent_counter};
 ghost use Rattle.duk_tree.specs.Path.{IsUsable};
 ghost use Rattle.duk_tree.specs.Serial.{IsIksn};
-ghost use Rattle.duk_regs.specs.Registers.{HaveSixteenBytes, IsPastOf, IsRegisterSet, IsSpentIksn, StandsFor, IsTaken};
+ghost use Rattle.duk_regs.specs.Registers.{HaveSixteenBytes, IsPastOf, IsRegisterSet, IsSpentIksn, AreFutureKeysOf, IsTaken};
 ghost use Rattle.duk_regs.specs.Reload.{IsReloaded};
 ghost use Rattle.duk_regs.specs.Image.{IsImage, image_bytes, image_bytes_of_version_1, set_in};
 
@@ -51,13 +51,13 @@ impl Model for Registers {
 
 impl Registers {
     /// The registers of a terminal that has used no number yet: the keys of the powers of two. None
-    /// of them is that of the root, whose key is the initial key. No other initial key serial number
-    /// is past.
+    /// of them is that of the root, whose key is the initial key. No other initial key serial
+    /// number is past.
     pub fn load(initial: Key<16>, iksn: Iksn) -> Registers
         ensures iksn { result.iksn ≡ iksn }
         ensures counter { result.counter ≡ 1 }
         ensures past { result.past ≡ [] }
-        ensures stands { StandsFor initial result }
+        ensures future_keys { AreFutureKeysOf initial result }
         ensures set { IsRegisterSet result }
     {
         Registers::before_first(&initial, iksn, Past::none())
@@ -86,8 +86,8 @@ impl Registers {
         Ok(())
     }
 
-    /// The registers of a terminal that is given another initial key: those of `load`, with the past
-    /// initial key serial numbers followed by the present one. Refused as `check_reload` says.
+    /// The registers of a terminal that is given another initial key: those of `load`, with the
+    /// past initial key serial numbers followed by the present one. Refused as `check_reload` says.
     #[tactic(auto, using(crate::proofs::PastIksns::different_push))]
     pub fn reload(&self, initial: Key<16>, iksn: Iksn) -> Result<Registers, ReloadFault>
         ensures iksn_spent { (result ≡ Err ReloadFault.IksnSpent) ↔ IsSpentIksn iksn self.now }
@@ -109,7 +109,7 @@ impl Registers {
         ensures iksn { result.iksn ≡ iksn }
         ensures counter { result.counter ≡ 1 }
         ensures past { result.past ≡ past }
-        ensures stands { StandsFor initial.now result }
+        ensures future_keys { AreFutureKeysOf initial.now result }
         ensures set { IsRegisterSet result }
     {
         laws::first();
@@ -146,10 +146,10 @@ impl Registers {
         ensures serial { IfOk result
             (λ taken. taken.1 ≡ record { iksn = self.iksn; counter = self.counter }) }
         ensures taken { IfOk result (λ taken. IsTaken self taken.0 taken.2) }
-        ensures stands { (initial : List ℕ) → StandsFor initial self
+        ensures future_keys { (initial : List ℕ) → AreFutureKeysOf initial self
             → IfOk result
             (λ taken. (taken.0 ≡ transaction_key_of initial self.iksn self.counter)
-            × StandsFor initial taken.2) }
+            × AreFutureKeysOf initial taken.2) }
     {
         let mut left = self;
         match left.use_next() {
@@ -168,10 +168,10 @@ impl Registers {
         ensures serial { IfSome result
             (λ taken. taken.1 ≡ record { iksn = self.old.iksn; counter = self.old.counter }) }
         ensures taken { IfSome result (λ taken. IsTaken self.old taken.0 self.new) }
-        ensures stands { (initial : List ℕ) → StandsFor initial self.old
+        ensures future_keys { (initial : List ℕ) → AreFutureKeysOf initial self.old
             → IfSome result
             (λ taken. (taken.0 ≡ transaction_key_of initial self.old.iksn self.old.counter)
-            × StandsFor initial self.new) }
+            × AreFutureKeysOf initial self.new) }
     {
         duk_tree::laws::bits();
         laws::transactions();

@@ -8,7 +8,7 @@ use Rattle.duk_config.specs.NewHost.{new_host_of}
 use Rattle.duk_config.specs.Settings.{Settings}
 use Rattle.duk_host.specs.Host.{HostOf}
 use Rattle.duk_host.specs.Table.{CardTable, table_decision}
-use Rattle.duk_net.specs.Calm.{FailsOnceArmed, HasSoundCell, HasSoundStores, IsBroughtUp, IsCalmAt, IsRestart, TellsNoDamage}
+use Rattle.duk_net.specs.Calm.{FailsOnceArmed, HasSoundCell, HasSoundStores, ReportsBroughtUp, IsCalmAt, IsRestartEvent, ReportsNoDamage}
 use Rattle.duk_net.specs.First.{IsNewHost, IsNewTerminal, first_world}
 use Rattle.duk_net.specs.Reached.{CallLeads, Reached}
 use Rattle.duk_net.specs.Run.{IsRun, Run}
@@ -22,7 +22,7 @@ use Rattle.duk_store.specs.Cell.{CellMeaning}
 use Rattle.duk_store.specs.Log.{LogMeaning}
 use Rattle.duk_store.specs.StoreState.{IsNew}
 use Rattle.duk_term.specs.Terminal.{TerminalOf}
-use Rattle.duk_script.specs.Opening.{HasNewCell, IsOpened, StartsCalm, new_world_of, opening}
+use Rattle.duk_script.specs.Opening.{HasNewCell, AreEndsBroughtUp, StartsCalm, new_world_of, opening}
 use Rattle.duk_script.specs.Play.{ArePlayedIn}
 
 -- terminals over new cells are newly made
@@ -68,19 +68,20 @@ count_made {C} {L} {I} host loading terminals world count terminal terminals_are
     ap (λ (w : WorldOf C L I). length w.terminals) world_is ∙ ap (λ (list : List (TerminalOf C)). length list) terminals_are ∙ length-replicate count terminal
 
 -- the opening restarts ends that are there
-restarts_are : {C L I : Type 0} (first : WorldOf C L I) (count : ℕ) → count ≤ length first.terminals → All (IsRestart first) (opening count)
-restarts_are first zero fits = All-cons (IsRestart first) RestartHost [] tt (All-nil (IsRestart first))
+restarts_are : {C L I : Type 0} (first : WorldOf C L I) (count : ℕ) → count ≤ length first.terminals → All (IsRestartEvent first) (opening count)
+restarts_are first zero fits = All-cons (IsRestartEvent first) RestartHost [] tt (All-nil (IsRestartEvent first))
 restarts_are first (suc count) fits =
-    All-push (IsRestart first) (opening count) (RestartTerm (count + 1)) (restarts_are first count (omega (arith, fits))) (record { place = count; number_is = refl; within = omega (arith, fits) })
+    All-push (IsRestartEvent first) (opening count) (RestartTerm (count + 1)) (restarts_are first count (omega (arith, fits))) (record { place = count; number_is = refl; within = omega (arith, fits) })
 
--- what the restarts of the ends that are there do in a world that was reached, with sound and calm stores
+-- what the restarts of the ends that are there do in a world that was reached, with sound and calm
+-- stores
 abbrev pub BringUp : {C L I : Type 0} → Meanings C L I → Type 0
 BringUp {C} {L} {I} m = (old new : WorldOf C L I) (events : List Event) (outcomes : List Outcome) → Reached m old → HasSoundStores m old → ((end : End) → IsCalmAt m old end)
-    → All (IsRestart old) events → Run m old events outcomes new → All IsBroughtUp outcomes
+    → All (IsRestartEvent old) events → Run m old events outcomes new → All ReportsBroughtUp outcomes
 
 -- all ends of a first world with calm stores are brought up
 pub brings_up : {C L I : Type 0} (m : Meanings C L I) (first opened : WorldOf C L I) (outcomes : List Outcome) → BringUp m → StartsCalm m first
-    → Run m first (opening (length first.terminals)) outcomes opened → IsOpened m first opened
+    → Run m first (opening (length first.terminals)) outcomes opened → AreEndsBroughtUp m first opened
 brings_up m first opened outcomes up starts run =
     let there = restarts_are first (length first.terminals) (omega arith) in
     let reached : Reached m first = (0, starts.is_first) in
@@ -92,7 +93,7 @@ brings_up m first opened outcomes up starts run =
 
 -- and so they are by a run of so many restarts as it has ends
 pub brought_up : {C L I : Type 0} (m : Meanings C L I) (first opened : WorldOf C L I) (count : ℕ) (events : List Event) (before after : List Outcome) → BringUp m
-    → StartsCalm m first → length first.terminals ≡ count → events ≡ opening count → IsRun m first events before after opened → IsOpened m first opened
+    → StartsCalm m first → length first.terminals ≡ count → events ≡ opening count → IsRun m first events before after opened → AreEndsBroughtUp m first opened
 brought_up m first opened count events before after up starts counted events_are run =
     brings_up m first opened run.outcomes up starts (subst (λ list. Run m first list run.outcomes opened) (events_are ∙ ap opening (sym counted)) run.run)
 
@@ -101,8 +102,8 @@ pub record CallLaws {C L I : Type 0} (m : Meanings C L I) : Type 0 where
   pub reached : (old new : WorldOf C L I) (outcomes : List Outcome) → Reached m old → CallLeads m old outcomes new → Reached m new
   pub sound : (old new : WorldOf C L I) (events : List Event) (outcomes : List Outcome) → Reached m old → HasSoundStores m old → Run m old events outcomes new → HasSoundStores m new
   pub calm : (old new : WorldOf C L I) (events : List Event) (outcomes : List Outcome) → Reached m old → HasSoundStores m old → ((end : End) → IsCalmAt m old end)
-      → All (IsRestart old) events → Run m old events outcomes new → (end : End) → IsCalmAt m new end
-  pub no_damage : (old new : WorldOf C L I) (outcomes : List Outcome) → Reached m old → HasSoundStores m old → CallLeads m old outcomes new → All TellsNoDamage outcomes
+      → All (IsRestartEvent old) events → Run m old events outcomes new → (end : End) → IsCalmAt m new end
+  pub no_damage : (old new : WorldOf C L I) (outcomes : List Outcome) → Reached m old → HasSoundStores m old → CallLeads m old outcomes new → All ReportsNoDamage outcomes
   pub once_armed : (end : End) (old new : WorldOf C L I) (outcomes : List Outcome) → Reached m old → IsCalmAt m old end → CallLeads m old outcomes new → FailsOnceArmed end outcomes
 
 -- a run is how a call leads that was refused no memory
@@ -118,9 +119,9 @@ module _ {C L I : Type 0} (m : Meanings C L I) (first : WorldOf C L I) (events :
   start_reached : Reached m played.start
   start_reached = laws.reached first played.start _ first_reached (leads_of m first played.start _ _ played.opened.restarted)
 
-  -- no outcome of a script's events tells that a store is damaged
-  pub tells_no_damage : All TellsNoDamage outcomes
-  tells_no_damage =
+  -- no outcome of a script's events reports that a store is damaged
+  pub reports_no_damage : All ReportsNoDamage outcomes
+  reports_no_damage =
       let sound = laws.sound first played.start _ _ first_reached played.starts.sound played.opened.restarted in
       laws.no_damage played.start played.last outcomes start_reached sound (leads_of m played.start played.last events outcomes played.run)
 

@@ -1,4 +1,4 @@
--- The line of a command: the words behind it.
+-- The line of a command: the tokens after it.
 use Rattle.std.proofs.Common.{◌≡◌, ℕ, List, [], ◌∷◌, ◌++◌, ◌≢◌, drop, codes, decimal, Option, Some, sym, ap, ◌∙◌, refl, true, false, not, eqb, arith}
 use Rattle.std.proofs.lemmas.Bool.{eqb-false, false≢true}
 use Rattle.std.proofs.lemmas.List.Sums.{AllPass-from_list_all}
@@ -8,37 +8,37 @@ use Rattle.duk_net.specs.declared.event.End.{End}
 use Rattle.duk_net.specs.declared.event.Event.{Event}
 use Rattle.duk_net.specs.declared.event.Event.TheVariants.{Load, Begin, Up, Down, RestartTerm, RestartHost, Arm}
 use Rattle.duk_script.specs.Script.{IsNumber, IsTerminal, IsLoad, IsBegin, IsDown, IsArm, IsEventLine, terminal_name, spaced}
-use Rattle.duk_script.specs.Reading.{AreLoadWords, AreBeginWords, AreDownWords, AreArmWords, HasNoSpace, IsSplit}
-use Rattle.duk_script.proofs.LineWords.{no_space_terminal, no_space_end, no_space_decimal}
+use Rattle.duk_script.specs.Reading.{AreLoadTokens, AreBeginTokens, AreDownTokens, AreArmTokens, HasNoSpace, IsSplit}
+use Rattle.duk_script.proofs.LineTokens.{no_space_terminal, no_space_end, no_space_decimal}
 
-load_words : (line words : List ℕ) (t iksn : ℕ) → IsSplit line (codes "load") words → IsLoad line t iksn → AreLoadWords words t iksn
-load_words line words t iksn split is = record {
+load_tokens : (line tokens : List ℕ) (t iksn : ℕ) → IsSplit line (codes "load") tokens → IsLoad line t iksn → AreLoadTokens tokens t iksn
+load_tokens line tokens t iksn split is = record {
   terminal = is.terminal;
   text = is.text;
   spelled = is.spelled;
-  split = record { one_word = no_space_terminal t is.terminal; text_is = ap (drop 5) (sym split.text_is ∙ is.line_is) };
+  split = record { one_token = no_space_terminal t is.terminal; text_is = ap (drop 5) (sym split.text_is ∙ is.line_is) };
 }
 
-begin_words : (line words : List ℕ) (t : ℕ) (purchase : Purchase) → IsSplit line (codes "begin") words → IsBegin line t purchase → AreBeginWords words t purchase
-begin_words line words t purchase split is = record {
+begin_tokens : (line tokens : List ℕ) (t : ℕ) (purchase : Purchase) → IsSplit line (codes "begin") tokens → IsBegin line t purchase → AreBeginTokens tokens t purchase
+begin_tokens line tokens t purchase split is = record {
   terminal = is.terminal;
   text = spaced (purchase.pan ∷ purchase.pin ∷ decimal purchase.amount ∷ []);
   bought = record { pan = is.pan; pin = is.pin; amount = is.amount; text_is = refl };
-  split = record { one_word = no_space_terminal t is.terminal; text_is = ap (drop 6) (sym split.text_is ∙ is.line_is) };
+  split = record { one_token = no_space_terminal t is.terminal; text_is = ap (drop 6) (sym split.text_is ∙ is.line_is) };
 }
 
-down_words : (line words : List ℕ) (k t : ℕ) → IsSplit line (codes "down") words → IsDown line k t → AreDownWords words k t
-down_words line words k t split is = record {
+down_tokens : (line tokens : List ℕ) (k t : ℕ) → IsSplit line (codes "down") tokens → IsDown line k t → AreDownTokens tokens k t
+down_tokens line tokens k t split is = record {
   number = is.number;
   terminal = is.terminal;
-  split = record { one_word = no_space_decimal k (omega (arith, is.number)); text_is = ap (drop 5) (sym split.text_is ∙ is.line_is) };
+  split = record { one_token = no_space_decimal k (omega (arith, is.number)); text_is = ap (drop 5) (sym split.text_is ∙ is.line_is) };
 }
 
-arm_words : (line words : List ℕ) (end : End) (n : ℕ) → IsSplit line (codes "arm") words → IsArm line end n → AreArmWords words end n
-arm_words line words end n split is = record {
+arm_tokens : (line tokens : List ℕ) (end : End) (n : ℕ) → IsSplit line (codes "arm") tokens → IsArm line end n → AreArmTokens tokens end n
+arm_tokens line tokens end n split is = record {
   named = is.named;
   number = is.number;
-  split = record { one_word = no_space_end end is.named; text_is = ap (drop 4) (sym split.text_is ∙ is.line_is) };
+  split = record { one_token = no_space_end end is.named; text_is = ap (drop 4) (sym split.text_is ∙ is.line_is) };
 }
 
 -- the first byte of a list
@@ -51,77 +51,77 @@ apart : {A : Type 0} (a b : ℕ) → a ≡ b → eqb a b ≡ false → A
 apart a b e other = absurd (omega (arith, eqb-false a b other, e))
 
 -- the event of a line that begins with this command
-pub load_every : (line words : List ℕ) (read : Option Event) → IsSplit line (codes "load") words
-    → ((t iksn : ℕ) → AreLoadWords words t iksn → read ≡ Some (Load t iksn))
+pub load_every : (line tokens : List ℕ) (read : Option Event) → IsSplit line (codes "load") tokens
+    → ((t iksn : ℕ) → AreLoadTokens tokens t iksn → read ≡ Some (Load t iksn))
     → (event : Event) → IsEventLine line event → read ≡ Some event
-load_every line words read split every (Load t iksn) is = every t iksn (load_words line words t iksn split is)
-load_every line words read split every (Begin t purchase) is = apart 108 98 (ap first_byte (sym split.text_is ∙ is.line_is)) refl
-load_every line words read split every (Up k) is = apart 108 117 (ap first_byte (sym split.text_is ∙ is.line_is)) refl
-load_every line words read split every (Down k t) is = apart 108 100 (ap first_byte (sym split.text_is ∙ is.line_is)) refl
-load_every line words read split every (RestartTerm t) is = apart 108 114 (ap first_byte (sym split.text_is ∙ is.line_is)) refl
-load_every line words read split every RestartHost is = apart 108 114 (ap first_byte (sym split.text_is ∙ is.line_is)) refl
-load_every line words read split every (Arm end n) is = apart 108 97 (ap first_byte (sym split.text_is ∙ is.line_is)) refl
+load_every line tokens read split every (Load t iksn) is = every t iksn (load_tokens line tokens t iksn split is)
+load_every line tokens read split every (Begin t purchase) is = apart 108 98 (ap first_byte (sym split.text_is ∙ is.line_is)) refl
+load_every line tokens read split every (Up k) is = apart 108 117 (ap first_byte (sym split.text_is ∙ is.line_is)) refl
+load_every line tokens read split every (Down k t) is = apart 108 100 (ap first_byte (sym split.text_is ∙ is.line_is)) refl
+load_every line tokens read split every (RestartTerm t) is = apart 108 114 (ap first_byte (sym split.text_is ∙ is.line_is)) refl
+load_every line tokens read split every RestartHost is = apart 108 114 (ap first_byte (sym split.text_is ∙ is.line_is)) refl
+load_every line tokens read split every (Arm end n) is = apart 108 97 (ap first_byte (sym split.text_is ∙ is.line_is)) refl
 
 -- the event of a line that begins with this command
-pub begin_every : (line words : List ℕ) (read : Option Event) → IsSplit line (codes "begin") words
-    → ((t : ℕ) (purchase : Purchase) → AreBeginWords words t purchase → read ≡ Some (Begin t purchase))
+pub begin_every : (line tokens : List ℕ) (read : Option Event) → IsSplit line (codes "begin") tokens
+    → ((t : ℕ) (purchase : Purchase) → AreBeginTokens tokens t purchase → read ≡ Some (Begin t purchase))
     → (event : Event) → IsEventLine line event → read ≡ Some event
-begin_every line words read split every (Load t iksn) is = apart 98 108 (ap first_byte (sym split.text_is ∙ is.line_is)) refl
-begin_every line words read split every (Begin t purchase) is = every t purchase (begin_words line words t purchase split is)
-begin_every line words read split every (Up k) is = apart 98 117 (ap first_byte (sym split.text_is ∙ is.line_is)) refl
-begin_every line words read split every (Down k t) is = apart 98 100 (ap first_byte (sym split.text_is ∙ is.line_is)) refl
-begin_every line words read split every (RestartTerm t) is = apart 98 114 (ap first_byte (sym split.text_is ∙ is.line_is)) refl
-begin_every line words read split every RestartHost is = apart 98 114 (ap first_byte (sym split.text_is ∙ is.line_is)) refl
-begin_every line words read split every (Arm end n) is = apart 98 97 (ap first_byte (sym split.text_is ∙ is.line_is)) refl
+begin_every line tokens read split every (Load t iksn) is = apart 98 108 (ap first_byte (sym split.text_is ∙ is.line_is)) refl
+begin_every line tokens read split every (Begin t purchase) is = every t purchase (begin_tokens line tokens t purchase split is)
+begin_every line tokens read split every (Up k) is = apart 98 117 (ap first_byte (sym split.text_is ∙ is.line_is)) refl
+begin_every line tokens read split every (Down k t) is = apart 98 100 (ap first_byte (sym split.text_is ∙ is.line_is)) refl
+begin_every line tokens read split every (RestartTerm t) is = apart 98 114 (ap first_byte (sym split.text_is ∙ is.line_is)) refl
+begin_every line tokens read split every RestartHost is = apart 98 114 (ap first_byte (sym split.text_is ∙ is.line_is)) refl
+begin_every line tokens read split every (Arm end n) is = apart 98 97 (ap first_byte (sym split.text_is ∙ is.line_is)) refl
 
 -- the event of a line that begins with this command
-pub up_every : (line words : List ℕ) (read : Option Event) → IsSplit line (codes "up") words
-    → ((k : ℕ) → IsNumber k → words ≡ decimal k → read ≡ Some (Up k))
+pub up_every : (line tokens : List ℕ) (read : Option Event) → IsSplit line (codes "up") tokens
+    → ((k : ℕ) → IsNumber k → tokens ≡ decimal k → read ≡ Some (Up k))
     → (event : Event) → IsEventLine line event → read ≡ Some event
-up_every line words read split every (Load t iksn) is = apart 117 108 (ap first_byte (sym split.text_is ∙ is.line_is)) refl
-up_every line words read split every (Begin t purchase) is = apart 117 98 (ap first_byte (sym split.text_is ∙ is.line_is)) refl
-up_every line words read split every (Up k) is = every k is.number (ap (drop 3) (sym split.text_is ∙ is.line_is))
-up_every line words read split every (Down k t) is = apart 117 100 (ap first_byte (sym split.text_is ∙ is.line_is)) refl
-up_every line words read split every (RestartTerm t) is = apart 117 114 (ap first_byte (sym split.text_is ∙ is.line_is)) refl
-up_every line words read split every RestartHost is = apart 117 114 (ap first_byte (sym split.text_is ∙ is.line_is)) refl
-up_every line words read split every (Arm end n) is = apart 117 97 (ap first_byte (sym split.text_is ∙ is.line_is)) refl
+up_every line tokens read split every (Load t iksn) is = apart 117 108 (ap first_byte (sym split.text_is ∙ is.line_is)) refl
+up_every line tokens read split every (Begin t purchase) is = apart 117 98 (ap first_byte (sym split.text_is ∙ is.line_is)) refl
+up_every line tokens read split every (Up k) is = every k is.number (ap (drop 3) (sym split.text_is ∙ is.line_is))
+up_every line tokens read split every (Down k t) is = apart 117 100 (ap first_byte (sym split.text_is ∙ is.line_is)) refl
+up_every line tokens read split every (RestartTerm t) is = apart 117 114 (ap first_byte (sym split.text_is ∙ is.line_is)) refl
+up_every line tokens read split every RestartHost is = apart 117 114 (ap first_byte (sym split.text_is ∙ is.line_is)) refl
+up_every line tokens read split every (Arm end n) is = apart 117 97 (ap first_byte (sym split.text_is ∙ is.line_is)) refl
 
 -- the event of a line that begins with this command
-pub down_every : (line words : List ℕ) (read : Option Event) → IsSplit line (codes "down") words
-    → ((k t : ℕ) → AreDownWords words k t → read ≡ Some (Down k t))
+pub down_every : (line tokens : List ℕ) (read : Option Event) → IsSplit line (codes "down") tokens
+    → ((k t : ℕ) → AreDownTokens tokens k t → read ≡ Some (Down k t))
     → (event : Event) → IsEventLine line event → read ≡ Some event
-down_every line words read split every (Load t iksn) is = apart 100 108 (ap first_byte (sym split.text_is ∙ is.line_is)) refl
-down_every line words read split every (Begin t purchase) is = apart 100 98 (ap first_byte (sym split.text_is ∙ is.line_is)) refl
-down_every line words read split every (Up k) is = apart 100 117 (ap first_byte (sym split.text_is ∙ is.line_is)) refl
-down_every line words read split every (Down k t) is = every k t (down_words line words k t split is)
-down_every line words read split every (RestartTerm t) is = apart 100 114 (ap first_byte (sym split.text_is ∙ is.line_is)) refl
-down_every line words read split every RestartHost is = apart 100 114 (ap first_byte (sym split.text_is ∙ is.line_is)) refl
-down_every line words read split every (Arm end n) is = apart 100 97 (ap first_byte (sym split.text_is ∙ is.line_is)) refl
+down_every line tokens read split every (Load t iksn) is = apart 100 108 (ap first_byte (sym split.text_is ∙ is.line_is)) refl
+down_every line tokens read split every (Begin t purchase) is = apart 100 98 (ap first_byte (sym split.text_is ∙ is.line_is)) refl
+down_every line tokens read split every (Up k) is = apart 100 117 (ap first_byte (sym split.text_is ∙ is.line_is)) refl
+down_every line tokens read split every (Down k t) is = every k t (down_tokens line tokens k t split is)
+down_every line tokens read split every (RestartTerm t) is = apart 100 114 (ap first_byte (sym split.text_is ∙ is.line_is)) refl
+down_every line tokens read split every RestartHost is = apart 100 114 (ap first_byte (sym split.text_is ∙ is.line_is)) refl
+down_every line tokens read split every (Arm end n) is = apart 100 97 (ap first_byte (sym split.text_is ∙ is.line_is)) refl
 
 -- the events of a line that begins with this command
-pub restart_every : (line words : List ℕ) (read : Option Event) → IsSplit line (codes "restart") words
-    → (words ≡ codes "host" → read ≡ Some RestartHost)
-    → ((t : ℕ) → IsTerminal t → words ≡ terminal_name t → read ≡ Some (RestartTerm t))
+pub restart_every : (line tokens : List ℕ) (read : Option Event) → IsSplit line (codes "restart") tokens
+    → (tokens ≡ codes "host" → read ≡ Some RestartHost)
+    → ((t : ℕ) → IsTerminal t → tokens ≡ terminal_name t → read ≡ Some (RestartTerm t))
     → (event : Event) → IsEventLine line event → read ≡ Some event
-restart_every line words read split host terminal (Load t iksn) is = apart 114 108 (ap first_byte (sym split.text_is ∙ is.line_is)) refl
-restart_every line words read split host terminal (Begin t purchase) is = apart 114 98 (ap first_byte (sym split.text_is ∙ is.line_is)) refl
-restart_every line words read split host terminal (Up k) is = apart 114 117 (ap first_byte (sym split.text_is ∙ is.line_is)) refl
-restart_every line words read split host terminal (Down k t) is = apart 114 100 (ap first_byte (sym split.text_is ∙ is.line_is)) refl
-restart_every line words read split host terminal (RestartTerm t) is = terminal t is.named (ap (drop 8) (sym split.text_is ∙ is.line_is))
-restart_every line words read split host terminal RestartHost is = host (ap (drop 8) (sym split.text_is ∙ is.line_is))
-restart_every line words read split host terminal (Arm end n) is = apart 114 97 (ap first_byte (sym split.text_is ∙ is.line_is)) refl
+restart_every line tokens read split host terminal (Load t iksn) is = apart 114 108 (ap first_byte (sym split.text_is ∙ is.line_is)) refl
+restart_every line tokens read split host terminal (Begin t purchase) is = apart 114 98 (ap first_byte (sym split.text_is ∙ is.line_is)) refl
+restart_every line tokens read split host terminal (Up k) is = apart 114 117 (ap first_byte (sym split.text_is ∙ is.line_is)) refl
+restart_every line tokens read split host terminal (Down k t) is = apart 114 100 (ap first_byte (sym split.text_is ∙ is.line_is)) refl
+restart_every line tokens read split host terminal (RestartTerm t) is = terminal t is.named (ap (drop 8) (sym split.text_is ∙ is.line_is))
+restart_every line tokens read split host terminal RestartHost is = host (ap (drop 8) (sym split.text_is ∙ is.line_is))
+restart_every line tokens read split host terminal (Arm end n) is = apart 114 97 (ap first_byte (sym split.text_is ∙ is.line_is)) refl
 
 -- the event of a line that begins with this command
-pub arm_every : (line words : List ℕ) (read : Option Event) → IsSplit line (codes "arm") words
-    → ((end : End) (n : ℕ) → AreArmWords words end n → read ≡ Some (Arm end n))
+pub arm_every : (line tokens : List ℕ) (read : Option Event) → IsSplit line (codes "arm") tokens
+    → ((end : End) (n : ℕ) → AreArmTokens tokens end n → read ≡ Some (Arm end n))
     → (event : Event) → IsEventLine line event → read ≡ Some event
-arm_every line words read split every (Load t iksn) is = apart 97 108 (ap first_byte (sym split.text_is ∙ is.line_is)) refl
-arm_every line words read split every (Begin t purchase) is = apart 97 98 (ap first_byte (sym split.text_is ∙ is.line_is)) refl
-arm_every line words read split every (Up k) is = apart 97 117 (ap first_byte (sym split.text_is ∙ is.line_is)) refl
-arm_every line words read split every (Down k t) is = apart 97 100 (ap first_byte (sym split.text_is ∙ is.line_is)) refl
-arm_every line words read split every (RestartTerm t) is = apart 97 114 (ap first_byte (sym split.text_is ∙ is.line_is)) refl
-arm_every line words read split every RestartHost is = apart 97 114 (ap first_byte (sym split.text_is ∙ is.line_is)) refl
-arm_every line words read split every (Arm end n) is = every end n (arm_words line words end n split is)
+arm_every line tokens read split every (Load t iksn) is = apart 97 108 (ap first_byte (sym split.text_is ∙ is.line_is)) refl
+arm_every line tokens read split every (Begin t purchase) is = apart 97 98 (ap first_byte (sym split.text_is ∙ is.line_is)) refl
+arm_every line tokens read split every (Up k) is = apart 97 117 (ap first_byte (sym split.text_is ∙ is.line_is)) refl
+arm_every line tokens read split every (Down k t) is = apart 97 100 (ap first_byte (sym split.text_is ∙ is.line_is)) refl
+arm_every line tokens read split every (RestartTerm t) is = apart 97 114 (ap first_byte (sym split.text_is ∙ is.line_is)) refl
+arm_every line tokens read split every RestartHost is = apart 97 114 (ap first_byte (sym split.text_is ∙ is.line_is)) refl
+arm_every line tokens read split every (Arm end n) is = every end n (arm_tokens line tokens end n split is)
 
 -- the command of an event
 abbrev pub command_of : Event → List ℕ
@@ -133,20 +133,20 @@ command_of (RestartTerm t) = codes "restart"
 command_of RestartHost = codes "restart"
 command_of (Arm end n) = codes "arm"
 
--- a word without a space, by its bytes
-no_space_in : (word : List ℕ) → list_all (λ byte. not (eqb byte 32)) word ≡ true → HasNoSpace word
-no_space_in word none i inside = λ space.
-    absurd (false≢true (rw space at (AllPass-from_list_all (λ byte. not (eqb byte 32)) word none i 0 inside)))
+-- a token without a space, by its bytes
+no_space_in : (token : List ℕ) → list_all (λ byte. not (eqb byte 32)) token ≡ true → HasNoSpace token
+no_space_in token none i inside = λ space.
+    absurd (false≢true (rw space at (AllPass-from_list_all (λ byte. not (eqb byte 32)) token none i 0 inside)))
 
--- what stands behind it on its line
+-- what stands after it on its line
 pub command_split : (line : List ℕ) (event : Event) → IsEventLine line event → (rest : List ℕ) × IsSplit line (command_of event) rest
-command_split line (Load t iksn) is = (drop 5 line, record { one_word = no_space_in (codes "load") refl; text_is = is.line_is ∙ ap (λ l. codes "load " ++ drop 5 l) (sym is.line_is) })
-command_split line (Begin t purchase) is = (drop 6 line, record { one_word = no_space_in (codes "begin") refl; text_is = is.line_is ∙ ap (λ l. codes "begin " ++ drop 6 l) (sym is.line_is) })
-command_split line (Up k) is = (drop 3 line, record { one_word = no_space_in (codes "up") refl; text_is = is.line_is ∙ ap (λ l. codes "up " ++ drop 3 l) (sym is.line_is) })
-command_split line (Down k t) is = (drop 5 line, record { one_word = no_space_in (codes "down") refl; text_is = is.line_is ∙ ap (λ l. codes "down " ++ drop 5 l) (sym is.line_is) })
-command_split line (RestartTerm t) is = (drop 8 line, record { one_word = no_space_in (codes "restart") refl; text_is = is.line_is ∙ ap (λ l. codes "restart " ++ drop 8 l) (sym is.line_is) })
-command_split line RestartHost is = (drop 8 line, record { one_word = no_space_in (codes "restart") refl; text_is = is.line_is ∙ ap (λ l. codes "restart " ++ drop 8 l) (sym is.line_is) })
-command_split line (Arm end n) is = (drop 4 line, record { one_word = no_space_in (codes "arm") refl; text_is = is.line_is ∙ ap (λ l. codes "arm " ++ drop 4 l) (sym is.line_is) })
+command_split line (Load t iksn) is = (drop 5 line, record { one_token = no_space_in (codes "load") refl; text_is = is.line_is ∙ ap (λ l. codes "load " ++ drop 5 l) (sym is.line_is) })
+command_split line (Begin t purchase) is = (drop 6 line, record { one_token = no_space_in (codes "begin") refl; text_is = is.line_is ∙ ap (λ l. codes "begin " ++ drop 6 l) (sym is.line_is) })
+command_split line (Up k) is = (drop 3 line, record { one_token = no_space_in (codes "up") refl; text_is = is.line_is ∙ ap (λ l. codes "up " ++ drop 3 l) (sym is.line_is) })
+command_split line (Down k t) is = (drop 5 line, record { one_token = no_space_in (codes "down") refl; text_is = is.line_is ∙ ap (λ l. codes "down " ++ drop 5 l) (sym is.line_is) })
+command_split line (RestartTerm t) is = (drop 8 line, record { one_token = no_space_in (codes "restart") refl; text_is = is.line_is ∙ ap (λ l. codes "restart " ++ drop 8 l) (sym is.line_is) })
+command_split line RestartHost is = (drop 8 line, record { one_token = no_space_in (codes "restart") refl; text_is = is.line_is ∙ ap (λ l. codes "restart " ++ drop 8 l) (sym is.line_is) })
+command_split line (Arm end n) is = (drop 4 line, record { one_token = no_space_in (codes "arm") refl; text_is = is.line_is ∙ ap (λ l. codes "arm " ++ drop 4 l) (sym is.line_is) })
 
 -- no event has another command
 pub unknown : {A : Type 0} (command : List ℕ) → command ≢ codes "load" → command ≢ codes "begin" → command ≢ codes "up" → command ≢ codes "down"

@@ -18,7 +18,7 @@ use Rattle.duk_net.specs.declared.event.Event.{Event}
 use Rattle.duk_net.specs.declared.event.Event.TheVariants.{Load, Begin, Up, Down, RestartTerm, RestartHost, Arm}
 use Rattle.duk_script.specs.Script.{IsTerminal, IsEnd, IsEventLine, terminal_name, end_name}
 
--- two words, with a space between
+-- two tokens, with a space between
 spaced_two : (a b : List ℕ) → IsAscii a → IsAscii b → IsAscii (a ++ 32 ∷ b)
 spaced_two a b first second = IsAscii-append a (32 ∷ b) first (IsAscii-cons 32 b (omega arith) second)
 

@@ -1,10 +1,10 @@
-mod LineWords
+mod LineTokens
 mod CommandLines
 mod EventLinesAreAscii
 mod FirstLine
 mod ScriptLineByLine
 mod DecimalLengths
-mod SpacedWords
+mod SpacedTokens
 mod LinesInTurn
 mod ReadsInTurn
 mod PlayedScripts

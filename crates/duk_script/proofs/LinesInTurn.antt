@@ -24,7 +24,7 @@ lines_next outcomes place outcome within is =
     ∙ flat_map-append line_of (take place outcomes) (outcome ∷ [])
     ∙ ap (λ line. lines_of (take place outcomes) ++ line) (append-nil (line_of outcome))
 
--- one line more is held, behind what is left of those before
+-- one line more is held, after what is left of those before
 pub lines_more : (outcomes : List Outcome) (place : ℕ) (outcome : Outcome) (written held front left pushed : List ℕ)
     → place < length outcomes → outcome ≡ get_or outcomes place outcome
     → lines_of (take place outcomes) ≡ written ++ held → held ≡ front ++ left → pushed ≡ left ++ line_of outcome

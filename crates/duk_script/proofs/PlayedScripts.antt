@@ -11,7 +11,7 @@ use Rattle.duk_net.specs.declared.event.Event.{Event}
 use Rattle.duk_net.specs.declared.outcome.Outcome.{Outcome}
 use Rattle.duk_net.specs.declared.runs.NetFault.{NetFault}
 use Rattle.duk_net.specs.declared.runs.NetFault.TheVariants as net
-use Rattle.duk_script.specs.Opening.{IsOpened, StartsCalm}
+use Rattle.duk_script.specs.Opening.{AreEndsBroughtUp, StartsCalm}
 use Rattle.duk_script.specs.OutcomeText.{lines_of}
 use Rattle.duk_script.specs.Play.{ArePlayed, ArePlayedIn, ArePlayedInPart, ArePlayedOn, HaveOutcomes, IsPlayed, IsPlayedUpTo, PlayRefused, Playing}
 use Rattle.duk_script.specs.Script.{IsNoScript, IsScript}
@@ -82,7 +82,7 @@ module _ (fewer more : Playing) (follows : (events : List Event) (outcomes : Lis
   refused_too events old new fault.NoMemory cause = up_to_too events old new cause
 
 -- events that are done in a world whose ends were brought up are played
-pub played_from : {C L I : Type 0} (m : Meanings C L I) (first start : WorldOf C L I) → StartsCalm m first → IsOpened m first start
+pub played_from : {C L I : Type 0} (m : Meanings C L I) (first start : WorldOf C L I) → StartsCalm m first → AreEndsBroughtUp m first start
     → (events : List Event) (outcomes : List Outcome) → HaveOutcomes m start events outcomes → ArePlayedIn m first events outcomes
 played_from m first start starts opened events outcomes (last, run) = record { start = start; last = last; starts = starts; opened = opened; run = run }
 

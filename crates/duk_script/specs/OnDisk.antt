@@ -6,9 +6,9 @@ use Rattle.duk_store.specs.Cell.{CellMeaning}
 use Rattle.duk_store.specs.DiskLog.{DiskLogOf, disk_log_meaning, new_disk_log}
 use Rattle.duk_store.specs.Log.{LogMeaning}
 use Rattle.duk_store.specs.MemoryDisk.{MemoryDisk, memory_disk_meaning, new_disk}
-use Rattle.duk_store.specs.Records.{record_length}
+use Rattle.duk_store.specs.RecordFormat.{record_length}
 use Rattle.duk_store.specs.SlotCell.{SlotCellOf, new_slot_cell, slot_cell_meaning}
-use Rattle.duk_store.specs.Slots.{cell_disk_size}
+use Rattle.duk_store.specs.SlotFormat.{cell_disk_size}
 use Rattle.duk_term.specs.Terminal.{TerminalOf}
 use Rattle.duk_term.specs.declared.state.State.TheVariants.{Stopped}
 

@@ -3,8 +3,8 @@ use Rattle.std.specs.Prelude.{◌≡◌, ◌+◌, ◌++◌, ◌∷◌, zero, suc
 use Rattle.duk_config.specs.NewHost.{new_host_of}
 use Rattle.duk_config.specs.Settings.{Settings}
 use Rattle.duk_host.specs.Table.{CardTable}
-use Rattle.duk_net.specs.Calm.{HasSoundStores, IsBroughtUp, IsCalmAt}
-use Rattle.duk_net.specs.First.{IsFirst, first_world}
+use Rattle.duk_net.specs.Calm.{HasSoundStores, ReportsBroughtUp, IsCalmAt}
+use Rattle.duk_net.specs.First.{IsFirstWorld, first_world}
 use Rattle.duk_net.specs.Run.{Run}
 use Rattle.duk_net.specs.World.{Meanings, WorldOf}
 use Rattle.duk_net.specs.declared.event.End.{End}
@@ -35,13 +35,13 @@ opening (suc count) = opening count ++ RestartTerm (count + 1) ∷ []
 
 -- a world in which nothing happened yet, every store of which is honest, sound and calm
 pub record StartsCalm {C L I : Type 0} (m : Meanings C L I) (first : WorldOf C L I) : Type 0 where
-  pub is_first : IsFirst m first
+  pub is_first : IsFirstWorld m first
   pub sound : HasSoundStores m first
   pub calm : (end : End) → IsCalmAt m first end
 
 -- all ends of a first world are restarted, and each is brought up
-pub record IsOpened {C L I : Type 0} (m : Meanings C L I) (first opened : WorldOf C L I)
+pub record AreEndsBroughtUp {C L I : Type 0} (m : Meanings C L I) (first opened : WorldOf C L I)
     : Type 0 where
   pub outcomes : List Outcome
   pub restarted : Run m first (opening (length first.terminals)) outcomes opened
-  pub brought_up : All IsBroughtUp outcomes
+  pub brought_up : All ReportsBroughtUp outcomes

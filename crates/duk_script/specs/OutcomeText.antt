@@ -19,40 +19,40 @@ ksn_text ksn = encode_upper (serial_bytes ksn)
 abbrev pub iksn_text : ℕ → List ℕ
 iksn_text iksn = encode_upper (iksn_bytes iksn)
 
--- the words of a terminal's restart: which number it uses next
-abbrev pub next_words : Next → List (List ℕ)
-next_words (At ksn) = codes "next" ∷ ksn_text ksn ∷ []
-next_words Spent = codes "spent" ∷ []
-next_words Empty = codes "empty" ∷ []
-next_words Stopped = codes "stopped" ∷ []
+-- the tokens of a terminal's restart: which number it uses next
+abbrev pub next_tokens : Next → List (List ℕ)
+next_tokens (At ksn) = codes "next" ∷ ksn_text ksn ∷ []
+next_tokens Spent = codes "spent" ∷ []
+next_tokens Empty = codes "empty" ∷ []
+next_tokens Stopped = codes "stopped" ∷ []
 
--- the words of an outcome
-abbrev pub outcome_words : Outcome → List (List ℕ)
-outcome_words (Loaded t iksn) = terminal_name t ∷ codes "loaded" ∷ iksn_text iksn ∷ []
-outcome_words (Sent t k ksn) = terminal_name t ∷ codes "sent" ∷ decimal k ∷ ksn_text ksn ∷ []
-outcome_words (Accepted k ksn code) =
+-- the tokens of an outcome
+abbrev pub outcome_tokens : Outcome → List (List ℕ)
+outcome_tokens (Loaded t iksn) = terminal_name t ∷ codes "loaded" ∷ iksn_text iksn ∷ []
+outcome_tokens (Sent t k ksn) = terminal_name t ∷ codes "sent" ∷ decimal k ∷ ksn_text ksn ∷ []
+outcome_tokens (Accepted k ksn code) =
     codes "answer" ∷ decimal k ∷ codes "accepted" ∷ ksn_text ksn ∷ code_text code ∷ []
-outcome_words (Repeated k ksn code) =
+outcome_tokens (Repeated k ksn code) =
     codes "answer" ∷ decimal k ∷ codes "repeated" ∷ ksn_text ksn ∷ code_text code ∷ []
-outcome_words (Refused k ksn reason) =
+outcome_tokens (Refused k ksn reason) =
     codes "answer" ∷ decimal k ∷ codes "refused" ∷ ksn_text ksn ∷ decimal reason ∷ []
-outcome_words (Done t ksn code) =
+outcome_tokens (Done t ksn code) =
     terminal_name t ∷ codes "done" ∷ ksn_text ksn ∷ code_text code ∷ []
-outcome_words (GotRefusal t ksn reason) =
+outcome_tokens (GotRefusal t ksn reason) =
     terminal_name t ∷ codes "refused" ∷ ksn_text ksn ∷ decimal reason ∷ []
-outcome_words (TermNext t next) = terminal_name t ∷ next_words next
-outcome_words (HostUsed n) = codes "host" ∷ codes "used" ∷ decimal n ∷ []
-outcome_words (Armed end n) = end_name end ∷ codes "armed" ∷ decimal n ∷ []
-outcome_words (TermFaulted t fault) = terminal_name t ∷ codes "fault" ∷ term_fault_text fault ∷ []
-outcome_words (HostFaulted fault) = codes "host" ∷ codes "fault" ∷ host_fault_text fault ∷ []
-outcome_words (IksnElsewhere t) = terminal_name t ∷ codes "IKSN" ∷ codes "elsewhere" ∷ []
-outcome_words (NoKeySet t) = terminal_name t ∷ codes "no" ∷ codes "key" ∷ codes "set" ∷ []
-outcome_words NoSuchTerminal = codes "no" ∷ codes "such" ∷ codes "terminal" ∷ []
-outcome_words NoSuchFrame = codes "no" ∷ codes "such" ∷ codes "frame" ∷ []
+outcome_tokens (TermNext t next) = terminal_name t ∷ next_tokens next
+outcome_tokens (HostUsed n) = codes "host" ∷ codes "used" ∷ decimal n ∷ []
+outcome_tokens (Armed end n) = end_name end ∷ codes "armed" ∷ decimal n ∷ []
+outcome_tokens (TermFaulted t fault) = terminal_name t ∷ codes "fault" ∷ term_fault_text fault ∷ []
+outcome_tokens (HostFaulted fault) = codes "host" ∷ codes "fault" ∷ host_fault_text fault ∷ []
+outcome_tokens (IksnElsewhere t) = terminal_name t ∷ codes "IKSN" ∷ codes "elsewhere" ∷ []
+outcome_tokens (NoKeySet t) = terminal_name t ∷ codes "no" ∷ codes "key" ∷ codes "set" ∷ []
+outcome_tokens NoSuchTerminal = codes "no" ∷ codes "such" ∷ codes "terminal" ∷ []
+outcome_tokens NoSuchFrame = codes "no" ∷ codes "such" ∷ codes "frame" ∷ []
 
--- the line of an outcome: its words, with one space between each two, and LF
+-- the line of an outcome: its tokens, with one space between each two, and LF
 abbrev pub line_of : Outcome → List ℕ
-line_of outcome = spaced (outcome_words outcome) ++ codes "\n"
+line_of outcome = spaced (outcome_tokens outcome) ++ codes "\n"
 
 -- the lines of outcomes, one after the other
 abbrev pub lines_of : List Outcome → List ℕ

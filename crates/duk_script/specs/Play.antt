@@ -11,7 +11,7 @@ use Rattle.duk_net.specs.World.{Meanings, WorldOf}
 use Rattle.duk_net.specs.declared.event.Event.{Event}
 use Rattle.duk_net.specs.declared.outcome.Outcome.{Outcome}
 use Rattle.duk_script.specs.OnDisk.{DiskWorld, new_disk_terminal, new_log_on_disk, on_disk}
-use Rattle.duk_script.specs.Opening.{IsOpened, StartsCalm, new_world_of}
+use Rattle.duk_script.specs.Opening.{AreEndsBroughtUp, StartsCalm, new_world_of}
 use Rattle.duk_script.specs.OutcomeText.{lines_of}
 use Rattle.duk_store.specs.MemoryLog.{new_log}
 
@@ -23,7 +23,7 @@ pub record ArePlayedIn
   pub start : WorldOf C L I
   pub last : WorldOf C L I
   pub starts : StartsCalm m first
-  pub opened : IsOpened m first start
+  pub opened : AreEndsBroughtUp m first start
   pub run : Run m start events outcomes last
 
 -- events have these outcomes from a world on

@@ -10,17 +10,17 @@ use Rattle.duk_script.specs.Script.{IsNumber, IsTerminal, IsEnd, IsQuiet, IsEven
 
 -- no byte is a space
 abbrev pub HasNoSpace : List ℕ → Type 0
-HasNoSpace word = EachIndex word (λ i. slice_index word i ≢ 32)
+HasNoSpace token = EachIndex token (λ i. slice_index token i ≢ 32)
 
--- the text is the word, a space and the rest
-pub record IsSplit (text word rest : List ℕ) : Type 0 where
-  pub one_word : HasNoSpace word
-  pub text_is : text ≡ word ++ 32 ∷ rest
+-- the text is the token, a space and the rest
+pub record IsSplit (text token rest : List ℕ) : Type 0 where
+  pub one_token : HasNoSpace token
+  pub text_is : text ≡ token ++ 32 ∷ rest
 
 -- neither a plus sign nor a leading zero
-pub record IsPlain (word : List ℕ) : Type 0 where
-  pub unsigned : slice_index word 0 ≢ 43
-  pub no_leading_zero : slice_index word 0 ≡ 48 → length word ≡ 1
+pub record IsPlainNumber (token : List ℕ) : Type 0 where
+  pub unsigned : slice_index token 0 ≢ 43
+  pub no_leading_zero : slice_index token 0 ≡ 48 → length token ≡ 1
 
 -- `PAN PIN AMOUNT`
 pub record IsPurchase (text : List ℕ) (purchase : Purchase) : Type 0 where
@@ -30,30 +30,30 @@ pub record IsPurchase (text : List ℕ) (purchase : Purchase) : Type 0 where
   pub text_is : text ≡ spaced (purchase.pan ∷ purchase.pin ∷ decimal purchase.amount ∷ [])
 
 -- `T IKSN`
-pub record AreLoadWords (words : List ℕ) (t iksn : ℕ) : Type 0 where
+pub record AreLoadTokens (tokens : List ℕ) (t iksn : ℕ) : Type 0 where
   pub terminal : IsTerminal t
   pub text : List ℕ
   pub spelled : iksn_of_text text ≡ Some iksn
-  pub split : IsSplit words (terminal_name t) text
+  pub split : IsSplit tokens (terminal_name t) text
 
 -- `T PAN PIN AMOUNT`
-pub record AreBeginWords (words : List ℕ) (t : ℕ) (purchase : Purchase) : Type 0 where
+pub record AreBeginTokens (tokens : List ℕ) (t : ℕ) (purchase : Purchase) : Type 0 where
   pub terminal : IsTerminal t
   pub text : List ℕ
   pub bought : IsPurchase text purchase
-  pub split : IsSplit words (terminal_name t) text
+  pub split : IsSplit tokens (terminal_name t) text
 
 -- `K T`
-pub record AreDownWords (words : List ℕ) (k t : ℕ) : Type 0 where
+pub record AreDownTokens (tokens : List ℕ) (k t : ℕ) : Type 0 where
   pub number : IsNumber k
   pub terminal : IsTerminal t
-  pub split : IsSplit words (decimal k) (terminal_name t)
+  pub split : IsSplit tokens (decimal k) (terminal_name t)
 
 -- `T N` and `host N`
-pub record AreArmWords (words : List ℕ) (end : End) (n : ℕ) : Type 0 where
+pub record AreArmTokens (tokens : List ℕ) (end : End) (n : ℕ) : Type 0 where
   pub named : IsEnd end
   pub number : IsNumber n
-  pub split : IsSplit words (end_name end) (decimal n)
+  pub split : IsSplit tokens (end_name end) (decimal n)
 
 -- the line is this event and no other
 pub record IsEventAlone (line : List ℕ) (event : Event) : Type 0 where

@@ -35,9 +35,9 @@ abbrev pub end_name : End → List ℕ
 end_name Host = codes "host"
 end_name (Term t) = terminal_name t
 
--- words, with one space between each two
+-- tokens, with one space between each two
 abbrev pub spaced : List (List ℕ) → List ℕ
-spaced words = join_with_byte 32 words
+spaced tokens = join_with_byte 32 tokens
 
 -- `load T IKSN`, with any text that spells the initial key serial number
 pub record IsLoad (line : List ℕ) (t iksn : ℕ) : Type 0 where
@@ -56,7 +56,7 @@ pub record IsBegin (line : List ℕ) (t : ℕ) (purchase : Purchase) : Type 0 wh
       ∷ decimal purchase.amount ∷ [])
 
 -- `up K`
-pub record IsUp (line : List ℕ) (k : ℕ) : Type 0 where
+pub record IsUpLine (line : List ℕ) (k : ℕ) : Type 0 where
   pub number : IsNumber k
   pub line_is : line ≡ spaced (codes "up" ∷ decimal k ∷ [])
 
@@ -67,7 +67,7 @@ pub record IsDown (line : List ℕ) (k t : ℕ) : Type 0 where
   pub line_is : line ≡ spaced (codes "down" ∷ decimal k ∷ terminal_name t ∷ [])
 
 -- `restart T` and `restart host`
-pub record IsRestart (line : List ℕ) (end : End) : Type 0 where
+pub record IsRestartLine (line : List ℕ) (end : End) : Type 0 where
   pub named : IsEnd end
   pub line_is : line ≡ spaced (codes "restart" ∷ end_name end ∷ [])
 
@@ -81,10 +81,10 @@ pub record IsArm (line : List ℕ) (end : End) (n : ℕ) : Type 0 where
 abbrev pub IsEventLine : List ℕ → Event → Type 0
 IsEventLine line (Load t iksn) = IsLoad line t iksn
 IsEventLine line (Begin t purchase) = IsBegin line t purchase
-IsEventLine line (Up k) = IsUp line k
+IsEventLine line (Up k) = IsUpLine line k
 IsEventLine line (Down k t) = IsDown line k t
-IsEventLine line (RestartTerm t) = IsRestart line (Term t)
-IsEventLine line RestartHost = IsRestart line Host
+IsEventLine line (RestartTerm t) = IsRestartLine line (Term t)
+IsEventLine line RestartHost = IsRestartLine line Host
 IsEventLine line (Arm end n) = IsArm line end n
 
 -- a line that says nothing: it is empty, or a comment, which begins with #

@@ -66,13 +66,13 @@ pub record IsRunDone (bytes : List ℕ) (s : Session) : Type 0 where
   pub done : IsScriptDone config text s.writer_before s.writer_after
 
 -- the configuration is refused: nothing is read of the script, and nothing is written
-pub record IsConfigRefused (bytes : List ℕ) (s : Session) (why : ScriptFault) : Type 0 where
+pub record IsConfigRefusedFirst (bytes : List ℕ) (s : Session) (why : ScriptFault) : Type 0 where
   pub cause : IsConfigFault bytes why
   pub unread : s.reader_after ≡ s.reader_before
   pub quiet : IsQuietSession s
 
 -- the bytes are a configuration, the script cannot be read, and nothing is written
-pub record IsUnread (bytes : List ℕ) (s : Session) (why : ScriptFault) : Type 0 where
+pub record IsScriptUnread (bytes : List ℕ) (s : Session) (why : ScriptFault) : Type 0 where
   pub config : Settings
   pub config_is : IsConfigFile bytes config
   pub cause : ReadRefused s.reader_before s.reader_after why
@@ -89,4 +89,4 @@ pub record IsRefusedUnder (bytes : List ℕ) (s : Session) (why : ScriptFault) :
 -- why a script is not read and played to its end under a configuration's bytes: the first of these
 abbrev pub IsRunRefused : List ℕ → Session → ScriptFault → Type 0
 IsRunRefused bytes s why =
-    IsConfigRefused bytes s why ⊎ IsUnread bytes s why ⊎ IsRefusedUnder bytes s why
+    IsConfigRefusedFirst bytes s why ⊎ IsScriptUnread bytes s why ⊎ IsRefusedUnder bytes s why

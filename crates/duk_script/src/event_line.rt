@@ -5,9 +5,9 @@ ghost use Rattle.duk_net.specs.declared.event.End.{End};
 ghost use Rattle.duk_net.specs.declared.event.Event.{Event};
 ghost use Rattle.duk_term.specs.declared.purchase.Purchase.{Purchase};
 ghost use Rattle.duk_script.specs.Script.{IsNumber, IsTerminal, IsEventLine, terminal_name};
-ghost use Rattle.duk_script.specs.Reading.{AreLoadWords, AreBeginWords, AreDownWords, AreArmWords, IsPurchase};
+ghost use Rattle.duk_script.specs.Reading.{AreLoadTokens, AreBeginTokens, AreDownTokens, AreArmTokens, IsPurchase};
 
-use crate::words::{read_end, read_number, read_terminal, split_word};
+use crate::tokens::{read_end, read_number, read_terminal, split_token};
 use duk_net::{End, Event};
 use duk_pin::{Pan, Pin};
 use duk_term::Purchase;
@@ -28,49 +28,49 @@ fn event_of(line: &str) -> Option<Event>
     ensures found { IfSome result (IsEventLine line.now) }
     ensures every { (event : Event) → IsEventLine line.now event → result ≡ Some event }
 {
-    let (command, words) = split_word(line)?;
+    let (command, tokens) = split_token(line)?;
     match command {
-        "load" => load(words),
-        "begin" => begin(words),
-        "up" => up(words),
-        "down" => down(words),
-        "restart" => restart(words),
-        "arm" => arm(words),
+        "load" => load(tokens),
+        "begin" => begin(tokens),
+        "up" => up(tokens),
+        "down" => down(tokens),
+        "restart" => restart(tokens),
+        "arm" => arm(tokens),
         _ => None,
     }
 }
 
 /// `T IKSN`.
-fn load(words: &str) -> Option<Event>
-    ensures found { IfSome result (IsEventLine (codes "load " ++ words.now)) }
-    ensures every { (t iksn : ℕ) → AreLoadWords words.now t iksn
+fn load(tokens: &str) -> Option<Event>
+    ensures found { IfSome result (IsEventLine (codes "load " ++ tokens.now)) }
+    ensures every { (t iksn : ℕ) → AreLoadTokens tokens.now t iksn
         → result ≡ Some (Event.Load t iksn) }
 {
-    let (t, iksn) = split_word(words)?;
+    let (t, iksn) = split_token(tokens)?;
     let t = read_terminal(t)?;
     let iksn = Iksn::parse(iksn)?;
     Some(Event::Load { t, iksn })
 }
 
 /// `T PAN PIN AMOUNT`.
-fn begin(words: &str) -> Option<Event>
-    ensures found { IfSome result (IsEventLine (codes "begin " ++ words.now)) }
-    ensures every { (t : ℕ) (purchase : Purchase) → AreBeginWords words.now t purchase
+fn begin(tokens: &str) -> Option<Event>
+    ensures found { IfSome result (IsEventLine (codes "begin " ++ tokens.now)) }
+    ensures every { (t : ℕ) (purchase : Purchase) → AreBeginTokens tokens.now t purchase
         → result ≡ Some (Event.Begin t purchase) }
 {
-    let (t, purchase) = split_word(words)?;
+    let (t, purchase) = split_token(tokens)?;
     let t = read_terminal(t)?;
     let purchase = read_purchase(purchase)?;
     Some(Event::Begin { t, purchase })
 }
 
 /// `PAN PIN AMOUNT`.
-fn read_purchase(words: &str) -> Option<Purchase>
-    ensures found { IfSome result (IsPurchase words.now) }
-    ensures every { (purchase : Purchase) → IsPurchase words.now purchase → result ≡ Some purchase }
+fn read_purchase(tokens: &str) -> Option<Purchase>
+    ensures found { IfSome result (IsPurchase tokens.now) }
+    ensures every { (purchase : Purchase) → IsPurchase tokens.now purchase → result ≡ Some purchase }
 {
-    let (pan, rest) = split_word(words)?;
-    let (pin, amount) = split_word(rest)?;
+    let (pan, rest) = split_token(tokens)?;
+    let (pin, amount) = split_token(rest)?;
     let pan = Pan::parse(pan).ok()?;
     let pin = Pin::parse(pin).ok()?;
     let amount = read_number(amount)?;
@@ -78,45 +78,45 @@ fn read_purchase(words: &str) -> Option<Purchase>
 }
 
 /// `K`.
-fn up(words: &str) -> Option<Event>
-    ensures found { IfSome result (IsEventLine (codes "up " ++ words.now)) }
-    ensures every { (k : ℕ) → IsNumber k → words.now ≡ decimal k → result ≡ Some (Event.Up k) }
+fn up(tokens: &str) -> Option<Event>
+    ensures found { IfSome result (IsEventLine (codes "up " ++ tokens.now)) }
+    ensures every { (k : ℕ) → IsNumber k → tokens.now ≡ decimal k → result ≡ Some (Event.Up k) }
 {
-    let k = read_number(words)?;
+    let k = read_number(tokens)?;
     Some(Event::Up { k })
 }
 
 /// `K T`.
-fn down(words: &str) -> Option<Event>
-    ensures found { IfSome result (IsEventLine (codes "down " ++ words.now)) }
-    ensures every { (k t : ℕ) → AreDownWords words.now k t → result ≡ Some (Event.Down k t) }
+fn down(tokens: &str) -> Option<Event>
+    ensures found { IfSome result (IsEventLine (codes "down " ++ tokens.now)) }
+    ensures every { (k t : ℕ) → AreDownTokens tokens.now k t → result ≡ Some (Event.Down k t) }
 {
-    let (k, t) = split_word(words)?;
+    let (k, t) = split_token(tokens)?;
     let k = read_number(k)?;
     let t = read_terminal(t)?;
     Some(Event::Down { k, t })
 }
 
 /// `T` or `host`.
-fn restart(words: &str) -> Option<Event>
-    ensures found { IfSome result (IsEventLine (codes "restart " ++ words.now)) }
-    ensures host { words.now ≡ codes "host" → result ≡ Some Event.RestartHost }
-    ensures terminal { (t : ℕ) → IsTerminal t → words.now ≡ terminal_name t
+fn restart(tokens: &str) -> Option<Event>
+    ensures found { IfSome result (IsEventLine (codes "restart " ++ tokens.now)) }
+    ensures host { tokens.now ≡ codes "host" → result ≡ Some Event.RestartHost }
+    ensures terminal { (t : ℕ) → IsTerminal t → tokens.now ≡ terminal_name t
         → result ≡ Some (Event.RestartTerm t) }
 {
-    match read_end(words)? {
+    match read_end(tokens)? {
         End::Host => Some(Event::RestartHost),
         End::Term(t) => Some(Event::RestartTerm { t }),
     }
 }
 
 /// `T N` or `host N`.
-fn arm(words: &str) -> Option<Event>
-    ensures found { IfSome result (IsEventLine (codes "arm " ++ words.now)) }
-    ensures every { (end : End) (n : ℕ) → AreArmWords words.now end n
+fn arm(tokens: &str) -> Option<Event>
+    ensures found { IfSome result (IsEventLine (codes "arm " ++ tokens.now)) }
+    ensures every { (end : End) (n : ℕ) → AreArmTokens tokens.now end n
         → result ≡ Some (Event.Arm end n) }
 {
-    let (end, n) = split_word(words)?;
+    let (end, n) = split_token(tokens)?;
     let end = read_end(end)?;
     let n = read_number(n)?;
     Some(Event::Arm { end, n })

@@ -14,28 +14,28 @@ pub fn print_fault<F: Sink>(why: &ScriptFault, fault: &mut F)
     ensures line { IsTried (F.known fault.old) (F.known fault.new) (fault_line why.now) }
 {
     match why {
-        ScriptFault::ConfigTooLong => tell(fault, b"config: too long\n"),
-        ScriptFault::NotToml => tell(fault, b"config: not TOML\n"),
-        ScriptFault::UnknownKey(name) => tell_unknown(fault, name.as_bytes()),
-        ScriptFault::BadKey(key) => tell(fault, bad_key(*key).end().as_slice()),
-        ScriptFault::BadEntry(key, place) => tell(fault, bad_entry(*key, *place).as_slice()),
-        ScriptFault::CannotRead => tell(fault, b"script: cannot read\n"),
-        ScriptFault::TooLong => tell(fault, b"script: too long\n"),
-        ScriptFault::NotAnEvent(line) => tell(fault, not_an_event(*line).as_slice()),
-        ScriptFault::WriteFailed => tell(fault, b"script: write failed\n"),
-        ScriptFault::NoMemory => tell(fault, b"out of memory\n"),
+        ScriptFault::ConfigTooLong => report(fault, b"config: too long\n"),
+        ScriptFault::NotToml => report(fault, b"config: not TOML\n"),
+        ScriptFault::UnknownKey(name) => report_unknown(fault, name.as_bytes()),
+        ScriptFault::BadKey(key) => report(fault, bad_key(*key).end().as_slice()),
+        ScriptFault::BadEntry(key, place) => report(fault, bad_entry(*key, *place).as_slice()),
+        ScriptFault::CannotRead => report(fault, b"script: cannot read\n"),
+        ScriptFault::TooLong => report(fault, b"script: too long\n"),
+        ScriptFault::NotAnEvent(line) => report(fault, not_an_event(*line).as_slice()),
+        ScriptFault::WriteFailed => report(fault, b"script: write failed\n"),
+        ScriptFault::NoMemory => report(fault, b"out of memory\n"),
     }
 }
 
 /// Writes a line, as far as that can be done.
-fn tell<F: Sink>(fault: &mut F, line: &[u8])
+fn report<F: Sink>(fault: &mut F, line: &[u8])
     ensures line { IsTried (F.known fault.old) (F.known fault.new) line.now }
 {
     let _ = write_text(fault, line);
 }
 
 /// Writes the line of an unknown key, as far as that can be done.
-fn tell_unknown<F: Sink>(fault: &mut F, name: &[u8])
+fn report_unknown<F: Sink>(fault: &mut F, name: &[u8])
     ensures line { IsTried (F.known fault.old) (F.known fault.new) (unknown_line name.now) }
 {
     let _ = write_unknown(fault, name);
@@ -60,9 +60,9 @@ fn bad_key(key: ConfigKey) -> Line
     ensures text { result.text.items ≡ codes "config: bad " ++ key_name key }
     ensures bound { length result.text.items ≤ 30 }
 {
-    Line::of_word(b"config:")
-        .word(b"bad")
-        .word(key.name().as_bytes())
+    Line::of_token(b"config:")
+        .token(b"bad")
+        .token(key.name().as_bytes())
 }
 
 /// The line of an entry with a wrong value.
@@ -76,11 +76,11 @@ fn bad_entry(key: ConfigKey, place: u64) -> LineText
 fn not_an_event(line: u64) -> LineText
     ensures { result.items ≡ fault_line (ScriptFault.NotAnEvent line) }
 {
-    Line::of_word(b"line")
+    Line::of_token(b"line")
         .number(line)
         .colon()
-        .word(b"not")
-        .word(b"an")
-        .word(b"event")
+        .token(b"not")
+        .token(b"an")
+        .token(b"event")
         .end()
 }

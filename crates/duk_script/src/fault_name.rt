@@ -18,18 +18,18 @@ impl Line {
         ensures bound { length result.text.items ≤ length self.text.items + 20 }
     {
         match fault {
-            TermFault::NotLoaded => self.word(b"NotLoaded"),
+            TermFault::NotLoaded => self.token(b"NotLoaded"),
             TermFault::Block(fault) => self.block_fault(fault),
-            TermFault::WrongUse => self.word(b"WrongUse"),
-            TermFault::Spent => self.word(b"Spent"),
-            TermFault::Stopped => self.word(b"Stopped"),
+            TermFault::WrongUse => self.token(b"WrongUse"),
+            TermFault::Spent => self.token(b"Spent"),
+            TermFault::Stopped => self.token(b"Stopped"),
             TermFault::Store(fault) => self.store_fault(fault),
-            TermFault::Malformed => self.word(b"Malformed"),
-            TermFault::NotPending => self.word(b"NotPending"),
-            TermFault::NotMine => self.word(b"NotMine"),
-            TermFault::BadMac => self.word(b"BadMac"),
-            TermFault::IksnSpent => self.word(b"IksnSpent"),
-            TermFault::LoadsSpent => self.word(b"LoadsSpent"),
+            TermFault::Malformed => self.token(b"Malformed"),
+            TermFault::NotPending => self.token(b"NotPending"),
+            TermFault::NotMine => self.token(b"NotMine"),
+            TermFault::BadMac => self.token(b"BadMac"),
+            TermFault::IksnSpent => self.token(b"IksnSpent"),
+            TermFault::LoadsSpent => self.token(b"LoadsSpent"),
         }
     }
 
@@ -40,13 +40,13 @@ impl Line {
         ensures bound { length result.text.items ≤ length self.text.items + 20 }
     {
         match fault {
-            HostFault::NoMemory => self.word(b"NoMemory"),
+            HostFault::NoMemory => self.token(b"NoMemory"),
             HostFault::Store(fault) => self.store_fault(fault),
-            HostFault::Stopped => self.word(b"Stopped"),
-            HostFault::Read => self.word(b"Read"),
-            HostFault::Write => self.word(b"Write"),
-            HostFault::Truncated => self.word(b"Truncated"),
-            HostFault::TooLong => self.word(b"TooLong"),
+            HostFault::Stopped => self.token(b"Stopped"),
+            HostFault::Read => self.token(b"Read"),
+            HostFault::Write => self.token(b"Write"),
+            HostFault::Truncated => self.token(b"Truncated"),
+            HostFault::TooLong => self.token(b"TooLong"),
         }
     }
 
@@ -58,7 +58,7 @@ impl Line {
             ≡ self.text.items ++ 32 ∷ (codes "Block " ++ block_fault_name fault) }
         ensures bound { length result.text.items ≤ length self.text.items + 20 }
     {
-        self.word(b"Block").word(fault.name().as_bytes())
+        self.token(b"Block").token(fault.name().as_bytes())
     }
 
     /// The line, `Store`, and the name of a store's fault.
@@ -68,13 +68,13 @@ impl Line {
             ≡ self.text.items ++ 32 ∷ (codes "Store " ++ store_fault_text fault) }
         ensures bound { length result.text.items ≤ length self.text.items + 20 }
     {
-        let line = self.word(b"Store");
+        let line = self.token(b"Store");
         match fault {
-            StoreFault::Device => line.word(b"Device"),
-            StoreFault::Stopped => line.word(b"Stopped"),
-            StoreFault::Damaged => line.word(b"Damaged"),
-            StoreFault::Worn => line.word(b"Worn"),
-            StoreFault::NoMemory => line.word(b"NoMemory"),
+            StoreFault::Device => line.token(b"Device"),
+            StoreFault::Stopped => line.token(b"Stopped"),
+            StoreFault::Damaged => line.token(b"Damaged"),
+            StoreFault::Worn => line.token(b"Worn"),
+            StoreFault::NoMemory => line.token(b"NoMemory"),
         }
     }
 }

@@ -13,8 +13,8 @@ mod outcome_text;
 mod script;
 mod session;
 mod terminals;
+mod tokens;
 mod whole_text;
-mod words;
 
 pub use duk_config::{Config, ConfigKey, LONGEST_FILE, ScriptFault, open_hsm, read_config};
 pub use fault_line::print_fault;

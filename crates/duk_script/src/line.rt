@@ -1,4 +1,4 @@
-//! A line of output, written word by word into a fixed buffer.
+//! A line of output, written token by token into a fixed buffer.
 //!
 //! The buffer is fixed, so that writing a line takes no memory: the lines of the events that are
 //! done can be written after memory was refused.
@@ -29,14 +29,14 @@ pub(crate) struct Line {
 }
 
 impl Line {
-    /// A line that begins with a word.
-    pub(crate) fn of_word(word: &[u8]) -> Line
-        requires { length word.now ≤ LINE_ROOM }
-        ensures text { result.text.items ≡ word.now }
-        ensures len { length result.text.items ≡ length word.now }
+    /// A line that begins with a token.
+    pub(crate) fn of_token(token: &[u8]) -> Line
+        requires { length token.now ≤ LINE_ROOM }
+        ensures text { result.text.items ≡ token.now }
+        ensures len { length result.text.items ≡ length token.now }
     {
         let mut text = LineText::new();
-        text.try_extend_from_slice(word).unwrap();
+        text.try_extend_from_slice(token).unwrap();
         Line { text }
     }
 
@@ -58,19 +58,19 @@ impl Line {
         ensures bound { length result.text.items ≤ 11 }
     {
         match end {
-            End::Host => Line::of_word(b"host"),
+            End::Host => Line::of_token(b"host"),
             End::Term(t) => Line::of_terminal(t),
         }
     }
 
-    /// The line and one more word.
-    pub(crate) fn word(mut self, word: &[u8]) -> Line
-        requires { length self.text.items + length word.now < LINE_ROOM }
-        ensures text { result.text.items ≡ self.text.items ++ 32 ∷ word.now }
-        ensures len { length result.text.items ≡ length self.text.items + length word.now + 1 }
+    /// The line and one more token.
+    pub(crate) fn token(mut self, token: &[u8]) -> Line
+        requires { length self.text.items + length token.now < LINE_ROOM }
+        ensures text { result.text.items ≡ self.text.items ++ 32 ∷ token.now }
+        ensures len { length result.text.items ≡ length self.text.items + length token.now + 1 }
     {
         self.text.push(b' ');
-        self.text.try_extend_from_slice(word).unwrap();
+        self.text.try_extend_from_slice(token).unwrap();
         self
     }
 
@@ -124,7 +124,7 @@ impl Line {
         ensures text { result.text.items ≡ self.text.items ++ 32 ∷ code_text code }
         ensures len { length result.text.items ≡ length self.text.items + 3 }
     {
-        self.word(&code.text())
+        self.token(&code.text())
     }
 
     /// The bytes of the line, with its end.

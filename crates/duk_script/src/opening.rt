@@ -4,7 +4,7 @@ ghost use Rattle.std.specs.Prelude.{◌≡◌, IfOk, IfErr, OnOk, length};
 ghost use Rattle.duk_net.specs.InMemory.{in_memory};
 ghost use Rattle.duk_net.specs.World.{meanings_of};
 ghost use Rattle.duk_script.specs.OnDisk.{on_disk};
-ghost use Rattle.duk_script.specs.Opening.{IsOpened, StartsCalm, opening};
+ghost use Rattle.duk_script.specs.Opening.{AreEndsBroughtUp, StartsCalm, opening};
 ghost use Rattle.duk_script.specs.Play.{new_disk_world, new_memory_world};
 ghost use Rattle.duk_tdes.specs.KeyBytes.{bytes_of};
 ghost use Rattle.duk_tdes.specs.Tdes.{IsTdesLength};
@@ -28,7 +28,7 @@ pub(crate) fn open_in_memory<const N: usize>(
     requires length { IsTdesLength N }
     requires lmk { lmk.now ≡ bytes_of config.now.lmk }
     ensures starts { IfOk result (λ _. StartsCalm in_memory (new_memory_world config.now)) }
-    ensures opened { IfOk result (IsOpened in_memory (new_memory_world config.now)) }
+    ensures opened { IfOk result (AreEndsBroughtUp in_memory (new_memory_world config.now)) }
     ensures refused { IfErr result (λ why. why ≡ ScriptFault.NoMemory) }
 {
     let terminals = memory_terminals(alloc, config.terminals)?;
@@ -49,7 +49,7 @@ pub(crate) fn open_on_disk<const N: usize>(
     requires length { IsTdesLength N }
     requires lmk { lmk.now ≡ bytes_of config.now.lmk }
     ensures starts { IfOk result (λ _. StartsCalm on_disk (new_disk_world config.now)) }
-    ensures opened { IfOk result (IsOpened on_disk (new_disk_world config.now)) }
+    ensures opened { IfOk result (AreEndsBroughtUp on_disk (new_disk_world config.now)) }
     ensures refused { IfErr result (λ why. why ≡ ScriptFault.NoMemory) }
 {
     let terminals = disk_terminals(alloc, config.terminals)?;
@@ -69,7 +69,7 @@ fn bring_up<const N: usize, C: Cell, L: UsedLog, I: Issuer>(
     requires starts { StartsCalm (meanings_of C.meaning L.meaning I.decides) world.old }
     requires count { length world.old.terminals ≡ terminals }
     ensures opened { OnOk result
-        (IsOpened (meanings_of C.meaning L.meaning I.decides) world.old world.new) }
+        (AreEndsBroughtUp (meanings_of C.meaning L.meaning I.decides) world.old world.new) }
     ensures refused { IfErr result (λ why. why ≡ ScriptFault.NoMemory) }
 {
     let events = restarts(alloc, terminals)?;

@@ -16,11 +16,11 @@ use std::alloc::Global;
 /// Lines end with LF, which the last may lack, and one CR before an LF is dropped. A line that is
 /// empty or begins with `#` says nothing. Any other is `load T IKSN`, `begin T PAN PIN AMOUNT`, `up
 /// K`, `down K T`, `restart T`, `restart host`, `arm T N` or `arm host N`, with one space between
-/// each two words and none at its ends: T is `t` and a number from 1 to 16, and numbers are
+/// each two tokens and none at its ends: T is `t` and a number from 1 to 16, and numbers are
 /// decimal, at most 4,294,967,295, without leading zeros. So bytes that are no UTF-8 may stand in
 /// comments alone.
 ///
-/// Errors: `NotAnEvent` tells the first line that is none of these, counting all lines from 1;
+/// Errors: `NotAnEvent` reports the first line that is none of these, counting all lines from 1;
 /// `NoMemory` comes where the list of events could not grow. No other comes from here.
 pub fn parse_script(alloc: Global, text: &[u8]) -> Result<Vec<Event>, ScriptFault>
     ensures events { IfOk result (λ events. IsScript text.now events.items) }

@@ -51,8 +51,8 @@ pub fn run_script<R: Source, W: Sink>(
 /// disks in memory, or in memory itself, as the configuration says. Writes a line for what comes of
 /// each event. Every end is restarted first, without a line.
 ///
-/// `NotAnEvent` is of the script's first bad line, and then nothing is written. After `NoMemory` the
-/// lines of the events done are written. After `WriteFailed` a part of the lines is.
+/// `NotAnEvent` is of the script's first bad line, and then nothing is written. After `NoMemory`
+/// the lines of the events done are written. After `WriteFailed` a part of the lines is.
 pub fn play_script<W: Sink>(
     alloc: Global,
     config: &Config,
@@ -169,7 +169,7 @@ fn play_in<const N: usize, C: Cell, L: UsedLog, I: Issuer, W: Sink>(
 }
 
 /// Writes the lines of the events that were done before memory was refused. Gives the fault to
-/// tell: that, or that the lines could not be written.
+/// report: that, or that the lines could not be written.
 fn write_done<W: Sink>(writer: &mut W, outcomes: &[Outcome]) -> ScriptFault
     ensures { ((result ≡ ScriptFault.NoMemory)
         × IsWritten (W.known writer.old) (W.known writer.new) (lines_of outcomes.now))

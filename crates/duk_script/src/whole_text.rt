@@ -30,7 +30,7 @@ pub(crate) fn read_text<R: Source>(alloc: Global, reader: &mut R) -> Result<Vec<
     }
 }
 
-/// Reads a piece to the end of a text, and tells whether nothing is left.
+/// Reads a piece to the end of a text, and reports whether nothing is left.
 fn read_piece<R: Source>(
     reader: &mut R,
     piece: &mut [u8; PIECE],

@@ -6,31 +6,31 @@ use Rattle.std.proofs.lemmas.List.{get_or-replicate}
 use Rattle.std.proofs.lemmas.Result.{IfErr-weaker, on_ok_weaker}
 use Rattle.duk_store.specs.MemoryDisk.{memory_disk_state, new_disk}
 use Rattle.duk_store.specs.Cell.{IsPut, Kept, OldOrNew, PutFailed}
-use Rattle.duk_store.specs.Disk.{DiskMeaning, DiskState, KeepsDisk, LeavesChanged, LeavesReads, ReadsMayStay, StaysButArmed}
+use Rattle.duk_store.specs.Disk.{DiskMeaning, DiskState, PreservesDisk, LeavesChanged, LeavesReads, ReadsMayStay, StaysButArmed}
 use Rattle.duk_store.specs.Restart.{RestartFailed, Restarted}
-use Rattle.duk_store.specs.SlotCell.{CellReplaceFailed, IsBlankDisk, IsZeroDisk, LeavesOneBody, RunsWithBody, IsBroughtUp, IsCellReplaced, IsDamagedDisk, IsInItsSlot, IsNextOf, IsPutNext, IsReadyFor, IsReplaced, IsRestored, IsSoundDisk, IsWorn, Knows, MayFind, RecoveryFailed, ReplaceFailed, SlotCellOf, StandsAlone, is_running, slot_cell_meaning, slot_cell_state}
-use Rattle.duk_store.specs.Slots.{HoldsAlone, IsEmpty, IsOpen, Keeps, cell_disk_size, other_than, sequence_of, slot_at}
+use Rattle.duk_store.specs.SlotCell.{CellReplaceFailed, IsBlankDisk, IsZeroDisk, LeavesOneBody, RunsWithBody, IsCellBroughtUp, IsCellReplaced, IsDamagedDisk, IsInItsSlot, IsNextOf, IsPutNext, IsReadyFor, IsReplaced, IsRestored, IsSoundDisk, IsWorn, Knows, MayFind, RecoveryFailed, ReplaceFailed, SlotCellOf, StandsAlone, is_running, slot_cell_meaning, slot_cell_state}
+use Rattle.duk_store.specs.SlotFormat.{HoldsAlone, IsEmpty, IsOpen, KeepsBody, cell_disk_size, other_than, sequence_of, slot_at}
 use Rattle.duk_store.specs.StoreState.{FindsSome, FindsWithin, IsNew, KeepsNothing, StaysButCalm}
 use Rattle.duk_store.specs.declared.fault.StoreFault.{StoreFault}
 use Rattle.duk_store.specs.declared.fault.StoreFault.TheVariants as fault
-use Rattle.duk_store.specs.declared.slot.Place.{Place}
-use Rattle.duk_store.specs.declared.slot.Place.TheVariants.{First, Second}
-use Rattle.duk_store.specs.declared.slot.SlotState.{SlotState}
-use Rattle.duk_store.specs.declared.slot.SlotState.TheVariants as state
+use Rattle.duk_store.specs.declared.slot_format.Place.{Place}
+use Rattle.duk_store.specs.declared.slot_format.Place.TheVariants.{First, Second}
+use Rattle.duk_store.specs.declared.slot_format.SlotState.{SlotState}
+use Rattle.duk_store.specs.declared.slot_format.SlotState.TheVariants as state
 use Rattle.duk_store.proofs.WhatIsKept.{alone_keeps, kept_once, other_twice}
 
 -- a stop that leaves one image leaves what that keeps
-pub finds_only : (disk : DiskState) (image : List ℕ) (kept : Kept) → ((bytes : List ℕ) → disk.may_leave bytes ↔ (bytes ≡ image)) → Keeps image kept → (other : Kept) → MayFind disk other ↔ (other ≡ kept)
+pub finds_only : (disk : DiskState) (image : List ℕ) (kept : Kept) → ((bytes : List ℕ) → disk.may_leave bytes ↔ (bytes ≡ image)) → KeepsBody image kept → (other : Kept) → MayFind disk other ↔ (other ≡ kept)
 finds_only disk image kept leaves keeps other = (
-  (λ found. kept_once image other kept (subst (λ bytes. Keeps bytes other) ((leaves found.0).0 found.1) found.2) keeps),
-  (λ is. (image, (leaves image).1 refl, subst (λ kept. Keeps image kept) (sym is) keeps)),
+  (λ found. kept_once image other kept (subst (λ bytes. KeepsBody bytes other) ((leaves found.0).0 found.1) found.2) keeps),
+  (λ is. (image, (leaves image).1 refl, subst (λ kept. KeepsBody image kept) (sym is) keeps)),
 )
 
-sound_alone : (disk : DiskState) (image : List ℕ) (kept : Kept) → disk.size ≡ cell_disk_size → ((bytes : List ℕ) → disk.may_leave bytes ↔ (bytes ≡ image)) → Keeps image kept → IsSoundDisk disk
-sound_alone disk image kept size leaves keeps = record { size = size; each_keeps = λ bytes left. (kept, subst (λ bytes. Keeps bytes kept) (sym ((leaves bytes).0 left)) keeps) }
+sound_alone : (disk : DiskState) (image : List ℕ) (kept : Kept) → disk.size ≡ cell_disk_size → ((bytes : List ℕ) → disk.may_leave bytes ↔ (bytes ≡ image)) → KeepsBody image kept → IsSoundDisk disk
+sound_alone disk image kept size leaves keeps = record { size = size; each_keeps = λ bytes left. (kept, subst (λ bytes. KeepsBody bytes kept) (sym ((leaves bytes).0 left)) keeps) }
 
 -- zeros keep nothing
-zeros_keep : Keeps (replicate 1024 0) None
+zeros_keep : KeepsBody (replicate 1024 0) None
 zeros_keep First is_open = omega (arith, is_open)
 zeros_keep Second is_open = omega (arith, is_open)
 
@@ -51,7 +51,7 @@ new_cell_is disk blank = record {
 
 -- what a restart does
 module _ (old new : DiskState) (was : SlotState) (restored : LeavesChanged IsRestored old new) where
-  sound_stays : KeepsDisk old new → old.honest → IsSoundDisk old → IsSoundDisk new
+  sound_stays : PreservesDisk old new → old.honest → IsSoundDisk old → IsSoundDisk new
   sound_stays nature h sound = record {
     size = nature.size ∙ sound.size;
     each_keeps = λ bytes left.
@@ -60,7 +60,7 @@ module _ (old new : DiskState) (was : SlotState) (restored : LeavesChanged IsRes
         (kept.0, (start.2.keeps kept.0).0 kept.1);
   }
 
-  pub is_restarted : (now : SlotState) (kept : Kept) → IsBroughtUp old new now kept → Restarted (slot_cell_state old was) (slot_cell_state new now) kept
+  pub is_restarted : (now : SlotState) (kept : Kept) → IsCellBroughtUp old new now kept → Restarted (slot_cell_state old was) (slot_cell_state new now) kept
   is_restarted now kept up = record {
     settles = record {
       nature = record { honest = up.nature.honest; sound = sound_stays up.nature; calm = up.nature.calm };
@@ -76,7 +76,7 @@ module _ (old new : DiskState) (was : SlotState) (restored : LeavesChanged IsRes
       let start = restored h found.0 found.1 in
       (start.0, start.1, (start.2.keeps value).1 found.2)
 
-  some_of : ReadsMayStay new → KeepsDisk old new → old.honest → IsSoundDisk old → FindsSome (slot_cell_state new state.Stopped)
+  some_of : ReadsMayStay new → PreservesDisk old new → old.honest → IsSoundDisk old → FindsSome (slot_cell_state new state.Stopped)
   some_of stays nature h sound =
       let left = stays (nature.honest.0 h) in
       let kept = (sound_stays nature h sound).each_keeps new.reads left in
@@ -115,7 +115,7 @@ module _ (old new : DiskState) (was : SlotState) (restored : LeavesChanged IsRes
 pub record Standing (disk : DiskState) : Type 0 where
   leaves : LeavesReads disk
   kept : Kept
-  keeps : Keeps disk.reads kept
+  keeps : KeepsBody disk.reads kept
 
 -- what a write does
 module _ {D : Type 0} (meaning : DiskMeaning D) (old new : SlotCellOf D) (body : List ℕ)
@@ -150,13 +150,13 @@ module _ {D : Type 0} (meaning : DiskMeaning D) (old new : SlotCellOf D) (body :
       )
 
   -- each image that a stop could leave keeps what was kept, or the new body
-  each_keeps : (why : StoreFault) → ReplaceFailed body before after why → before.honest → (bytes : List ℕ) → after.may_leave bytes → (kept : Kept) × Keeps bytes kept × OldOrNew (slot_cell_state before old.state) body kept
+  each_keeps : (why : StoreFault) → ReplaceFailed body before after why → before.honest → (bytes : List ℕ) → after.may_leave bytes → (kept : Kept) × KeepsBody bytes kept × OldOrNew (slot_cell_state before old.state) body kept
   each_keeps why failed h bytes left =
       let start = failed.changed h bytes left in
       let was = standing h in
       let is : start.0 ≡ before.reads = (was.leaves start.0).0 start.1 in
       elim start.2 [
-        | inl stays ↦ (was.kept, stays was.kept (subst (λ bytes. Keeps bytes was.kept) (sym is) was.keeps), inl (before.reads, (was.leaves before.reads).1 refl, was.keeps))
+        | inl stays ↦ (was.kept, stays was.kept (subst (λ bytes. KeepsBody bytes was.kept) (sym is) was.keeps), inl (before.reads, (was.leaves before.reads).1 refl, was.keeps))
         | inr keeps ↦ (Some body, keeps, inr refl)
       ]
 

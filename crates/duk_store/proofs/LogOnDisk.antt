@@ -5,18 +5,18 @@ use Rattle.std.proofs.lemmas.Grind.{same_number_lists}
 use Rattle.std.proofs.lemmas.List.{drop_at, get_or-drop, get_or-replicate, get_or-take, get_or_past, length-replicate, take_at}
 use Rattle.std.specs.List.{slice_get}
 use Rattle.duk_tree.specs.Serial.{IsSerial, Serial, serial_bytes, serial_of_bytes}
-use Rattle.duk_store.specs.Disk.{DiskMeaning, DiskState, KeepsDisk, LeavesItsSize, LeavesWithin, ReadsMayStay}
+use Rattle.duk_store.specs.Disk.{DiskMeaning, DiskState, PreservesDisk, LeavesItsSize, LeavesWithin, ReadsMayStay}
 use Rattle.duk_store.specs.DiskLog.{ChangesRecord, CountFailed, DiskLogOf, IsBlankLogDisk, IsDamagedLog, IsLogOpen, IsLogUp, IsRecordRead, IsRecordTorn, IsRecordWritten, IsSoundLogDisk, IsZeroLogDisk, KnowsCount, LogUpFailed, MayFindNumbers, disk_log_meaning, disk_log_state, is_log_running}
 use Rattle.duk_store.specs.Log.{AppendFailed, IsAppended, IsReadAt, LogRestarted, Numbers, OldOrAppended}
 use Rattle.duk_store.specs.MemoryDisk.{memory_disk_state, new_disk}
-use Rattle.duk_store.specs.Records.{HasNumber, IsLog, IsLogSize, KeepsNumbers, number_bytes, number_in, numbers_in, record_at}
+use Rattle.duk_store.specs.RecordFormat.{HasRecordNumber, IsLog, IsLogSize, KeepsNumbers, number_bytes, number_in, numbers_in, record_at}
 use Rattle.duk_store.specs.Restart.{RestartFailed}
-use Rattle.duk_store.specs.Slots.{IsOpen, behind_gate, gate_of}
+use Rattle.duk_store.specs.SlotFormat.{IsOpen, after_commit, commit_of}
 use Rattle.duk_store.specs.SlotSteps.{IsStepDone, IsStepFailed}
 use Rattle.duk_store.specs.StoreState.{IsNew, KeepsNothing}
 use Rattle.duk_store.specs.declared.fault.StoreFault.{StoreFault}
 use Rattle.duk_store.specs.declared.fault.StoreFault.TheVariants as fault
-use Rattle.duk_store.specs.declared.record.Record.{Record}
+use Rattle.duk_store.specs.declared.record_format.Record.{Record}
 use Rattle.duk_store.proofs.StepsInTurn.{fails_later, keeps_on}
 
 -- bytes are a log of one count at most
@@ -44,7 +44,7 @@ same_numbers (suc count) x y same =
     ap (λ (l : Numbers). l ++ number_in (record_at count y) ∷ []) (same_numbers count x y (λ place less. same place (omega (arith, less))))
     ∙ ap (λ (r : List ℕ). numbers_in count x ++ number_in r ∷ []) (same count (omega arith))
 
--- an element of a list with one more behind it
+-- an element of a list with one more after it
 get_front : (xs : Numbers) (last : Serial) (place : ℕ) → place < length xs → slice_get (xs ++ last ∷ []) place ≡ slice_get xs place
 get_front [] last place less = absurd (omega (arith, less))
 get_front (x ∷ xs) last zero less = refl
@@ -78,14 +78,14 @@ sound_list disk image count size leaves is_log = record { size = size; each_keep
 zeros_closed : (size place : ℕ) → ¬ IsOpen (record_at place (replicate size 0))
 zeros_closed size place is_open = elim (cases_lt (16 * place) size) [
   | inl inside ↦
-      let gate : gate_of (record_at place (replicate size 0)) ≡ 0 =
+      let commit : commit_of (record_at place (replicate size 0)) ≡ 0 =
       get_or-take 16 (drop (16 * place) (replicate size 0)) 0 0 (omega arith) ∙ get_or-drop (16 * place) (replicate size 0) 0 0 ∙ get_or-replicate size (16 * place + 0) 0 0 (omega (arith, inside)) in
-      absurd (omega (arith, is_open, gate))
+      absurd (omega (arith, is_open, commit))
   | inr past ↦
-      let gate : gate_of (record_at place (replicate size 0)) ≡ 0 =
+      let commit : commit_of (record_at place (replicate size 0)) ≡ 0 =
       get_or-take 16 (drop (16 * place) (replicate size 0)) 0 0 (omega arith) ∙ get_or-drop (16 * place) (replicate size 0) 0 0
       ∙ get_or_past (replicate size 0) (16 * place + 0) 0 (omega (arith, past, length-replicate {A = ℕ} size 0)) in
-      absurd (omega (arith, is_open, gate))
+      absurd (omega (arith, is_open, commit))
 ]
 
 zeros_are_log : (size : ℕ) → IsLog 0 (replicate size 0)
@@ -187,10 +187,10 @@ module _ {D : Type 0} (meaning : DiskMeaning D) (old new : DiskLogOf D) where
       let kept = sound.each_keeps bad.0 bad.1 in
       bad.2 kept.1.0 kept.1.1
 
-  log_sound : KeepsDisk before after → LeavesWithin before after → before.honest → IsSoundLogDisk before → IsSoundLogDisk after
+  log_sound : PreservesDisk before after → LeavesWithin before after → before.honest → IsSoundLogDisk before → IsSoundLogDisk after
   log_sound nature within h sound = record { size = rw nature.size sound.size; each_keeps = λ bytes left. sound.each_keeps bytes (within h bytes left) }
 
-  log_some : ReadsMayStay after → KeepsDisk before after → LeavesWithin before after → before.honest → IsSoundLogDisk before → (numbers : Numbers) × MayFindNumbers after numbers
+  log_some : ReadsMayStay after → PreservesDisk before after → LeavesWithin before after → before.honest → IsSoundLogDisk before → (numbers : Numbers) × MayFindNumbers after numbers
   log_some stays nature within h sound =
       let left = stays (nature.honest.0 h) in
       let kept = sound.each_keeps after.reads (within h after.reads left) in
@@ -221,26 +221,26 @@ module _ {D : Type 0} (meaning : DiskMeaning D) (old new : DiskLogOf D) where
   log_restart_failed stays kept fault.Worn failed = absurd failed.cause
   log_restart_failed stays kept fault.NoMemory failed = absurd failed.cause
 
--- a number that is written behind a log
+-- a number that is written after a log
 module _ (number : Serial) (serial : IsSerial number) (found : (s : Serial) → IsSerial s → serial_of_bytes (serial_bytes s) ≡ s) (ten : (s : Serial) → length (serial_bytes s) ≡ 10) where
-  has_number : (r : List ℕ) → IsOpen r → behind_gate r ≡ number_bytes number → HasNumber r
+  has_number : (r : List ℕ) → IsOpen r → after_commit r ≡ number_bytes number → HasRecordNumber r
   has_number r is_open contents = record { is_open = is_open; zeros = ap (drop 10) contents ∙ drop_at (serial_bytes number) (replicate 5 0) 10 (ten number) }
 
-  number_is : (r : List ℕ) → behind_gate r ≡ number_bytes number → number_in r ≡ number
+  number_is : (r : List ℕ) → after_commit r ≡ number_bytes number → number_in r ≡ number
   number_is r contents = ap (λ (l : List ℕ). serial_of_bytes (take 10 l)) contents ∙ ap serial_of_bytes (take_at (serial_bytes number) (replicate 5 0) 10 (ten number)) ∙ found number serial
 
   module _ (count : ℕ) (x y : List ℕ) (is_log : IsLog count x) (inside : 16 * count + 16 ≤ length x) (others : (other : ℕ) → other ≢ count → record_at other y ≡ record_at other x) (lengths : length y ≡ length x) where
-    appended_log : IsOpen (record_at count y) → behind_gate (record_at count y) ≡ number_bytes number → IsLog (count + 1) y
+    appended_log : IsOpen (record_at count y) → after_commit (record_at count y) ≡ number_bytes number → IsLog (count + 1) y
     appended_log is_open contents = record {
       fits = omega (arith, inside, lengths);
       kept = λ place less. elim (cases_lt place count) [
         | inl before ↦ rw (others place (omega (arith, before))) (is_log.kept place before)
-        | inr past ↦ let is : count ≡ place = omega (arith, less, past) in subst (λ at. HasNumber (record_at at y)) is (has_number (record_at count y) is_open contents)
+        | inr past ↦ let is : count ≡ place = omega (arith, less, past) in subst (λ at. HasRecordNumber (record_at at y)) is (has_number (record_at count y) is_open contents)
       ];
       closed = λ place past. rw (others place (omega (arith, past))) (is_log.closed place (omega (arith, past)));
     }
 
-    appended_numbers : behind_gate (record_at count y) ≡ number_bytes number → numbers_in (count + 1) y ≡ numbers_in count x ++ number ∷ []
+    appended_numbers : after_commit (record_at count y) ≡ number_bytes number → numbers_in (count + 1) y ≡ numbers_in count x ++ number ∷ []
     appended_numbers contents =
         let next : count + 1 ≡ suc count = omega arith in
         ap (λ (n : ℕ). numbers_in n y) next
@@ -258,7 +258,7 @@ module _ (number : Serial) (serial : IsSerial number) (found : (s : Serial) → 
     }
 
     torn_keeps : IsRecordTorn number (record_at count x) (record_at count y) → KeepsNumbers y (numbers_in count x) ⊎ KeepsNumbers y (numbers_in count x ++ number ∷ [])
-    torn_keeps torn = elim (cases_eq (gate_of (record_at count y)) 1) [
+    torn_keeps torn = elim (cases_eq (commit_of (record_at count y)) 1) [
       | inl is_open ↦ elim torn [
         | inl same ↦ absurd (is_log.closed count (omega arith) (sym same ∙ is_open))
         | inr contents ↦ inr (count + 1, appended_log is_open contents, sym (appended_numbers contents))

@@ -8,7 +8,7 @@ use Rattle.duk_store.specs.MemoryDisk.{marked}
 abbrev pub over : {X : Type 0} → List X → ℕ → ℕ → List X → List X
 over xs at count ys = take at xs ++ (ys ++ drop (at + count) xs)
 
--- this place lies before a range or behind it
+-- this place lies before a range or after it
 abbrev pub IsOutside : ℕ → ℕ → ℕ → Type 0
 IsOutside at count place = (place < at) ⊎ (at + count ≤ place)
 
@@ -21,7 +21,7 @@ inside_or_outside at count place = elim (cases_lt place at) [
   | inl before ↦ inr (inl before)
   | inr from ↦ elim (cases_lt place (at + count)) [
     | inl to ↦ inl (from, to)
-    | inr behind ↦ inr (inr behind)
+    | inr following ↦ inr (inr following)
   ]
 ]
 
@@ -34,12 +34,12 @@ over_inside xs ys at count place d inside size is_inside = grind (arith, places)
 over_before : {X : Type 0} (xs ys : List X) (at count place : ℕ) (d : X) → at + count ≤ length xs → length ys ≡ count → place < at → get_or (over xs at count ys) place d ≡ get_or xs place d
 over_before xs ys at count place d inside size before = grind (arith, places)
 
-over_behind : {X : Type 0} (xs ys : List X) (at count place : ℕ) (d : X) → at + count ≤ length xs → length ys ≡ count → at + count ≤ place → get_or (over xs at count ys) place d ≡ get_or xs place d
-over_behind xs ys at count place d inside size behind = grind (arith, places)
+over_after : {X : Type 0} (xs ys : List X) (at count place : ℕ) (d : X) → at + count ≤ length xs → length ys ≡ count → at + count ≤ place → get_or (over xs at count ys) place d ≡ get_or xs place d
+over_after xs ys at count place d inside size following = grind (arith, places)
 
 pub over_outside : {X : Type 0} (xs ys : List X) (at count place : ℕ) (d : X) → at + count ≤ length xs → length ys ≡ count → IsOutside at count place → get_or (over xs at count ys) place d ≡ get_or xs place d
 over_outside xs ys at count place d inside size (inl before) = over_before xs ys at count place d inside size before
-over_outside xs ys at count place d inside size (inr behind) = over_behind xs ys at count place d inside size behind
+over_outside xs ys at count place d inside size (inr following) = over_after xs ys at count place d inside size following
 
 pub length_marked : (unsynced : List Bool) (at count : ℕ) → at + count ≤ length unsynced → length (marked at count unsynced) ≡ length unsynced
 length_marked unsynced at count inside = grind (arith, places)

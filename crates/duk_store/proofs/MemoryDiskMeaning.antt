@@ -4,7 +4,7 @@ use Rattle.std.proofs.lemmas.Bool.{false≢true}
 use Rattle.std.proofs.lemmas.List.{places, ext_get_or, length-replicate}
 use Rattle.std.proofs.lemmas.Grind.{same_number_lists}
 use Rattle.duk_store.specs.Disk.{DiffersWithin, written}
-use Rattle.duk_store.specs.MemoryDisk.{MemoryDisk, CouldLeave, IsHonestDisk, IsKeptWithin, IsMarked, IsSyncedAt, marked, wanting, synced_disk}
+use Rattle.duk_store.specs.MemoryDisk.{MemoryDisk, CouldLeave, IsHonestDisk, IsUnsyncedWithin, IsMarked, IsSyncedAt, marked, wanting, synced_disk}
 use Rattle.duk_store.proofs.MemoryDiskBytes.{IsOutside, false_or_true, flag_false, over, inside_or_outside, length_marked, length_over, marked_outside, marked_synced, marked_unsynced, over_inside, over_outside}
 
 -- a disk with a write under way is honest
@@ -23,7 +23,7 @@ wanting_honest disk at bytes honest inside =
     }
 
 -- it is kept within each range around what was written before and its own
-pub wanting_kept : (from to low high at : ℕ) (disk : MemoryDisk) (bytes : List ℕ) → IsKeptWithin from to disk → at + length bytes ≤ length disk.reads → low ≤ at → at + length bytes ≤ high → high ≤ length disk.reads → ((place : ℕ) → from ≤ place → place < to → (low ≤ place) × (place < high)) → IsKeptWithin low high (wanting disk at bytes)
+pub wanting_kept : (from to low high at : ℕ) (disk : MemoryDisk) (bytes : List ℕ) → IsUnsyncedWithin from to disk → at + length bytes ≤ length disk.reads → low ≤ at → at + length bytes ≤ high → high ≤ length disk.reads → ((place : ℕ) → from ≤ place → place < to → (low ≤ place) × (place < high)) → IsUnsyncedWithin low high (wanting disk at bytes)
 wanting_kept from to low high at disk bytes kept inside from_low to_high high_inside wider =
     let in_unsynced : at + length bytes ≤ length disk.unsynced = omega (arith, kept.honest.unsynced_length) in
     record {
@@ -52,7 +52,7 @@ put_honest disk at bytes honest inside is_marked =
     }
 
 -- and kept within the same range
-pub put_kept : (from to at : ℕ) (disk : MemoryDisk) (bytes : List ℕ) → IsKeptWithin from to disk → at + length bytes ≤ length disk.reads → IsMarked disk at (length bytes) → IsKeptWithin from to (record disk { reads = written disk.reads at bytes })
+pub put_kept : (from to at : ℕ) (disk : MemoryDisk) (bytes : List ℕ) → IsUnsyncedWithin from to disk → at + length bytes ≤ length disk.reads → IsMarked disk at (length bytes) → IsUnsyncedWithin from to (record disk { reads = written disk.reads at bytes })
 put_kept from to at disk bytes kept inside is_marked =
     let size : length (written disk.reads at bytes) ≡ length disk.reads = length_over disk.reads bytes at (length bytes) inside refl in
     record {
@@ -62,7 +62,8 @@ put_kept from to at disk bytes kept inside is_marked =
       honest = put_honest disk at bytes kept.honest inside is_marked;
     }
 
--- a list that agrees with the bytes that a read gives but in this range, once they are written over it
+-- a list that agrees with the bytes that a read gives but in this range, once they are written over
+-- it
 over_by_reads : (list reads : List ℕ) (from to : ℕ) → from ≤ to → to ≤ length reads → length list ≡ length reads → ((place : ℕ) → (place < from) ⊎ (to ≤ place) → get_or list place 0 ≡ get_or reads place 0) → written list from (take (to - from) (drop from reads)) ≡ reads
 over_by_reads list reads from to in_order inside size same =
     let count : length (take (to - from) (drop from reads)) ≡ to - from = grind (arith, places) in
@@ -76,31 +77,31 @@ over_by_reads list reads from to in_order inside size same =
     ]))
 
 -- outside the range around what was written, nothing was
-synced_outside : (from to : ℕ) (disk : MemoryDisk) → IsKeptWithin from to disk → (place : ℕ) → (place < from) ⊎ (to ≤ place) → IsSyncedAt disk place
+synced_outside : (from to : ℕ) (disk : MemoryDisk) → IsUnsyncedWithin from to disk → (place : ℕ) → (place < from) ⊎ (to ≤ place) → IsSyncedAt disk place
 synced_outside from to disk kept place outside = elim (false_or_true (get_or disk.unsynced place false)) [
   | inl is_synced ↦ is_synced
   | inr is_unsynced ↦
       let around : (from ≤ place) × (place < to) = kept.around place is_unsynced in
       elim outside [
         | inl before ↦ absurd (omega arith)
-        | inr behind ↦ absurd (omega arith)
+        | inr following ↦ absurd (omega arith)
       ]
 ]
 
 -- what was synced, with what a read gives over that range
-pub settled_synced : (from to : ℕ) (disk : MemoryDisk) → IsKeptWithin from to disk → written disk.synced from (take (to - from) (drop from disk.reads)) ≡ disk.reads
+pub settled_synced : (from to : ℕ) (disk : MemoryDisk) → IsUnsyncedWithin from to disk → written disk.synced from (take (to - from) (drop from disk.reads)) ≡ disk.reads
 settled_synced from to disk kept =
     over_by_reads disk.synced disk.reads from to kept.in_order kept.inside kept.honest.synced_length (λ place outside. sym (kept.honest.reads_synced place (synced_outside from to disk kept place outside)))
 
 -- what is wanted, with what a read gives over that range
-pub settled_wanted : (from to : ℕ) (disk : MemoryDisk) → IsKeptWithin from to disk → written disk.wanted from (take (to - from) (drop from disk.reads)) ≡ disk.reads
+pub settled_wanted : (from to : ℕ) (disk : MemoryDisk) → IsUnsyncedWithin from to disk → written disk.wanted from (take (to - from) (drop from disk.reads)) ≡ disk.reads
 settled_wanted from to disk kept =
     over_by_reads disk.wanted disk.reads from to kept.in_order kept.inside kept.honest.wanted_length (λ place outside.
     let is_synced : IsSyncedAt disk place = synced_outside from to disk kept place outside in
     kept.honest.wanted_synced place is_synced ∙ sym (kept.honest.reads_synced place is_synced))
 
 -- no place of it is noted any more
-pub settled_unsynced : (from to : ℕ) (disk : MemoryDisk) → IsKeptWithin from to disk → over disk.unsynced from (to - from) (replicate (to - from) false) ≡ replicate (length disk.reads) false
+pub settled_unsynced : (from to : ℕ) (disk : MemoryDisk) → IsUnsyncedWithin from to disk → over disk.unsynced from (to - from) (replicate (to - from) false) ≡ replicate (length disk.reads) false
 settled_unsynced from to disk kept =
     let at_end : from + (to - from) ≡ to = let in_order : from ≤ to = kept.in_order in omega arith in
     let within : from + (to - from) ≤ length disk.unsynced = let inside : to ≤ length disk.reads = kept.inside in omega (arith, kept.honest.unsynced_length) in
@@ -111,7 +112,7 @@ settled_unsynced from to disk kept =
     ])
 
 -- a disk of which all is synced is honest, and nothing was written since
-pub settled_kept : (from to : ℕ) (disk : MemoryDisk) → IsKeptWithin from to disk → IsKeptWithin 0 0 (synced_disk disk)
+pub settled_kept : (from to : ℕ) (disk : MemoryDisk) → IsUnsyncedWithin from to disk → IsUnsyncedWithin 0 0 (synced_disk disk)
 settled_kept from to disk _ = record {
   in_order = omega arith;
   inside = omega arith;

@@ -2,17 +2,17 @@
 use Rattle.std.proofs.Common.{◌≡◌, inr, Some, None, refl, sym, ◌∙◌, ap, subst, arith}
 use Rattle.duk_store.specs.Cell.{Kept}
 use Rattle.duk_store.specs.Disk.{DiskState, LeavesChanged}
-use Rattle.duk_store.specs.SlotCell.{IsBroughtUp, IsRestored, RecoveryFailed}
+use Rattle.duk_store.specs.SlotCell.{IsCellBroughtUp, IsRestored, RecoveryFailed}
 use Rattle.duk_store.specs.SlotChoice.{AreEquallyNew, IsCurrent}
-use Rattle.duk_store.specs.Slots.{Counts, HoldsAlone, IsOpen, Keeps, body_of, other_than, sequence_of, slot_at, slot_in}
+use Rattle.duk_store.specs.SlotFormat.{Counts, HoldsAlone, IsOpen, KeepsBody, body_of, other_than, sequence_of, slot_at, slot_in}
 use Rattle.duk_store.specs.SlotSteps.{ChangesAt, IsCleared, IsFound, IsPartlyCleared, IsStepDone, IsStepFailed}
 use Rattle.duk_store.specs.declared.fault.StoreFault.{StoreFault}
 use Rattle.duk_store.specs.declared.fault.StoreFault.TheVariants.{Damaged}
-use Rattle.duk_store.specs.declared.slot.Place.{Place}
-use Rattle.duk_store.specs.declared.slot.Place.TheVariants.{First, Second}
-use Rattle.duk_store.specs.declared.slot.Slot.{Slot}
-use Rattle.duk_store.specs.declared.slot.Slots.{Slots}
-use Rattle.duk_store.specs.declared.slot.SlotState.TheVariants.{Holds}
+use Rattle.duk_store.specs.declared.slot_format.Place.{Place}
+use Rattle.duk_store.specs.declared.slot_format.Place.TheVariants.{First, Second}
+use Rattle.duk_store.specs.declared.slot_format.Slot.{Slot}
+use Rattle.duk_store.specs.declared.slot_format.Slots.{Slots}
+use Rattle.duk_store.specs.declared.slot_format.SlotState.TheVariants.{Holds}
 use Rattle.duk_store.proofs.StepsInTurn.{keeps_on}
 use Rattle.duk_store.proofs.WhatIsKept.{alone_keeps, cleared, cleared_alone, torn_clear}
 
@@ -22,10 +22,10 @@ module _ (old mid : DiskState) (slots : Slots) (found : IsFound old mid slots) w
   reads_left h = let start = found.done.changed h in subst (λ bytes. old.may_leave bytes) start.2 start.1
 
   open_at : old.honest → AreEquallyNew slots → (place : Place) → IsOpen (slot_at place mid.reads)
-  open_at h same place = (found.says h place).gate.0 (same.open_both place)
+  open_at h same place = (found.says h place).commit.0 (same.open_both place)
 
   -- two open slots of one sequence keep nothing, not even nothing
-  keeps_none : old.honest → AreEquallyNew slots → (kept : Kept) → ¬ Keeps mid.reads kept
+  keeps_none : old.honest → AreEquallyNew slots → (kept : Kept) → ¬ KeepsBody mid.reads kept
   keeps_none h same None none = none First (open_at h same First)
   keeps_none h same (Some body) (First, counts, is) = omega (arith, counts.newer (open_at h same Second), (found.says h First).sequence, (found.says h Second).sequence, same.same)
   keeps_none h same (Some body) (Second, counts, is) = omega (arith, counts.newer (open_at h same First), (found.says h First).sequence, (found.says h Second).sequence, same.same)
@@ -40,9 +40,9 @@ module _ (old mid : DiskState) (slots : Slots) (found : IsFound old mid slots) w
   module _ (place : Place) (current : IsCurrent slots (Some place)) where
     counts : old.honest → Counts (slot_at place mid.reads) (slot_at (other_than place) mid.reads)
     counts h = record {
-      is_open = (found.says h place).gate.0 current.0;
+      is_open = (found.says h place).commit.0 current.0;
       newer = λ is_open.
-          let less = current.1 ((found.says h (other_than place)).gate.1 is_open) in
+          let less = current.1 ((found.says h (other_than place)).commit.1 is_open) in
           omega (arith, less, (found.says h place).sequence, (found.says h (other_than place)).sequence);
     }
 
@@ -66,7 +66,7 @@ module _ (old mid : DiskState) (slots : Slots) (found : IsFound old mid slots) w
           let is : bytes ≡ new.reads = (done.leaves (found.done.nature.honest.0 h) bytes).0 left in
           (mid.reads, reads_left h, subst (λ bytes. IsRestored mid.reads bytes) (sym is) (cleared place mid.reads new.reads (counts h) (changes_are done h)))
 
-      pub brought_up : IsStepDone (ChangesAt beside IsCleared) mid new → (slot : Slot) → slot ≡ slot_in place slots → IsBroughtUp old new (Holds place slot.sequence) (Some slot.body)
+      pub brought_up : IsStepDone (ChangesAt beside IsCleared) mid new → (slot : Slot) → slot ≡ slot_in place slots → IsCellBroughtUp old new (Holds place slot.sequence) (Some slot.body)
       brought_up done slot slot_is =
           let nature = keeps_on old mid new found.done.nature done.nature in
           let sequence : old.honest → sequence_of (slot_at place mid.reads) ≡ slot.sequence = λ h. sym (ap (λ (s : Slot). s.sequence) slot_is ∙ (found.says h place).sequence) in
@@ -89,5 +89,5 @@ module _ (old mid : DiskState) (slots : Slots) (found : IsFound old mid slots) w
                   ),
             );
             found = λ h. (mid.reads, reads_left h, (place, counts h, sym (body h)));
-            keeps = λ h. (done.leaves (found.done.nature.honest.0 h), subst (λ body. Keeps new.reads (Some body)) (body h) (alone_keeps place _ _ new.reads (alone h)));
+            keeps = λ h. (done.leaves (found.done.nature.honest.0 h), subst (λ body. KeepsBody new.reads (Some body)) (body h) (alone_keeps place _ _ new.reads (alone h)));
           }

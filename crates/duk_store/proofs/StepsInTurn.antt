@@ -1,10 +1,10 @@
 -- One step of a disk after another.
 use Rattle.std.proofs.Common.{◌≡◌, ℕ, List, length, ◌∙◌, subst, sym}
-use Rattle.duk_store.specs.Disk.{DiskState, HasFailed, KeepsBytes, KeepsDisk, LeavesItsSize}
+use Rattle.duk_store.specs.Disk.{DiskState, HasFailed, PreservesBytes, PreservesDisk, LeavesItsSize}
 use Rattle.duk_store.specs.SlotSteps.{Change, IsStepDone, IsStepFailed}
 use Rattle.duk_store.specs.declared.fault.StoreFault.{StoreFault}
 
-pub keeps_on : (old mid new : DiskState) → KeepsDisk old mid → KeepsDisk mid new → KeepsDisk old new
+pub keeps_on : (old mid new : DiskState) → PreservesDisk old mid → PreservesDisk mid new → PreservesDisk old new
 keeps_on old mid new first second = record {
   honest = ((λ h. second.honest.0 (first.honest.0 h)), (λ h. first.honest.1 (second.honest.1 h)));
   size = second.size ∙ first.size;
@@ -12,8 +12,8 @@ keeps_on old mid new first second = record {
   disarmed = λ disarmed. second.disarmed (first.disarmed disarmed);
 }
 
--- a failure behind steps without one
-pub fails_later : (old mid new : DiskState) (fault : StoreFault) → KeepsDisk old mid → mid.failures ≡ old.failures → HasFailed mid new fault → HasFailed old new fault
+-- a failure after steps without one
+pub fails_later : (old mid new : DiskState) (fault : StoreFault) → PreservesDisk old mid → mid.failures ≡ old.failures → HasFailed mid new fault → HasFailed old new fault
 fails_later old mid new fault keeps none fails = record {
   fault_is = fails.fault_is;
   failure = λ same. fails.failure (same ∙ sym none);
@@ -78,7 +78,7 @@ failed_where one other old new fault follows failed = record {
 }
 
 -- bytes that stay, and stay again
-pub bytes_on : (old mid new : DiskState) → KeepsBytes old mid → KeepsBytes mid new → KeepsBytes old new
+pub bytes_on : (old mid new : DiskState) → PreservesBytes old mid → PreservesBytes mid new → PreservesBytes old new
 bytes_on old mid new first second = record {
   reads = second.reads ∙ first.reads;
   may_leave = λ bytes. (

@@ -6,10 +6,10 @@ use Rattle.byteorder.specs.Endian.{big_bytes, big_number}
 use Rattle.byteorder.specs.Numbers.{big_number-reads_back}
 use Rattle.duk_store.specs.Cell.{Kept}
 use Rattle.duk_store.specs.SlotCell.{IsRestored, KeepsOldOrNew}
-use Rattle.duk_store.specs.Slots.{Counts, HoldsAlone, IsEmpty, IsOpen, Keeps, behind_gate, body_of, contents_of, gate_of, other_than, sequence_of, slot_at}
-use Rattle.duk_store.specs.SlotSteps.{BothGatesStay, ChangesAt, IsCleared, IsEmptied, IsFilled, IsPartlyCleared, IsPartlyEmptied, IsPartlyFilled, IsWipedBoth}
-use Rattle.duk_store.specs.declared.slot.Place.{Place}
-use Rattle.duk_store.specs.declared.slot.Place.TheVariants.{First, Second}
+use Rattle.duk_store.specs.SlotFormat.{Counts, HoldsAlone, IsEmpty, IsOpen, KeepsBody, after_commit, body_of, contents_of, commit_of, other_than, sequence_of, slot_at}
+use Rattle.duk_store.specs.SlotSteps.{BothCommitsStay, ChangesAt, IsCleared, IsEmptied, IsFilled, IsPartlyCleared, IsPartlyEmptied, IsPartlyFilled, IsWipedBoth}
+use Rattle.duk_store.specs.declared.slot_format.Place.{Place}
+use Rattle.duk_store.specs.declared.slot_format.Place.TheVariants.{First, Second}
 
 -- two places are the same, or each is that of the other slot
 beside_or_same : (place at : Place) → (at ≡ place) ⊎ (at ≡ other_than place)
@@ -27,7 +27,7 @@ counts_once : (slot beside : List ℕ) → Counts slot beside → Counts beside 
 counts_once slot beside one two = omega (arith, one.newer two.is_open, two.newer one.is_open)
 
 -- bytes keep one thing at most
-pub kept_once : (bytes : List ℕ) (one two : Kept) → Keeps bytes one → Keeps bytes two → one ≡ two
+pub kept_once : (bytes : List ℕ) (one two : Kept) → KeepsBody bytes one → KeepsBody bytes two → one ≡ two
 kept_once bytes None None first second = refl
 kept_once bytes None (Some body) first second = absurd (first second.0 second.1.is_open)
 kept_once bytes (Some body) None first second = absurd (second first.0 first.1.is_open)
@@ -37,14 +37,14 @@ kept_once bytes (Some one) (Some two) (First, counts, is) (Second, counts', is')
 kept_once bytes (Some one) (Some two) (Second, counts, is) (First, counts', is') = absurd (counts_once (slot_at Second bytes) (slot_at First bytes) counts counts')
 
 -- what one thing is kept in, and another, is kept in both
-pub same_kept : (x y : List ℕ) (kept : Kept) → Keeps x kept → Keeps y kept → (other : Kept) → Keeps x other ↔ Keeps y other
+pub same_kept : (x y : List ℕ) (kept : Kept) → KeepsBody x kept → KeepsBody y kept → (other : Kept) → KeepsBody x other ↔ KeepsBody y other
 same_kept x y kept first second other = (
-  (λ keeps. subst (λ kept. Keeps y kept) (kept_once x kept other first keeps) second),
-  (λ keeps. subst (λ kept. Keeps x kept) (kept_once y kept other second keeps) first),
+  (λ keeps. subst (λ kept. KeepsBody y kept) (kept_once x kept other first keeps) second),
+  (λ keeps. subst (λ kept. KeepsBody x kept) (kept_once y kept other second keeps) first),
 )
 
 -- where one slot is closed before and after, and the other stays, so does what is kept
-pub closed_slot : (place : Place) (x y : List ℕ) (kept : Kept) → ¬ IsOpen (slot_at place x) → ¬ IsOpen (slot_at place y) → slot_at (other_than place) y ≡ slot_at (other_than place) x → Keeps x kept → Keeps y kept
+pub closed_slot : (place : Place) (x y : List ℕ) (kept : Kept) → ¬ IsOpen (slot_at place x) → ¬ IsOpen (slot_at place y) → slot_at (other_than place) y ≡ slot_at (other_than place) x → KeepsBody x kept → KeepsBody y kept
 closed_slot First x y None before after same none = λ place. both place
   where
     both : (place : Place) → ¬ IsOpen (slot_at place y)
@@ -61,10 +61,10 @@ closed_slot Second x y (Some body) before after same (Second, counts, is) = absu
 closed_slot Second x y (Some body) before after same (First, counts, is) = (First, record { is_open = rw same counts.is_open; newer = λ is_open. absurd (after is_open) }, is ∙ ap body_of (sym same))
 
 -- contents, read back
-pub sequence_in : (sequence : ℕ) (body slot : List ℕ) → sequence < 2 ^ 64 → behind_gate slot ≡ contents_of sequence body → sequence_of slot ≡ sequence
+pub sequence_in : (sequence : ℕ) (body slot : List ℕ) → sequence < 2 ^ 64 → after_commit slot ≡ contents_of sequence body → sequence_of slot ≡ sequence
 sequence_in sequence body slot fits is = ap (big_number 8) is ∙ big_number-reads_back 8 sequence body fits
 
-pub body_in : (sequence : ℕ) (body slot : List ℕ) → behind_gate slot ≡ contents_of sequence body → body_of slot ≡ body
+pub body_in : (sequence : ℕ) (body slot : List ℕ) → after_commit slot ≡ contents_of sequence body → body_of slot ≡ body
 body_in sequence body slot is = ap (drop 8) is ∙ drop_at (big_bytes 8 sequence) body 8 refl
 
 -- a slot that was filled leads: it has the new body, and the other one is of smaller sequence
@@ -75,7 +75,7 @@ pub record Leads (place : Place) (sequence : ℕ) (body bytes : List ℕ) : Type
   older : sequence_of (slot_at (other_than place) bytes) < sequence
 
 -- what leads is kept
-pub leads_keeps : (place : Place) (sequence : ℕ) (body bytes : List ℕ) → Leads place sequence body bytes → Keeps bytes (Some body)
+pub leads_keeps : (place : Place) (sequence : ℕ) (body bytes : List ℕ) → Leads place sequence body bytes → KeepsBody bytes (Some body)
 leads_keeps place sequence body bytes leads = (
   place,
   record { is_open = leads.is_open; newer = λ is_open. omega (arith, leads.older, leads.sequence_is) },
@@ -93,7 +93,7 @@ module _ (place : Place) (sequence : ℕ) (body : List ℕ) (fits : sequence < 2
 
   -- a slot that is filled in part has no effect yet, or leads
   pub torn_fill : ChangesAt place (IsPartlyFilled sequence body) x y → KeepsOldOrNew body x y
-  torn_fill changes = elim (cases_eq (gate_of (slot_at place y)) 1) [
+  torn_fill changes = elim (cases_eq (commit_of (slot_at place y)) 1) [
     | inl is_open ↦ elim changes.this [
       | inl same ↦ absurd (closed (sym same ∙ is_open))
       | inr contents ↦ inr (leads_keeps place sequence body y (record {
@@ -108,7 +108,7 @@ module _ (place : Place) (sequence : ℕ) (body : List ℕ) (fits : sequence < 2
 
 module _ (place : Place) (sequence : ℕ) (body x y : List ℕ) (leads : Leads place sequence body x) where
   -- while the other slot is emptied, the new body is kept
-  pub torn_empty : ChangesAt (other_than place) IsPartlyEmptied x y → Keeps y (Some body)
+  pub torn_empty : ChangesAt (other_than place) IsPartlyEmptied x y → KeepsBody y (Some body)
   torn_empty changes =
       let stays : slot_at place y ≡ slot_at place x = subst (λ at. slot_at at y ≡ slot_at at x) (other_twice place) changes.beside in (
         place,
@@ -129,37 +129,37 @@ module _ (place : Place) (sequence : ℕ) (body x y : List ℕ) (leads : Leads p
         is_open = rw stays leads.is_open;
         sequence_is = ap sequence_of stays ∙ leads.sequence_is;
         body_is = ap body_of stays ∙ leads.body_is;
-        other_blank = record { closed = λ is_open. omega (arith, is_open, changes.this.gate); zeros = changes.this.zeros };
+        other_blank = record { closed = λ is_open. omega (arith, is_open, changes.this.commit); zeros = changes.this.zeros };
       }
 
 -- one body alone is kept
-pub alone_keeps : (place : Place) (sequence : ℕ) (body bytes : List ℕ) → HoldsAlone place sequence body bytes → Keeps bytes (Some body)
+pub alone_keeps : (place : Place) (sequence : ℕ) (body bytes : List ℕ) → HoldsAlone place sequence body bytes → KeepsBody bytes (Some body)
 alone_keeps place sequence body bytes alone = (
   place,
   record { is_open = alone.is_open; newer = λ is_open. absurd (alone.other_blank.closed is_open) },
   sym alone.body_is,
 )
 
--- a disk on which both slots are closed, and whose gates stay, keeps nothing
-pub both_closed : (x y : List ℕ) → Keeps x None → BothGatesStay x y → IsRestored x y
+-- a disk on which both slots are closed, and whose commit bytes stay, keeps nothing
+pub both_closed : (x y : List ℕ) → KeepsBody x None → BothCommitsStay x y → IsRestored x y
 both_closed x y none stay = record {
   keeps = same_kept x y None none (λ place is_open. none place (sym (stay place) ∙ is_open));
-  gates = λ place closed. stay place;
+  commits = λ place closed. stay place;
 }
 
-pub both_empty : (x y : List ℕ) → Keeps x None → IsWipedBoth x y → IsEmpty y
-both_empty x y none wiped = λ place. record { closed = λ is_open. none place (sym (wiped.gates place) ∙ is_open); zeros = wiped.zeros place }
+pub both_empty : (x y : List ℕ) → KeepsBody x None → IsWipedBoth x y → IsEmpty y
+both_empty x y none wiped = λ place. record { closed = λ is_open. none place (sym (wiped.commits place) ∙ is_open); zeros = wiped.zeros place }
 
 -- the slot that counts stays while the other one is cleared
 module _ (place : Place) (x y : List ℕ) (counts : Counts (slot_at place x) (slot_at (other_than place) x)) where
   stays_at : (change : List ℕ → List ℕ → Type 0) → ChangesAt (other_than place) change x y → slot_at place y ≡ slot_at place x
   stays_at change changes = subst (λ at. slot_at at y ≡ slot_at at x) (other_twice place) changes.beside
 
-  keeps_before : Keeps x (Some (body_of (slot_at place x)))
+  keeps_before : KeepsBody x (Some (body_of (slot_at place x)))
   keeps_before = (place, counts, refl)
 
   pub torn_clear : ChangesAt (other_than place) IsPartlyCleared x y → IsRestored x y
-  torn_clear changes = record { keeps = same_kept x y (Some (body_of (slot_at place x))) keeps_before keeps_after; gates = gates }
+  torn_clear changes = record { keeps = same_kept x y (Some (body_of (slot_at place x))) keeps_before keeps_after; commits = commits }
     where
       stays : slot_at place y ≡ slot_at place x
       stays = stays_at IsPartlyCleared changes
@@ -169,22 +169,22 @@ module _ (place : Place) (x y : List ℕ) (counts : Counts (slot_at place x) (sl
       newer (inl torn) is_open = omega (arith, counts.newer torn.0, ap sequence_of stays, ap (big_number 8) torn.1)
       newer (inr closed) is_open = absurd (closed.0 is_open)
 
-      keeps_after : Keeps y (Some (body_of (slot_at place x)))
+      keeps_after : KeepsBody y (Some (body_of (slot_at place x)))
       keeps_after = (place, record { is_open = rw stays counts.is_open; newer = newer changes.this }, ap body_of (sym stays))
 
-      gate_beside : IsPartlyCleared (slot_at (other_than place) x) (slot_at (other_than place) y) → ¬ IsOpen (slot_at (other_than place) x) → gate_of (slot_at (other_than place) y) ≡ gate_of (slot_at (other_than place) x)
-      gate_beside (inl torn) closed = absurd (closed torn.0)
-      gate_beside (inr after) closed = after.1 closed
+      commit_beside : IsPartlyCleared (slot_at (other_than place) x) (slot_at (other_than place) y) → ¬ IsOpen (slot_at (other_than place) x) → commit_of (slot_at (other_than place) y) ≡ commit_of (slot_at (other_than place) x)
+      commit_beside (inl torn) closed = absurd (closed torn.0)
+      commit_beside (inr after) closed = after.1 closed
 
-      gates : (at : Place) → ¬ IsOpen (slot_at at x) → gate_of (slot_at at y) ≡ gate_of (slot_at at x)
-      gates at closed = elim (beside_or_same place at) [
-        | inl same ↦ subst (λ at. gate_of (slot_at at y) ≡ gate_of (slot_at at x)) (sym same) (ap gate_of stays)
-        | inr beside ↦ subst (λ at. ¬ IsOpen (slot_at at x) → gate_of (slot_at at y) ≡ gate_of (slot_at at x)) (sym beside) (gate_beside changes.this) closed
+      commits : (at : Place) → ¬ IsOpen (slot_at at x) → commit_of (slot_at at y) ≡ commit_of (slot_at at x)
+      commits at closed = elim (beside_or_same place at) [
+        | inl same ↦ subst (λ at. commit_of (slot_at at y) ≡ commit_of (slot_at at x)) (sym same) (ap commit_of stays)
+        | inr beside ↦ subst (λ at. ¬ IsOpen (slot_at at x) → commit_of (slot_at at y) ≡ commit_of (slot_at at x)) (sym beside) (commit_beside changes.this) closed
       ]
 
   -- a slot that is cleared is cleared in part
   cleared_in_part : ChangesAt (other_than place) IsCleared x y → ChangesAt (other_than place) IsPartlyCleared x y
-  cleared_in_part changes = record { this = inr (changes.this.blank.closed, changes.this.gate); beside = changes.beside }
+  cleared_in_part changes = record { this = inr (changes.this.blank.closed, changes.this.commit); beside = changes.beside }
 
   pub cleared : ChangesAt (other_than place) IsCleared x y → IsRestored x y
   cleared changes = torn_clear (cleared_in_part changes)

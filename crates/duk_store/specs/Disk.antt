@@ -37,7 +37,7 @@ LeavesItsSize disk =
     disk.honest → (bytes : List ℕ) → disk.may_leave bytes → length bytes ≡ disk.size
 
 -- what no call changes: honesty and size stay, and calm and disarming end by arming alone
-pub record KeepsDisk (old new : DiskState) : Type 0 where
+pub record PreservesDisk (old new : DiskState) : Type 0 where
   pub honest : old.honest ↔ new.honest
   pub size : new.size ≡ old.size
   pub calm : old.calm → new.calm
@@ -54,7 +54,7 @@ pub record HasFailed (old new : DiskState) (fault : StoreFault) : Type 0 where
   pub not_calm : ¬ old.calm
 
 -- a read gives what it gave, and a stop could leave what it could leave
-pub record KeepsBytes (old new : DiskState) : Type 0 where
+pub record PreservesBytes (old new : DiskState) : Type 0 where
   pub reads : new.reads ≡ old.reads
   pub may_leave : (bytes : List ℕ) → new.may_leave bytes ↔ old.may_leave bytes
 
@@ -96,4 +96,4 @@ pub record StaysButArmed (old new : DiskState) : Type 0 where
   pub honest : old.honest ↔ new.honest
   pub size : new.size ≡ old.size
   pub no_failure : new.failures ≡ old.failures
-  pub bytes : KeepsBytes old new
+  pub bytes : PreservesBytes old new

@@ -57,12 +57,12 @@ abbrev pub with_failure : DiskDevice → DiskDevice
 with_failure device = record device { failures = one_more device.failures }
 
 -- a step passed
-pub record HasPassed (old new : DiskDevice) : Type 0 where
+pub record HasDiskStepPassed (old new : DiskDevice) : Type 0 where
   pub not_due : ¬ IsDue old
   pub device_is : new ≡ after_step old
 
 -- a step came due
-pub record IsStepDue (old new : DiskDevice) : Type 0 where
+pub record IsDiskStepDue (old new : DiskDevice) : Type 0 where
   pub due : IsDue old
   pub device_is : new ≡ with_failure (after_step old)
   pub counted : new.failures ≢ old.failures

@@ -1,15 +1,15 @@
 -- A log of used numbers on a disk: this project's own.
 use Rattle.std.specs.Prelude.{◌≡◌, ◌≢◌, ◌⊎◌, ◌↔◌, ◌<◌, ◌≤◌, ◌+◌, ◌*◌, ◌/◌, ◌^◌, ℕ, Bool, true, false, List, length, replicate, Option, Some, None}
 use Rattle.duk_tree.specs.Serial.{Serial}
-use Rattle.duk_store.specs.Disk.{DiskMeaning, DiskState, HasFailed, KeepsBytes, KeepsDisk, LeavesReads, LeavesWithin}
+use Rattle.duk_store.specs.Disk.{DiskMeaning, DiskState, HasFailed, PreservesBytes, PreservesDisk, LeavesReads, LeavesWithin}
 use Rattle.duk_store.specs.Log.{LogMeaning, Numbers}
-use Rattle.duk_store.specs.Records.{HasNumber, IsLog, IsLogSize, KeepsNumbers, SaysRecord, number_bytes, record_at, record_length}
-use Rattle.duk_store.specs.Slots.{IsOpen, behind_gate, gate_of}
+use Rattle.duk_store.specs.RecordFormat.{HasRecordNumber, IsLog, IsLogSize, KeepsNumbers, SaysRecord, number_bytes, record_at, record_length}
+use Rattle.duk_store.specs.SlotFormat.{IsOpen, after_commit, commit_of}
 use Rattle.duk_store.specs.SlotSteps.{IsStepDone, IsStepFailed}
 use Rattle.duk_store.specs.StoreState.{StoreState}
 use Rattle.duk_store.specs.declared.fault.StoreFault.{StoreFault}
 use Rattle.duk_store.specs.declared.fault.StoreFault.TheVariants.{Damaged, Device}
-use Rattle.duk_store.specs.declared.record.Record.{Record}
+use Rattle.duk_store.specs.declared.record_format.Record.{Record}
 
 -- a log on a disk: the disk, and how many numbers it keeps, while it runs
 pub record DiskLogOf (D : Type 0) : Type 0 where
@@ -83,16 +83,16 @@ KnowsLog disk (Some count) = KnowsCount count disk
 
 -- a record is read, and nothing changes
 pub record IsRecordRead (place : ℕ) (old new : DiskState) (said : Record) : Type 0 where
-  pub nature : KeepsDisk old new
+  pub nature : PreservesDisk old new
   pub no_failure : new.failures ≡ old.failures
-  pub bytes : KeepsBytes old new
+  pub bytes : PreservesBytes old new
   pub says : old.honest → SaysRecord (record_at place old.reads) said
 
 -- a reading in which the device step failed: nothing else changes
 pub record RecordUnread (old new : DiskState) (fault : StoreFault) : Type 0 where
-  pub nature : KeepsDisk old new
+  pub nature : PreservesDisk old new
   pub failed : HasFailed old new fault
-  pub bytes : KeepsBytes old new
+  pub bytes : PreservesBytes old new
 
 -- the disk is brought up, and all that was torn is synced
 pub record IsLogOpen (old new : DiskState) : Type 0 where
@@ -103,7 +103,7 @@ pub record IsLogOpen (old new : DiskState) : Type 0 where
 
 -- the disk has no size of a log's
 pub record HasNoLogSize (old new : DiskState) : Type 0 where
-  pub nature : KeepsDisk old new
+  pub nature : PreservesDisk old new
   pub no_failure : new.failures ≡ old.failures
   pub within : LeavesWithin old new
   pub size : ¬ IsLogSize old.size
@@ -120,7 +120,7 @@ pub record OpenFailed (old new : DiskState) (fault : StoreFault) : Type 0 where
 
 -- what the records up to a place say: so many in front have numbers, and the others are closed
 pub record CountsUpTo (place count : ℕ) (bytes : List ℕ) : Type 0 where
-  pub kept : (before : ℕ) → before < count → HasNumber (record_at before bytes)
+  pub kept : (before : ℕ) → before < count → HasRecordNumber (record_at before bytes)
   pub closed : (before : ℕ) → count ≤ before → before < place → ¬ IsOpen (record_at before bytes)
 
 -- no list is kept in these bytes
@@ -129,9 +129,9 @@ KeepsNoList bytes = (count : ℕ) → ¬ IsLog count bytes
 
 -- the records are counted
 pub record IsCounted (old new : DiskState) (count : ℕ) : Type 0 where
-  pub nature : KeepsDisk old new
+  pub nature : PreservesDisk old new
   pub no_failure : new.failures ≡ old.failures
-  pub bytes : KeepsBytes old new
+  pub bytes : PreservesBytes old new
   pub fits : record_length * count ≤ old.size
   pub is_log : old.honest → IsLog count old.reads
 
@@ -146,8 +146,8 @@ IsCountFault old new Damaged = FoundNoList old new
 IsCountFault old new _ = ⊥
 
 pub record CountFailed (old new : DiskState) (fault : StoreFault) : Type 0 where
-  pub nature : KeepsDisk old new
-  pub bytes : KeepsBytes old new
+  pub nature : PreservesDisk old new
+  pub bytes : PreservesBytes old new
   pub cause : IsCountFault old new fault
 
 -- the record at this place changes so, and all others stay
@@ -160,16 +160,16 @@ pub record ChangesRecord
 -- a record is written and opened
 pub record IsRecordWritten (number : Serial) (before after : List ℕ) : Type 0 where
   pub is_open : IsOpen after
-  pub contents : behind_gate after ≡ number_bytes number
+  pub contents : after_commit after ≡ number_bytes number
 
--- it is written in part: its gate is as it was, or its number is whole after any gate
+-- it is written in part: its commit byte is as it was, or its number is whole after any commit byte
 abbrev pub IsRecordTorn : Serial → List ℕ → List ℕ → Type 0
 IsRecordTorn number before after =
-    (gate_of after ≡ gate_of before) ⊎ (behind_gate after ≡ number_bytes number)
+    (commit_of after ≡ commit_of before) ⊎ (after_commit after ≡ number_bytes number)
 
 -- a log is brought up: it has counted its records, and knows its disk
 pub record IsLogUp (old new : DiskState) (count : ℕ) : Type 0 where
-  pub nature : KeepsDisk old new
+  pub nature : PreservesDisk old new
   pub no_failure : new.failures ≡ old.failures
   pub disarmed : new.disarmed
   pub knows : KnowsCount count new
@@ -192,7 +192,7 @@ IsLogUpFault old new Damaged = FoundLogDamage old new
 IsLogUpFault old new _ = ⊥
 
 pub record LogUpFailed (old new : DiskState) (fault : StoreFault) : Type 0 where
-  pub nature : KeepsDisk old new
+  pub nature : PreservesDisk old new
   pub disarmed : new.disarmed
   pub within : LeavesWithin old new
   pub cause : IsLogUpFault old new fault

@@ -29,6 +29,6 @@ file_medium_state state medium = record (state medium.file) {
 -- Of what follows only the code of the medium speaks.
 
 -- the size is that of the file, and no failure of the file is forgotten
-pub record KeepsInMind (file : MediumState) (size : ℕ) (has_failed : Bool) : Type 0 where
+pub record RemembersFailure (file : MediumState) (size : ℕ) (has_failed : Bool) : Type 0 where
   pub size_is : IsSizeOf size file
   pub kept : file.failed → has_failed ≡ true

@@ -4,11 +4,11 @@ pub mod Cell
 pub mod CellCalls
 pub mod Log
 pub mod Disk
-pub mod Slots
+pub mod SlotFormat
 pub mod SlotChoice
 pub mod SlotSteps
 pub mod SlotCell
-pub mod Records
+pub mod RecordFormat
 pub mod DiskLog
 pub mod RecordCount
 pub mod Device

@@ -1,7 +1,7 @@
 -- What a log of used numbers means, and what its calls do to that: this project's own.
 use Rattle.std.specs.Prelude.{◌≡◌, ◌≢◌, ◌⊎◌, ◌-◌, true, false, ℕ, List, [], ◌∷◌, ◌++◌, length, Some, slice_get, if◌then◌else◌}
 use Rattle.duk_tree.specs.Serial.{Serial}
-use Rattle.duk_store.specs.StoreState.{StoreState, FindsAsBefore, FindsOnly, IsAlreadyStopped, KeepsNature, Stops, Stays}
+use Rattle.duk_store.specs.StoreState.{StoreState, FindsAsBefore, FindsOnly, IsAlreadyStopped, PreservesNature, Stops, Stays}
 use Rattle.duk_store.specs.Restart.{Restarted}
 use Rattle.duk_store.specs.declared.fault.StoreFault.{StoreFault}
 use Rattle.duk_store.specs.declared.fault.StoreFault.TheVariants.{Device, Stopped}
@@ -49,7 +49,7 @@ WithNumber lists number numbers =
 pub record IsAppended
     {L : Type 0} (meaning : LogMeaning L) (old new : L) (number : Serial) : Type 0 where
   pub was_running : (meaning.state_of old).running ≡ true
-  pub nature : KeepsNature (meaning.state_of old) (meaning.state_of new)
+  pub nature : PreservesNature (meaning.state_of old) (meaning.state_of new)
   pub no_failure : (meaning.state_of new).failures ≡ (meaning.state_of old).failures
   pub runs : (meaning.state_of new).running ≡ true
   pub finds : (meaning.state_of old).honest → (numbers : Numbers)
@@ -91,7 +91,7 @@ pub record IsReadAt
 -- find before
 pub record ReadStopped {L : Type 0} (meaning : LogMeaning L) (old new : L) : Type 0 where
   pub was_running : (meaning.state_of old).running ≡ true
-  pub nature : KeepsNature (meaning.state_of old) (meaning.state_of new)
+  pub nature : PreservesNature (meaning.state_of old) (meaning.state_of new)
   pub not_calm : ¬ (meaning.state_of old).calm
   pub stopped : (meaning.state_of new).running ≡ false
   pub found : FindsAsBefore (meaning.state_of old) (meaning.state_of new)

@@ -16,8 +16,8 @@ pub record MediumState : Type 1 where
   pub may_leave : List ℕ → Type 0
 
 -- a medium that reports nothing: nothing is known of its bytes, and each call of it may fail
-abbrev pub untold : MediumState
-untold = record { honest = ⊥; calm = ⊥; failed = ⊥; reads = []; may_leave = λ bytes. ⊥ }
+abbrev pub unknown_medium : MediumState
+unknown_medium = record { honest = ⊥; calm = ⊥; failed = ⊥; reads = []; may_leave = λ bytes. ⊥ }
 
 -- a medium as a disk that is never armed and counts no failure
 abbrev pub as_disk : MediumState → DiskState

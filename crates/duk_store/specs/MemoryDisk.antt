@@ -130,7 +130,7 @@ pub record IsRefilled (old new : MemoryDisk) : Type 0 where
 -- Of what follows only the code of the disk speaks.
 
 -- all that was written since the last sync lies between these two places
-pub record IsKeptWithin (from to : ℕ) (disk : MemoryDisk) : Type 0 where
+pub record IsUnsyncedWithin (from to : ℕ) (disk : MemoryDisk) : Type 0 where
   pub in_order : from ≤ to
   pub inside : to ≤ length disk.reads
   pub around : (place : ℕ) → IsUnsyncedAt disk place → (from ≤ place) × (place < to)

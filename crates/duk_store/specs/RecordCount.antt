@@ -1,6 +1,6 @@
 -- How records are counted, one after the other: this project's own. No public contract cites it.
 use Rattle.std.specs.Prelude.{◌≡◌, ◌⊎◌, ◌<◌, ◌+◌, ℕ, true, false}
-use Rattle.duk_store.specs.declared.record.Record.{Record}
+use Rattle.duk_store.specs.declared.record_format.Record.{Record}
 
 -- a closed record leaves the count; an open one that follows the others, with zeros, adds to it
 abbrev pub CountsNext : ℕ → ℕ → Record → ℕ → Type 0

@@ -1,15 +1,15 @@
 -- A cell on a disk: this project's own.
 use Rattle.std.specs.Prelude.{◌≡◌, ◌≢◌, ◌⊎◌, ◌↔◌, ◌<◌, ◌+◌, ◌-◌, ◌^◌, ℕ, Bool, true, false, List, Some, replicate}
 use Rattle.duk_store.specs.Cell.{CellMeaning, Kept}
-use Rattle.duk_store.specs.Disk.{DiskMeaning, DiskState, HasFailed, KeepsDisk, LeavesChanged, LeavesReads}
-use Rattle.duk_store.specs.Slots.{HoldsAlone, IsEmpty, IsOpen, Keeps, cell_disk_size, gate_of, other_than, sequence_of, slot_at}
+use Rattle.duk_store.specs.Disk.{DiskMeaning, DiskState, HasFailed, PreservesDisk, LeavesChanged, LeavesReads}
+use Rattle.duk_store.specs.SlotFormat.{HoldsAlone, IsEmpty, IsOpen, KeepsBody, cell_disk_size, commit_of, other_than, sequence_of, slot_at}
 use Rattle.duk_store.specs.StoreState.{StoreState}
 use Rattle.duk_store.specs.declared.fault.StoreFault.{StoreFault}
 use Rattle.duk_store.specs.declared.fault.StoreFault.TheVariants.{Damaged, Device}
-use Rattle.duk_store.specs.declared.slot.Place.{Place}
-use Rattle.duk_store.specs.declared.slot.Place.TheVariants.{First}
-use Rattle.duk_store.specs.declared.slot.SlotState.{SlotState}
-use Rattle.duk_store.specs.declared.slot.SlotState.TheVariants.{Empty, Holds, Stopped}
+use Rattle.duk_store.specs.declared.slot_format.Place.{Place}
+use Rattle.duk_store.specs.declared.slot_format.Place.TheVariants.{First}
+use Rattle.duk_store.specs.declared.slot_format.SlotState.{SlotState}
+use Rattle.duk_store.specs.declared.slot_format.SlotState.TheVariants.{Empty, Holds, Stopped}
 
 -- a cell on a disk: the disk, and what the cell knows of it
 pub record SlotCellOf (D : Type 0) : Type 0 where
@@ -27,7 +27,7 @@ is_running _ = true
 
 -- a restart may find this: some bytes that a stop could leave keep it
 abbrev pub MayFind : DiskState → Kept → Type 0
-MayFind disk kept = (bytes : List ℕ) × disk.may_leave bytes × Keeps bytes kept
+MayFind disk kept = (bytes : List ℕ) × disk.may_leave bytes × KeepsBody bytes kept
 
 -- it runs with this body kept
 pub record RunsWithBody (disk : DiskState) (state : SlotState) (body : List ℕ) : Type 0 where
@@ -37,7 +37,7 @@ pub record RunsWithBody (disk : DiskState) (state : SlotState) (body : List ℕ)
 -- the disk has the size of a cell's, and all bytes that a stop could leave keep something
 pub record IsSoundDisk (disk : DiskState) : Type 0 where
   pub size : disk.size ≡ cell_disk_size
-  pub each_keeps : (bytes : List ℕ) → disk.may_leave bytes → (kept : Kept) × Keeps bytes kept
+  pub each_keeps : (bytes : List ℕ) → disk.may_leave bytes → (kept : Kept) × KeepsBody bytes kept
 
 -- the state of a cell, by that of its disk
 abbrev pub slot_cell_state : DiskState → SlotState → StoreState Kept
@@ -112,28 +112,28 @@ Knows disk Empty = (disk.size ≡ cell_disk_size) × (disk.honest → HoldsNothi
 Knows disk (Holds place sequence) =
     (disk.size ≡ cell_disk_size) × (disk.honest → HoldsOne place sequence disk)
 
--- what a restart may do to the bytes of its disk: they keep what they kept, and the gate of a slot
--- that reads closed stays
+-- what a restart may do to the bytes of its disk: they keep what they kept, and the commit byte of
+-- a slot that reads closed stays
 pub record IsRestored (before after : List ℕ) : Type 0 where
-  pub keeps : (kept : Kept) → Keeps before kept ↔ Keeps after kept
-  pub gates : (place : Place) → ¬ IsOpen (slot_at place before)
-      → gate_of (slot_at place after) ≡ gate_of (slot_at place before)
+  pub keeps : (kept : Kept) → KeepsBody before kept ↔ KeepsBody after kept
+  pub commits : (place : Place) → ¬ IsOpen (slot_at place before)
+      → commit_of (slot_at place after) ≡ commit_of (slot_at place before)
 
 -- a cell is brought up: it found what it keeps, and knows its disk
-pub record IsBroughtUp (old new : DiskState) (state : SlotState) (kept : Kept) : Type 0 where
-  pub nature : KeepsDisk old new
+pub record IsCellBroughtUp (old new : DiskState) (state : SlotState) (kept : Kept) : Type 0 where
+  pub nature : PreservesDisk old new
   pub no_failure : new.failures ≡ old.failures
   pub disarmed : new.disarmed
   pub runs : is_running state ≡ true
   pub knows : Knows new state
   pub found : old.honest → MayFind old kept
-  pub keeps : old.honest → LeavesReads new × Keeps new.reads kept
+  pub keeps : old.honest → LeavesReads new × KeepsBody new.reads kept
 
 -- what a stop leaves of a disk on which both slots are open and none is newer, or which has another
 -- size
 abbrev pub IsDamagedDisk : DiskState → Type 0
 IsDamagedDisk disk = (disk.size ≢ cell_disk_size)
-    ⊎ ((bytes : List ℕ) × disk.may_leave bytes × ((kept : Kept) → ¬ Keeps bytes kept))
+    ⊎ ((bytes : List ℕ) × disk.may_leave bytes × ((kept : Kept) → ¬ KeepsBody bytes kept))
 
 pub record FoundDamage (old new : DiskState) : Type 0 where
   pub no_failure : new.failures ≡ old.failures
@@ -146,7 +146,7 @@ IsRecoveryFault old new Damaged = FoundDamage old new
 IsRecoveryFault old new _ = ⊥
 
 pub record RecoveryFailed (old new : DiskState) (fault : StoreFault) : Type 0 where
-  pub nature : KeepsDisk old new
+  pub nature : PreservesDisk old new
   pub disarmed : new.disarmed
   pub cause : IsRecoveryFault old new fault
 
@@ -160,18 +160,18 @@ pub record IsReadyFor (place : Place) (sequence : ℕ) (disk : DiskState) : Type
 -- a body is put in the place of what was kept
 pub record IsReplaced (place : Place) (sequence : ℕ) (body : List ℕ) (old new : DiskState)
     : Type 0 where
-  pub nature : KeepsDisk old new
+  pub nature : PreservesDisk old new
   pub no_failure : new.failures ≡ old.failures
   pub holds : old.honest → LeavesReads new × HoldsAlone place sequence body new.reads
 
 -- bytes keep what they kept, or the new body
 abbrev pub KeepsOldOrNew : List ℕ → List ℕ → List ℕ → Type 0
 KeepsOldOrNew body before after =
-    ((kept : Kept) → Keeps before kept → Keeps after kept) ⊎ Keeps after (Some body)
+    ((kept : Kept) → KeepsBody before kept → KeepsBody after kept) ⊎ KeepsBody after (Some body)
 
 -- a device step failed in that
 pub record ReplaceFailed (body : List ℕ) (old new : DiskState) (fault : StoreFault) : Type 0 where
-  pub nature : KeepsDisk old new
+  pub nature : PreservesDisk old new
   pub failed : HasFailed old new fault
   pub changed : LeavesChanged (KeepsOldOrNew body) old new
 

@@ -1,9 +1,9 @@
 -- Which of two slots counts, by what was read of them: this project's own. No public contract cites
 -- it.
 use Rattle.std.specs.Prelude.{◌≡◌, ◌<◌, true, false, Option, Some, None}
-use Rattle.duk_store.specs.Slots.{other_than, slot_in}
-use Rattle.duk_store.specs.declared.slot.Place.{Place}
-use Rattle.duk_store.specs.declared.slot.Slots.{Slots}
+use Rattle.duk_store.specs.SlotFormat.{other_than, slot_in}
+use Rattle.duk_store.specs.declared.slot_format.Place.{Place}
+use Rattle.duk_store.specs.declared.slot_format.Slots.{Slots}
 
 -- neither slot is open, or the one at this place is, and the other is closed or of smaller sequence
 abbrev pub IsCurrent : Slots → Option Place → Type 0

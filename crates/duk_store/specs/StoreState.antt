@@ -43,21 +43,21 @@ pub record KeepsNothing {V : Type 0} (store : StoreState V) (nothing : V) : Type
 
 -- what no call changes: honesty stays, and so does the soundness of an honest store; calm ends by
 -- arming alone
-pub record KeepsNature {V : Type 0} (old new : StoreState V) : Type 0 where
+pub record PreservesNature {V : Type 0} (old new : StoreState V) : Type 0 where
   pub honest : old.honest ↔ new.honest
   pub sound : old.honest → old.sound → new.sound
   pub calm : old.calm → new.calm
 
 -- a step that is done: the store runs, and a restart would find this value alone
 pub record Settles {V : Type 0} (old new : StoreState V) (value : V) : Type 0 where
-  pub nature : KeepsNature old new
+  pub nature : PreservesNature old new
   pub no_failure : new.failures ≡ old.failures
   pub runs : new.running ≡ true
   pub finds : old.honest → FindsOnly new value
 
 -- a step that failed: the store is stopped, and a restart would find one of these values
 pub record Stops {V : Type 0} (old new : StoreState V) (values : V → Type 0) : Type 0 where
-  pub nature : KeepsNature old new
+  pub nature : PreservesNature old new
   pub quiet : old.calm → new.failures ≡ old.failures
   pub stopped : new.running ≡ false
   pub within : old.honest → FindsWithin new values
@@ -69,7 +69,7 @@ FindsAsBefore old new = old.honest → (value : _) → new.found value ↔ old.f
 
 -- a step that changes nothing of what is kept, nor whether the store runs
 pub record Stays {V : Type 0} (old new : StoreState V) : Type 0 where
-  pub nature : KeepsNature old new
+  pub nature : PreservesNature old new
   pub no_failure : new.failures ≡ old.failures
   pub running : new.running ≡ old.running
   pub found : FindsAsBefore old new

@@ -1,7 +1,7 @@
 //! The trait `Disk`: the bytes below a store, which are read, written and synced.
 
 ghost use Rattle.std.specs.Prelude.{◌≡◌, ◌+◌, ◌≤◌, length, OnOk, IfErr};
-ghost use Rattle.duk_store.specs.Disk.{DiskMeaning, ReadsMayStay, LeavesItsSize, KeepsDisk, StaysArmed, HasFailed, KeepsBytes, DiffersWithin, LeavesChanged, LeavesWithin, IsSynced, StaysButArmed, range_of, written};
+ghost use Rattle.duk_store.specs.Disk.{DiskMeaning, ReadsMayStay, LeavesItsSize, PreservesDisk, StaysArmed, HasFailed, PreservesBytes, DiffersWithin, LeavesChanged, LeavesWithin, IsSynced, StaysButArmed, range_of, written};
 
 use crate::fault::StoreFault;
 
@@ -30,9 +30,9 @@ pub trait Disk: Drop {
     /// Refused with `Device` where the device step failed.
     fn read_at(&mut self, at: u64, bytes: &mut [u8]) -> Result<(), StoreFault>
         requires { at + length bytes.old ≤ (meaning.state_of self.old).size }
-        ensures nature { KeepsDisk (meaning.state_of self.old) (meaning.state_of self.new) }
+        ensures nature { PreservesDisk (meaning.state_of self.old) (meaning.state_of self.new) }
         ensures arming { StaysArmed (meaning.state_of self.old) (meaning.state_of self.new) }
-        ensures bytes { KeepsBytes (meaning.state_of self.old) (meaning.state_of self.new) }
+        ensures bytes { PreservesBytes (meaning.state_of self.old) (meaning.state_of self.new) }
         ensures read { OnOk result ((meaning.state_of self.old).honest
             → bytes.new ≡ range_of at (length bytes.old) (meaning.state_of self.old).reads) }
         ensures no_failure { OnOk result
@@ -47,7 +47,7 @@ pub trait Disk: Drop {
     /// Refused with `Device` where the device step failed.
     fn write_at(&mut self, at: u64, bytes: &[u8]) -> Result<(), StoreFault>
         requires { at + length bytes.now ≤ (meaning.state_of self.old).size }
-        ensures nature { KeepsDisk (meaning.state_of self.old) (meaning.state_of self.new) }
+        ensures nature { PreservesDisk (meaning.state_of self.old) (meaning.state_of self.new) }
         ensures arming { StaysArmed (meaning.state_of self.old) (meaning.state_of self.new) }
         ensures torn { LeavesChanged (DiffersWithin at (length bytes.now))
             (meaning.state_of self.old) (meaning.state_of self.new) }
@@ -63,7 +63,7 @@ pub trait Disk: Drop {
     ///
     /// Refused with `Device` where the device step failed.
     fn sync(&mut self) -> Result<(), StoreFault>
-        ensures nature { KeepsDisk (meaning.state_of self.old) (meaning.state_of self.new) }
+        ensures nature { PreservesDisk (meaning.state_of self.old) (meaning.state_of self.new) }
         ensures arming { StaysArmed (meaning.state_of self.old) (meaning.state_of self.new) }
         ensures within { LeavesWithin (meaning.state_of self.old) (meaning.state_of self.new) }
         ensures synced { OnOk result ((meaning.state_of self.old).honest
@@ -79,7 +79,7 @@ pub trait Disk: Drop {
     ///
     /// Refused with `Device` where the disk cannot be used.
     fn restart(&mut self) -> Result<(), StoreFault>
-        ensures nature { KeepsDisk (meaning.state_of self.old) (meaning.state_of self.new) }
+        ensures nature { PreservesDisk (meaning.state_of self.old) (meaning.state_of self.new) }
         ensures disarmed { (meaning.state_of self.new).disarmed }
         ensures within { LeavesWithin (meaning.state_of self.old) (meaning.state_of self.new) }
         ensures found { OnOk result ((meaning.state_of self.old).honest

@@ -1,7 +1,7 @@
 //! Which device step of a disk fails, and how many failed.
 
 ghost use Rattle.std.specs.Prelude.{◌≡◌, ◌≢◌, Some, None, IfOk, IfErr, IsTrue, ◌↔◌};
-ghost use Rattle.duk_store.specs.DiskDevice.{HasPassed, IsDue, IsStepDue, armed_device, disarmed_device, failing_once, new_disk_device, once_left, passes_left, with_failure};
+ghost use Rattle.duk_store.specs.DiskDevice.{HasDiskStepPassed, IsDue, IsDiskStepDue, armed_device, disarmed_device, failing_once, new_disk_device, once_left, passes_left, with_failure};
 
 use crate::fault::StoreFault;
 use std::marker::Model;
@@ -63,9 +63,9 @@ impl DiskDevice {
 
     /// A device step: it passes, or fails where it comes due. Both ways of failing count it.
     pub fn step(&mut self) -> Result<(), StoreFault>
-        ensures passed { IfOk result (λ _. HasPassed self.old self.new) }
+        ensures passed { IfOk result (λ _. HasDiskStepPassed self.old self.new) }
         ensures due { IfErr result
-            (λ fault. (fault ≡ StoreFault.Device) × IsStepDue self.old self.new) }
+            (λ fault. (fault ≡ StoreFault.Device) × IsDiskStepDue self.old self.new) }
         ensures arming { self.new.passes ≡ None → self.old.passes ≡ None }
     {
         let is_due = is_at_its_step(self.passes) || is_at_its_step(self.once);

@@ -10,8 +10,8 @@ ghost use Rattle.duk_store.specs.StoreState.{IsNew, KeepsNothing};
 use crate::disk::Disk;
 use crate::fault::StoreFault;
 use crate::log::UsedLog;
-use crate::record::RECORD_LENGTH;
-use crate::records::{count_records, open_log, read_record, write_record};
+use crate::record_format::RECORD_LENGTH;
+use crate::record_steps::{count_records, open_log, read_record, write_record};
 use duk_tree::Ksn;
 use std::marker::Model;
 
@@ -121,15 +121,14 @@ impl<D: Disk> UsedLog for DiskLog<D> {
         }
     }
 
-    /// An append makes four device calls, on the first closed record. Each is followed by what a stop
-    /// before the next one leaves of that record; all others stay as they were.
+    /// An append makes four device calls, on the first closed record. Each is followed by what a
+    /// stop before the next one leaves of that record; all others stay as they were.
     ///
-    /// 1. Write the number and its zeros: the record is closed, with any bytes after its gate.
-    /// 2. Sync: it is closed, with the new number.
-    /// 3. Write 01 to its gate: it is whole, with any gate.
-    /// 4. Sync: it is open.
+    /// 1. Write the number and its zeros: the record is closed, with any bytes after its commit
+    /// byte. 2. Sync: it is closed, with the new number. 3. Write 01 to its commit byte: it is
+    /// whole, with any commit byte. 4. Sync: it is open.
     ///
-    /// A restart finds the list without the number until the gate is 01, and then with it.
+    /// A restart finds the list without the number until the commit byte is 01, and then with it.
     fn append(&mut self, number: Ksn) -> Result<(), StoreFault>
         requires { ((disk_log_meaning D.meaning).state_of self.old).running ≡ true
             → (disk_log_meaning D.meaning).count self.old

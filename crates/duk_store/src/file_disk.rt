@@ -2,7 +2,7 @@
 
 ghost use Rattle.std.specs.Prelude.{◌≡◌, ⊤, IfErr, IfOk};
 ghost use Rattle.duk_store.specs.DiskDevice.{new_disk_device};
-ghost use Rattle.duk_store.specs.Medium.{untold};
+ghost use Rattle.duk_store.specs.Medium.{unknown_medium};
 
 use crate::fault::StoreFault;
 use crate::file_medium::FileMedium;
@@ -16,7 +16,7 @@ use std::rt::Files;
 /// No contract says what a real file holds, so these four bodies rest on being read: each makes one
 /// call on the open file. That of a read or a write loops until the whole range is read or written.
 impl OpenFile for File {
-    ghost state = { λ _. untold };
+    ghost state = { λ _. unknown_medium };
 
     ghost has_length = { λ _ _. ⊤ };
 
@@ -42,8 +42,8 @@ impl OpenFile for File {
 }
 
 /// A disk over a file, which is open and locked as long as the disk lives. Its restart goes on with
-/// the open file. So once a write or a sync of the file has failed, each later step fails, until the
-/// file is opened anew.
+/// the open file. So once a write or a sync of the file has failed, each later step fails, until
+/// the file is opened anew.
 ///
 /// That the file is a disk is a premise: the operating system and the hardware have to keep to the
 /// model. Besides, the opening and the four bodies of `OpenFile` for `File` rest on being read; all

@@ -1,7 +1,7 @@
 //! A medium over an open file.
 
 ghost use Rattle.std.specs.Prelude.{◌≡◌, ◌↔◌, true, false, length, IsErr, IsOk, OnErr, OnOk};
-ghost use Rattle.duk_store.specs.Disk.{DiffersWithin, IsSynced, KeepsBytes, KeepsDisk, LeavesChanged, LeavesWithin, range_of, written};
+ghost use Rattle.duk_store.specs.Disk.{DiffersWithin, IsSynced, PreservesBytes, PreservesDisk, LeavesChanged, LeavesWithin, range_of, written};
 ghost use Rattle.duk_store.specs.FileMedium.{file_medium_state, new_file_medium};
 ghost use Rattle.duk_store.specs.Medium.{IsInside, IsSizeOf, as_disk};
 
@@ -24,7 +24,7 @@ pub struct FileMedium<F: OpenFile> {
 }
 
 impl<F: OpenFile> Model for FileMedium<F> {
-    ghost use Rattle.duk_store.specs.FileMedium.{FileMediumOf, KeepsInMind};
+    ghost use Rattle.duk_store.specs.FileMedium.{FileMediumOf, RemembersFailure};
 
     ghost Value = { FileMediumOf F };
 
@@ -35,7 +35,7 @@ impl<F: OpenFile> Model for FileMedium<F> {
     } };
 
     ghost invariant = { λ medium.
-        KeepsInMind (F.state medium.file) medium.size medium.has_failed };
+        RemembersFailure (F.state medium.file) medium.size medium.has_failed };
 }
 
 impl<F: OpenFile> FileMedium<F> {
@@ -78,7 +78,7 @@ impl<F: OpenFile> Medium for FileMedium<F> {
 
     fn write_range(&mut self, at: u64, bytes: &[u8]) -> io::Result<()>
         requires { IsInside (file_medium_state F.state self.old) at (length bytes.now) }
-        ensures nature { KeepsDisk (as_disk (file_medium_state F.state self.old))
+        ensures nature { PreservesDisk (as_disk (file_medium_state F.state self.old))
             (as_disk (file_medium_state F.state self.new)) }
         ensures torn { LeavesChanged (DiffersWithin at (length bytes.now))
             (as_disk (file_medium_state F.state self.old))
@@ -101,7 +101,7 @@ impl<F: OpenFile> Medium for FileMedium<F> {
     }
 
     fn sync_writes(&mut self) -> io::Result<()>
-        ensures nature { KeepsDisk (as_disk (file_medium_state F.state self.old))
+        ensures nature { PreservesDisk (as_disk (file_medium_state F.state self.old))
             (as_disk (file_medium_state F.state self.new)) }
         ensures within { LeavesWithin (as_disk (file_medium_state F.state self.old))
             (as_disk (file_medium_state F.state self.new)) }

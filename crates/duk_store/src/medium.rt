@@ -1,7 +1,7 @@
 //! The trait `Medium`: the bytes below a disk, as a file has them.
 
 ghost use Rattle.std.specs.Prelude.{◌≡◌, length, IsErr, OnOk, OnErr};
-ghost use Rattle.duk_store.specs.Disk.{DiffersWithin, IsSynced, KeepsBytes, KeepsDisk, LeavesChanged, LeavesItsSize, LeavesWithin, ReadsMayStay, range_of, written};
+ghost use Rattle.duk_store.specs.Disk.{DiffersWithin, IsSynced, PreservesBytes, PreservesDisk, LeavesChanged, LeavesItsSize, LeavesWithin, ReadsMayStay, range_of, written};
 ghost use Rattle.duk_store.specs.Medium.{IsInside, MediumState, as_disk};
 
 use std::io;
@@ -9,8 +9,8 @@ use std::io;
 /// A medium of bytes, as a file, which may report which bytes it holds. Where it reports none it is
 /// not honest. Places are in bytes and count from 0.
 ///
-/// Its calls may fail for any cause. What it reports of its bytes keeps to the model of a disk. Once a
-/// write or a sync has failed, each later call fails, until the medium is opened anew.
+/// Its calls may fail for any cause. What it reports of its bytes keeps to the model of a disk.
+/// Once a write or a sync has failed, each later call fails, until the medium is opened anew.
 pub trait Medium: Drop {
     /// What the medium is known to be.
     ghost state: { Self → MediumState };
@@ -24,8 +24,8 @@ pub trait Medium: Drop {
     /// Reads the bytes from place `at` on into all of `bytes`. The range is inside the medium.
     fn read_range(&mut self, at: u64, bytes: &mut [u8]) -> io::Result<()>
         requires { IsInside (state self.old) at (length bytes.old) }
-        ensures nature { KeepsDisk (as_disk (state self.old)) (as_disk (state self.new)) }
-        ensures bytes { KeepsBytes (as_disk (state self.old)) (as_disk (state self.new)) }
+        ensures nature { PreservesDisk (as_disk (state self.old)) (as_disk (state self.new)) }
+        ensures bytes { PreservesBytes (as_disk (state self.old)) (as_disk (state self.new)) }
         ensures read { OnOk result ((state self.old).honest
             → bytes.new ≡ range_of at (length bytes.old) (state self.old).reads) }
         ensures failed { OnErr result (¬ (state self.old).calm) }
@@ -37,7 +37,7 @@ pub trait Medium: Drop {
     /// `sync_writes` has succeeded a stop may leave any bytes in it, also where the write failed.
     fn write_range(&mut self, at: u64, bytes: &[u8]) -> io::Result<()>
         requires { IsInside (state self.old) at (length bytes.now) }
-        ensures nature { KeepsDisk (as_disk (state self.old)) (as_disk (state self.new)) }
+        ensures nature { PreservesDisk (as_disk (state self.old)) (as_disk (state self.new)) }
         ensures torn { LeavesChanged (DiffersWithin at (length bytes.now))
             (as_disk (state self.old)) (as_disk (state self.new)) }
         ensures written { OnOk result ((state self.old).honest
@@ -51,7 +51,7 @@ pub trait Medium: Drop {
     /// One that failed is never forgotten: each later call fails. Linux reports once that a write
     /// did not reach the disk, and a later sync succeeds although the bytes are lost.
     fn sync_writes(&mut self) -> io::Result<()>
-        ensures nature { KeepsDisk (as_disk (state self.old)) (as_disk (state self.new)) }
+        ensures nature { PreservesDisk (as_disk (state self.old)) (as_disk (state self.new)) }
         ensures within { LeavesWithin (as_disk (state self.old)) (as_disk (state self.new)) }
         ensures synced { OnOk result ((state self.old).honest
             → IsSynced (as_disk (state self.old)) (as_disk (state self.new))) }

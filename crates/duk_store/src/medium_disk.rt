@@ -1,8 +1,8 @@
 //! A disk over a medium.
 
 ghost use Rattle.std.specs.Prelude.{◌≡◌, ◌+◌, ◌≤◌, ◌⊎◌, length, IsErr, IsOk, IfErr, OnErr, OnOk};
-ghost use Rattle.duk_store.specs.Disk.{DiffersWithin, HasFailed, IsSynced, KeepsBytes, KeepsDisk, LeavesChanged, LeavesWithin, StaysArmed, range_of, written};
-ghost use Rattle.duk_store.specs.DiskDevice.{HasFailedStep, HasPassed, IsDue, disarmed_device};
+ghost use Rattle.duk_store.specs.Disk.{DiffersWithin, HasFailed, IsSynced, PreservesBytes, PreservesDisk, LeavesChanged, LeavesWithin, StaysArmed, range_of, written};
+ghost use Rattle.duk_store.specs.DiskDevice.{HasFailedStep, HasDiskStepPassed, IsDue, disarmed_device};
 ghost use Rattle.duk_store.specs.MediumDisk.{medium_disk_meaning, medium_disk_state, new_medium_disk};
 ghost use Rattle.duk_store.specs.Medium.{IsSizeOf};
 
@@ -15,9 +15,9 @@ use std::marker::Model;
 /// A disk over a medium, as an open file. Its bytes are the medium's, and it is honest where its
 /// medium is: whatever the medium reports of itself holds of the disk.
 ///
-/// Each call of the medium that fails, for whatever cause, is answered as `Device` and counted once. A
-/// step that fails by arming does not come to the medium. Once a write or a sync of the medium has
-/// failed, each later step fails, and a restart does not change that.
+/// Each call of the medium that fails, for whatever cause, is answered as `Device` and counted
+/// once. A step that fails by arming does not come to the medium. Once a write or a sync of the
+/// medium has failed, each later step fails, and a restart does not change that.
 #[derive(Drop)]
 pub struct MediumDisk<M: Medium> {
     medium: M,
@@ -71,11 +71,11 @@ impl<M: Medium> Disk for MediumDisk<M> {
 
     fn read_at(&mut self, at: u64, bytes: &mut [u8]) -> Result<(), StoreFault>
         requires { at + length bytes.old ≤ self.old.size }
-        ensures nature { KeepsDisk (medium_disk_state M.state self.old)
+        ensures nature { PreservesDisk (medium_disk_state M.state self.old)
             (medium_disk_state M.state self.new) }
         ensures arming { StaysArmed (medium_disk_state M.state self.old)
             (medium_disk_state M.state self.new) }
-        ensures bytes { KeepsBytes (medium_disk_state M.state self.old)
+        ensures bytes { PreservesBytes (medium_disk_state M.state self.old)
             (medium_disk_state M.state self.new) }
         ensures read { OnOk result ((medium_disk_state M.state self.old).honest
             → bytes.new ≡ range_of at (length bytes.old) (M.state self.old.medium).reads) }
@@ -83,7 +83,7 @@ impl<M: Medium> Disk for MediumDisk<M> {
         ensures failed { IfErr result (HasFailed (medium_disk_state M.state self.old)
             (medium_disk_state M.state self.new)) }
         ensures length { length bytes.new ≡ length bytes.old }
-        ensures passed { OnOk result (HasPassed self.old.device self.new.device) }
+        ensures passed { OnOk result (HasDiskStepPassed self.old.device self.new.device) }
         ensures counted { OnErr result (HasFailedStep self.old.device self.new.device) }
         ensures refused { (M.state self.old.medium).failed → IsErr result }
         ensures stays_failed { (M.state self.old.medium).failed
@@ -99,7 +99,7 @@ impl<M: Medium> Disk for MediumDisk<M> {
 
     fn write_at(&mut self, at: u64, bytes: &[u8]) -> Result<(), StoreFault>
         requires { at + length bytes.now ≤ self.old.size }
-        ensures nature { KeepsDisk (medium_disk_state M.state self.old)
+        ensures nature { PreservesDisk (medium_disk_state M.state self.old)
             (medium_disk_state M.state self.new) }
         ensures arming { StaysArmed (medium_disk_state M.state self.old)
             (medium_disk_state M.state self.new) }
@@ -111,7 +111,7 @@ impl<M: Medium> Disk for MediumDisk<M> {
         ensures no_failure { OnOk result (self.new.device.failures ≡ self.old.device.failures) }
         ensures failed { IfErr result (HasFailed (medium_disk_state M.state self.old)
             (medium_disk_state M.state self.new)) }
-        ensures passed { OnOk result (HasPassed self.old.device self.new.device) }
+        ensures passed { OnOk result (HasDiskStepPassed self.old.device self.new.device) }
         ensures counted { OnErr result (HasFailedStep self.old.device self.new.device) }
         ensures refused { (M.state self.old.medium).failed → IsErr result }
         ensures kept { OnErr result (IsDue self.old.device ⊎ (M.state self.new.medium).failed) }
@@ -127,7 +127,7 @@ impl<M: Medium> Disk for MediumDisk<M> {
     }
 
     fn sync(&mut self) -> Result<(), StoreFault>
-        ensures nature { KeepsDisk (medium_disk_state M.state self.old)
+        ensures nature { PreservesDisk (medium_disk_state M.state self.old)
             (medium_disk_state M.state self.new) }
         ensures arming { StaysArmed (medium_disk_state M.state self.old)
             (medium_disk_state M.state self.new) }
@@ -139,7 +139,7 @@ impl<M: Medium> Disk for MediumDisk<M> {
         ensures no_failure { OnOk result (self.new.device.failures ≡ self.old.device.failures) }
         ensures failed { IfErr result (HasFailed (medium_disk_state M.state self.old)
             (medium_disk_state M.state self.new)) }
-        ensures passed { OnOk result (HasPassed self.old.device self.new.device) }
+        ensures passed { OnOk result (HasDiskStepPassed self.old.device self.new.device) }
         ensures counted { OnErr result (HasFailedStep self.old.device self.new.device) }
         ensures refused { (M.state self.old.medium).failed → IsErr result }
         ensures kept { OnErr result (IsDue self.old.device ⊎ (M.state self.new.medium).failed) }
@@ -155,7 +155,7 @@ impl<M: Medium> Disk for MediumDisk<M> {
     }
 
     fn restart(&mut self) -> Result<(), StoreFault>
-        ensures nature { KeepsDisk (medium_disk_state M.state self.old)
+        ensures nature { PreservesDisk (medium_disk_state M.state self.old)
             (medium_disk_state M.state self.new) }
         ensures disarmed { (medium_disk_state M.state self.new).disarmed }
         ensures within { LeavesWithin (medium_disk_state M.state self.old)

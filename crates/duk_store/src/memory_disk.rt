@@ -1,8 +1,8 @@
 //! A disk in memory, for trials: what a stop leaves of it can be chosen.
 
 ghost use Rattle.std.specs.Prelude.{◌≡◌, ◌+◌, ◌-◌, ◌<◌, ◌≤◌, ◌++◌, length, take, drop, replicate, refl, slice_index, None, IsOk, IfOk, IfErr, OnOk, OnErr};
-ghost use Rattle.duk_store.specs.Disk.{StaysArmed, KeepsDisk, KeepsBytes, LeavesChanged, LeavesReads, LeavesWithin, DiffersWithin, HasFailed, IsSynced, StaysButArmed, range_of, written};
-ghost use Rattle.duk_store.specs.DiskDevice.{HasPassed, IsCalmDevice, IsStepDue};
+ghost use Rattle.duk_store.specs.Disk.{StaysArmed, PreservesDisk, PreservesBytes, LeavesChanged, LeavesReads, LeavesWithin, DiffersWithin, HasFailed, IsSynced, StaysButArmed, range_of, written};
+ghost use Rattle.duk_store.specs.DiskDevice.{HasDiskStepPassed, IsCalmDevice, IsDiskStepDue};
 ghost use Rattle.duk_store.specs.MemoryDisk.{IsHonestDisk, IsMarked, IsRefilled, SameButDevice, armed_disk, byte_left, disarmed_disk, disk_failing_once, memory_disk_meaning, memory_disk_state, new_disk, refilled_at, synced_disk, wanting, written_disk};
 
 use crate::disk::Disk;
@@ -22,8 +22,8 @@ pub enum Filling {
     Fill(u8),
 }
 
-/// A disk in memory, for trials: it can be armed to fail at a device step, and what a restart leaves
-/// where something was written since the last sync. Only `new` takes memory.
+/// A disk in memory, for trials: it can be armed to fail at a device step, and what a restart
+/// leaves where something was written since the last sync. Only `new` takes memory.
 ///
 /// A sync and a restart go over one range around all that was written since the last sync, and not
 /// over the whole disk.
@@ -46,7 +46,7 @@ pub struct MemDisk {
 }
 
 impl Model for MemDisk {
-    ghost use Rattle.duk_store.specs.MemoryDisk.{MemoryDisk, IsKeptWithin};
+    ghost use Rattle.duk_store.specs.MemoryDisk.{MemoryDisk, IsUnsyncedWithin};
 
     ghost Value = { MemoryDisk };
 
@@ -59,7 +59,7 @@ impl Model for MemDisk {
       device = disk.device;
     } };
 
-    ghost invariant = { λ disk. IsKeptWithin disk.from disk.to (record {
+    ghost invariant = { λ disk. IsUnsyncedWithin disk.from disk.to (record {
       reads = disk.reads.items;
       synced = disk.synced.items;
       wanted = disk.wanted.items;
@@ -94,8 +94,8 @@ impl MemDisk {
 
     /// Chooses what each later restart leaves in the bytes written since the last sync.
     pub fn filling(&mut self, filling: Filling)
-        ensures nature { KeepsDisk (memory_disk_state self.old) (memory_disk_state self.new) }
-        ensures bytes { KeepsBytes (memory_disk_state self.old) (memory_disk_state self.new) }
+        ensures nature { PreservesDisk (memory_disk_state self.old) (memory_disk_state self.new) }
+        ensures bytes { PreservesBytes (memory_disk_state self.old) (memory_disk_state self.new) }
         ensures disk { self.new ≡ record self.old { filling = filling } }
     {
         self.chosen = filling;
@@ -112,9 +112,9 @@ impl MemDisk {
     /// A device step.
     fn step(&mut self) -> Result<(), StoreFault>
         ensures stays { SameButDevice self.old self.new }
-        ensures passed { IfOk result (λ _. HasPassed self.old.device self.new.device) }
+        ensures passed { IfOk result (λ _. HasDiskStepPassed self.old.device self.new.device) }
         ensures due { IfErr result (λ fault. (fault ≡ StoreFault.Device)
-            × IsStepDue self.old.device self.new.device) }
+            × IsDiskStepDue self.old.device self.new.device) }
         ensures arming { self.new.device.passes ≡ None → self.old.device.passes ≡ None }
         ensures was_honest { IsHonestDisk self.old }
         ensures honest { IsHonestDisk self.new }
@@ -216,17 +216,17 @@ impl Disk for MemDisk {
 
     fn read_at(&mut self, at: u64, bytes: &mut [u8]) -> Result<(), StoreFault>
         requires { at + length bytes.old ≤ length self.old.reads }
-        ensures nature { KeepsDisk (memory_disk_state self.old) (memory_disk_state self.new) }
+        ensures nature { PreservesDisk (memory_disk_state self.old) (memory_disk_state self.new) }
         ensures arming { StaysArmed (memory_disk_state self.old) (memory_disk_state self.new) }
-        ensures bytes { KeepsBytes (memory_disk_state self.old) (memory_disk_state self.new) }
+        ensures bytes { PreservesBytes (memory_disk_state self.old) (memory_disk_state self.new) }
         ensures read { OnOk result ((memory_disk_state self.old).honest
             → bytes.new ≡ range_of at (length bytes.old) self.old.reads) }
         ensures no_failure { OnOk result (self.new.device.failures ≡ self.old.device.failures) }
         ensures failed { IfErr result
             (HasFailed (memory_disk_state self.old) (memory_disk_state self.new)) }
         ensures length { length bytes.new ≡ length bytes.old }
-        ensures passed { IfOk result (λ _. HasPassed self.old.device self.new.device) }
-        ensures due { IfErr result (λ _. IsStepDue self.old.device self.new.device) }
+        ensures passed { IfOk result (λ _. HasDiskStepPassed self.old.device self.new.device) }
+        ensures due { IfErr result (λ _. IsDiskStepDue self.old.device self.new.device) }
         ensures disk { SameButDevice self.old self.new }
         ensures read_nothing { OnErr result (bytes.new ≡ bytes.old) }
     {
@@ -238,7 +238,7 @@ impl Disk for MemDisk {
 
     fn write_at(&mut self, at: u64, bytes: &[u8]) -> Result<(), StoreFault>
         requires { at + length bytes.now ≤ length self.old.reads }
-        ensures nature { KeepsDisk (memory_disk_state self.old) (memory_disk_state self.new) }
+        ensures nature { PreservesDisk (memory_disk_state self.old) (memory_disk_state self.new) }
         ensures arming { StaysArmed (memory_disk_state self.old) (memory_disk_state self.new) }
         ensures torn { LeavesChanged (DiffersWithin at (length bytes.now))
             (memory_disk_state self.old) (memory_disk_state self.new) }
@@ -247,8 +247,8 @@ impl Disk for MemDisk {
         ensures no_failure { OnOk result (self.new.device.failures ≡ self.old.device.failures) }
         ensures failed { IfErr result
             (HasFailed (memory_disk_state self.old) (memory_disk_state self.new)) }
-        ensures passed { IfOk result (λ _. HasPassed self.old.device self.new.device) }
-        ensures due { IfErr result (λ _. IsStepDue self.old.device self.new.device) }
+        ensures passed { IfOk result (λ _. HasDiskStepPassed self.old.device self.new.device) }
+        ensures due { IfErr result (λ _. IsDiskStepDue self.old.device self.new.device) }
         ensures done { OnOk result (SameButDevice (written_disk self.old at bytes.now) self.new) }
         ensures not_done { OnErr result (SameButDevice (wanting self.old at bytes.now) self.new) }
     {
@@ -260,7 +260,7 @@ impl Disk for MemDisk {
     }
 
     fn sync(&mut self) -> Result<(), StoreFault>
-        ensures nature { KeepsDisk (memory_disk_state self.old) (memory_disk_state self.new) }
+        ensures nature { PreservesDisk (memory_disk_state self.old) (memory_disk_state self.new) }
         ensures arming { StaysArmed (memory_disk_state self.old) (memory_disk_state self.new) }
         ensures within { LeavesWithin (memory_disk_state self.old) (memory_disk_state self.new) }
         ensures synced { OnOk result ((memory_disk_state self.old).honest
@@ -268,8 +268,8 @@ impl Disk for MemDisk {
         ensures no_failure { OnOk result (self.new.device.failures ≡ self.old.device.failures) }
         ensures failed { IfErr result
             (HasFailed (memory_disk_state self.old) (memory_disk_state self.new)) }
-        ensures passed { IfOk result (λ _. HasPassed self.old.device self.new.device) }
-        ensures due { IfErr result (λ _. IsStepDue self.old.device self.new.device) }
+        ensures passed { IfOk result (λ _. HasDiskStepPassed self.old.device self.new.device) }
+        ensures due { IfErr result (λ _. IsDiskStepDue self.old.device self.new.device) }
         ensures done { OnOk result (SameButDevice (synced_disk self.old) self.new) }
         ensures not_done { OnErr result (SameButDevice self.old self.new) }
     {
@@ -279,7 +279,7 @@ impl Disk for MemDisk {
     }
 
     fn restart(&mut self) -> Result<(), StoreFault>
-        ensures nature { KeepsDisk (memory_disk_state self.old) (memory_disk_state self.new) }
+        ensures nature { PreservesDisk (memory_disk_state self.old) (memory_disk_state self.new) }
         ensures disarmed { (memory_disk_state self.new).disarmed }
         ensures within { LeavesWithin (memory_disk_state self.old) (memory_disk_state self.new) }
         ensures found { OnOk result ((memory_disk_state self.old).honest

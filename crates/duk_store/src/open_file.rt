@@ -1,7 +1,7 @@
 //! The trait `OpenFile`: the open file below a medium.
 
 ghost use Rattle.std.specs.Prelude.{◌≡◌, ℕ, length, IfOk, OnOk, OnErr};
-ghost use Rattle.duk_store.specs.Disk.{DiffersWithin, IsSynced, KeepsBytes, KeepsDisk, LeavesChanged, LeavesItsSize, LeavesWithin, ReadsMayStay, range_of, written};
+ghost use Rattle.duk_store.specs.Disk.{DiffersWithin, IsSynced, PreservesBytes, PreservesDisk, LeavesChanged, LeavesItsSize, LeavesWithin, ReadsMayStay, range_of, written};
 ghost use Rattle.duk_store.specs.Medium.{IsInside, MediumState, as_disk};
 
 use std::io;
@@ -29,8 +29,8 @@ pub trait OpenFile: Drop {
     fn read_range(&mut self, at: u64, bytes: &mut [u8]) -> io::Result<()>
         requires inside { IsInside (state self.old) at (length bytes.old) }
         requires sound { ¬ (state self.old).failed }
-        ensures nature { KeepsDisk (as_disk (state self.old)) (as_disk (state self.new)) }
-        ensures bytes { KeepsBytes (as_disk (state self.old)) (as_disk (state self.new)) }
+        ensures nature { PreservesDisk (as_disk (state self.old)) (as_disk (state self.new)) }
+        ensures bytes { PreservesBytes (as_disk (state self.old)) (as_disk (state self.new)) }
         ensures read { OnOk result ((state self.old).honest
             → bytes.new ≡ range_of at (length bytes.old) (state self.old).reads) }
         ensures failed { OnErr result (¬ (state self.old).calm) }
@@ -42,7 +42,7 @@ pub trait OpenFile: Drop {
     fn write_range(&mut self, at: u64, bytes: &[u8]) -> io::Result<()>
         requires inside { IsInside (state self.old) at (length bytes.now) }
         requires sound { ¬ (state self.old).failed }
-        ensures nature { KeepsDisk (as_disk (state self.old)) (as_disk (state self.new)) }
+        ensures nature { PreservesDisk (as_disk (state self.old)) (as_disk (state self.new)) }
         ensures torn { LeavesChanged (DiffersWithin at (length bytes.now))
             (as_disk (state self.old)) (as_disk (state self.new)) }
         ensures written { OnOk result ((state self.old).honest
@@ -53,7 +53,7 @@ pub trait OpenFile: Drop {
     /// Makes sure of all that was written: where this succeeds, a stop leaves what a read gives.
     fn sync_writes(&mut self) -> io::Result<()>
         requires sound { ¬ (state self.old).failed }
-        ensures nature { KeepsDisk (as_disk (state self.old)) (as_disk (state self.new)) }
+        ensures nature { PreservesDisk (as_disk (state self.old)) (as_disk (state self.new)) }
         ensures within { LeavesWithin (as_disk (state self.old)) (as_disk (state self.new)) }
         ensures synced { OnOk result ((state self.old).honest
             → IsSynced (as_disk (state self.old)) (as_disk (state self.new))) }
@@ -62,8 +62,8 @@ pub trait OpenFile: Drop {
 
     /// How many bytes the file has now.
     fn length(&self) -> io::Result<u64>
-        ensures told { IfOk result (has_length self.now) }
-        ensures size { IfOk result (λ told. (state self.now).honest
-            → told ≡ length (state self.now).reads) }
+        ensures reported { IfOk result (has_length self.now) }
+        ensures size { IfOk result (λ reported. (state self.now).honest
+            → reported ≡ length (state self.now).reads) }
         ensures failed { OnErr result (¬ (state self.now).calm) };
 }

@@ -5,7 +5,7 @@ ghost use Rattle.duk_store.specs.Cell.{IsPut, PutFailed};
 ghost use Rattle.duk_store.specs.Disk.{LeavesChanged, StaysArmed};
 ghost use Rattle.duk_store.specs.Restart.{RestartFailed, Restarted};
 ghost use Rattle.duk_store.specs.SlotCell.{CellReplaceFailed, IsBlankDisk, IsCellReplaced, IsInItsSlot, IsPutNext, IsReadyFor, IsRestored, IsZeroDisk, RunsWithBody, StandsAlone, new_slot_cell, slot_cell_meaning};
-ghost use Rattle.duk_store.specs.Slots.{cell_disk_size};
+ghost use Rattle.duk_store.specs.SlotFormat.{cell_disk_size};
 ghost use Rattle.duk_store.specs.StoreState.{IsNew, KeepsNothing, StaysButCalm};
 
 use crate::cell::{Body, Cell};
@@ -13,16 +13,16 @@ use crate::disk::Disk;
 use crate::fault::StoreFault;
 use crate::recovery::recover;
 use crate::replacement::replace;
-use crate::slot::{Place, SlotState};
+use crate::slot_format::{Place, SlotState};
 use std::marker::Model;
 
 /// A cell on a disk of 1,024 bytes: two slots of 512 bytes, of which one is open and has the body,
 /// and the other is closed and zero.
 ///
 /// A body is written into the empty slot, which is opened once that is synced; then the old slot is
-/// closed, and wiped (`replace` has the device steps). So a stop leaves the old body or the new one,
-/// whatever it makes of what was not synced, and once a put is done nothing of the old body stands
-/// on the disk.
+/// closed, and wiped (`replace` has the device steps). So a stop leaves the old body or the new
+/// one, whatever it makes of what was not synced, and once a put is done nothing of the old body
+/// stands on the disk.
 #[derive(Drop)]
 pub struct SlotCell<D: Disk> {
     disk: D,
@@ -57,7 +57,7 @@ impl<D: Disk> SlotCell<D> {
 
     /// While the cell runs with a body kept, a stop leaves one image of the disk: the slot of the
     /// cell's own state is open and has that body, with the state's own sequence, and the other is
-    /// closed, with zeros after its gate. This says so, and does nothing.
+    /// closed, with zeros after its commit byte. This says so, and does nothing.
     pub fn one_body(&self)
         ensures alone { (body : List ℕ)
             → RunsWithBody (D.meaning.state_of self.now.disk) self.now.state body

@@ -4,7 +4,7 @@ use Rattle.std.proofs.lemmas.Slice.{take-put_mid, drop-put_mid}
 use Rattle.std.proofs.lemmas.List.{places}
 use borrow.Rule.Slice.PartMut.{put_mid}
 
--- what is written, and behind it what becomes of the rest
+-- what is written, and after it what becomes of the rest
 pub written : (rest_of : List ℕ → List ℕ) (place width : ℕ) (bytes block : List ℕ) → length block ≡ 8 → width ≡ 8 → place ≤ length bytes
     → take (place + 8) (put_mid place width bytes block) ++ rest_of (drop (place + 8) (put_mid place width bytes block)) ≡ take place bytes ++ (block ++ rest_of (drop (place + 8) bytes))
 written rest_of place width bytes block eight wide within =

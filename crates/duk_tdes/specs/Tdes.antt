@@ -1,7 +1,7 @@
 -- Triple DES (NIST SP 800-67 section 3) over lists of bytes.
 use Rattle.std.specs.Prelude.{◌≡◌, ◌⊎◌, ◌<◌, ◌^◌, ℕ, List, Option, length, take, drop, ◌==◌, if◌then◌else◌, MatchOption}
 use Rattle.std.specs.List.{All}
-use Rattle.duk_des.specs.Des.{encrypted, decrypted}
+use Rattle.duk_des.specs.Des.{des_encrypted, des_decrypted}
 
 -- a TDES key has 16 bytes, where K3 is K1, or 24, where each of the three single keys has its own
 -- (section 3, keying options)
@@ -24,13 +24,13 @@ third_key key = if length key == 16 then first_key key else take 8 (drop 16 key)
 -- under K3
 unfoldable pub tdes_encrypted : List ℕ → List ℕ → List ℕ
 tdes_encrypted key block =
-    encrypted (third_key key) (decrypted (second_key key) (encrypted (first_key key) block))
+    des_encrypted (third_key key) (des_decrypted (second_key key) (des_encrypted (first_key key) block))
 
 -- the inverse cipher operation (section 3): decryption under K3, encryption under K2, decryption
 -- under K1
 unfoldable pub tdes_decrypted : List ℕ → List ℕ → List ℕ
 tdes_decrypted key block =
-    decrypted (first_key key) (encrypted (second_key key) (decrypted (third_key key) block))
+    des_decrypted (first_key key) (des_encrypted (second_key key) (des_decrypted (third_key key) block))
 
 -- the bytes of a TDES key of either length
 pub record IsTdesKey (key : List ℕ) : Type 0 where

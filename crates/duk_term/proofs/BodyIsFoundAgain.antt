@@ -95,13 +95,13 @@ keeps_registers body image size set front length_is zeros are_350 are_431 is_ima
 ]
 
 -- what holds of what is found holds of the registers that a body was read as
-pub if_read : {E : Type 0} (found : Option RegisterSet) (set : RegisterSet) (P : RegisterSet → Type 0) (why : E) (told : Result RegisterSet E)
-    → told ≡ ok_or found why → told ≡ Ok set → IfSome found P → P set
-if_read None set P why told value is holds = absurd (cc)
-if_read (Some read) set P why told value is holds = subst P (cc) holds
+pub if_read : {E : Type 0} (found : Option RegisterSet) (set : RegisterSet) (P : RegisterSet → Type 0) (why : E) (reported : Result RegisterSet E)
+    → reported ≡ ok_or found why → reported ≡ Ok set → IfSome found P → P set
+if_read None set P why reported value is holds = absurd (cc)
+if_read (Some read) set P why reported value is holds = subst P (cc) holds
 
 -- where no registers are found, the fault is the one that was given for that, and the body is none
-pub none_found : {E P : Type 0} (found : Option RegisterSet) (why fault : E) (told : Result RegisterSet E)
-    → told ≡ ok_or found why → told ≡ Err fault → IsSome found ↔ P → (fault ≡ why) × ¬ P
-none_found None why fault told value is only = (cc, λ p. absurd (false≢true (only.1 p)))
-none_found (Some read) why fault told value is only = absurd (cc)
+pub none_found : {E P : Type 0} (found : Option RegisterSet) (why fault : E) (reported : Result RegisterSet E)
+    → reported ≡ ok_or found why → reported ≡ Err fault → IsSome found ↔ P → (fault ≡ why) × ¬ P
+none_found None why fault reported value is only = (cc, λ p. absurd (false≢true (only.1 p)))
+none_found (Some read) why fault reported value is only = absurd (cc)

@@ -1,7 +1,7 @@
 -- Loading a terminal: this project's own.
 use Rattle.std.specs.Prelude.{◌≡◌, ◌≢◌, ◌++◌, ◌∷◌, [], ℕ, List, Option, None, length}
 use Rattle.duk_block.specs.Faults.{IsFirstFault}
-use Rattle.duk_regs.specs.Registers.{IsRegisterSet, IsSpentIksn, RegisterSet, StandsFor}
+use Rattle.duk_regs.specs.Registers.{IsRegisterSet, IsSpentIksn, RegisterSet, AreFutureKeysOf}
 use Rattle.duk_store.specs.Cell.{CellMeaning, IsPut, Kept}
 use Rattle.duk_store.specs.declared.fault.StoreFault.{StoreFault}
 use Rattle.duk_term.specs.Body.{body_bytes}
@@ -51,13 +51,13 @@ past_after_load Stopped = []
 past_after_load Empty = []
 past_after_load (Loaded set pending) = set.past ++ set.iksn ∷ []
 
--- registers that stand for the initial key of the block at the first number, with the history of the
--- terminal
+-- registers that hold the future keys of the initial key of the block at the first number, with the
+-- history of the terminal
 pub record IsFirstSet (asked : Loading) (state : State) (set : RegisterSet) : Type 0 where
   pub initial : List ℕ
   pub wrapped : WrapsInitialKey asked.loading_key asked.block initial
   pub set_is : IsRegisterSet set
-  pub stands : StandsFor initial set
+  pub future_keys : AreFutureKeysOf initial set
   pub iksn_is : set.iksn ≡ asked.iksn
   pub counter_is : set.counter ≡ 1
   pub past_is : set.past ≡ past_after_load state

@@ -45,10 +45,10 @@ pub record IsHostReply (bytes : List ℕ) (pending : Pending) (code : Code) : Ty
   pub bytes_are : bytes ≡ reply_to pending code
 
 -- what the bytes say to a terminal in this state
-abbrev pub IsTold : State → List ℕ → Answer → Type 0
-IsTold state bytes (Done code) =
+abbrev pub ReportsAnswer : State → List ℕ → Answer → Type 0
+ReportsAnswer state bytes (Done code) =
     (pending : Pending) × IsPending state pending × IsHostReply bytes pending code
-IsTold state bytes (Refused reason) =
+ReportsAnswer state bytes (Refused reason) =
     (pending : Pending) × IsPending state pending × IsRefusal bytes pending.ksn reason
 
 -- the state after that

@@ -51,7 +51,7 @@ pub enum TermFault {
 }
 
 impl From<ReloadFault> for TermFault {
-    ghost from_gives = { λ fault told. told ≡ reload_fault_of fault };
+    ghost from_gives = { λ fault reported. reported ≡ reload_fault_of fault };
 
     fn from(fault: ReloadFault) -> TermFault {
         match fault {
@@ -62,7 +62,7 @@ impl From<ReloadFault> for TermFault {
 }
 
 impl From<KeyFault> for TermFault {
-    ghost from_gives = { λ fault told. told ≡ term_fault_of fault };
+    ghost from_gives = { λ fault reported. reported ≡ term_fault_of fault };
 
     fn from(fault: KeyFault) -> TermFault {
         match fault {

@@ -4,7 +4,7 @@ ghost use Rattle.std.specs.Prelude.{◌≡◌, ℕ, List};
 ghost use Rattle.duk_frame.specs.Payment.{request_of};
 ghost use Rattle.duk_frame.specs.Request.{IsRequest};
 ghost use Rattle.duk_pin.specs.PinBlock.{IsPinBlock, pin_block};
-ghost use Rattle.duk_regs.specs.Registers.{HaveSixteenBytes, IsRegisterSet, RegisterSet, StandsFor};
+ghost use Rattle.duk_regs.specs.Registers.{HaveSixteenBytes, IsRegisterSet, RegisterSet, AreFutureKeysOf};
 ghost use Rattle.duk_tdes.specs.Key.{IsKey};
 ghost use Rattle.duk_term.specs.Begin.{IsBegun, TakesNumber};
 ghost use Rattle.duk_term.specs.Body.{IsFoundAgain};
@@ -16,12 +16,13 @@ use crate::purchase::Purchase;
 use duk_store::Cell;
 
 /// A terminal's registers, of sixteen bytes each, are found again in the body that keeps them. So
-/// are those that stand for an initial key, and those that are left once a number was taken.
+/// are those with the future keys of an initial key, and those that are left once a number was
+/// taken.
 pub fn found_again()
     ensures again { (set : RegisterSet) → IsRegisterSet set → HaveSixteenBytes set.registers
         → IsFoundAgain set }
     ensures of_key { (initial : List ℕ) (set : RegisterSet) → IsKey 16 initial → IsRegisterSet set
-        → StandsFor initial set
+        → AreFutureKeysOf initial set
         → IsFoundAgain set }
     ensures left { (set left : RegisterSet) (key : List ℕ) → TakesNumber set key left
         → HaveSixteenBytes left.registers

@@ -3,11 +3,11 @@
 ghost use Rattle.std.specs.Prelude.{◌≡◌, ◌≢◌, ◌↔◌, IsTrue, ℕ, List, Some, None, IfOk, IfErr, MatchOption};
 ghost use Rattle.duk_regs.specs.Registers.{RegisterSet};
 ghost use Rattle.duk_frame.specs.Answer.{IsAnswer, IsReply};
-ghost use Rattle.duk_regs.specs.Registers.{IsRegisterSet, StandsFor};
+ghost use Rattle.duk_regs.specs.Registers.{IsRegisterSet, AreFutureKeysOf};
 ghost use Rattle.duk_term.specs.Begin.{IsNotTaken, TakesFrom};
 ghost use Rattle.duk_term.specs.Load.{MayNotTake, MayTake, past_after_load};
 ghost use Rattle.duk_term.specs.Terminal.{next_of, serial_of};
-ghost use Rattle.duk_term.specs.Reply.{IsTold, IsPending, ReplyRefused, completed, reply_to};
+ghost use Rattle.duk_term.specs.Reply.{ReportsAnswer, IsPending, ReplyRefused, completed, reply_to};
 
 use crate::answer::{Answer, Next};
 use crate::fault::TermFault;
@@ -74,7 +74,7 @@ impl State {
         ensures iksn { IfOk result (λ set. set.iksn ≡ iksn) }
         ensures counter { IfOk result (λ set. set.counter ≡ 1) }
         ensures past { IfOk result (λ set. set.past ≡ past_after_load self.now) }
-        ensures stands { IfOk result (λ set. StandsFor initial set) }
+        ensures future_keys { IfOk result (λ set. AreFutureKeysOf initial set) }
         ensures refused { IfErr result (MayNotTake self.now iksn) }
     {
         match self {
@@ -111,7 +111,7 @@ impl State {
 
     /// What the bytes that came back say, or the first reason to refuse them.
     pub fn judge(&self, bytes: &[u8]) -> Result<Answer, TermFault>
-        ensures told { IfOk result (IsTold self.now bytes.now) }
+        ensures reported { IfOk result (ReportsAnswer self.now bytes.now) }
         ensures refused { IfErr result (ReplyRefused self.now bytes.now) }
     {
         let pending = match self {
@@ -138,8 +138,8 @@ impl Pending {
     /// What an answer says of this transaction.
     fn judge(&self, bytes: &[u8], answer: AnswerFrame) -> Result<Answer, TermFault>
         requires { IsAnswer bytes.now answer }
-        ensures told { IfOk result
-            (λ told. (state : State) → IsPending state self.now → IsTold state bytes.now told) }
+        ensures reported { IfOk result
+            (λ reported. (state : State) → IsPending state self.now → ReportsAnswer state bytes.now reported) }
         ensures refused { IfErr result
             (λ why. (state : State) → IsPending state self.now → ReplyRefused state bytes.now why) }
     {
@@ -164,8 +164,8 @@ impl Pending {
         mac: [u8; 8],
     ) -> Result<Answer, TermFault>
         requires { IsReply bytes.now ksn code mac }
-        ensures told { IfOk result
-            (λ told. (state : State) → IsPending state self.now → IsTold state bytes.now told) }
+        ensures reported { IfOk result
+            (λ reported. (state : State) → IsPending state self.now → ReportsAnswer state bytes.now reported) }
         ensures refused { IfErr result
             (λ why. (state : State) → IsPending state self.now → ReplyRefused state bytes.now why) }
     {

@@ -8,7 +8,7 @@ ghost use Rattle.duk_regs.specs.Registers.{HaveSixteenBytes, IsRegisterSet};
 ghost use Rattle.duk_term.specs.Body.{body_bytes};
 ghost use Rattle.duk_store.specs.Cell.{IsPut};
 ghost use Rattle.duk_term.specs.Load.{IsTerminalLoaded, LoadRefused, loading_of};
-ghost use Rattle.duk_term.specs.Reply.{IsTold, ReplyRefused, after_answer};
+ghost use Rattle.duk_term.specs.Reply.{ReportsAnswer, ReplyRefused, after_answer};
 ghost use Rattle.duk_term.specs.Restart.{IsTerminalRestarted, TerminalRestartRefused};
 ghost use Rattle.duk_term.specs.Terminal.{IsImageNotKept, PromisesBody, next_of};
 ghost use Rattle.duk_term.specs.declared.state.State.TheVariants as state;
@@ -185,7 +185,7 @@ impl<C: Cell> Terminal<C> {
     /// are no answer's frame; `NotPending`; `NotMine`, where the answer has another key serial
     /// number; `BadMac`, of a reply.
     pub fn reply(&mut self, bytes: &[u8]) -> Result<Answer, TermFault>
-        ensures told { IfOk result (IsTold self.old.state bytes.now) }
+        ensures reported { IfOk result (ReportsAnswer self.old.state bytes.now) }
         ensures answered { IfOk result (λ answer. self.new
             ≡ record { cell = self.old.cell; state = after_answer self.old.state answer }) }
         ensures refused { IfErr result (ReplyRefused self.old.state bytes.now) }

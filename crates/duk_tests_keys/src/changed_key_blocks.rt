@@ -22,7 +22,7 @@ fn a_key_block_that_is_cut(rt: HostRuntime) {
 }
 
 /// What is to be read where another byte stands at a place. Any count of optional blocks above none
-/// would begin with one of B4 hexadecimal characters, for which there is no room. Behind the header
+/// would begin with one of B4 hexadecimal characters, for which there is no room. After the header
 /// the digits of the MAC and the ciphertext may have either case.
 fn expected(place: usize, byte: u8) -> Result<Option<u128>, BlockFault> {
     Err(match place {

@@ -18,7 +18,7 @@ fn after(count: u32) -> Option<Registers> {
     Some(registers)
 }
 
-/// The number that is taken behind so many, and its key.
+/// The number that is taken after so many, and its key.
 fn taken_after(count: u32) -> Option<(Ksn, u128)> {
     let (key, ksn, _) = after(count)?.take().ok()?;
     Some((ksn, u128::from_be_bytes(key.bytes())))

@@ -32,7 +32,8 @@ struct Played {
     outcomes: Vec<Outcome>,
 }
 
-/// A new disk of so many bytes, which leaves this at a restart, and of which this device step fails.
+/// A new disk of so many bytes, which leaves this at a restart, and of which this device step
+/// fails.
 fn failing_disk(
     alloc: Global,
     size: usize,
@@ -124,7 +125,7 @@ fn failed_end(outcome: &Outcome) -> Option<End> {
     }
 }
 
-/// Lets an event happen, and tells whether a store failed in it.
+/// Lets an event happen, and reports whether a store failed in it.
 fn fails(played: &mut Played, event: Event) -> Option<bool> {
     run(&mut played.world, &[event], &mut played.outcomes).ok()?;
     Some(failed_end(played.outcomes.last()?).is_some())

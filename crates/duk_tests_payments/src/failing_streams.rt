@@ -32,19 +32,19 @@ fn answered_before(place: usize) -> usize {
     }
 }
 
-/// Whether a service whose read at a place fails tells that, and has written the answers of the
+/// Whether a service whose read at a place fails reports that, and has written the answers of the
 /// frames before it alone.
 fn stops_reading(alloc: Global, place: usize, kind: ErrorKind) -> Option<bool> {
     let mut host = host(alloc, 4)?;
     let mut reader = Drip::failing(INPUT, place, kind);
     let mut written = Vec::new(alloc);
-    let told = serve(&mut host, &mut reader, &mut written);
+    let reported = serve(&mut host, &mut reader, &mut written);
     let before = ANSWERS.get(..answered_before(place))?;
-    Some(told == Err(HostFault::Read) && written.as_slice() == before)
+    Some(reported == Err(HostFault::Read) && written.as_slice() == before)
 }
 
-/// The first read of a service whose failure is told otherwise. The last one tells the end.
-fn read_told_otherwise(alloc: Global, kind: ErrorKind) -> Option<usize> {
+/// The first read of a service whose failure is reported otherwise. The last one reports the end.
+fn read_reported_otherwise(alloc: Global, kind: ErrorKind) -> Option<usize> {
     for place in 0..=INPUT.len() {
         if stops_reading(alloc, place, kind) != Some(true) {
             return Some(place);
@@ -65,28 +65,28 @@ const KINDS: [ErrorKind; 4] = [
 #[test]
 fn a_service_that_cannot_read(rt: HostRuntime) {
     for kind in KINDS {
-        assert_eq!(rt; read_told_otherwise(rt.alloc(), kind), None);
+        assert_eq!(rt; read_reported_otherwise(rt.alloc(), kind), None);
     }
 }
 
-/// Whether a service whose write of a byte at a place goes wrong tells that, has written what stands
-/// before it, and has used the number of the answer that was cut and those before it. At the place
-/// behind the last one all is written.
+/// Whether a service whose write of a byte at a place goes wrong reports that, has written what
+/// stands before it, and has used the number of the answer that was cut and those before it. At the
+/// place after the last one all is written.
 fn stops_writing(alloc: Global, place: usize, wrong: Wrong) -> Option<bool> {
     let mut host = host(alloc, 4)?;
     let mut writer = Tap::failing(alloc, 1, place, wrong);
-    let told = serve(&mut host, &mut INPUT.as_slice(), &mut writer);
+    let reported = serve(&mut host, &mut INPUT.as_slice(), &mut writer);
     let expected = if place < ANSWERS.len() {
         Err(HostFault::Write)
     } else {
         Ok(4)
     };
     let has_used = host.is_used(ksn(1)) && host.is_used(ksn(2)) == (place >= 24);
-    Some(told == expected && has_used && writer.written() == ANSWERS.get(..place)?)
+    Some(reported == expected && has_used && writer.written() == ANSWERS.get(..place)?)
 }
 
-/// The first write of a service that is told otherwise.
-fn write_told_otherwise(alloc: Global, wrong: Wrong) -> Option<usize> {
+/// The first write of a service that is reported otherwise.
+fn write_reported_otherwise(alloc: Global, wrong: Wrong) -> Option<usize> {
     for place in 0..=ANSWERS.len() {
         if stops_writing(alloc, place, wrong) != Some(true) {
             return Some(place);
@@ -105,6 +105,6 @@ const WRONGS: [Wrong; 3] = [
 #[test]
 fn a_service_that_cannot_write(rt: HostRuntime) {
     for wrong in WRONGS {
-        assert_eq!(rt; write_told_otherwise(rt.alloc(), wrong), None);
+        assert_eq!(rt; write_reported_otherwise(rt.alloc(), wrong), None);
     }
 }

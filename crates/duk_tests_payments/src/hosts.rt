@@ -36,8 +36,8 @@ pub fn host(alloc: Global, room: usize) -> Option<SmallHost> {
     Some(host)
 }
 
-/// The request of 500 without its last byte, with one bit of its MAC turned, with a number of another
-/// key set, with a counter of eleven ones, and with an amount of 501 and the MAC of that.
+/// The request of 500 without its last byte, with one bit of its MAC turned, with a number of
+/// another key set, with a counter of eleven ones, and with an amount of 501 and the MAC of that.
 pub const CUT: &[u8; 47] =
     b"\x00\x2E\x01\x01\xFF\xFF\x98\x76\x54\x32\x10\xE0\x00\x01\x0D4012345678909\x00\x00\x01\xF4\x1B\x9C\x18\x45\xEB\x99\x3A\x7A\xB4\x28\x6B\x83\x8A\x2B\x62";
 
@@ -89,8 +89,8 @@ static EXCHANGES: [(&[u8], &[u8]); 11] = [
     (NO_PIN, REPLY_OF_30),
 ];
 
-/// The same behind a restart.
-static BEHIND_RESTART: [(&[u8], &[u8]); 3] = [
+/// The same after a restart.
+static AFTER_RESTART: [(&[u8], &[u8]); 3] = [
     (REQUEST_OF_500, FIRST_IS_USED),
     (NO_PIN, SECOND_IS_USED),
     (THIRD_REQUEST, LOG_IS_FULL),
@@ -113,6 +113,6 @@ fn requests(rt: HostRuntime) -> Result<(), Fail> {
     assert_eq!(rt; answered_otherwise(&mut host, &EXCHANGES), None);
     assert!(rt; host.is_used(ksn(2)));
     assert_eq!(rt; host.restart(), Ok(2));
-    assert_eq!(rt; answered_otherwise(&mut host, &BEHIND_RESTART), None);
+    assert_eq!(rt; answered_otherwise(&mut host, &AFTER_RESTART), None);
     Ok(())
 }

@@ -1,4 +1,4 @@
-//! When a host asks its issuer: once for each request that it accepts, behind its log; and else
+//! When a host asks its issuer: once for each request that it accepts, after its log; and else
 //! never.
 
 ghost use Rattle.duk_frame.specs.declared.code.Code.TheVariants.{Approved};
@@ -42,9 +42,10 @@ fn counted_host(alloc: Global, asked: &Cell<u32>) -> Option<CountedHost<'_>> {
     Some(host)
 }
 
-/// Requests in turn, and how often the issuer was asked behind each: of what is refused for reasons
-/// 1 to 4, of one that is accepted, of the same once more, of its number with another amount (reason
-/// 5), of a block of no PIN (code 30), of that once more, and where the log is full (reason 6).
+/// Requests in turn, and how often the issuer was asked after each: of what is refused for reasons
+/// 1 to 4, of one that is accepted, of the same once more, of its number with another amount
+/// (reason 5), of a block of no PIN (code 30), of that once more, and where the log is full (reason
+/// 6).
 static ASKED: [(&[u8], u32); 10] = [
     (CUT, 0),
     (OTHER_SET, 0),
@@ -58,7 +59,7 @@ static ASKED: [(&[u8], u32); 10] = [
     (THIRD_REQUEST, 1),
 ];
 
-/// The first of these requests behind which the issuer was asked more often or less.
+/// The first of these requests after which the issuer was asked more often or less.
 fn asked_otherwise(alloc: Global) -> Option<Option<usize>> {
     let asked = Cell::new(0);
     let mut host = counted_host(alloc, &asked)?;
@@ -82,12 +83,15 @@ fn of_a_log_that_fails(alloc: Global) -> Option<(bool, u32)> {
     let asked = Cell::new(0);
     let mut host = counted_host(alloc, &asked)?;
     host.arm(0);
-    let told = host.handle(REQUEST_OF_500).err()?;
-    Some((told == HostFault::Store(StoreFault::Device), asked.get()))
+    let reported = host.handle(REQUEST_OF_500).err()?;
+    Some((
+        reported == HostFault::Store(StoreFault::Device),
+        asked.get(),
+    ))
 }
 
 /// The number goes into the log first: where that fails, the issuer is not asked.
 #[test]
-fn the_issuer_is_asked_behind_the_log(rt: HostRuntime) {
+fn the_issuer_is_asked_after_the_log(rt: HostRuntime) {
     assert_eq!(rt; of_a_log_that_fails(rt.alloc()), Some((true, 0)));
 }

@@ -10,9 +10,9 @@ use duk_tests_support::recorded::{Call, RecordingDisk, Seen};
 use std::alloc::Global;
 use std::cell::Cell;
 
-/// A host comes up over a log of two records that is empty. A refusal comes to no disk, an acceptance
-/// keeps its number, and a reply that is given again comes to no disk. Behind that the host comes up
-/// over one number, which it reads once.
+/// A host comes up over a log of two records that is empty. A refusal comes to no disk, an
+/// acceptance keeps its number, and a reply that is given again comes to no disk. After that the
+/// host comes up over one number, which it reads once.
 static HOST: [Call; 13] = [
     Restart,
     Sync,

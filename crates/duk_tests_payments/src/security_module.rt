@@ -42,8 +42,8 @@ static KEY_SETS: [(u8, Result<(), HsmFault>); 11] = [
 #[test]
 fn key_sets(rt: HostRuntime) {
     let mut hsm = Hsm::<16>::new(key(LMK));
-    for (first, told) in &KEY_SETS {
-        assert_eq!(rt; hsm.load_bdk([*first, 0, 0, 0, 1], BASE_BLOCK), *told);
+    for (first, reported) in &KEY_SETS {
+        assert_eq!(rt; hsm.load_bdk([*first, 0, 0, 0, 1], BASE_BLOCK), *reported);
     }
 }
 

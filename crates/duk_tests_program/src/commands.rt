@@ -6,14 +6,14 @@ use duk_tests_support::streams::{Tap, Wrong};
 use std::alloc::{AllocError, Global};
 use std::io::ErrorKind;
 
-/// The words of a command, after the program's name.
-pub fn words_of(alloc: Global, command: &[&str]) -> Result<Vec<String>, AllocError> {
-    let mut words = Vec::new(alloc);
-    words.push(String::from_str(alloc, "dukpt")?)?;
-    for word in command {
-        words.push(String::from_str(alloc, word)?)?;
+/// The arguments of a command, after the program's name.
+pub fn arguments_of(alloc: Global, command: &[&str]) -> Result<Vec<String>, AllocError> {
+    let mut arguments = Vec::new(alloc);
+    arguments.push(String::from_str(alloc, "dukpt")?)?;
+    for argument in command {
+        arguments.push(String::from_str(alloc, argument)?)?;
     }
-    Ok(words)
+    Ok(arguments)
 }
 
 pub const DERIVE: [&str; 3] = [
@@ -27,24 +27,24 @@ key 042666B49184CFA368DE9628D0397BC9
 pin 042666B49184CF5C68DE9628D0397B36
 ";
 
-/// Whether a command of which a write at a place goes wrong tells that, and has written what stands
-/// before it. At the place after the last one all is written.
+/// Whether a command of which a write at a place goes wrong reports that, and has written what
+/// stands before it. At the place after the last one all is written.
 fn stops_writing(alloc: Global, place: usize, wrong: Wrong) -> Option<bool> {
-    let words = words_of(alloc, &DERIVE).ok()?;
+    let arguments = arguments_of(alloc, &DERIVE).ok()?;
     let mut writer = Tap::failing(alloc, 1, place, wrong);
     let mut fault = Vec::new(alloc);
-    let todo = command(alloc, words.as_slice(), &mut writer, &mut fault);
+    let todo = command(alloc, arguments.as_slice(), &mut writer, &mut fault);
     let (exit, line) = if place < DERIVED.len() {
         (1, "write failed\n")
     } else {
         (0, "")
     };
-    let is_told = todo == Todo::Exit(exit) && fault.as_slice() == line.as_bytes();
-    Some(is_told && writer.written() == DERIVED.as_bytes().get(..place)?)
+    let is_reported = todo == Todo::Exit(exit) && fault.as_slice() == line.as_bytes();
+    Some(is_reported && writer.written() == DERIVED.as_bytes().get(..place)?)
 }
 
-/// The first write of the command that is told otherwise.
-fn write_told_otherwise(alloc: Global, wrong: Wrong) -> Option<usize> {
+/// The first write of the command that is reported otherwise.
+fn write_reported_otherwise(alloc: Global, wrong: Wrong) -> Option<usize> {
     for place in 0..=DERIVED.len() {
         if stops_writing(alloc, place, wrong) != Some(true) {
             return Some(place);
@@ -59,12 +59,12 @@ const WRONGS: [Wrong; 2] = [Wrong::Fails(ErrorKind::BrokenPipe), Wrong::TakesNon
 #[test]
 fn lines_that_cannot_be_written(rt: HostRuntime) {
     for wrong in WRONGS {
-        assert_eq!(rt; write_told_otherwise(rt.alloc(), wrong), None);
+        assert_eq!(rt; write_reported_otherwise(rt.alloc(), wrong), None);
     }
 }
 
 /// Whether a script writes nothing, and ends with the status that goes with this fault.
-fn tells(alloc: Global, script: &str, line: &str) -> bool {
+fn reports(alloc: Global, script: &str, line: &str) -> bool {
     let (mut output, mut fault) = (Vec::new(alloc), Vec::new(alloc));
     let mut script = script.as_bytes();
     let status = run_status(alloc, BANK.as_bytes(), &mut script, &mut output, &mut fault);
@@ -73,6 +73,6 @@ fn tells(alloc: Global, script: &str, line: &str) -> bool {
 
 #[test]
 fn scripts_of_no_events(rt: HostRuntime) {
-    assert!(rt; tells(rt.alloc(), "", ""));
-    assert!(rt; tells(rt.alloc(), "up 1\nup 01\n", "line 2: not an event\n"));
+    assert!(rt; reports(rt.alloc(), "", ""));
+    assert!(rt; reports(rt.alloc(), "up 1\nup 01\n", "line 2: not an event\n"));
 }

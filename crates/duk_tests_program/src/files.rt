@@ -4,8 +4,8 @@ ghost use Rattle.std.proofs.Common.{rules};
 ghost use Rattle.std.specs.Option.{option_map};
 ghost use Rattle.std.specs.Prelude.{Some, None};
 
-use crate::commands::words_of;
-use duk_program::{FileFault, FileSystem, LogFiles, run_words};
+use crate::commands::arguments_of;
+use duk_program::{FileFault, FileSystem, LogFiles, run_arguments};
 use duk_store::{Disk, MemDisk, StoreFault};
 use duk_tests_support::files::BANK;
 use duk_tests_support::frames::{FIRST_REPLY, FIRST_REQUEST};
@@ -79,7 +79,7 @@ impl LogFiles for Banks {
 }
 
 /// What a command over such files writes, which has the first request as its input, and what it
-/// tells.
+/// reports.
 fn of_command<S: FileSystem + LogFiles>(
     alloc: Global,
     files: &S,
@@ -88,13 +88,13 @@ fn of_command<S: FileSystem + LogFiles>(
 where
     S::Disk: Disk,
 {
-    let words = words_of(alloc, command).ok()?;
+    let arguments = arguments_of(alloc, command).ok()?;
     let (mut output, mut fault) = (Vec::new(alloc), Vec::new(alloc));
     let mut input = FIRST_REQUEST.as_slice();
-    let status = run_words(
+    let status = run_arguments(
         alloc,
         files,
-        words.as_slice(),
+        arguments.as_slice(),
         &mut input,
         &mut output,
         &mut fault,

@@ -1,6 +1,6 @@
-//! What is held back is handed on once, before the status; where that fails, it is told.
+//! What is held back is handed on once, before the status; where that fails, it is reported.
 
-use crate::commands::{DERIVE, words_of};
+use crate::commands::{DERIVE, arguments_of};
 use duk_config::read_config;
 use duk_program::{Todo, command, run_status, serve_with};
 use duk_store::MemLog;
@@ -31,11 +31,11 @@ impl Write for CountingFlushes {
     }
 }
 
-/// A status, how often the output was flushed, and whether this line was told.
-type Told = (u8, u32, bool);
+/// A status, how often the output was flushed, and whether this line was reported.
+type Reported = (u8, u32, bool);
 
 /// What comes of a service that is given these bytes.
-fn of_service(alloc: Global, mut input: &[u8], fails: bool, line: &str) -> Option<Told> {
+fn of_service(alloc: Global, mut input: &[u8], fails: bool, line: &str) -> Option<Reported> {
     let config = read_config(alloc, BANK.as_bytes()).ok()?;
     let log = MemLog::new(alloc, 4).ok()?;
     let mut output = CountingFlushes { flushes: 0, fails };
@@ -45,7 +45,7 @@ fn of_service(alloc: Global, mut input: &[u8], fails: bool, line: &str) -> Optio
 }
 
 /// What comes of a run of one event.
-fn of_run(alloc: Global, fails: bool, line: &str) -> Told {
+fn of_run(alloc: Global, fails: bool, line: &str) -> Reported {
     let mut output = CountingFlushes { flushes: 0, fails };
     let mut fault = Vec::new(alloc);
     let mut script = "up 1\n".as_bytes();
@@ -54,11 +54,11 @@ fn of_run(alloc: Global, fails: bool, line: &str) -> Told {
 }
 
 /// What comes of a command.
-fn of_command(alloc: Global, fails: bool, line: &str) -> Option<Told> {
-    let words = words_of(alloc, &DERIVE).ok()?;
+fn of_command(alloc: Global, fails: bool, line: &str) -> Option<Reported> {
+    let arguments = arguments_of(alloc, &DERIVE).ok()?;
     let mut output = CountingFlushes { flushes: 0, fails };
     let mut fault = Vec::new(alloc);
-    match command(alloc, words.as_slice(), &mut output, &mut fault) {
+    match command(alloc, arguments.as_slice(), &mut output, &mut fault) {
         Todo::Exit(status) => {
             Some((status, output.flushes, fault.as_slice() == line.as_bytes()))
         }

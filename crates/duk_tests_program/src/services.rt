@@ -7,8 +7,8 @@ use duk_tests_support::files::BANK;
 use duk_tests_support::frames::{FIRST_REPLY, FIRST_REQUEST};
 use std::alloc::Global;
 
-/// The status of a service that is given the first request, what it writes and what it tells, where
-/// this device step of its log fails.
+/// The status of a service that is given the first request, what it writes and what it reports,
+/// where this device step of its log fails.
 fn of_service(alloc: Global, step: u32) -> Option<(u8, Vec<u8>, Vec<u8>)> {
     let config = read_config(alloc, BANK.as_bytes()).ok()?;
     let mut disk = MemDisk::new(alloc, 64).ok()?;
@@ -21,7 +21,7 @@ fn of_service(alloc: Global, step: u32) -> Option<(u8, Vec<u8>, Vec<u8>)> {
 }
 
 /// Whether that service is done, or fails for its log and writes nothing.
-fn is_as_told(alloc: Global, step: u32, is_done: bool) -> Option<bool> {
+fn is_as_reported(alloc: Global, step: u32, is_done: bool) -> Option<bool> {
     let (status, output, fault) = of_service(alloc, step)?;
     Some(if is_done {
         status == 0 && output.as_slice() == FIRST_REPLY.as_slice() && fault.is_empty()
@@ -35,7 +35,7 @@ fn is_as_told(alloc: Global, step: u32, is_done: bool) -> Option<bool> {
 #[test]
 fn steps_that_fail(rt: HostRuntime) {
     for step in 0..9 {
-        assert_eq!(rt; is_as_told(rt.alloc(), step, false), Some(true));
+        assert_eq!(rt; is_as_reported(rt.alloc(), step, false), Some(true));
     }
-    assert_eq!(rt; is_as_told(rt.alloc(), 9, true), Some(true));
+    assert_eq!(rt; is_as_reported(rt.alloc(), 9, true), Some(true));
 }

@@ -18,16 +18,16 @@ t1 sent 1 FFFF9876543210E00001
 answer 1 accepted FFFF9876543210E00001 00
 ";
 
-/// Whether a script whose read at a place fails tells that and writes nothing.
+/// Whether a script whose read at a place fails reports that and writes nothing.
 fn stops_reading(alloc: Global, place: usize, kind: ErrorKind) -> bool {
     let mut reader = Drip::failing(SCRIPT.as_bytes(), place, kind);
     let mut written = Vec::new(alloc);
-    let told = run_script(alloc, BANK.as_bytes(), &mut reader, &mut written);
-    told == Err(ScriptFault::CannotRead) && written.is_empty()
+    let reported = run_script(alloc, BANK.as_bytes(), &mut reader, &mut written);
+    reported == Err(ScriptFault::CannotRead) && written.is_empty()
 }
 
-/// The first read of a script whose failure is told otherwise. The last one tells the end.
-fn read_told_otherwise(alloc: Global, kind: ErrorKind) -> Option<usize> {
+/// The first read of a script whose failure is reported otherwise. The last one reports the end.
+fn read_reported_otherwise(alloc: Global, kind: ErrorKind) -> Option<usize> {
     for place in 0..=SCRIPT.len() {
         if !stops_reading(alloc, place, kind) {
             return Some(place);
@@ -48,26 +48,26 @@ const KINDS: [ErrorKind; 4] = [
 #[test]
 fn a_script_that_cannot_be_read(rt: HostRuntime) {
     for kind in KINDS {
-        assert_eq!(rt; read_told_otherwise(rt.alloc(), kind), None);
+        assert_eq!(rt; read_reported_otherwise(rt.alloc(), kind), None);
     }
 }
 
-/// Whether a script whose write of a byte at a place goes wrong tells that, and has written what
+/// Whether a script whose write of a byte at a place goes wrong reports that, and has written what
 /// stands before it. At the place after the last one all is written.
 fn stops_writing(alloc: Global, place: usize, wrong: Wrong) -> bool {
     let mut reader = SCRIPT.as_bytes();
     let mut writer = Tap::failing(alloc, 1, place, wrong);
-    let told = run_script(alloc, BANK.as_bytes(), &mut reader, &mut writer);
-    let is_told = if place < LINES.len() {
-        told == Err(ScriptFault::WriteFailed)
+    let reported = run_script(alloc, BANK.as_bytes(), &mut reader, &mut writer);
+    let is_reported = if place < LINES.len() {
+        reported == Err(ScriptFault::WriteFailed)
     } else {
-        told == Ok(())
+        reported == Ok(())
     };
-    is_told && Some(writer.written()) == LINES.as_bytes().get(..place)
+    is_reported && Some(writer.written()) == LINES.as_bytes().get(..place)
 }
 
-/// The first write of a script that is told otherwise.
-fn write_told_otherwise(alloc: Global, wrong: Wrong) -> Option<usize> {
+/// The first write of a script that is reported otherwise.
+fn write_reported_otherwise(alloc: Global, wrong: Wrong) -> Option<usize> {
     for place in 0..=LINES.len() {
         if !stops_writing(alloc, place, wrong) {
             return Some(place);
@@ -86,6 +86,6 @@ const WRONGS: [Wrong; 3] = [
 #[test]
 fn lines_that_cannot_be_written(rt: HostRuntime) {
     for wrong in WRONGS {
-        assert_eq!(rt; write_told_otherwise(rt.alloc(), wrong), None);
+        assert_eq!(rt; write_reported_otherwise(rt.alloc(), wrong), None);
     }
 }

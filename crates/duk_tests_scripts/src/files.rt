@@ -48,8 +48,8 @@ fn events_of_script(alloc: Global) -> Option<usize> {
 /// Whether it writes its lines.
 fn writes_its_lines(alloc: Global) -> bool {
     let mut written = Vec::new(alloc);
-    let told = run_script(alloc, BANK.as_bytes(), &mut SCRIPT.as_bytes(), &mut written);
-    told == Ok(()) && written.as_slice() == LINES.as_bytes()
+    let reported = run_script(alloc, BANK.as_bytes(), &mut SCRIPT.as_bytes(), &mut written);
+    reported == Ok(()) && written.as_slice() == LINES.as_bytes()
 }
 
 #[test]

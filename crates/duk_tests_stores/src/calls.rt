@@ -10,10 +10,10 @@ use std::alloc::Global;
 use std::cell::Cell;
 
 /// A cell comes up over nothing: the disk is synced before it is read, the first slot is read
-/// first, and both are wiped behind their gates, which are closed.
+/// first, and both are wiped after their commit bytes, which are closed.
 ///
-/// A put fills the slot that is empty: its contents, then its gate, each synced. Then it empties the
-/// other one: its gate, then its contents.
+/// A put fills the slot that is empty: its contents, then its commit byte, each synced. Then it
+/// empties the other one: its commit byte, then its contents.
 ///
 /// A cell comes up over a body: the slot that does not count is wiped.
 static CELL: [Call; 36] = [
@@ -77,8 +77,8 @@ fn calls_of_a_cell(rt: HostRuntime) {
 }
 
 /// A log comes up: the disk is synced before it is read, and each record is read once, in turn. A
-/// number is read by one read. A number goes into its record: what is behind the gate, then the
-/// gate, each synced.
+/// number is read by one read. A number goes into its record: what is after the commit byte, then
+/// the commit byte, each synced.
 static LOG: [Call; 14] = [
     Restart,
     Sync,
@@ -118,7 +118,7 @@ fn calls_of_a_log(rt: HostRuntime) {
     assert_eq!(rt; seen_of_log(rt.alloc()), Ok(Seen::all(&LOG)));
 }
 
-/// What a cell tells at a restart over a disk of this size, and the calls that it makes.
+/// What a cell reports at a restart over a disk of this size, and the calls that it makes.
 fn cell_of_size(alloc: Global, size: usize) -> Result<(StoreFault, Seen), StoreFault> {
     let seen = Cell::new(Seen::NONE);
     let mut cell = SlotCell::new(RecordingDisk::new(alloc, size, &[Restart], &seen)?);
@@ -128,7 +128,7 @@ fn cell_of_size(alloc: Global, size: usize) -> Result<(StoreFault, Seen), StoreF
     }
 }
 
-/// What a log tells there, and the calls that it makes.
+/// What a log reports there, and the calls that it makes.
 fn log_of_size(alloc: Global, size: usize) -> Result<(StoreFault, Seen), StoreFault> {
     let seen = Cell::new(Seen::NONE);
     let mut log = DiskLog::new(RecordingDisk::new(alloc, size, &[Restart], &seen)?);
@@ -138,7 +138,7 @@ fn log_of_size(alloc: Global, size: usize) -> Result<(StoreFault, Seen), StoreFa
     }
 }
 
-/// A size that is damaged is told before anything is synced or read.
+/// A size that is damaged is reported before anything is synced or read.
 #[test]
 fn calls_over_other_sizes(rt: HostRuntime) {
     let damaged = Ok((StoreFault::Damaged, Seen::all(&[Restart])));

@@ -44,7 +44,7 @@ struct Stop {
     calls: u32,
 }
 
-/// A cell on a new disk after this stop. A device step of the restarts behind it fails: before them
+/// A cell on a new disk after this stop. A device step of the restarts after it fails: before them
 /// the first restart has seven, a put that is done eight, and the put that stops those that pass
 /// and the one that fails.
 fn stopped_cell(alloc: Global, stop: Stop, step: u32) -> Result<SlotCell<MemDisk>, StoreFault> {
@@ -64,15 +64,15 @@ fn stopped_cell(alloc: Global, stop: Stop, step: u32) -> Result<SlotCell<MemDisk
     }
 }
 
-/// What two restarts behind a stop find, of which this device step fails.
+/// What two restarts after a stop find, of which this device step fails.
 fn found_twice(alloc: Global, stop: Stop, step: u32) -> Result<[Found; 2], StoreFault> {
     let mut cell = stopped_cell(alloc, stop, step)?;
     let first = found_by(&mut cell);
     Ok([first, found_by(&mut cell)])
 }
 
-/// Whether a restart behind a stop finds this, in so many device steps: wherever one of them fails,
-/// the next restart finds it, and a step behind them is one of the next restart.
+/// Whether a restart after a stop finds this, in so many device steps: wherever one of them fails,
+/// the next restart finds it, and a step after them is one of the next restart.
 fn finds_in(alloc: Global, stop: Stop, found: Found, steps: u32) -> Result<bool, StoreFault> {
     for step in 0..steps {
         if found_twice(alloc, stop, step)? != [DEVICE, found] {
@@ -82,13 +82,13 @@ fn finds_in(alloc: Global, stop: Stop, found: Found, steps: u32) -> Result<bool,
     Ok(found_twice(alloc, stop, steps)? == [found, DEVICE])
 }
 
-/// A filling, and the device call of a put behind which the new body is found; and by the call at
+/// A filling, and the device call of a put after which the new body is found; and by the call at
 /// which it stops the device steps of a restart, where there was an old body and where there was
 /// none.
 ///
-/// The third and the fourth call of a put write and sync the gate of the new slot: there it depends
-/// on the filling which body is found. A restart syncs and reads twice, and wipes each slot that does
-/// not count in two steps, or in four where it is open.
+/// The third and the fourth call of a put write and sync the commit byte of the new slot: there it
+/// depends on the filling which body is found. A restart syncs and reads twice, and wipes each slot
+/// that does not count in two steps, or in four where it is open.
 type Row = (Filling, u32, [u32; 8], [u32; 8]);
 
 static STOPS: [Row; 5] = [

@@ -6,7 +6,7 @@ use duk_tests_support::sample::ksn;
 use duk_tree::Ksn;
 use std::alloc::Global;
 
-/// Appends a number where there is room. A full log is told as worn.
+/// Appends a number where there is room. A full log is reported as worn.
 pub fn append<L: UsedLog>(log: &mut L, number: Ksn) -> Result<(), StoreFault> {
     if log.room() == 0 {
         return Err(StoreFault::Worn);
@@ -29,7 +29,7 @@ fn a_log_in_memory(rt: HostRuntime) {
 }
 
 /// How many numbers a restart finds where an append of a second one stops once so many device calls
-/// have passed. Another number in its place is told as damage.
+/// have passed. Another number in its place is reported as damage.
 fn found_after(alloc: Global, filling: Filling, calls: u32) -> Result<u64, StoreFault> {
     let mut disk = MemDisk::new(alloc, 32)?;
     disk.filling(filling);
@@ -47,8 +47,8 @@ fn found_after(alloc: Global, filling: Filling, calls: u32) -> Result<u64, Store
     Ok(found)
 }
 
-/// The number counts once its gate is open, which is what the filling makes of it until it is
-/// synced.
+/// The number counts once its commit byte is open, which is what the filling makes of it until it
+/// is synced.
 static STOPS: [(Filling, [u64; 4]); 5] = [
     (Filling::Old, [1, 1, 1, 1]),
     (Filling::New, [1, 1, 2, 2]),

@@ -1,7 +1,7 @@
 //! Disks over a medium: what they give back, and where they fail.
 
 ghost use Rattle.std.specs.Prelude.{◌≡◌, ◌+◌, ◌≤◌, ⊤, length, IfOk, refl};
-ghost use Rattle.duk_store.specs.Medium.{untold};
+ghost use Rattle.duk_store.specs.Medium.{unknown_medium};
 ghost use Rattle.duk_store.specs.MemoryDisk.{CouldLeave, IsHonestDisk, MemoryDisk};
 
 use duk_store::{Disk, FileMedium, Medium, MediumDisk, MemDisk, OpenFile, StoreFault};
@@ -10,15 +10,15 @@ use std::io;
 use std::marker::Model;
 use std::test::Fail;
 
-/// A file of eight bytes in memory, which tells nothing of itself. It forgets that a call failed.
+/// A file of eight bytes in memory, which reports nothing of itself. It forgets that a call failed.
 #[derive(Drop)]
 struct SmallFile {
     held: [u8; 8],
     /// How many calls pass before one fails.
     passes: u8,
-    /// The length that it tells.
+    /// The length that it reports.
     length: u64,
-    /// The length that it tells once something was written.
+    /// The length that it reports once something was written.
     written_length: u64,
 }
 
@@ -42,7 +42,7 @@ impl SmallFile {
 }
 
 impl OpenFile for SmallFile {
-    ghost state = { λ _. untold };
+    ghost state = { λ _. unknown_medium };
 
     ghost has_length = { λ _ _. ⊤ };
 
@@ -91,7 +91,7 @@ fn passing<M: Medium>(disk: &mut MediumDisk<M>) -> [bool; 3] {
     [writes, syncs, holds_all(disk)]
 }
 
-/// What passes over a file, where the disk is armed with so many steps; and what passes behind a
+/// What passes over a file, where the disk is armed with so many steps; and what passes after a
 /// restart.
 fn passing_twice(file: SmallFile, steps: u32) -> [[bool; 3]; 2] {
     let mut disk = MediumDisk::over(FileMedium::over(file, 8), 8);
@@ -101,7 +101,7 @@ fn passing_twice(file: SmallFile, steps: u32) -> [[bool; 3]; 2] {
     [first, passing(&mut disk)]
 }
 
-/// What passes over a file whose call behind so many fails.
+/// What passes over a file whose call after so many fails.
 fn passing_over(passes: u8, steps: u32) -> [[bool; 3]; 2] {
     let file = SmallFile {
         held: [0; 8],
@@ -112,7 +112,7 @@ fn passing_over(passes: u8, steps: u32) -> [[bool; 3]; 2] {
     passing_twice(file, steps)
 }
 
-/// What passes over a file of these lengths, before it is written and behind that.
+/// What passes over a file of these lengths, before it is written and after that.
 fn passing_at(length: u64, written_length: u64) -> [[bool; 3]; 2] {
     let file = SmallFile {
         held: [0; 8],
@@ -127,9 +127,10 @@ const ALL: [bool; 3] = [true; 3];
 
 const NONE: [bool; 3] = [false; 3];
 
-/// Each step reads, writes or syncs the file once, and one that fails is told. Once a write or a sync
-/// has failed, no step passes, also behind a restart. An armed disk fails from some step on until its
-/// restart, and such a step does not come to the file: what it did not write is not there.
+/// Each step reads, writes or syncs the file once, and one that fails is reported. Once a write or
+/// a sync has failed, no step passes, also after a restart. An armed disk fails from some step on
+/// until its restart, and such a step does not come to the file: what it did not write is not
+/// there.
 #[test]
 fn failing_files(rt: HostRuntime) {
     for (passes, steps, first, second) in [
@@ -148,7 +149,7 @@ fn failing_files(rt: HostRuntime) {
 }
 
 /// A write fails before it where the file has another length than when it was opened, also where it
-/// would give it that length again; so does a sync behind it. Then all fails.
+/// would give it that length again; so does a sync after it. Then all fails.
 #[test]
 fn files_of_another_length(rt: HostRuntime) {
     for (length, written_length, first) in [
@@ -161,19 +162,19 @@ fn files_of_another_length(rt: HostRuntime) {
     }
 }
 
-/// A disk in memory as a file that tells its bytes: what is asked of an honest one can be had.
+/// A disk in memory as a file that reports its bytes: what is asked of an honest one can be had.
 #[derive(Drop)]
-struct ToldFile {
+struct ReportedFile {
     disk: MemDisk,
 }
 
-impl Model for ToldFile {
+impl Model for ReportedFile {
     ghost Value = { MemoryDisk };
 
     ghost view = { λ file. file.disk };
 }
 
-impl OpenFile for ToldFile {
+impl OpenFile for ReportedFile {
     ghost state = { λ disk. record {
       honest = IsHonestDisk disk;
       calm = ⊥;
@@ -182,7 +183,7 @@ impl OpenFile for ToldFile {
       may_leave = CouldLeave disk;
     } };
 
-    ghost has_length = { λ disk told. told ≡ length disk.reads };
+    ghost has_length = { λ disk reported. reported ≡ length disk.reads };
 
     ghost reads_may_stay = { λ disk honest. record {
       same_length = refl;
@@ -226,15 +227,15 @@ impl OpenFile for ToldFile {
 }
 
 /// What passes over such a file.
-fn of_told_file(alloc: Global) -> Result<[bool; 3], StoreFault> {
+fn of_reported_file(alloc: Global) -> Result<[bool; 3], StoreFault> {
     let disk = MemDisk::new(alloc, 8)?;
     let size = disk.size();
-    let medium = FileMedium::over(ToldFile { disk }, size);
+    let medium = FileMedium::over(ReportedFile { disk }, size);
     Ok(passing(&mut MediumDisk::over(medium, size)))
 }
 
 #[test]
-fn a_file_that_tells_its_bytes(rt: HostRuntime) -> Result<(), Fail> {
-    assert_eq!(rt; of_told_file(rt.alloc())?, ALL);
+fn a_file_that_reports_its_bytes(rt: HostRuntime) -> Result<(), Fail> {
+    assert_eq!(rt; of_reported_file(rt.alloc())?, ALL);
     Ok(())
 }

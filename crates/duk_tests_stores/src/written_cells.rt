@@ -5,10 +5,10 @@ use duk_store::{Body, Cell, Disk, MemDisk, SlotCell, StoreFault};
 use std::alloc::Global;
 use std::test::Fail;
 
-/// A slot's gate and sequence.
+/// A slot's commit byte and sequence.
 type Slot = (u8, u64);
 
-/// Writes a slot whose gate is at this place.
+/// Writes a slot whose commit byte is at this place.
 fn write_slot(disk: &mut MemDisk, at: u16, slot: Slot, body: &Body) -> Result<(), StoreFault> {
     let mut bytes = [0; 512];
     bytes[0] = slot.0;
@@ -53,8 +53,8 @@ fn finds_in(
 
 const DAMAGED: Found = Found::Fault(StoreFault::Damaged);
 
-/// Gates and sequences, what is found, and in how many device steps. A gate is open at one alone,
-/// and that of a closed slot is not written.
+/// Gates and sequences, what is found, and in how many device steps. A commit byte is open at one
+/// alone, and that of a closed slot is not written.
 static WRITTEN: [((Slot, Slot), Found, u32); 15] = [
     (((0, 7), (0, 7)), Found::Nothing, 7),
     (((0x5A, 9), (0, 0)), Found::Nothing, 7),
@@ -84,8 +84,8 @@ fn slots(rt: HostRuntime) -> Result<(), Fail> {
 /// More device steps than are made.
 const NEVER: u32 = 1000;
 
-/// How often a cell of this sequence is worn where it is given two bodies, of which each was armed to
-/// fail at once; and what is found then.
+/// How often a cell of this sequence is worn where it is given two bodies, of which each was armed
+/// to fail at once; and what is found then.
 fn of_worn_cell(alloc: Global, sequence: u64) -> Result<([bool; 2], Found), StoreFault> {
     let mut cell = cell_of(alloc, ((1, sequence), (0, 0)), NEVER)?;
     cell.restart()?;

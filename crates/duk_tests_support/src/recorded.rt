@@ -68,8 +68,8 @@ impl<'a> Model for RecordingDisk<'a> {
 }
 
 impl<'a> RecordingDisk<'a> {
-    /// A new disk of so many bytes to which the calls of this list are to come. What comes is told
-    /// in `seen`.
+    /// A new disk of so many bytes to which the calls of this list are to come. What comes is
+    /// reported in `seen`.
     pub fn new(
         alloc: Global,
         size: usize,

@@ -14,7 +14,7 @@ pub struct Drip<'a> {
 }
 
 impl<'a> Drip<'a> {
-    /// One whose read behind so many others fails like this.
+    /// One whose read after so many others fails like this.
     pub fn failing(left: &'a [u8], fails_at: usize, kind: ErrorKind) -> Self {
         Drip {
             left,
@@ -55,7 +55,7 @@ pub struct Tap {
 }
 
 impl Tap {
-    /// One whose write behind so many others goes wrong like this.
+    /// One whose write after so many others goes wrong like this.
     pub fn failing(alloc: Global, most: usize, wrong_at: usize, wrong: Wrong) -> Self {
         Tap {
             held: Vec::new(alloc),

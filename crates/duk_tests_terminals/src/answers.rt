@@ -19,8 +19,8 @@ const REFUSAL: &[u8; 15] = b"\x00\x0D\x01\x03\xFF\xFF\x98\x76\x54\x32\x10\xE0\x0
 
 const CUT_REFUSAL: &[u8; 14] = b"\x00\x0D\x01\x03\xFF\xFF\x98\x76\x54\x32\x10\xE0\x00\x01";
 
-/// Frames that come one after the other, and what is told of each. Only the right reply completes
-/// the transaction.
+/// Frames that come one after the other, and what is reported of each. Only the right reply
+/// completes the transaction.
 static ANSWERS: [(&[u8], Result<Answer, TermFault>); 9] = [
     (CHANGED, Err(TermFault::BadMac)),
     (REFUSAL, Ok(Answer::Refused(4))),
@@ -43,8 +43,8 @@ fn pending() -> Result<Terminal<MemCell>, TermFault> {
 #[test]
 fn a_transaction(rt: HostRuntime) -> Result<(), Fail> {
     let mut terminal = pending()?;
-    for (frame, told) in &ANSWERS {
-        assert_eq!(rt; terminal.reply(frame), *told);
+    for (frame, reported) in &ANSWERS {
+        assert_eq!(rt; terminal.reply(frame), *reported);
     }
     Ok(())
 }

@@ -50,7 +50,7 @@ static SPENT: [[(usize, u8); 3]; 2] = [
 ];
 
 /// A register that can hold no key; nine past numbers; one twice; the present one among them; one
-/// with a bit of its counter; a byte in a place that is not used; and bytes behind the image.
+/// with a bit of its counter; a byte in a place that is not used; and bytes after the image.
 static DAMAGED: [[(usize, u8); 3]; 8] = [
     [(0, 2), (11, 0x20), (62, 1)],
     [(350, 9), (351, 7), (361, 8)],

@@ -1,4 +1,4 @@
-//! Frames: their bytes, and what is none where a frame is cut or has a byte behind it.
+//! Frames: their bytes, and what is none where a frame is cut or has a byte after it.
 
 use duk_frame::{
     Code, Frame, mac_text, read_answer, read_request, write_refusal, write_reply, write_request,
@@ -44,7 +44,7 @@ fn written_frames(rt: HostRuntime) -> Result<(), Fail> {
     Ok(())
 }
 
-/// Requests, and answers behind them.
+/// Requests, and answers after them.
 static FRAMES: [&[u8]; 11] = [
     REQUEST_OF_500,
     FIRST_REQUEST,
@@ -74,7 +74,7 @@ fn read_too_early(frame: &[u8]) -> Option<usize> {
     None
 }
 
-/// The first byte that, put behind a frame, leaves it one.
+/// The first byte that, put after a frame, leaves it one.
 fn read_too_late(alloc: Global, frame: &[u8]) -> Result<Option<u8>, AllocError> {
     for byte in 0..=255 {
         let mut longer = Vec::from_slice(alloc, frame)?;

@@ -60,7 +60,7 @@ fn has_image(slot: &[u8]) -> bool {
         && slot.get(440..512) == ZEROS.get(..72)
 }
 
-/// Whether a slot is closed, with zeros behind its gate.
+/// Whether a slot is closed, with zeros after its gate.
 fn is_blank(slot: &[u8]) -> bool {
     slot.first() != Some(&1) && slot.get(1..) == Some(ZEROS.as_slice())
 }

@@ -28,8 +28,8 @@ fn purchase() -> Option<Purchase> {
     })
 }
 
-/// The request of a payment of 500. A payment that cannot be made is told as malformed, which no
-/// begin tells.
+/// The request of a payment of 500. A payment that cannot be made is reported as malformed, which
+/// no begin reports.
 pub fn begin<C: Cell>(terminal: &mut Terminal<C>) -> Result<Frame, TermFault> {
     match purchase() {
         Some(purchase) => terminal.begin(&purchase),

@@ -7,7 +7,7 @@ use Rattle.std.proofs.lemmas.List.{length-take-le, length-drop}
 use Rattle.std.proofs.lemmas.List.Elements.{All-take, All-drop, All-weaker}
 use Rattle.std.proofs.lemmas.List.Sums.{AllPass-from_list_all}
 use Rattle.duk_des.specs.Block.{IsBlock}
-use Rattle.duk_des.specs.Des.{encrypted}
+use Rattle.duk_des.specs.Des.{des_encrypted}
 use Rattle.duk_tdes.specs.Key.{IsKey, xor_bytes}
 use Rattle.duk_tdes.specs.Tdes.{IsTdesKey, first_key, second_key, tdes_encrypted}
 use Rattle.duk_tree.specs.Serial.{Serial, serial_bytes, iksn_bytes, low_bytes}
@@ -17,7 +17,7 @@ use Rattle.duk_tree.proofs.SerialBytes.{length-serial_bytes, serial_bytes_fit}
 
 -- what the crates below say of keys and blocks
 pub record Below : Type 0 where
-  pub cipher_block : (key block : List ℕ) → IsBlock key → IsBlock block → IsBlock (encrypted key block)
+  pub cipher_block : (key block : List ℕ) → IsBlock key → IsBlock block → IsBlock (des_encrypted key block)
   pub tdes_block : (key block : List ℕ) → IsTdesKey key → IsBlock block → IsBlock (tdes_encrypted key block)
   pub masked : (size : ℕ) (key mask : List ℕ) → IsKey size key → IsKey size mask → IsKey size (xor_bytes key mask)
   pub double : (key : List ℕ) → IsKey 16 key → IsTdesKey key
@@ -67,7 +67,7 @@ IsBlock-half_step_of below key crypto_register is_key is_block =
     let right = as_key (below.second key (below.double key is_key)) in
     let input = as_block (below.masked 8 (second_key key) crypto_register right (as_key is_block)) in
     let output = below.cipher_block (first_key key) (xor_bytes (second_key key) crypto_register) (below.first key (below.double key is_key)) input in
-    as_block (below.masked 8 (second_key key) (encrypted (first_key key) (xor_bytes (second_key key) crypto_register)) right (as_key output))
+    as_block (below.masked 8 (second_key key) (des_encrypted (first_key key) (xor_bytes (second_key key) crypto_register)) right (as_key output))
 
 pub IsKey-step_of : Below → (key crypto_register : List ℕ) → IsKey 16 key → IsBlock crypto_register → IsKey 16 (step_of key crypto_register)
 unfolding step_of

@@ -1,6 +1,6 @@
 -- The keys of DUKPT with double-length keys (ANSI X9.24-1:2009 annex A).
 use Rattle.std.specs.Prelude.{◌≡◌, ℕ, List, [], ◌∷◌, ◌++◌, take}
-use Rattle.duk_des.specs.Des.{encrypted}
+use Rattle.duk_des.specs.Des.{des_encrypted}
 use Rattle.duk_tdes.specs.Key.{xor_bytes}
 use Rattle.duk_tdes.specs.Tdes.{first_key, second_key, tdes_encrypted}
 use Rattle.duk_tree.specs.Serial.{Serial, iksn_bytes, low_bytes}
@@ -27,7 +27,7 @@ initial_key_of bdk iksn =
 unfoldable pub half_step_of : List ℕ → List ℕ → List ℕ
 half_step_of key crypto_register =
     xor_bytes (second_key key)
-    (encrypted (first_key key) (xor_bytes (second_key key) crypto_register))
+    (des_encrypted (first_key key) (xor_bytes (second_key key) crypto_register))
 
 -- the Non-reversible Key Generation Process: the right half under the key itself, the left half
 -- under the key with the mask

@@ -9,7 +9,7 @@ parent_of [] = []
 parent_of (place ∷ parent) = parent
 
 -- the frontier at a counter: the usable nodes from that counter on whose parent is below it
-pub record IsHeld (counter node : ℕ) : Type 0 where
+pub record IsInFrontier (counter node : ℕ) : Type 0 where
   pub is_usable : IsUsable node
   pub not_used : counter ≤ node
   pub parent_used : value_of (parent_of (path_of node)) < counter
@@ -23,11 +23,12 @@ abbrev pub IsChild : ℕ → ℕ → Type 0
 IsChild node child = (place : ℕ) × (path_of child ≡ place ∷ path_of node)
 
 -- exactly one node of the frontier is this node or an ancestor of it
-pub record HasOneHeld (counter node : ℕ) : Type 0 where
+pub record HasOneInFrontier (counter node : ℕ) : Type 0 where
   pub held : ℕ
-  pub is_held : IsHeld counter held
+  pub is_in_frontier : IsInFrontier counter held
   pub is_above : IsAncestorOrSelf held node
-  pub is_only : (other : ℕ) → IsHeld counter other → IsAncestorOrSelf other node → other ≡ held
+  pub is_only : (other : ℕ) → IsInFrontier counter other → IsAncestorOrSelf other node → other
+      ≡ held
 
 -- the only node of a last place that the frontier at a counter may have: the place's power of two
 -- above the greatest multiple of the next power of two that is below the counter

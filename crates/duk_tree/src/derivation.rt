@@ -34,7 +34,7 @@ pub fn step(key: &Key<16>, crypto_register: [u8; 8]) -> Key<16>
 }
 
 /// The transaction key of a key serial number, under the base derivation key; counter zero gives
-/// the initial key. `usable` tells which counters number a transaction.
+/// the initial key. `usable` reports which counters number a transaction.
 pub fn derive(bdk: &Key<16>, ksn: Ksn) -> Key<16>
     ensures { result ≡ derived_key_of bdk.now ksn }
 {

@@ -10,7 +10,7 @@ ghost use Rattle.duk_tree.specs.Path.{IsPath, value_of, path_of, IsUsable, last_
 ghost use Rattle.duk_tree.specs.Serial.{Serial, IsSerial, iksn_prefix_of, prefix_of, serial_bytes, serial_of_bytes};
 ghost use Rattle.std.specs.Int.{trailing_zeros, w32};
 ghost use Rattle.duk_tree.specs.Next.{ComesAfter, IsChainAfter};
-ghost use Rattle.duk_tree.specs.Frontier.{IsHeld, HasOneHeld, IsAncestorOrSelf, IsChild, candidate_at};
+ghost use Rattle.duk_tree.specs.Frontier.{IsInFrontier, HasOneInFrontier, IsAncestorOrSelf, IsChild, candidate_at};
 
 /// Each counter of 21 bits is the value of exactly one path.
 pub fn paths()
@@ -73,11 +73,11 @@ pub fn bits()
 /// of its nodes have one last place.
 pub fn frontier()
     ensures one { (counter node : ℕ) → 1 ≤ counter → IsUsable node → counter ≤ node
-        → HasOneHeld counter node }
-    ensures none_used { (counter held node : ℕ) → counter ≤ 2 ^ 21 → IsHeld counter held
+        → HasOneInFrontier counter node }
+    ensures none_used { (counter held node : ℕ) → counter ≤ 2 ^ 21 → IsInFrontier counter held
         → node < counter
         → ¬ IsAncestorOrSelf held node }
-    ensures places { (counter a b : ℕ) → IsHeld counter a → IsHeld counter b
+    ensures places { (counter a b : ℕ) → IsInFrontier counter a → IsInFrontier counter b
         → last_place (path_of a) ≡ last_place (path_of b)
         → a ≡ b }
 {}
@@ -85,10 +85,10 @@ pub fn frontier()
 /// The first frontier is the powers of two. From a number to the next, the frontier loses that
 /// number and gains its usable children.
 pub fn moves()
-    ensures first { (node : ℕ) → IsHeld 1 node ↔ ((place : ℕ) × (place < 21) × (node ≡ 2 ^ place)) }
+    ensures first { (node : ℕ) → IsInFrontier 1 node ↔ ((place : ℕ) × (place < 21) × (node ≡ 2 ^ place)) }
     ensures moves { (counter next node : ℕ) → IsUsable counter → ComesAfter counter next
-        → IsHeld next node
-        ↔ ((IsHeld counter node × (node ≢ counter)) ⊎ (IsUsable node × IsChild counter node)) }
+        → IsInFrontier next node
+        ↔ ((IsInFrontier counter node × (node ≢ counter)) ⊎ (IsUsable node × IsChild counter node)) }
 {}
 
 /// The children of a usable number stand at the places below its last one, and are usable where it
@@ -105,17 +105,17 @@ pub fn children()
 
 /// At each place the frontier has one candidate, the only node that it may have there.
 pub fn candidates()
-    ensures held { (counter node : ℕ) → IsHeld counter node
+    ensures held { (counter node : ℕ) → IsInFrontier counter node
         → node ≡ candidate_at counter (last_place (path_of node)) }
     ensures candidate { (counter place : ℕ) → 1 ≤ counter → place < 21
         → IsUsable (candidate_at counter place)
         → counter ≤ candidate_at counter place
-        → IsHeld counter (candidate_at counter place)
+        → IsInFrontier counter (candidate_at counter place)
         × (last_place (path_of (candidate_at counter place)) ≡ place) }
     ensures either { (counter place : ℕ) → 1 ≤ counter → place < 21
-        → (IsHeld counter (candidate_at counter place)
+        → (IsInFrontier counter (candidate_at counter place)
         × (last_place (path_of (candidate_at counter place)) ≡ place))
-        ⊎ ((node : ℕ) → IsHeld counter node → last_place (path_of node) ≢ place) }
+        ⊎ ((node : ℕ) → IsInFrontier counter node → last_place (path_of node) ≢ place) }
 {}
 
 /// A terminal has 1,048,575 numbers. After each counter there is one chain of numbers, each the

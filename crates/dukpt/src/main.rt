@@ -1,25 +1,25 @@
-//! The program `dukpt`: one command a run, over the words that it is started with.
+//! The program `dukpt`: one command a run, over the arguments that it is started with.
 #![tactic(auto)]
 
-mod words;
+mod arguments;
 
-use duk_program::run_words;
+use arguments::{process_arguments, refuse_arguments};
+use duk_program::run_arguments;
 use std::process::ExitCode;
-use words::{process_words, refuse_words};
 
 fn main(rt: HostRuntime) -> ExitCode {
     let mut input = rt.stdin();
     let (mut output, mut fault) = (rt.stdout(), rt.stderr());
-    let status = match process_words(&rt) {
-        Ok(words) => run_words(
+    let status = match process_arguments(&rt) {
+        Ok(arguments) => run_arguments(
             rt.alloc(),
             &rt,
-            words.as_slice(),
+            arguments.as_slice(),
             &mut input,
             &mut output,
             &mut fault,
         ),
-        Err(error) => refuse_words(&error, &mut fault),
+        Err(error) => refuse_arguments(&error, &mut fault),
     };
     ExitCode::from(status)
 }

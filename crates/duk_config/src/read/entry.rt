@@ -22,12 +22,12 @@ pub(crate) trait Entry: Copy {
         ensures { MatchOption result ((entry : Self) → ¬ States (view value.now) entry)
             (States (view value.now)) };
 
-    /// Whether this may not stand behind the other.
+    /// Whether this may not stand after the other.
     fn repeats(&self, other: &Self) -> bool
         ensures { IsTrue result ↔ Repeats other.now self.now };
 }
 
-/// A base derivation key, behind the prefix of the key serial numbers that it is for.
+/// A base derivation key, after the prefix of the key serial numbers that it is for.
 impl Entry for ([u8; 5], Key<16>) {
     ghost States = { StatesBaseKey };
 

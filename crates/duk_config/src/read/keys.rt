@@ -1,5 +1,5 @@
-//! The keys of a configuration in the order in which their faults are told, each read where those
-//! before it are right.
+//! The keys of a configuration in the order in which their faults are reported, each read where
+//! those before it are right.
 
 ghost use Rattle.std.specs.Prelude.{◌≡◌, ◌≤◌, Some, true, IfOk, IfErr, OnOk, codes, length, map};
 ghost use Rattle.toml.specs.View.{table_view, view};

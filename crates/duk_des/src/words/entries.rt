@@ -6,8 +6,8 @@ ghost use Rattle.duk_des.specs.Words.{word_bits, selected};
 
 /// The words of the selection functions, 64 for each, by its six bits as a number from 0 to 63: the
 /// four bits of its entry, each at the place, counted from 1, that P gives it. The first and the
-/// last of the six bits tell the rows apart, so the words of the first two rows alternate, and then
-/// those of the other two.
+/// last of the six bits distinguish the rows, so the words of the first two rows alternate, and
+/// then those of the other two.
 macro_rules! words {
     ($(at $places:tt:
         ($($a:literal)*) ($($b:literal)*) ($($c:literal)*) ($($d:literal)*);)*) => {

@@ -1,4 +1,4 @@
-//! Configurations, scripts, the events of one, and the program's words.
+//! Configurations, scripts, the events of one, and the program's tokens.
 
 use super::sample::{BANK, DERIVED, LINES, SCRIPT};
 use super::{Answer, Tried};
@@ -38,9 +38,9 @@ fn are_first_lines(lines: &[u8]) -> bool {
 /// A script that is refused memory has written the lines of the first events.
 pub fn try_run_script(alloc: Global) -> Tried {
     let mut written = Vec::with_capacity(alloc, 1000)?;
-    let told = run_script(alloc, BANK.as_bytes(), &mut SCRIPT.as_bytes(), &mut written);
+    let reported = run_script(alloc, BANK.as_bytes(), &mut SCRIPT.as_bytes(), &mut written);
     let lines = written.as_slice();
-    match told {
+    match reported {
         Ok(()) => Ok(Answer::Whole.where_holds(lines == LINES.as_bytes(), "other lines")),
         Err(ScriptFault::NoMemory) => {
             let refused = Answer::refused_after(!lines.is_empty());
@@ -85,11 +85,11 @@ pub fn try_run_status(alloc: Global) -> Tried {
                 .where_holds(is_handed_on, "lines are held back"),
         );
     }
-    let told = status == 1 && fault.as_slice() == b"out of memory\n".as_slice();
+    let reported = status == 1 && fault.as_slice() == b"out of memory\n".as_slice();
     let lines = output.held.as_slice();
     Ok(
         Answer::refused_after(!lines.is_empty())
-            .where_holds(told, "another fault")
+            .where_holds(reported, "another fault")
             .where_holds(are_first_lines(lines), "other lines before")
             .where_holds(is_handed_on, "lines are held back"),
     )
@@ -143,24 +143,24 @@ pub fn try_run(alloc: Global) -> Tried {
     }
 }
 
-/// Words that are refused memory write nothing, and tell it.
+/// Tokens that are refused memory write nothing, and report it.
 pub fn try_command(alloc: Global) -> Tried {
     let bdk = "0123456789ABCDEFFEDCBA9876543210";
-    let mut words = Vec::new(alloc);
-    for word in ["dukpt", "derive", bdk, "FFFF9876543210E00001"] {
-        words.push(String::from_str(alloc, word)?)?;
+    let mut tokens = Vec::new(alloc);
+    for token in ["dukpt", "derive", bdk, "FFFF9876543210E00001"] {
+        tokens.push(String::from_str(alloc, token)?)?;
     }
     let mut output = Vec::with_capacity(alloc, 8000)?;
     let mut fault = Vec::with_capacity(alloc, 100)?;
-    let todo = command(alloc, words.as_slice(), &mut output, &mut fault);
+    let todo = command(alloc, tokens.as_slice(), &mut output, &mut fault);
     if todo == Todo::Exit(0) {
         let written = output.as_slice() == DERIVED.as_bytes() && fault.is_empty();
         return Ok(Answer::Whole.where_holds(written, "something else is written"));
     }
-    let told = todo == Todo::Exit(1) && fault.as_slice() == b"out of memory\n".as_slice();
+    let reported = todo == Todo::Exit(1) && fault.as_slice() == b"out of memory\n".as_slice();
     Ok(
         Answer::Refused
-            .where_holds(told, "another fault")
+            .where_holds(reported, "another fault")
             .where_holds(output.is_empty(), "something is written"),
     )
 }

@@ -71,8 +71,8 @@ fn running_host(alloc: Global) -> Result<MemoryHost, Trouble> {
 }
 
 /// Whether a host answered the first request with its reply.
-fn is_first_reply(told: &Result<Frame, HostFault>) -> bool {
-    match told {
+fn is_first_reply(reported: &Result<Frame, HostFault>) -> bool {
+    match reported {
         Ok(frame) => frame.as_slice() == FIRST_REPLY.as_slice(),
         Err(_) => false,
     }
@@ -81,11 +81,11 @@ fn is_first_reply(told: &Result<Frame, HostFault>) -> bool {
 /// A request that is refused memory changes nothing, and is accepted when it comes again.
 pub fn try_handle(alloc: Global) -> Tried {
     let mut host = running_host(alloc)?;
-    let told = host.handle(FIRST);
-    if told == Err(HostFault::NoMemory) {
+    let reported = host.handle(FIRST);
+    if reported == Err(HostFault::NoMemory) {
         return Ok(after_refused_request(&mut host));
     }
-    Ok(Answer::Whole.where_holds(is_first_reply(&told), "another answer"))
+    Ok(Answer::Whole.where_holds(is_first_reply(&reported), "another answer"))
 }
 
 fn after_refused_request(host: &mut MemoryHost) -> Answer {
@@ -104,11 +104,11 @@ pub fn try_repeat(alloc: Global) -> Tried {
     if host.handle(FIRST).is_err() {
         return Err(Trouble::Memory);
     }
-    let told = host.handle(FIRST);
-    if told == Err(HostFault::NoMemory) {
+    let reported = host.handle(FIRST);
+    if reported == Err(HostFault::NoMemory) {
         return Ok(Answer::Refused);
     }
-    Ok(Answer::Whole.where_holds(is_first_reply(&told), "another answer"))
+    Ok(Answer::Whole.where_holds(is_first_reply(&reported), "another answer"))
 }
 
 /// Two frames, one after the other.

@@ -15,7 +15,7 @@ use Rattle.duk_term.specs.Restart.{TerminalRestartRefused}
 use Rattle.duk_term.specs.Terminal.{TerminalOf}
 use Rattle.duk_term.specs.declared.fault.TermFault.{TermFault}
 use Rattle.duk_term.specs.declared.fault.TermFault.TheVariants as term_fault
-use Rattle.duk_net.specs.Calm.{HasSoundStores, IsBroughtUp, IsCalmAt, IsCellFault, IsLogFault, IsRestart, TellsArming}
+use Rattle.duk_net.specs.Calm.{HasSoundStores, ReportsBroughtUp, IsCalmAt, IsCellFault, IsLogFault, IsRestartEvent, ReportsArming}
 use Rattle.duk_net.specs.Reached.{Reached}
 use Rattle.duk_net.specs.Restart.{RestartsHost, TakesRestart}
 use Rattle.duk_net.specs.Run.{Run}
@@ -29,7 +29,7 @@ use Rattle.duk_net.specs.declared.outcome.Outcome.{Outcome}
 use Rattle.duk_net.specs.declared.outcome.Outcome.TheVariants as came
 use Rattle.duk_net.proofs.used_once.AboveUsed.{WorldLaws}
 use Rattle.duk_net.proofs.calm_stores.CalmStores.{StepFacts, reached_stores, step_facts}
-use Rattle.duk_net.proofs.accepted_once.AcceptedIsKept.{AnswerLaws}
+use Rattle.duk_net.proofs.accepted_once.AcceptedOnce.{AnswerLaws}
 use Rattle.duk_net.proofs.worlds.ReachedByMoves.{reached_step}
 
 -- a list in which an item is put at a place is as long as before
@@ -54,49 +54,49 @@ two_faults old new store_fault.Damaged is = inr refl
 two_faults old new _ is = absurd is
 
 -- a terminal's refusal to restart is one of the two
-term_tells : {C L I : Type 0} (m : Meanings C L I) (before after : TerminalOf C) (why : TermFault) → TerminalRestartRefused m.cell before after why → IsCellFault why store_fault.Device ⊎ IsCellFault why store_fault.Damaged
-term_tells m before after (term_fault.Store why) refused = elim refused.cause [
+term_reports : {C L I : Type 0} (m : Meanings C L I) (before after : TerminalOf C) (why : TermFault) → TerminalRestartRefused m.cell before after why → IsCellFault why store_fault.Device ⊎ IsCellFault why store_fault.Damaged
+term_reports m before after (term_fault.Store why) refused = elim refused.cause [
   | inl failed ↦ two_faults (m.cell.state_of before.cell) (m.cell.state_of after.cell) why failed.fault_is
   | inr (damaged, none) ↦ inr damaged
 ]
-term_tells m before after _ refused = absurd refused
+term_reports m before after _ refused = absurd refused
 
 -- and so is the host's, if it is not out of memory
-host_tells : {C L I : Type 0} (m : Meanings C L I) (old new : HostOf L I) (why : HostFault) → why ≢ host_fault.NoMemory → HostRestartRefused m.host.log old new why
+host_reports : {C L I : Type 0} (m : Meanings C L I) (old new : HostOf L I) (why : HostFault) → why ≢ host_fault.NoMemory → HostRestartRefused m.host.log old new why
     → IsLogFault why store_fault.Device ⊎ IsLogFault why store_fault.Damaged
-host_tells m old new host_fault.NoMemory other refused = absurd (other refl)
-host_tells m old new (host_fault.Store why) other refused = elim refused.cause [
+host_reports m old new host_fault.NoMemory other refused = absurd (other refl)
+host_reports m old new (host_fault.Store why) other refused = elim refused.cause [
   | inl failed ↦ two_faults (m.host.log.state_of old.log) (m.host.log.state_of new.log) why failed.fault_is
   | inr (damaged, none) ↦ inr damaged
 ]
-host_tells m old new _ other refused = absurd refused
+host_reports m old new _ other refused = absurd refused
 
 -- an end that is brought up was not armed
-not_armed : (end : End) (outcome : Outcome) → IsBroughtUp outcome → ¬ TellsArming end outcome
-not_armed end (came.Armed armed steps) up tells = absurd up
-not_armed end _ up tells = tells
+not_armed : (end : End) (outcome : Outcome) → ReportsBroughtUp outcome → ¬ ReportsArming end outcome
+not_armed end (came.Armed armed steps) up reports = absurd up
+not_armed end _ up reports = reports
 
 -- a restart brings its end up, and as many terminals are there
 term_up : {C L I : Type 0} (m : Meanings C L I) (old : WorldOf C L I) (t : ℕ) (outcome : Outcome) (new : WorldOf C L I) (acts : ChangesOnly t (TakesRestart m.cell t outcome) old.terminals new.terminals)
-    → HasSoundStores m old → ((end : End) → IsCalmAt m old end) → StepFacts m old outcome new → IsBroughtUp outcome
+    → HasSoundStores m old → ((end : End) → IsCalmAt m old end) → StepFacts m old outcome new → ReportsBroughtUp outcome
 term_up m old t (came.TermNext u next) new acts sound calm facts = tt
-term_up m old t (came.TermFaulted u why) new acts sound calm facts = elim (term_tells m acts.before acts.after why acts.changed.1) [
+term_up m old t (came.TermFaulted u why) new acts sound calm facts = elim (term_reports m acts.before acts.after why acts.changed.1) [
   | inl device ↦ absurd (facts.device (ends.Term t) (calm (ends.Term t)) (acts.changed.0, device))
   | inr damaged ↦ absurd (facts.damaged sound (ends.Term t) (acts.changed.0, damaged))
 ]
 term_up m old t _ new acts sound calm facts = absurd acts.changed
 
 host_up : {C L I : Type 0} (m : Meanings C L I) (old : WorldOf C L I) (outcome : Outcome) (new : WorldOf C L I) → RestartsHost m old outcome new
-    → HasSoundStores m old → ((end : End) → IsCalmAt m old end) → StepFacts m old outcome new → IsBroughtUp outcome × (length new.terminals ≡ length old.terminals)
+    → HasSoundStores m old → ((end : End) → IsCalmAt m old end) → StepFacts m old outcome new → ReportsBroughtUp outcome × (length new.terminals ≡ length old.terminals)
 host_up m old (came.HostUsed used) new restarts sound calm facts = (tt, ap (λ world. length world.terminals) restarts.rest)
-host_up m old (came.HostFaulted why) new restarts sound calm facts = elim (host_tells m old.host new.host why restarts.not_memory restarts.host) [
+host_up m old (came.HostFaulted why) new restarts sound calm facts = elim (host_reports m old.host new.host why restarts.not_memory restarts.host) [
   | inl device ↦ absurd (facts.device ends.Host (calm ends.Host) device)
   | inr damaged ↦ absurd (facts.damaged sound ends.Host damaged)
 ]
 host_up m old _ new restarts sound calm facts = absurd restarts
 
-step_up : {C L I : Type 0} (m : Meanings C L I) (old : WorldOf C L I) (event : Event) (outcome : Outcome) (new : WorldOf C L I) → IsRestart old event → Step m old event outcome new
-    → HasSoundStores m old → ((end : End) → IsCalmAt m old end) → StepFacts m old outcome new → IsBroughtUp outcome × (length new.terminals ≡ length old.terminals)
+step_up : {C L I : Type 0} (m : Meanings C L I) (old : WorldOf C L I) (event : Event) (outcome : Outcome) (new : WorldOf C L I) → IsRestartEvent old event → Step m old event outcome new
+    → HasSoundStores m old → ((end : End) → IsCalmAt m old end) → StepFacts m old outcome new → ReportsBroughtUp outcome × (length new.terminals ≡ length old.terminals)
 step_up m old (event.RestartTerm t) outcome new there step sound calm facts = elim step [
   | inl none ↦ absurd (not_missing old.terminals t there none.none)
   | inr change ↦ (term_up m old t outcome new change.terminal sound calm facts, as_many t _ old.terminals new.terminals change.terminal)
@@ -105,20 +105,20 @@ step_up m old event.RestartHost outcome new there step sound calm facts = host_u
 step_up m old _ outcome new there step sound calm facts = absurd there
 
 -- what is there stays there, where there are as many terminals
-restart_there : {C L I : Type 0} (old new : WorldOf C L I) (event : Event) → length new.terminals ≡ length old.terminals → IsRestart old event → IsRestart new event
+restart_there : {C L I : Type 0} (old new : WorldOf C L I) (event : Event) → length new.terminals ≡ length old.terminals → IsRestartEvent old event → IsRestartEvent new event
 restart_there old new (event.RestartTerm t) as_many there = record { place = there.place; number_is = there.number_is; within = subst (λ n. there.place < n) (sym as_many) there.within }
 restart_there old new event.RestartHost as_many there = tt
 restart_there old new _ as_many there = absurd there
 
 pub all_up : {C L I : Type 0} (m : Meanings C L I) → WorldLaws m.cell → AnswerLaws → (old new : WorldOf C L I) (events : List Event) (outcomes : List Outcome) → Reached m old
-    → HasSoundStores m old → ((end : End) → IsCalmAt m old end) → All (IsRestart old) events → Run m old events outcomes new → All IsBroughtUp outcomes × ((end : End) → IsCalmAt m new end)
-all_up m laws answer old new [] [] reached sound calm there run = (All-nil IsBroughtUp, rw run calm)
+    → HasSoundStores m old → ((end : End) → IsCalmAt m old end) → All (IsRestartEvent old) events → Run m old events outcomes new → All ReportsBroughtUp outcomes × ((end : End) → IsCalmAt m new end)
+all_up m laws answer old new [] [] reached sound calm there run = (All-nil ReportsBroughtUp, rw run calm)
 all_up m laws answer old new [] (outcome ∷ outcomes) reached sound calm there run = absurd run
 all_up m laws answer old new (event ∷ events) [] reached sound calm there run = absurd run
 all_up m laws answer old new (event ∷ events) (outcome ∷ outcomes) reached sound calm there run =
     let facts = step_facts m old event outcome run.0 (reached_stores m laws answer old reached) run.1 in
-    let up = step_up m old event outcome run.0 (All-head (IsRestart old) event events there) run.1 sound calm facts in
+    let up = step_up m old event outcome run.0 (All-head (IsRestartEvent old) event events there) run.1 sound calm facts in
     let rest = all_up m laws answer run.0 new events outcomes (reached_step m old run.0 event outcome reached run.1) (facts.sound sound)
     (λ end. facts.calm end (calm end) (not_armed end outcome up.0))
-    (λ k default within. restart_there old run.0 (get_or events k default) up.1 (All-tail (IsRestart old) event events there k default within)) run.2 in
-    (All-cons IsBroughtUp outcome outcomes up.0 rest.0, rest.1)
+    (λ k default within. restart_there old run.0 (get_or events k default) up.1 (All-tail (IsRestartEvent old) event events there k default within)) run.2 in
+    (All-cons ReportsBroughtUp outcome outcomes up.0 rest.0, rest.1)

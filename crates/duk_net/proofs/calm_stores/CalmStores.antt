@@ -17,7 +17,7 @@ use Rattle.duk_term.specs.declared.fault.TermFault.{TermFault}
 use Rattle.duk_term.specs.declared.purchase.Purchase.{Purchase}
 use Rattle.duk_net.specs.Arm.{ArmsCell, ArmsHost, ArmsTerminal}
 use Rattle.duk_net.specs.Begin.{Begins}
-use Rattle.duk_net.specs.Calm.{FailsOnceArmed, HasSoundCell, HasSoundStores, IsCalmAt, TellsArming, TellsFault, TellsNoDamage}
+use Rattle.duk_net.specs.Calm.{FailsOnceArmed, HasSoundCell, HasSoundStores, IsCalmAt, ReportsArming, ReportsFault, ReportsNoDamage}
 use Rattle.duk_net.specs.Down.{TakesAnswer}
 use Rattle.duk_net.specs.Load.{TakesLoad}
 use Rattle.duk_net.specs.Reached.{CallLeads, Reached}
@@ -32,13 +32,13 @@ use Rattle.duk_net.specs.declared.event.Event.TheVariants as event
 use Rattle.duk_net.specs.declared.outcome.Outcome.{Outcome}
 use Rattle.duk_net.specs.declared.outcome.Outcome.TheVariants as came
 use Rattle.duk_net.proofs.used_once.AboveUsed.{KeptSafe, WorldLaws, books_of}
-use Rattle.duk_net.proofs.accepted_once.AcceptedIsKept.{AnswerLaws, reached_safe}
+use Rattle.duk_net.proofs.accepted_once.AcceptedOnce.{AnswerLaws, reached_safe}
 use Rattle.duk_net.proofs.completed_by_host.CompletedByHost.{any_stays, last_or_before}
 use Rattle.duk_net.proofs.calm_stores.FoundIsUsable.{FindsUsable, reached_usable}
 use Rattle.duk_net.proofs.worlds.ReachedByMoves.{leads_all}
-use Rattle.duk_net.proofs.calm_stores.StoreFaults.{FindsBodies, IsKeptBody, KeepsCalm, RefusesHost, RefusesTerm, begin_refused, handle_refused, host_restart_refused, load_refused, nature_kept, reply_refused, same_kept, term_restart_refused}
+use Rattle.duk_net.proofs.calm_stores.StoreFaults.{FindsBodies, IsKeptBody, PreservesCalm, RefusesHost, RefusesTerm, begin_refused, handle_refused, host_restart_refused, load_refused, nature_kept, reply_refused, same_kept, term_restart_refused}
 use Rattle.duk_net.proofs.worlds.TerminalsAfterwards.{after_acts, at_contains, before_acts}
-use Rattle.duk_net.proofs.used_once.WorldStaysAboveUsed.{reached_is_safe}
+use Rattle.duk_net.proofs.used_once.UsedOnce.{reached_is_safe}
 
 -- what is known of a world's stores: they are honest, and a restart finds what it is to find
 pub record KnownStores {C L I : Type 0} (m : Meanings C L I) (world : WorldOf C L I) : Type 0 where
@@ -66,16 +66,16 @@ reached_stores m laws answer world reached =
 -- what a step does to sound and calm stores, and which faults it reports
 pub record StepFacts {C L I : Type 0} (m : Meanings C L I) (old : WorldOf C L I) (outcome : Outcome) (new : WorldOf C L I) : Type 0 where
   pub sound : HasSoundStores m old → HasSoundStores m new
-  pub calm : (end : End) → IsCalmAt m old end → ¬ TellsArming end outcome → IsCalmAt m new end
-  pub device : (end : End) → IsCalmAt m old end → ¬ TellsFault outcome end Device
-  pub damaged : HasSoundStores m old → TellsNoDamage outcome
+  pub calm : (end : End) → IsCalmAt m old end → ¬ ReportsArming end outcome → IsCalmAt m new end
+  pub device : (end : End) → IsCalmAt m old end → ¬ ReportsFault outcome end Device
+  pub damaged : HasSoundStores m old → ReportsNoDamage outcome
 
 -- an outcome that says nothing of a store
-abbrev TellsNoFault : Outcome → Type 0
-TellsNoFault outcome = (end : End) (fault : StoreFault) → ¬ TellsFault outcome end fault
+abbrev ReportsNoFault : Outcome → Type 0
+ReportsNoFault outcome = (end : End) (fault : StoreFault) → ¬ ReportsFault outcome end fault
 
 -- a step that changes nothing
-nothing_step : {C L I : Type 0} (m : Meanings C L I) (old : WorldOf C L I) (outcome : Outcome) (new : WorldOf C L I) → new ≡ old → TellsNoFault outcome → StepFacts m old outcome new
+nothing_step : {C L I : Type 0} (m : Meanings C L I) (old : WorldOf C L I) (outcome : Outcome) (new : WorldOf C L I) → new ≡ old → ReportsNoFault outcome → StepFacts m old outcome new
 nothing_step m old outcome new same none = record {
   sound = λ sound. rw same sound;
   calm = λ end calm unarmed. rw same calm;
@@ -85,11 +85,11 @@ nothing_step m old outcome new same none = record {
 
 -- what an event of a terminal does to its cell, and which faults it reports
 record CellFacts {C : Type 0} (cell : CellMeaning C) (t : ℕ) (outcome : Outcome) (before after : TerminalOf C) : Type 0 where
-  about : (end : End) (fault : StoreFault) → TellsFault outcome end fault → end ≡ ends.Term t
+  about : (end : End) (fault : StoreFault) → ReportsFault outcome end fault → end ≡ ends.Term t
   sound : (cell.state_of before.cell).honest → (cell.state_of before.cell).sound → (cell.state_of after.cell).sound
-  calm : (cell.state_of before.cell).calm → ¬ TellsArming (ends.Term t) outcome → (cell.state_of after.cell).calm
-  device : (cell.state_of before.cell).calm → ¬ TellsFault outcome (ends.Term t) Device
-  damaged : (cell.state_of before.cell).honest → (cell.state_of before.cell).sound → ¬ TellsFault outcome (ends.Term t) Damaged
+  calm : (cell.state_of before.cell).calm → ¬ ReportsArming (ends.Term t) outcome → (cell.state_of after.cell).calm
+  device : (cell.state_of before.cell).calm → ¬ ReportsFault outcome (ends.Term t) Device
+  damaged : (cell.state_of before.cell).honest → (cell.state_of before.cell).sound → ¬ ReportsFault outcome (ends.Term t) Damaged
 
 -- the sound cells of a world, by the terminals' numbers
 sound_at : {C L I : Type 0} (m : Meanings C L I) (world : WorldOf C L I) → HasSoundStores m world → (t : ℕ) (terminal : TerminalOf C) → IsAt world.terminals t terminal → (m.cell.state_of terminal.cell).sound
@@ -102,11 +102,11 @@ all_at P terminals each place default within =
 
 -- a terminal's calm cell after a step of that terminal or another one
 calm_after : {C L I : Type 0} (m : Meanings C L I) (old new : WorldOf C L I) (t : ℕ) (P : TerminalOf C → TerminalOf C → Type 0) (outcome : Outcome) (acts : ChangesOnly t P old.terminals new.terminals)
-    → CellFacts m.cell t outcome acts.before acts.after → new.host ≡ old.host → (end : End) → IsCalmAt m old end → ¬ TellsArming end outcome → IsCalmAt m new end
+    → CellFacts m.cell t outcome acts.before acts.after → new.host ≡ old.host → (end : End) → IsCalmAt m old end → ¬ ReportsArming end outcome → IsCalmAt m new end
 calm_after m old new t P outcome acts facts host ends.Host calm unarmed = rw host calm
 calm_after m old new t P outcome acts facts host (ends.Term u) calm unarmed = λ terminal at. elim (after_acts t P old.terminals new.terminals acts u terminal at) [
   | inl (same, is) ↦ rw is (facts.calm (subst (λ u. IsCalmAt m old (ends.Term u)) same calm acts.before (before_acts t P old.terminals new.terminals acts))
-      (subst (λ u. ¬ TellsArming (ends.Term u) outcome) same unarmed))
+      (subst (λ u. ¬ ReportsArming (ends.Term u) outcome) same unarmed))
   | inr (other, was) ↦ calm terminal was
 ]
 
@@ -125,16 +125,16 @@ terminal_step m old new t P outcome acts known host facts =
         ]);
       };
       calm = calm_after m old new t P outcome acts facts host;
-      device = λ end calm tells.
-          let is = facts.about end Device tells in
-          facts.device (subst (λ end. IsCalmAt m old end) is calm acts.before was) (subst (λ end. TellsFault outcome end Device) is tells);
-      damaged = λ sound end tells. facts.damaged honest (sound_at m old sound t acts.before was) (subst (λ end. TellsFault outcome end Damaged) (facts.about end Damaged tells) tells);
+      device = λ end calm reports.
+          let is = facts.about end Device reports in
+          facts.device (subst (λ end. IsCalmAt m old end) is calm acts.before was) (subst (λ end. ReportsFault outcome end Device) is reports);
+      damaged = λ sound end reports. facts.damaged honest (sound_at m old sound t acts.before was) (subst (λ end. ReportsFault outcome end Damaged) (facts.about end Damaged reports) reports);
     }
 
--- an event of a terminal that is told without a fault, and leaves its cell's nature
-told_plainly : {C : Type 0} (cell : CellMeaning C) (t : ℕ) (outcome : Outcome) (before after : TerminalOf C) → TellsNoFault outcome → KeepsCalm (cell.state_of before.cell) (cell.state_of after.cell) → CellFacts cell t outcome before after
-told_plainly cell t outcome before after none keeps = record {
-  about = λ end fault tells. absurd (none end fault tells);
+-- an event of a terminal that is reported without a fault, and leaves its cell's nature
+reported_plainly : {C : Type 0} (cell : CellMeaning C) (t : ℕ) (outcome : Outcome) (before after : TerminalOf C) → ReportsNoFault outcome → PreservesCalm (cell.state_of before.cell) (cell.state_of after.cell) → CellFacts cell t outcome before after
+reported_plainly cell t outcome before after none keeps = record {
+  about = λ end fault reports. absurd (none end fault reports);
   sound = keeps.sound;
   calm = λ calm unarmed. keeps.calm calm;
   device = λ calm. none (ends.Term t) Device;
@@ -142,58 +142,58 @@ told_plainly cell t outcome before after none keeps = record {
 }
 
 -- an event of a terminal that is refused
-refused_about : (t u : ℕ) (why : TermFault) (end : End) (fault : StoreFault) → u ≡ t → TellsFault (came.TermFaulted u why) end fault → end ≡ ends.Term t
-refused_about t u why ends.Host fault is tells = absurd tells
-refused_about t u why (ends.Term v) fault is tells = ap ends.Term (sym tells.0 ∙ is)
+refused_about : (t u : ℕ) (why : TermFault) (end : End) (fault : StoreFault) → u ≡ t → ReportsFault (came.TermFaulted u why) end fault → end ≡ ends.Term t
+refused_about t u why ends.Host fault is reports = absurd reports
+refused_about t u why (ends.Term v) fault is reports = ap ends.Term (sym reports.0 ∙ is)
 
-told_refused : {C : Type 0} (cell : CellMeaning C) (t u : ℕ) (why : TermFault) (before after : TerminalOf C) → u ≡ t → RefusesTerm cell before after why → CellFacts cell t (came.TermFaulted u why) before after
-told_refused cell t u why before after is refuses = record {
+reported_refused : {C : Type 0} (cell : CellMeaning C) (t u : ℕ) (why : TermFault) (before after : TerminalOf C) → u ≡ t → RefusesTerm cell before after why → CellFacts cell t (came.TermFaulted u why) before after
+reported_refused cell t u why before after is refuses = record {
   about = λ end fault. refused_about t u why end fault is;
   sound = refuses.keeps.sound;
   calm = λ calm unarmed. refuses.keeps.calm calm;
-  device = λ calm tells. refuses.device calm tells.1;
-  damaged = λ honest sound tells. refuses.damaged honest sound tells.1;
+  device = λ calm reports. refuses.device calm reports.1;
+  damaged = λ honest sound reports. refuses.damaged honest sound reports.1;
 }
 
 load_facts : {C : Type 0} (cell : CellMeaning C) (t : ℕ) (asked : Loading) (outcome : Outcome) (before after : TerminalOf C) → TakesLoad cell t asked outcome before after → CellFacts cell t outcome before after
-load_facts cell t asked (came.Loaded u iksn) before after takes = told_plainly cell t (came.Loaded u iksn) before after (λ end fault tells. tells) (nature_kept _ _ takes.2.kept.settles.nature)
-load_facts cell t asked (came.TermFaulted u why) before after takes = told_refused cell t u why before after takes.0 (load_refused cell asked before after why takes.1)
+load_facts cell t asked (came.Loaded u iksn) before after takes = reported_plainly cell t (came.Loaded u iksn) before after (λ end fault reports. reports) (nature_kept _ _ takes.2.kept.settles.nature)
+load_facts cell t asked (came.TermFaulted u why) before after takes = reported_refused cell t u why before after takes.0 (load_refused cell asked before after why takes.1)
 load_facts cell t asked _ before after takes = absurd takes
 
 down_facts : {C : Type 0} (cell : CellMeaning C) (t : ℕ) (frame : Frame) (outcome : Outcome) (before after : TerminalOf C) → TakesAnswer t frame outcome before after → CellFacts cell t outcome before after
-down_facts cell t frame (came.Done u ksn code) before after takes = told_plainly cell t (came.Done u ksn code) before after (λ end fault tells. tells) (rw takes.1.after_is (same_kept (cell.state_of before.cell)))
-down_facts cell t frame (came.GotRefusal u ksn reason) before after takes = told_plainly cell t (came.GotRefusal u ksn reason) before after (λ end fault tells. tells) (rw takes.1.after_is (same_kept (cell.state_of before.cell)))
-down_facts cell t frame (came.TermFaulted u why) before after takes = told_refused cell t u why before after takes.0 (reply_refused cell before after frame.items why takes.1 takes.2)
+down_facts cell t frame (came.Done u ksn code) before after takes = reported_plainly cell t (came.Done u ksn code) before after (λ end fault reports. reports) (rw takes.1.after_is (same_kept (cell.state_of before.cell)))
+down_facts cell t frame (came.GotRefusal u ksn reason) before after takes = reported_plainly cell t (came.GotRefusal u ksn reason) before after (λ end fault reports. reports) (rw takes.1.after_is (same_kept (cell.state_of before.cell)))
+down_facts cell t frame (came.TermFaulted u why) before after takes = reported_refused cell t u why before after takes.0 (reply_refused cell before after frame.items why takes.1 takes.2)
 down_facts cell t frame _ before after takes = absurd takes
 
 restart_facts : {C : Type 0} (cell : CellMeaning C) (t : ℕ) (outcome : Outcome) (before after : TerminalOf C) → FindsBodies (cell.state_of before.cell) → TakesRestart cell t outcome before after → CellFacts cell t outcome before after
-restart_facts cell t (came.TermNext u next) before after bodies takes = told_plainly cell t (came.TermNext u next) before after (λ end fault tells. tells) (nature_kept _ _ takes.1.restarted.cell.settles.nature)
-restart_facts cell t (came.TermFaulted u why) before after bodies takes = told_refused cell t u why before after takes.0 (term_restart_refused cell before after why (λ honest. bodies) takes.1)
+restart_facts cell t (came.TermNext u next) before after bodies takes = reported_plainly cell t (came.TermNext u next) before after (λ end fault reports. reports) (nature_kept _ _ takes.1.restarted.cell.settles.nature)
+restart_facts cell t (came.TermFaulted u why) before after bodies takes = reported_refused cell t u why before after takes.0 (term_restart_refused cell before after why (λ honest. bodies) takes.1)
 restart_facts cell t _ before after bodies takes = absurd takes
 
 arm_facts : {C L I : Type 0} (m : Meanings C L I) (t steps passed : ℕ) (armed : End) (before after : TerminalOf C) → armed ≡ ends.Term t → ArmsCell m steps before after → CellFacts m.cell t (came.Armed armed passed) before after
 arm_facts m t steps passed armed before after is arms = record {
-  about = λ end fault tells. absurd tells;
+  about = λ end fault reports. absurd reports;
   sound = arms.stays.sound;
   calm = λ calm unarmed. absurd (unarmed is);
-  device = λ calm tells. tells;
-  damaged = λ honest sound tells. tells;
+  device = λ calm reports. reports;
+  damaged = λ honest sound reports. reports;
 }
 
 begin_step : {C L I : Type 0} (m : Meanings C L I) (old : WorldOf C L I) (t : ℕ) (purchase : Purchase) (outcome : Outcome) (new : WorldOf C L I) → KnownStores m old → Begins m old t purchase outcome new → StepFacts m old outcome new
-begin_step m old t purchase came.NoSuchTerminal new known begins = nothing_step m old came.NoSuchTerminal new begins.1 (λ end fault tells. tells)
+begin_step m old t purchase came.NoSuchTerminal new known begins = nothing_step m old came.NoSuchTerminal new begins.1 (λ end fault reports. reports)
 begin_step m old t purchase (came.Sent u k ksn) new known begins =
     let acts = begins.1.terminal in
     terminal_step m old new t _ (came.Sent u k ksn) acts known (ap (λ world. world.host) begins.1.rest)
-    (told_plainly m.cell t (came.Sent u k ksn) acts.before acts.after (λ end fault tells. tells) (nature_kept _ _ acts.changed.begun.kept.settles.nature))
+    (reported_plainly m.cell t (came.Sent u k ksn) acts.before acts.after (λ end fault reports. reports) (nature_kept _ _ acts.changed.begun.kept.settles.nature))
 begin_step m old t purchase (came.TermFaulted u why) new known begins =
     let acts = begins.1.terminal in
     terminal_step m old new t _ (came.TermFaulted u why) acts known (ap (λ world. world.host) begins.1.rest)
-    (told_refused m.cell t u why acts.before acts.after begins.0 (begin_refused m.cell acts.before acts.after why acts.changed))
+    (reported_refused m.cell t u why acts.before acts.after begins.0 (begin_refused m.cell acts.before acts.after why acts.changed))
 begin_step m old t purchase _ new known begins = absurd begins
 
 arm_term_step : {C L I : Type 0} (m : Meanings C L I) (old : WorldOf C L I) (t steps : ℕ) (outcome : Outcome) (new : WorldOf C L I) → KnownStores m old → ArmsTerminal m old t steps outcome new → StepFacts m old outcome new
-arm_term_step m old t steps came.NoSuchTerminal new known arms = nothing_step m old came.NoSuchTerminal new arms.1 (λ end fault tells. tells)
+arm_term_step m old t steps came.NoSuchTerminal new known arms = nothing_step m old came.NoSuchTerminal new arms.1 (λ end fault reports. reports)
 arm_term_step m old t steps (came.Armed armed passed) new known arms =
     let acts = arms.2.terminal in
     terminal_step m old new t _ (came.Armed armed passed) acts known (ap (λ world. world.host) arms.2.rest) (arm_facts m t steps passed armed acts.before acts.after arms.0 acts.changed)
@@ -201,14 +201,14 @@ arm_term_step m old t steps _ new known arms = absurd arms
 
 -- what an event of the host does to its log, and which faults it reports
 record LogFacts {C L I : Type 0} (m : Meanings C L I) (outcome : Outcome) (before after : HostOf L I) : Type 0 where
-  about : (end : End) (fault : StoreFault) → TellsFault outcome end fault → end ≡ ends.Host
+  about : (end : End) (fault : StoreFault) → ReportsFault outcome end fault → end ≡ ends.Host
   sound : (m.host.log.state_of before.log).honest → (m.host.log.state_of before.log).sound → (m.host.log.state_of after.log).sound
-  calm : (m.host.log.state_of before.log).calm → ¬ TellsArming ends.Host outcome → (m.host.log.state_of after.log).calm
-  device : (m.host.log.state_of before.log).calm → ¬ TellsFault outcome ends.Host Device
-  damaged : (m.host.log.state_of before.log).honest → (m.host.log.state_of before.log).sound → ¬ TellsFault outcome ends.Host Damaged
+  calm : (m.host.log.state_of before.log).calm → ¬ ReportsArming ends.Host outcome → (m.host.log.state_of after.log).calm
+  device : (m.host.log.state_of before.log).calm → ¬ ReportsFault outcome ends.Host Device
+  damaged : (m.host.log.state_of before.log).honest → (m.host.log.state_of before.log).sound → ¬ ReportsFault outcome ends.Host Damaged
 
 host_calm : {C L I : Type 0} (m : Meanings C L I) (old new : WorldOf C L I) (outcome : Outcome) → new.terminals ≡ old.terminals → LogFacts m outcome old.host new.host
-    → (end : End) → IsCalmAt m old end → ¬ TellsArming end outcome → IsCalmAt m new end
+    → (end : End) → IsCalmAt m old end → ¬ ReportsArming end outcome → IsCalmAt m new end
 host_calm m old new outcome terminals facts ends.Host calm unarmed = facts.calm calm unarmed
 host_calm m old new outcome terminals facts (ends.Term t) calm unarmed = λ terminal at. calm terminal (subst (λ list. IsAt list t terminal) terminals at)
 
@@ -217,25 +217,25 @@ host_step : {C L I : Type 0} (m : Meanings C L I) (old new : WorldOf C L I) (out
 host_step m old new outcome known terminals facts = record {
   sound = λ sound. record { log = facts.sound known.log sound.log; cells = rw terminals sound.cells };
   calm = host_calm m old new outcome terminals facts;
-  device = λ end calm tells.
-      let is = facts.about end Device tells in
-      facts.device (subst (λ end. IsCalmAt m old end) is calm) (subst (λ end. TellsFault outcome end Device) is tells);
-  damaged = λ sound end tells. facts.damaged known.log sound.log (subst (λ end. TellsFault outcome end Damaged) (facts.about end Damaged tells) tells);
+  device = λ end calm reports.
+      let is = facts.about end Device reports in
+      facts.device (subst (λ end. IsCalmAt m old end) is calm) (subst (λ end. ReportsFault outcome end Device) is reports);
+  damaged = λ sound end reports. facts.damaged known.log sound.log (subst (λ end. ReportsFault outcome end Damaged) (facts.about end Damaged reports) reports);
 }
 
--- an event of the host that is told without a fault, and leaves its log's nature
-host_plainly : {C L I : Type 0} (m : Meanings C L I) (outcome : Outcome) (before after : HostOf L I) → TellsNoFault outcome → KeepsCalm (m.host.log.state_of before.log) (m.host.log.state_of after.log) → LogFacts m outcome before after
+-- an event of the host that is reported without a fault, and leaves its log's nature
+host_plainly : {C L I : Type 0} (m : Meanings C L I) (outcome : Outcome) (before after : HostOf L I) → ReportsNoFault outcome → PreservesCalm (m.host.log.state_of before.log) (m.host.log.state_of after.log) → LogFacts m outcome before after
 host_plainly m outcome before after none keeps = record {
-  about = λ end fault tells. absurd (none end fault tells);
+  about = λ end fault reports. absurd (none end fault reports);
   sound = keeps.sound;
   calm = λ calm unarmed. keeps.calm calm;
   device = λ calm. none ends.Host Device;
   damaged = λ honest sound. none ends.Host Damaged;
 }
 
-host_about : (why : HostFault) (end : End) (fault : StoreFault) → TellsFault (came.HostFaulted why) end fault → end ≡ ends.Host
-host_about why ends.Host fault tells = refl
-host_about why (ends.Term t) fault tells = absurd tells
+host_about : (why : HostFault) (end : End) (fault : StoreFault) → ReportsFault (came.HostFaulted why) end fault → end ≡ ends.Host
+host_about why ends.Host fault reports = refl
+host_about why (ends.Term t) fault reports = absurd reports
 
 host_refused : {C L I : Type 0} (m : Meanings C L I) (why : HostFault) (before after : HostOf L I) → RefusesHost m.host.log before after why → LogFacts m (came.HostFaulted why) before after
 host_refused m why before after refuses = record {
@@ -247,16 +247,16 @@ host_refused m why before after refuses = record {
 }
 
 up_step : {C L I : Type 0} (m : Meanings C L I) (old : WorldOf C L I) (k : ℕ) (outcome : Outcome) (new : WorldOf C L I) → KnownStores m old → ReachesHost m old k outcome new → StepFacts m old outcome new
-up_step m old k came.NoSuchFrame new known up = nothing_step m old came.NoSuchFrame new up.1 (λ end fault tells. tells)
+up_step m old k came.NoSuchFrame new known up = nothing_step m old came.NoSuchFrame new up.1 (λ end fault reports. reports)
 up_step m old k (came.Accepted n ksn code) new known up =
     host_step m old new (came.Accepted n ksn code) known (ap (λ world. world.terminals) up.answered.rest)
-    (host_plainly m (came.Accepted n ksn code) old.host new.host (λ end fault tells. tells) (nature_kept _ _ up.accepted.kept.appended.nature))
+    (host_plainly m (came.Accepted n ksn code) old.host new.host (λ end fault reports. reports) (nature_kept _ _ up.accepted.kept.appended.nature))
 up_step m old k (came.Repeated n ksn code) new known up =
     host_step m old new (came.Repeated n ksn code) known (ap (λ world. world.terminals) up.answered.rest)
-    (host_plainly m (came.Repeated n ksn code) old.host new.host (λ end fault tells. tells) (rw up.repeated.same (same_kept (m.host.log.state_of old.host.log))))
+    (host_plainly m (came.Repeated n ksn code) old.host new.host (λ end fault reports. reports) (rw up.repeated.same (same_kept (m.host.log.state_of old.host.log))))
 up_step m old k (came.Refused n ksn reason) new known up =
     host_step m old new (came.Refused n ksn reason) known (ap (λ world. world.terminals) up.answered.rest)
-    (host_plainly m (came.Refused n ksn reason) old.host new.host (λ end fault tells. tells) (rw up.refused.same (same_kept (m.host.log.state_of old.host.log))))
+    (host_plainly m (came.Refused n ksn reason) old.host new.host (λ end fault reports. reports) (rw up.refused.same (same_kept (m.host.log.state_of old.host.log))))
 up_step m old k (came.HostFaulted why) new known up =
     host_step m old new (came.HostFaulted why) known (ap (λ world. world.terminals) up.rest) (host_refused m why old.host new.host (handle_refused m.host up.request.items old.host new.host why up.faulted))
 up_step m old k _ new known up = absurd up
@@ -264,7 +264,7 @@ up_step m old k _ new known up = absurd up
 restart_host_step : {C L I : Type 0} (m : Meanings C L I) (old : WorldOf C L I) (outcome : Outcome) (new : WorldOf C L I) → KnownStores m old → RestartsHost m old outcome new → StepFacts m old outcome new
 restart_host_step m old (came.HostUsed used) new known restarts =
     host_step m old new (came.HostUsed used) known (ap (λ world. world.terminals) restarts.rest)
-    (host_plainly m (came.HostUsed used) old.host new.host (λ end fault tells. tells) (nature_kept _ _ restarts.host.log.settles.nature))
+    (host_plainly m (came.HostUsed used) old.host new.host (λ end fault reports. reports) (nature_kept _ _ restarts.host.log.settles.nature))
 restart_host_step m old (came.HostFaulted why) new known restarts =
     host_step m old new (came.HostFaulted why) known (ap (λ world. world.terminals) restarts.rest)
     (host_refused m why old.host new.host (host_restart_refused m.host.log old.host new.host why (λ honest. known.usable) restarts.host))
@@ -273,22 +273,22 @@ restart_host_step m old _ new known restarts = absurd restarts
 arm_host_step : {C L I : Type 0} (m : Meanings C L I) (old : WorldOf C L I) (steps : ℕ) (outcome : Outcome) (new : WorldOf C L I) → KnownStores m old → ArmsHost m old steps outcome new → StepFacts m old outcome new
 arm_host_step m old steps (came.Armed armed passed) new known arms =
     host_step m old new (came.Armed armed passed) known (ap (λ world. world.terminals) arms.3) (record {
-      about = λ end fault tells. absurd tells;
+      about = λ end fault reports. absurd reports;
       sound = arms.2.stays.sound;
       calm = λ calm unarmed. absurd (unarmed arms.0);
-      device = λ calm tells. tells;
-      damaged = λ honest sound tells. tells;
+      device = λ calm reports. reports;
+      damaged = λ honest sound reports. reports;
     })
 arm_host_step m old steps _ new known arms = absurd arms
 
 -- what each step does
 pub step_facts : {C L I : Type 0} (m : Meanings C L I) (old : WorldOf C L I) (event : Event) (outcome : Outcome) (new : WorldOf C L I) → KnownStores m old → Step m old event outcome new → StepFacts m old outcome new
 step_facts m old (event.Load t iksn) outcome new known step = elim step [
-  | inl none ↦ nothing_step m old outcome new none.same (rw none.outcome_is (λ end fault tells. tells))
+  | inl none ↦ nothing_step m old outcome new none.same (rw none.outcome_is (λ end fault reports. reports))
   | inr there ↦ elim there [
-    | inl other ↦ nothing_step m old outcome new other.same (rw other.outcome_is (λ end fault tells. tells))
+    | inl other ↦ nothing_step m old outcome new other.same (rw other.outcome_is (λ end fault reports. reports))
     | inr free ↦ elim free [
-      | inl no_keys ↦ nothing_step m old outcome new no_keys.same (rw no_keys.outcome_is (λ end fault tells. tells))
+      | inl no_keys ↦ nothing_step m old outcome new no_keys.same (rw no_keys.outcome_is (λ end fault reports. reports))
       | inr given ↦ terminal_step m old new t _ outcome given.terminal known (ap (λ world. world.host) given.rest)
           (load_facts m.cell t given.asked outcome given.terminal.before given.terminal.after given.terminal.changed)
     ]
@@ -297,16 +297,16 @@ step_facts m old (event.Load t iksn) outcome new known step = elim step [
 step_facts m old (event.Begin t purchase) outcome new known step = begin_step m old t purchase outcome new known step
 step_facts m old (event.Up k) outcome new known step = up_step m old k outcome new known step
 step_facts m old (event.Down k t) outcome new known step = elim step [
-  | inl none ↦ nothing_step m old outcome new none.same (rw none.outcome_is (λ end fault tells. tells))
+  | inl none ↦ nothing_step m old outcome new none.same (rw none.outcome_is (λ end fault reports. reports))
   | inr there ↦ elim there [
-    | inl missing ↦ nothing_step m old outcome new missing.same (rw missing.outcome_is (λ end fault tells. tells))
+    | inl missing ↦ nothing_step m old outcome new missing.same (rw missing.outcome_is (λ end fault reports. reports))
     | inr delivered ↦
         let acts = delivered.change.terminal in
         terminal_step m old new t _ outcome acts known (ap (λ world. world.host) delivered.change.rest) (down_facts m.cell t delivered.frame outcome acts.before acts.after acts.changed)
   ]
 ]
 step_facts m old (event.RestartTerm t) outcome new known step = elim step [
-  | inl none ↦ nothing_step m old outcome new none.same (rw none.outcome_is (λ end fault tells. tells))
+  | inl none ↦ nothing_step m old outcome new none.same (rw none.outcome_is (λ end fault reports. reports))
   | inr change ↦
       let acts = change.terminal in
       terminal_step m old new t _ outcome acts known (ap (λ world. world.host) change.rest)
@@ -325,17 +325,17 @@ left_facts m old new known left =
 -- what a call does: sound stores stay so, and report no damage
 record SoundSince {C L I : Type 0} (m : Meanings C L I) (outcomes : List Outcome) (world : WorldOf C L I) : Type 0 where
   sound : HasSoundStores m world
-  none : All TellsNoDamage outcomes
+  none : All ReportsNoDamage outcomes
 
 pub leads_sound : {C L I : Type 0} (m : Meanings C L I) → WorldLaws m.cell → AnswerLaws → (old new : WorldOf C L I) (outcomes : List Outcome) → Reached m old → HasSoundStores m old → CallLeads m old outcomes new
-    → HasSoundStores m new × All TellsNoDamage outcomes
+    → HasSoundStores m new × All ReportsNoDamage outcomes
 leads_sound m laws answer old new outcomes reached sound leads =
     let since = leads_all m (SoundSince m)
     (λ outcomes before after event outcome reached since step.
     let facts = step_facts m before event outcome after (reached_stores m laws answer before reached) step in
-    record { sound = facts.sound since.sound; none = All-push TellsNoDamage outcomes outcome since.none (facts.damaged since.sound) })
+    record { sound = facts.sound since.sound; none = All-push ReportsNoDamage outcomes outcome since.none (facts.damaged since.sound) })
     (λ outcomes before after reached since left. record { sound = (left_facts m before after (reached_stores m laws answer before reached) left).sound since.sound; none = since.none })
-    old new outcomes reached (record { sound = sound; none = All-nil TellsNoDamage }) leads in
+    old new outcomes reached (record { sound = sound; none = All-nil ReportsNoDamage }) leads in
     (since.sound, since.none)
 
 -- whether a number is this one
@@ -359,38 +359,39 @@ same_end (ends.Term t) (ends.Term u) = elim (same_number t u) [
 ]
 
 -- whether an outcome says that the store of an end was armed
-tells_arming : (end : End) (outcome : Outcome) → TellsArming end outcome ⊎ ¬ TellsArming end outcome
-tells_arming end (came.Armed armed steps) = same_end armed end
-tells_arming end _ = inr (λ tells. tells)
+reports_arming : (end : End) (outcome : Outcome) → ReportsArming end outcome ⊎ ¬ ReportsArming end outcome
+reports_arming end (came.Armed armed steps) = same_end armed end
+reports_arming end _ = inr (λ reports. reports)
 
--- what a call does: the store of an end was armed, or it is calm yet; and it told no failed device step before it was armed
+-- what a call does: the store of an end was armed, or it is calm yet; and it reported no failed
+-- device step before it was armed
 record CalmSince {C L I : Type 0} (m : Meanings C L I) (end : End) (outcomes : List Outcome) (world : WorldOf C L I) : Type 0 where
-  calm : Any (TellsArming end) outcomes ⊎ IsCalmAt m world end
+  calm : Any (ReportsArming end) outcomes ⊎ IsCalmAt m world end
   armed : FailsOnceArmed end outcomes
 
 -- no outcome at all says it
 none_fails : (end : End) → FailsOnceArmed end []
-none_fails end [] later outcome is tells = cc
-none_fails end (first ∷ earlier) later outcome is tells = cc
+none_fails end [] later outcome is reports = cc
+none_fails end (first ∷ earlier) later outcome is reports = cc
 
 -- one outcome more
-fails_once_armed : (end : End) (outcomes : List Outcome) (last : Outcome) → FailsOnceArmed end outcomes → Any (TellsArming end) outcomes ⊎ (¬ TellsFault last end Device) → FailsOnceArmed end (outcomes ++ last ∷ [])
-fails_once_armed end outcomes last before either earlier later outcome is tells = elim (last_or_before outcomes earlier later last outcome is) [
+fails_once_armed : (end : End) (outcomes : List Outcome) (last : Outcome) → FailsOnceArmed end outcomes → Any (ReportsArming end) outcomes ⊎ (¬ ReportsFault last end Device) → FailsOnceArmed end (outcomes ++ last ∷ [])
+fails_once_armed end outcomes last before either earlier later outcome is reports = elim (last_or_before outcomes earlier later last outcome is) [
   | inl (same, here) ↦ rw same (elim either [
     | inl armed ↦ armed
-    | inr spared ↦ absurd (spared (rw here tells))
+    | inr spared ↦ absurd (spared (rw here reports))
   ])
-  | inr (rest, split) ↦ before earlier rest outcome split tells
+  | inr (rest, split) ↦ before earlier rest outcome split reports
 ]
 
 -- one step more
 calm_more : {C L I : Type 0} (m : Meanings C L I) (end : End) (outcomes : List Outcome) (old : WorldOf C L I) (outcome : Outcome) (new : WorldOf C L I) → CalmSince m end outcomes old → StepFacts m old outcome new
     → CalmSince m end (outcomes ++ outcome ∷ []) new
 calm_more m end outcomes old outcome new since facts = elim since.calm [
-  | inl armed ↦ record { calm = inl (any_stays (TellsArming end) outcomes outcome armed); armed = fails_once_armed end outcomes outcome since.armed (inl armed) }
+  | inl armed ↦ record { calm = inl (any_stays (ReportsArming end) outcomes outcome armed); armed = fails_once_armed end outcomes outcome since.armed (inl armed) }
   | inr calm ↦ record {
-    calm = elim (tells_arming end outcome) [
-      | inl armed ↦ inl (Any-push (TellsArming end) outcomes outcome armed)
+    calm = elim (reports_arming end outcome) [
+      | inl armed ↦ inl (Any-push (ReportsArming end) outcomes outcome armed)
       | inr unarmed ↦ inr (facts.calm end calm unarmed)
     ];
     armed = fails_once_armed end outcomes outcome since.armed (inr (facts.device end calm));
@@ -403,17 +404,17 @@ calm_left : {C L I : Type 0} (m : Meanings C L I) (end : End) (outcomes : List O
 calm_left m end outcomes old new since facts = record {
   calm = elim since.calm [
     | inl armed ↦ inl armed
-    | inr calm ↦ inr (facts.calm end calm (λ tells. tells))
+    | inr calm ↦ inr (facts.calm end calm (λ reports. reports))
   ];
   armed = since.armed;
 }
 
 -- no outcome at all says that a store was armed
-none_armed : (end : End) → ¬ Any (TellsArming end) []
+none_armed : (end : End) → ¬ Any (ReportsArming end) []
 none_armed end any = omega (arith, any.2)
 
 pub leads_calm : {C L I : Type 0} (m : Meanings C L I) → WorldLaws m.cell → AnswerLaws → (end : End) (old new : WorldOf C L I) (outcomes : List Outcome) → Reached m old → IsCalmAt m old end → CallLeads m old outcomes new
-    → (Any (TellsArming end) outcomes ⊎ IsCalmAt m new end) × FailsOnceArmed end outcomes
+    → (Any (ReportsArming end) outcomes ⊎ IsCalmAt m new end) × FailsOnceArmed end outcomes
 leads_calm m laws answer end old new outcomes reached calm leads =
     let since = leads_all m (CalmSince m end)
     (λ outcomes before after event outcome reached since step. calm_more m end outcomes before outcome after since (step_facts m before event outcome after (reached_stores m laws answer before reached) step))

@@ -1,4 +1,5 @@
--- Each list that a restart of the host's log may find is one of numbers that it may have used: each numbers a transaction, and none occurs twice.
+-- Each list that a restart of the host's log may find is one of numbers that it may have used: each
+-- numbers a transaction, and none occurs twice.
 use Rattle.std.proofs.Common.{◌≢◌, ◌++◌, ◌∷◌, [], ℕ, List, Some, inl, inr, refl, subst, arith}
 use Rattle.std.specs.List.{Contains}
 use Rattle.std.proofs.lemmas.List.Elements.{All-nil, All-push, Contains-get_or}
@@ -19,11 +20,11 @@ use Rattle.duk_store.specs.declared.fault.StoreFault.{StoreFault}
 use Rattle.duk_store.specs.declared.fault.StoreFault.TheVariants as store_fault
 use Rattle.duk_tree.specs.Path.{IsUsable}
 use Rattle.duk_tree.specs.Serial.{Serial}
-use Rattle.duk_net.specs.First.{IsFirst}
+use Rattle.duk_net.specs.First.{IsFirstWorld}
 use Rattle.duk_net.specs.Reached.{Reached}
 use Rattle.duk_net.specs.World.{Frame, Meanings, WorldOf}
 use Rattle.duk_net.specs.declared.outcome.Outcome.{Outcome}
-use Rattle.duk_net.proofs.accepted_once.AcceptedIsKept.{AnswerLaws, HostKeepsAccepted, KeepsAllAccepted, UsesAll, reached_safe}
+use Rattle.duk_net.proofs.accepted_once.AcceptedOnce.{AnswerLaws, HostKeepsAccepted, KeepsAllAccepted, UsesAll, reached_safe}
 use Rattle.duk_net.proofs.worlds.ReachedByMoves.{reached_all}
 use Rattle.duk_net.proofs.worlds.StepChanges.{TouchesHost, View, accept, done, host, host_armed, host_restart_refused, host_restarted, left_touches, load, no_answer, nothing, refuse, repeat, send, step_view, terminal}
 
@@ -46,7 +47,8 @@ with_one_more numbers ksn usable fits fresh = record {
 used_in : (log : StoreState Numbers) (running : Running) (numbers : Numbers) (ksn : Serial) → UsesAll log (Some running) → log.found numbers → Contains numbers ksn → IsUsed running.used ksn
 used_in log running numbers ksn uses found has = uses.2 ksn (subst (λ list. Contains list ksn) ((uses.1 numbers).0 found) has)
 
--- the number of a request that a running host is to accept, after a list that a restart of its log may find
+-- the number of a request that a running host is to accept, after a list that a restart of its log
+-- may find
 accepted_more : {C L I : Type 0} (m : Meanings C L I) (old : HostOf L I) (bytes : List ℕ) (request : Request) (numbers : Numbers) → UsesAll (m.host.log.state_of old.log) old.state → HostFindsUsable m old
     → IsRequest bytes request → IsToAccept m.host old request → (m.host.log.state_of old.log).found numbers → AreUsable (numbers ++ request.ksn ∷ [])
 accepted_more m old bytes request numbers uses usable is may found =
@@ -117,7 +119,7 @@ view_usable m old outcome new safe usable (refuse k n ksn reason is up) = rw up.
 view_usable m old outcome new safe usable (host touches rest quiet) = touched_usable m old.host new.host old.answers safe usable touches
 
 -- where nothing was ever kept, an empty list is found
-first_usable : {C L I : Type 0} (m : Meanings C L I) (world : WorldOf C L I) → IsFirst m world → HostFindsUsable m world.host
+first_usable : {C L I : Type 0} (m : Meanings C L I) (world : WorldOf C L I) → IsFirstWorld m world → HostFindsUsable m world.host
 first_usable m world first numbers found = rw ((first.host.log.finds numbers).0 found) (record {
   usable = All-nil (λ ksn. IsUsable ksn.counter);
   once = λ i j d less within. omega arith;

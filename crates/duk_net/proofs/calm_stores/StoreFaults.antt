@@ -1,4 +1,5 @@
--- What the calls of terminals and the host leave of their stores' soundness and calm, and which faults of stores they report.
+-- What the calls of terminals and the host leave of their stores' soundness and calm, and which
+-- faults of stores they report.
 use Rattle.std.proofs.Common.{◌≡◌, ◌≢◌, ℕ, List, Some, None, inl, inr, sym, subst}
 use Rattle.duk_host.specs.Handle.{HandleRefused}
 use Rattle.duk_host.specs.Host.{HostMeaning, HostOf}
@@ -8,7 +9,7 @@ use Rattle.duk_host.specs.declared.fault.HostFault.TheVariants as host_fault
 use Rattle.duk_store.specs.Cell.{CellMeaning, Kept, PutFailed}
 use Rattle.duk_store.specs.Log.{AppendFailed, LogMeaning}
 use Rattle.duk_store.specs.Restart.{RestartFailed, Restarted}
-use Rattle.duk_store.specs.StoreState.{KeepsNature, StoreState}
+use Rattle.duk_store.specs.StoreState.{PreservesNature, StoreState}
 use Rattle.duk_store.specs.declared.fault.StoreFault.{StoreFault}
 use Rattle.duk_store.specs.declared.fault.StoreFault.TheVariants.{Damaged, Device, Stopped, Worn}
 use Rattle.duk_term.specs.Begin.{BeginRefused}
@@ -23,19 +24,20 @@ use Rattle.duk_net.specs.Calm.{IsCellFault, IsLogFault}
 use Rattle.duk_net.proofs.calm_stores.FoundIsUsable.{FindsUsable}
 
 -- what a store keeps of its nature where nothing arms it
-pub record KeepsCalm {V : Type 0} (old new : StoreState V) : Type 0 where
+pub record PreservesCalm {V : Type 0} (old new : StoreState V) : Type 0 where
   pub sound : old.honest → old.sound → new.sound
   pub calm : old.calm → new.calm
 
 -- a store whose nature stays
-pub nature_kept : {V : Type 0} (old new : StoreState V) → KeepsNature old new → KeepsCalm old new
+pub nature_kept : {V : Type 0} (old new : StoreState V) → PreservesNature old new → PreservesCalm old new
 nature_kept old new nature = record { sound = nature.sound; calm = nature.calm }
 
 -- a store that stays as it is
-pub same_kept : {V : Type 0} (store : StoreState V) → KeepsCalm store store
+pub same_kept : {V : Type 0} (store : StoreState V) → PreservesCalm store store
 same_kept store = record { sound = λ honest sound. sound; calm = λ calm. calm }
 
--- a fault of a store that was calm is not that a device step failed, and one of an honest and sound store is not damage
+-- a fault of a store that was calm is not that a device step failed, and one of an honest and sound
+-- store is not damage
 pub record IsSpared {V : Type 0} (store : StoreState V) (why : StoreFault) : Type 0 where
   pub device : store.calm → why ≢ Device
   pub damaged : store.honest → store.sound → why ≢ Damaged
@@ -50,7 +52,7 @@ device_spared store never = record { device = λ calm same. never calm; damaged 
 
 -- a write that failed
 pub put_failed : {C : Type 0} (cell : CellMeaning C) (old new : C) (body : List ℕ) (why : StoreFault) → PutFailed cell old new body why
-    → KeepsCalm (cell.state_of old) (cell.state_of new) × IsSpared (cell.state_of old) why
+    → PreservesCalm (cell.state_of old) (cell.state_of new) × IsSpared (cell.state_of old) why
 put_failed cell old new body Device failed =
     (nature_kept (cell.state_of old) (cell.state_of new) failed.stops.nature, device_spared (cell.state_of old) (λ calm. failed.failure (failed.stops.quiet calm)))
 put_failed cell old new body Stopped failed =
@@ -61,7 +63,7 @@ put_failed cell old new body _ failed = absurd failed
 
 -- an append that failed
 pub append_failed : {L : Type 0} (log : LogMeaning L) (old new : L) (number : _) (why : StoreFault) → AppendFailed log old new number why
-    → KeepsCalm (log.state_of old) (log.state_of new) × IsSpared (log.state_of old) why
+    → PreservesCalm (log.state_of old) (log.state_of new) × IsSpared (log.state_of old) why
 append_failed log old new number Device failed =
     (nature_kept (log.state_of old) (log.state_of new) failed.stops.nature, device_spared (log.state_of old) (λ calm. failed.failure (failed.stops.quiet calm)))
 append_failed log old new number Stopped failed =
@@ -69,46 +71,46 @@ append_failed log old new number Stopped failed =
 append_failed log old new number _ failed = absurd failed
 
 -- a store's restart that failed
-pub restart_failed : {V : Type 0} (old new : StoreState V) (why : StoreFault) → RestartFailed old new why → KeepsCalm old new × IsSpared old why
+pub restart_failed : {V : Type 0} (old new : StoreState V) (why : StoreFault) → RestartFailed old new why → PreservesCalm old new × IsSpared old why
 restart_failed old new Device failed = (nature_kept old new failed.stops.nature, device_spared old (λ calm. failed.fault_is (failed.stops.quiet calm)))
 restart_failed old new Damaged failed = (nature_kept old new failed.stops.nature, record { device = λ calm same. cc; damaged = λ honest sound same. failed.fault_is.unsound honest sound })
 restart_failed old new _ failed = absurd failed.fault_is
 
 -- a store's restart that found what it is not to find
-pub found_wrong : {V : Type 0} (old new : StoreState V) (value : V) → Restarted old new value → (old.honest → ⊥) → KeepsCalm old new × IsSpared old Damaged
+pub found_wrong : {V : Type 0} (old new : StoreState V) (value : V) → Restarted old new value → (old.honest → ⊥) → PreservesCalm old new × IsSpared old Damaged
 found_wrong old new value restarted never = (nature_kept old new restarted.settles.nature, record { device = λ calm same. cc; damaged = λ honest sound same. never honest })
 
 -- what a terminal's refusal leaves of its cell's nature, and which faults of its cell it reports
 pub record RefusesTerm {C : Type 0} (cell : CellMeaning C) (before after : TerminalOf C) (why : TermFault) : Type 0 where
-  pub keeps : KeepsCalm (cell.state_of before.cell) (cell.state_of after.cell)
+  pub keeps : PreservesCalm (cell.state_of before.cell) (cell.state_of after.cell)
   pub device : (cell.state_of before.cell).calm → ¬ IsCellFault why Device
   pub damaged : (cell.state_of before.cell).honest → (cell.state_of before.cell).sound → ¬ IsCellFault why Damaged
 
--- the cell's fault is told
+-- the cell's fault is reported
 store_refuses : {C : Type 0} (cell : CellMeaning C) (before after : TerminalOf C) (why : StoreFault)
-    → KeepsCalm (cell.state_of before.cell) (cell.state_of after.cell) × IsSpared (cell.state_of before.cell) why → RefusesTerm cell before after (fault.Store why)
+    → PreservesCalm (cell.state_of before.cell) (cell.state_of after.cell) × IsSpared (cell.state_of before.cell) why → RefusesTerm cell before after (fault.Store why)
 store_refuses cell before after why is = record { keeps = is.0; device = is.1.device; damaged = is.1.damaged }
 
 -- nothing changes, and the cell has no fault
-same_refuses : {C : Type 0} (cell : CellMeaning C) (before after : TerminalOf C) (why : TermFault) → after ≡ before → ((told : StoreFault) → ¬ IsCellFault why told) → RefusesTerm cell before after why
+same_refuses : {C : Type 0} (cell : CellMeaning C) (before after : TerminalOf C) (why : TermFault) → after ≡ before → ((reported : StoreFault) → ¬ IsCellFault why reported) → RefusesTerm cell before after why
 same_refuses cell before after why same none =
     record { keeps = rw same (same_kept (cell.state_of before.cell)); device = λ calm. none Device; damaged = λ honest sound. none Damaged }
 
 -- a load that is refused
 pub load_refused : {C : Type 0} (cell : CellMeaning C) (asked : Loading) (before after : TerminalOf C) (why : TermFault) → LoadRefused cell asked before after why → RefusesTerm cell before after why
-load_refused cell asked before after fault.Stopped refused = same_refuses cell before after fault.Stopped refused.1 (λ told is. is)
-load_refused cell asked before after fault.IksnSpent refused = same_refuses cell before after fault.IksnSpent refused.1 (λ told is. is)
-load_refused cell asked before after fault.LoadsSpent refused = same_refuses cell before after fault.LoadsSpent refused.2 (λ told is. is)
-load_refused cell asked before after (fault.Block block) refused = same_refuses cell before after (fault.Block block) refused.2 (λ told is. is)
-load_refused cell asked before after fault.WrongUse refused = same_refuses cell before after fault.WrongUse refused.2 (λ told is. is)
+load_refused cell asked before after fault.Stopped refused = same_refuses cell before after fault.Stopped refused.1 (λ reported is. is)
+load_refused cell asked before after fault.IksnSpent refused = same_refuses cell before after fault.IksnSpent refused.1 (λ reported is. is)
+load_refused cell asked before after fault.LoadsSpent refused = same_refuses cell before after fault.LoadsSpent refused.2 (λ reported is. is)
+load_refused cell asked before after (fault.Block block) refused = same_refuses cell before after (fault.Block block) refused.2 (λ reported is. is)
+load_refused cell asked before after fault.WrongUse refused = same_refuses cell before after fault.WrongUse refused.2 (λ reported is. is)
 load_refused cell asked before after (fault.Store why) refused = store_refuses cell before after why (put_failed cell before.cell after.cell _ why refused.stops.not_kept)
 load_refused cell asked before after _ refused = absurd refused
 
 -- a begin that is refused
 pub begin_refused : {C : Type 0} (cell : CellMeaning C) (before after : TerminalOf C) (why : TermFault) → BeginRefused cell before after why → RefusesTerm cell before after why
-begin_refused cell before after fault.Stopped refused = same_refuses cell before after fault.Stopped refused.1 (λ told is. is)
-begin_refused cell before after fault.NotLoaded refused = same_refuses cell before after fault.NotLoaded refused.1 (λ told is. is)
-begin_refused cell before after fault.Spent refused = same_refuses cell before after fault.Spent refused.1 (λ told is. is)
+begin_refused cell before after fault.Stopped refused = same_refuses cell before after fault.Stopped refused.1 (λ reported is. is)
+begin_refused cell before after fault.NotLoaded refused = same_refuses cell before after fault.NotLoaded refused.1 (λ reported is. is)
+begin_refused cell before after fault.Spent refused = same_refuses cell before after fault.Spent refused.1 (λ reported is. is)
 begin_refused cell before after (fault.Store why) refused = store_refuses cell before after why (put_failed cell before.cell after.cell _ why refused.stops.not_kept)
 begin_refused cell before after _ refused = absurd refused
 
@@ -121,11 +123,11 @@ reply_refused cell before after bytes fault.LoadsSpent refused same = absurd ref
 reply_refused cell before after bytes (fault.Block block) refused same = absurd refused
 reply_refused cell before after bytes fault.WrongUse refused same = absurd refused
 reply_refused cell before after bytes fault.Spent refused same = absurd refused
-reply_refused cell before after bytes fault.Stopped refused same = same_refuses cell before after fault.Stopped same (λ told is. is)
-reply_refused cell before after bytes fault.Malformed refused same = same_refuses cell before after fault.Malformed same (λ told is. is)
-reply_refused cell before after bytes fault.NotPending refused same = same_refuses cell before after fault.NotPending same (λ told is. is)
-reply_refused cell before after bytes fault.NotMine refused same = same_refuses cell before after fault.NotMine same (λ told is. is)
-reply_refused cell before after bytes fault.BadMac refused same = same_refuses cell before after fault.BadMac same (λ told is. is)
+reply_refused cell before after bytes fault.Stopped refused same = same_refuses cell before after fault.Stopped same (λ reported is. is)
+reply_refused cell before after bytes fault.Malformed refused same = same_refuses cell before after fault.Malformed same (λ reported is. is)
+reply_refused cell before after bytes fault.NotPending refused same = same_refuses cell before after fault.NotPending same (λ reported is. is)
+reply_refused cell before after bytes fault.NotMine refused same = same_refuses cell before after fault.NotMine same (λ reported is. is)
+reply_refused cell before after bytes fault.BadMac refused same = same_refuses cell before after fault.BadMac same (λ reported is. is)
 
 -- where there is a body in what a restart may find, it is one of a terminal
 abbrev pub IsKeptBody : Kept → Type 0
@@ -148,13 +150,13 @@ term_restart_refused cell before after _ bodies refused = absurd refused
 
 -- what a host's refusal leaves of its log's nature, and which faults of its log it reports
 pub record RefusesHost {L I : Type 0} (log : LogMeaning L) (before after : HostOf L I) (why : HostFault) : Type 0 where
-  pub keeps : KeepsCalm (log.state_of before.log) (log.state_of after.log)
+  pub keeps : PreservesCalm (log.state_of before.log) (log.state_of after.log)
   pub device : (log.state_of before.log).calm → ¬ IsLogFault why Device
   pub damaged : (log.state_of before.log).honest → (log.state_of before.log).sound → ¬ IsLogFault why Damaged
 
--- the log's fault is told
+-- the log's fault is reported
 log_refuses : {L I : Type 0} (log : LogMeaning L) (before after : HostOf L I) (why : StoreFault)
-    → KeepsCalm (log.state_of before.log) (log.state_of after.log) × IsSpared (log.state_of before.log) why → RefusesHost log before after (host_fault.Store why)
+    → PreservesCalm (log.state_of before.log) (log.state_of after.log) × IsSpared (log.state_of before.log) why → RefusesHost log before after (host_fault.Store why)
 log_refuses log before after why is = record { keeps = is.0; device = is.1.device; damaged = is.1.damaged }
 
 -- a request that is not answered

@@ -9,17 +9,17 @@ use Rattle.duk_frame.specs.declared.answer.AnswerFrame.TheVariants.{Refusal, Rep
 use Rattle.duk_frame.specs.declared.code.Code.{Code}
 use Rattle.duk_term.specs.Terminal.{TerminalOf}
 use Rattle.duk_tree.specs.Serial.{Serial}
-use Rattle.duk_net.specs.Accepted.{HasReply}
-use Rattle.duk_net.specs.Completed.{AcceptsWith, CameToBePending, CameToBeReplied, CompleteOtherNumbers, Completed, Completes, HasItsReply, IsPendingAt, IsPendingIn, Sends}
-use Rattle.duk_net.specs.UsedNumbers.{HaveOtherNumbers, IsUsedNumber, NoneTwice}
+use Rattle.duk_net.specs.AcceptedOnce.{HasReply}
+use Rattle.duk_net.specs.CompletedByHost.{AcceptsWith, WasPendingOrSent, WasRepliedOrAccepted, CompleteDifferentNumbers, CompletedByHost, Completes, HasItsReply, IsPendingAt, IsPendingIn, Sends}
+use Rattle.duk_net.specs.UsedOnce.{HaveDifferentNumbers, IsUsedNumber, UsedOnce}
 use Rattle.duk_net.specs.Reached.{CallLeads, Reached}
 use Rattle.duk_net.specs.Step.{Step}
 use Rattle.duk_net.specs.World.{Frame, Meanings, WorldOf}
 use Rattle.duk_net.specs.declared.event.Event.{Event}
 use Rattle.duk_net.specs.declared.outcome.Outcome.{Outcome}
 use Rattle.duk_net.specs.declared.outcome.Outcome.TheVariants as came
-use Rattle.duk_net.proofs.accepted_once.AcceptedIsKept.{any_cases}
-use Rattle.duk_net.proofs.completed_by_host.PendingIsSent.{OwnPending, SendsNumber, SentByOwners, Tells, done_by_host, done_is_over, pending_comes, pending_safe, sends_number, step_tells, used_stays}
+use Rattle.duk_net.proofs.accepted_once.AcceptedOnce.{any_cases}
+use Rattle.duk_net.proofs.completed_by_host.PendingIsSent.{OwnPending, SendsNumber, SentByOwners, Reports, done_by_host, done_is_over, pending_comes, pending_safe, sends_number, step_reports, used_stays}
 use Rattle.duk_net.proofs.worlds.ReachedByMoves.{leads_all, reached_step}
 use Rattle.duk_net.proofs.used_once.AboveUsed.{BegunIsRequest}
 use Rattle.duk_net.proofs.worlds.HostAnswers.{OneReading}
@@ -53,10 +53,10 @@ last_or_before (first ∷ things) (other ∷ earlier) later last thing is = elim
 ]
 
 -- the number of one request more was not used before
-fresh_number : {C L I : Type 0} (old new : WorldOf C L I) (ksn : Serial) → NoneTwice new.requests → SendsNumber old new ksn → ¬ IsUsedNumber old.requests ksn
+fresh_number : {C L I : Type 0} (old new : WorldOf C L I) (ksn : Serial) → UsedOnce new.requests → SendsNumber old new ksn → ¬ IsUsedNumber old.requests ksn
 fresh_number old new ksn none sent used =
-    let pairs = subst (λ requests. AllPairs HaveOtherNumbers requests) sent.requests none.different in
-    pairs_with_last HaveOtherNumbers old.requests sent.frame used.frame pairs used.sent ksn used.number sent.number
+    let pairs = subst (λ requests. AllPairs HaveDifferentNumbers requests) sent.requests none.different in
+    pairs_with_last HaveDifferentNumbers old.requests sent.frame used.frame pairs used.sent ksn used.number sent.number
 
 -- an accepted reply after a step was sent before, or in it
 replied_comes : {C L I : Type 0} (m : Meanings C L I) (old : WorldOf C L I) (outcome : Outcome) (new : WorldOf C L I) (ksn : Serial) (code : Code) → OneReading → ExchangeLaws → HostGivesSent old
@@ -71,7 +71,7 @@ replied_comes m old outcome new ksn code one exchanges gives (step.accept k n ac
       | inl before ↦ inl (record { frame = replied.frame; mac = replied.mac; sent = before; reply = replied.reply })
       | inr same ↦
           let reply = subst (λ frame. IsAnswer frame.items (Reply ksn code replied.mac)) (sym same) replied.reply in
-          let read = one up.frame.items (Reply accepted with up.mac) (Reply ksn code replied.mac) up.told reply in
+          let read = one up.frame.items (Reply accepted with up.mac) (Reply ksn code replied.mac) up.reported reply in
           let of : accepted ≡ ksn = cc in
           let and : with ≡ code = cc in
           inr (subst (λ outcome. AcceptsWith ksn code outcome) (sym is) (of, and))
@@ -91,7 +91,7 @@ replied_comes m old outcome new ksn code one exchanges gives (step.refuse k n re
       | inl before ↦ inl (record { frame = replied.frame; mac = replied.mac; sent = before; reply = replied.reply })
       | inr same ↦
           let reply = subst (λ frame. IsAnswer frame.items (Reply ksn code replied.mac)) (sym same) replied.reply in
-          let read = one up.frame.items (Refusal refused reason) (Reply ksn code replied.mac) up.told reply in
+          let read = one up.frame.items (Refusal refused reason) (Reply ksn code replied.mac) up.reported reply in
           cc
     ]
 replied_comes m old outcome new ksn code one exchanges gives (step.done k t frame sent with is at change) replied = inl (subst (λ world. HasReply world.answers ksn code) change.rest replied)
@@ -99,23 +99,24 @@ replied_comes m old outcome new ksn code one exchanges gives (step.host touched 
 
 -- the outcome that completes a number is that a terminal is done
 done_at : {C L I : Type 0} (m : Meanings C L I) (old : WorldOf C L I) (outcome : Outcome) (new : WorldOf C L I) (ksn : Serial)
-    → Tells m old outcome new → Completes ksn outcome → (t : ℕ) × (code : Code) × Tells m old (came.Done t ksn code) new
-done_at m old (came.Done t done code) new ksn tells completes = (t, code, subst (λ serial. Tells m old (came.Done t serial code) new) completes tells)
-done_at m old _ new ksn tells completes = absurd completes
+    → Reports m old outcome new → Completes ksn outcome → (t : ℕ) × (code : Code) × Reports m old (came.Done t ksn code) new
+done_at m old (came.Done t done code) new ksn reports completes = (t, code, subst (λ serial. Reports m old (came.Done t serial code) new) completes reports)
+done_at m old _ new ksn reports completes = absurd completes
 
 -- with each code with which a terminal was done the host had accepted the number before
 abbrev AcceptedBefore : List Frame → List Outcome → Type 0
 AcceptedBefore answers outcomes =
-    (earlier later : List Outcome) (t : ℕ) (ksn : Serial) (code : Code) → outcomes ≡ earlier ++ came.Done t ksn code ∷ later → CameToBeReplied answers earlier ksn code
+    (earlier later : List Outcome) (t : ℕ) (ksn : Serial) (code : Code) → outcomes ≡ earlier ++ came.Done t ksn code ∷ later → WasRepliedOrAccepted answers earlier ksn code
 
--- how the transactions of a call have ended so far: each that is completed has a used number, and each accepted reply came to be sent
+-- how the transactions of a call have ended so far: each that is completed has a used number, and
+-- each accepted reply came to be sent
 pub record Ended {C : Type 0} (before after : List (TerminalOf C)) (answers replies requests : List Frame) (outcomes : List Outcome) : Type 0 where
   pub accepted : AcceptedBefore answers outcomes
-  pub once : AllPairs CompleteOtherNumbers outcomes
+  pub once : AllPairs CompleteDifferentNumbers outcomes
   pub over : (ksn : Serial) → Any (Completes ksn) outcomes → ¬ IsPendingIn after ksn
-  pub pending : (t : ℕ) (ksn : Serial) → IsPendingAt after t ksn → CameToBePending before outcomes t ksn
+  pub pending : (t : ℕ) (ksn : Serial) → IsPendingAt after t ksn → WasPendingOrSent before outcomes t ksn
   pub used : (ksn : Serial) → Any (Completes ksn) outcomes → IsUsedNumber requests ksn
-  pub replied : (ksn : Serial) (code : Code) → HasReply replies ksn code → CameToBeReplied answers outcomes ksn code
+  pub replied : (ksn : Serial) (code : Code) → HasReply replies ksn code → WasRepliedOrAccepted answers outcomes ksn code
 
 -- at first none has ended
 none_ended : {C : Type 0} (terminals : List (TerminalOf C)) (answers requests : List Frame) → Ended terminals terminals answers answers requests []
@@ -130,15 +131,16 @@ none_ended terminals answers requests = record {
 
 -- what came to be pending before outcomes, or in them, did so also where there is one more
 still_pending : {C : Type 0} (terminals : List (TerminalOf C)) (outcomes : List Outcome) (last : Outcome) (t : ℕ) (ksn : Serial)
-    → CameToBePending terminals outcomes t ksn → CameToBePending terminals (outcomes ++ last ∷ []) t ksn
+    → WasPendingOrSent terminals outcomes t ksn → WasPendingOrSent terminals (outcomes ++ last ∷ []) t ksn
 still_pending terminals outcomes last t ksn came = elim came [
   | inl before ↦ inl before
   | inr sent ↦ inr (any_stays (Sends t ksn) outcomes last sent)
 ]
 
--- an accepted reply that came to be sent before outcomes, or in them, did so also where there is one more
+-- an accepted reply that came to be sent before outcomes, or in them, did so also where there is
+-- one more
 still_replied : (answers : List Frame) (outcomes : List Outcome) (last : Outcome) (ksn : Serial) (code : Code)
-    → CameToBeReplied answers outcomes ksn code → CameToBeReplied answers (outcomes ++ last ∷ []) ksn code
+    → WasRepliedOrAccepted answers outcomes ksn code → WasRepliedOrAccepted answers (outcomes ++ last ∷ []) ksn code
 still_replied answers outcomes last ksn code came = elim came [
   | inl before ↦ inl before
   | inr accepted ↦ inr (any_stays (AcceptsWith ksn code) outcomes last accepted)
@@ -150,37 +152,37 @@ module _ {C L I : Type 0} (m : Meanings C L I) (terminals : List (TerminalOf C))
   accepted_on : AcceptedBefore answers (outcomes ++ outcome ∷ [])
   accepted_on earlier later t ksn code is = elim (last_or_before outcomes earlier later outcome (came.Done t ksn code) is) [
     | inl last ↦
-        let told = done_by_host m old t ksn code new (subst (λ outcome. Tells m old outcome new) last.1 (step_tells m old outcome new view)) in
-        subst (λ earlier. CameToBeReplied answers earlier ksn code) (sym last.0) (ended.replied ksn code told.1)
+        let reported = done_by_host m old t ksn code new (subst (λ outcome. Reports m old outcome new) last.1 (step_reports m old outcome new view)) in
+        subst (λ earlier. WasRepliedOrAccepted answers earlier ksn code) (sym last.0) (ended.replied ksn code reported.1)
     | inr before ↦ ended.accepted earlier before.0 t ksn code before.1
   ]
 
   -- a number that a step completes was pending
   was_pending : (ksn : Serial) → Completes ksn outcome → IsPendingIn old.terminals ksn
   was_pending ksn completes =
-      let at = done_at m old outcome new ksn (step_tells m old outcome new view) completes in
+      let at = done_at m old outcome new ksn (step_reports m old outcome new view) completes in
       (at.0, (done_by_host m old at.0 ksn at.1 new at.2).0)
 
   -- a step completes no number again
-  once_on : AllPairs CompleteOtherNumbers (outcomes ++ outcome ∷ [])
-  once_on = all_pairs_push CompleteOtherNumbers outcomes outcome ended.once (λ place other within ksn one last.
+  once_on : AllPairs CompleteDifferentNumbers (outcomes ++ outcome ∷ [])
+  once_on = all_pairs_push CompleteDifferentNumbers outcomes outcome ended.once (λ place other within ksn one last.
       let among = Contains-get_or outcomes place other within in
       ended.over ksn (among.0, get_or outcomes place other, among.1, among.2, one) (was_pending ksn last))
 
   -- what a step completes is over, and what was over stays so
-  over_on : BegunIsRequest m.cell → NoneTwice new.requests → (ksn : Serial) → Any (Completes ksn) (outcomes ++ outcome ∷ []) → ¬ IsPendingIn new.terminals ksn
+  over_on : BegunIsRequest m.cell → UsedOnce new.requests → (ksn : Serial) → Any (Completes ksn) (outcomes ++ outcome ∷ []) → ¬ IsPendingIn new.terminals ksn
   over_on request none ksn any (t, waits) = elim (any_cases (Completes ksn) outcomes outcome any) [
     | inl before ↦ elim (pending_comes m old outcome new t ksn view waits) [
       | inl still ↦ ended.over ksn before (t, still)
-      | inr sends ↦ fresh_number old new ksn none (sends_number m request old outcome new t ksn (step_tells m old outcome new view) sends) (ended.used ksn before)
+      | inr sends ↦ fresh_number old new ksn none (sends_number m request old outcome new t ksn (step_reports m old outcome new view) sends) (ended.used ksn before)
     ]
     | inr last ↦
-        let at = done_at m old outcome new ksn (step_tells m old outcome new view) last in
+        let at = done_at m old outcome new ksn (step_reports m old outcome new view) last in
         done_is_over m old at.0 ksn at.1 new safe at.2 (t, waits)
   ]
 
   -- what is pending after a step came to be so
-  pending_on : (t : ℕ) (ksn : Serial) → IsPendingAt new.terminals t ksn → CameToBePending terminals (outcomes ++ outcome ∷ []) t ksn
+  pending_on : (t : ℕ) (ksn : Serial) → IsPendingAt new.terminals t ksn → WasPendingOrSent terminals (outcomes ++ outcome ∷ []) t ksn
   pending_on t ksn waits = elim (pending_comes m old outcome new t ksn view waits) [
     | inl before ↦ still_pending terminals outcomes outcome t ksn (ended.pending t ksn before)
     | inr sends ↦ inr (Any-push (Sends t ksn) outcomes outcome sends)
@@ -196,14 +198,14 @@ module _ {C L I : Type 0} (m : Meanings C L I) (terminals : List (TerminalOf C))
   ])
 
   -- an accepted reply after a step came to be sent
-  replied_on : OneReading → ExchangeLaws → (ksn : Serial) (code : Code) → HasReply new.answers ksn code → CameToBeReplied answers (outcomes ++ outcome ∷ []) ksn code
+  replied_on : OneReading → ExchangeLaws → (ksn : Serial) (code : Code) → HasReply new.answers ksn code → WasRepliedOrAccepted answers (outcomes ++ outcome ∷ []) ksn code
   replied_on one exchanges ksn code replied = elim (replied_comes m old outcome new ksn code one exchanges gives view replied) [
     | inl before ↦ still_replied answers outcomes outcome ksn code (ended.replied ksn code before)
     | inr accepts ↦ inr (Any-push (AcceptsWith ksn code) outcomes outcome accepts)
   ]
 
   -- with one step more they end so too
-  ended_on : OneReading → ExchangeLaws → BegunIsRequest m.cell → NoneTwice new.requests → Ended terminals new.terminals answers new.answers new.requests (outcomes ++ outcome ∷ [])
+  ended_on : OneReading → ExchangeLaws → BegunIsRequest m.cell → UsedOnce new.requests → Ended terminals new.terminals answers new.answers new.requests (outcomes ++ outcome ∷ [])
   ended_on one exchanges request none = record {
     accepted = accepted_on;
     once = once_on;
@@ -216,12 +218,12 @@ module _ {C L I : Type 0} (m : Meanings C L I) (terminals : List (TerminalOf C))
 -- the world just before a terminal is done has its reply
 done_has_its_reply : {C L I : Type 0} (m : Meanings C L I) (before after : WorldOf C L I) (event : Event) (t : ℕ) (ksn : Serial) (code : Code) → Step m before event (came.Done t ksn code) after → HasItsReply before t ksn code
 done_has_its_reply m before after event t ksn code step =
-    let told = done_by_host m before t ksn code after (step_tells m before (came.Done t ksn code) after (step_view m before event (came.Done t ksn code) after step)) in
-    record { pending = told.0; replied = told.1 }
+    let reported = done_by_host m before t ksn code after (step_reports m before (came.Done t ksn code) after (step_view m before event (came.Done t ksn code) after step)) in
+    record { pending = reported.0; replied = reported.1 }
 
 -- the transactions of a call end each once, and by the host's reply
-pub completed_by_call : {C L I : Type 0} (m : Meanings C L I) → OneReading → ExchangeLaws → BegunIsRequest m.cell → ((world : WorldOf C L I) → Reached m world → NoneTwice world.requests) → SentByOwners m
-    → (old new : WorldOf C L I) (outcomes : List Outcome) → Reached m old → CallLeads m old outcomes new → Completed m old new.terminals outcomes
+pub completed_by_call : {C L I : Type 0} (m : Meanings C L I) → OneReading → ExchangeLaws → BegunIsRequest m.cell → ((world : WorldOf C L I) → Reached m world → UsedOnce world.requests) → SentByOwners m
+    → (old new : WorldOf C L I) (outcomes : List Outcome) → Reached m old → CallLeads m old outcomes new → CompletedByHost m old new.terminals outcomes
 completed_by_call {C} {L} {I} m one exchanges request none owners old new outcomes reached leads =
     let HasEnded : List Outcome → WorldOf C L I → Type 0 = λ outcomes world. Ended old.terminals world.terminals old.answers world.answers world.requests outcomes in
     let ended = leads_all m HasEnded

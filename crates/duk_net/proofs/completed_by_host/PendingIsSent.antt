@@ -17,13 +17,13 @@ use Rattle.duk_term.specs.declared.state.State.TheVariants.{Loaded, Stopped}
 use Rattle.duk_tree.specs.Serial.{Serial}
 use Rattle.duk_frame.specs.Answer.{IsReply}
 use Rattle.duk_frame.specs.declared.code.Code.{Code}
-use Rattle.duk_net.specs.Accepted.{HasReply}
+use Rattle.duk_net.specs.AcceptedOnce.{HasReply}
 use Rattle.duk_net.specs.Begin.{IsSent}
-use Rattle.duk_net.specs.Completed.{IsPendingAt, IsPendingIn, Sends}
-use Rattle.duk_net.specs.Down.{IsToldOf}
-use Rattle.duk_net.specs.First.{IsFirst, IsNewTerminal}
+use Rattle.duk_net.specs.CompletedByHost.{IsPendingAt, IsPendingIn, Sends}
+use Rattle.duk_net.specs.Down.{ReportsAnswerOf}
+use Rattle.duk_net.specs.First.{IsFirstWorld, IsNewTerminal}
 use Rattle.duk_net.specs.Load.{TakesLoad}
-use Rattle.duk_net.specs.UsedNumbers.{HasNumber, IsSentByOwner, IsUsedNumber}
+use Rattle.duk_net.specs.UsedOnce.{HasNumber, IsSentByOwner, IsUsedNumber}
 use Rattle.duk_net.specs.Owner.{owner_of}
 use Rattle.duk_net.specs.Reached.{CallLeads, Moves, Reached}
 use Rattle.duk_net.specs.World.{ChangesOnly, Frame, IsAt, Meanings, ChangesTerminal, WorldOf}
@@ -33,7 +33,7 @@ use Rattle.duk_net.specs.declared.owner.Owner.{Owner}
 use Rattle.duk_net.proofs.used_once.AboveUsed.{BegunIsRequest}
 use Rattle.duk_net.proofs.worlds.TerminalsAfterwards.{after_acts, at_contains, before_acts}
 use Rattle.duk_net.proofs.worlds.ReachedByMoves.{reached_all}
-use Rattle.duk_net.proofs.used_once.WorldStaysAboveUsed.{step_owners_stay}
+use Rattle.duk_net.proofs.used_once.UsedOnce.{step_owners_stay}
 use Rattle.duk_net.proofs.worlds.StepChanges.{IsQuiet, Touches, View, step_view}
 use Rattle.duk_net.proofs.worlds.StepChanges as step
 
@@ -104,9 +104,9 @@ touches_subsides m before after (step.restart_refused why refused) = λ pending 
 touches_subsides m before after (step.armed steps armed) = λ pending waits. subst (λ state. IsPending state pending) armed.state waits
 
 -- a terminal that is done waits for nothing
-done_waits : {C : Type 0} (frame : Frame) (ksn : Serial) (code : Code) (before after : TerminalOf C) (pending : Pending) → IsToldOf frame ksn (Done code) before after → ¬ IsPending after.state pending
-done_waits frame ksn code before after pending told waits =
-    idle_waits after.state told.was_pending.0 pending (ap (λ terminal. terminal.state) told.after_is ∙ ap completed told.was_pending.1) waits
+done_waits : {C : Type 0} (frame : Frame) (ksn : Serial) (code : Code) (before after : TerminalOf C) (pending : Pending) → ReportsAnswerOf frame ksn (Done code) before after → ¬ IsPending after.state pending
+done_waits frame ksn code before after pending reported waits =
+    idle_waits after.state reported.was_pending.0 pending (ap (λ terminal. terminal.state) reported.after_is ∙ ap completed reported.was_pending.1) waits
 
 -- a terminal waits for the reply to the transaction of a key serial number
 record Waits {C : Type 0} (terminal : TerminalOf C) (ksn : Serial) : Type 0 where
@@ -176,7 +176,7 @@ pending_comes m old outcome new u ksn (step.accept k n sent code is up) waits = 
 pending_comes m old outcome new u ksn (step.repeat k n sent code is up) waits = inl (subst (λ terminals. IsPendingAt terminals u ksn) (ap (λ world. world.terminals) up.answered.rest) waits)
 pending_comes m old outcome new u ksn (step.refuse k n sent reason is up) waits = inl (subst (λ terminals. IsPendingAt terminals u ksn) (ap (λ world. world.terminals) up.answered.rest) waits)
 pending_comes m old outcome new u ksn (step.done k t frame sent code is at change) waits =
-    inl (acts_subside t _ old.terminals new.terminals (λ before after told pending waits. absurd (done_waits frame sent code before after pending told waits)) change.terminal u ksn waits)
+    inl (acts_subside t _ old.terminals new.terminals (λ before after reported pending waits. absurd (done_waits frame sent code before after pending reported waits)) change.terminal u ksn waits)
 pending_comes m old outcome new u ksn (step.host touched rest quiet) waits = inl (subst (λ terminals. IsPendingAt terminals u ksn) (ap (λ world. world.terminals) rest) waits)
 
 -- the requests that were sent stay in a step
@@ -190,7 +190,7 @@ requests_stay m old outcome new frame (step.terminal t change quiet) sent = subs
 requests_stay m old outcome new frame (step.accept k n ksn code is up) sent = subst (λ world. Contains world.requests frame) (sym up.answered.rest) sent
 requests_stay m old outcome new frame (step.repeat k n ksn code is up) sent = subst (λ world. Contains world.requests frame) (sym up.answered.rest) sent
 requests_stay m old outcome new frame (step.refuse k n ksn reason is up) sent = subst (λ world. Contains world.requests frame) (sym up.answered.rest) sent
-requests_stay m old outcome new frame (step.done k t told ksn code is at change) sent = subst (λ world. Contains world.requests frame) (sym change.rest) sent
+requests_stay m old outcome new frame (step.done k t reported ksn code is at change) sent = subst (λ world. Contains world.requests frame) (sym change.rest) sent
 requests_stay m old outcome new frame (step.host touched rest quiet) sent = subst (λ world. Contains world.requests frame) (sym rest) sent
 
 -- a used number stays used in a step
@@ -199,28 +199,28 @@ pub used_stays : {C L I : Type 0} (m : Meanings C L I) (old : WorldOf C L I) (ou
 used_stays m old outcome new ksn view used = record { frame = used.frame; sent = requests_stay m old outcome new used.frame view used.sent; number = used.number }
 
 -- what a step's outcome says where a request is sent, or a terminal is done
-abbrev pub Tells : {C L I : Type 0} → Meanings C L I → WorldOf C L I → Outcome → WorldOf C L I → Type 0
-Tells m old (came.Sent t k ksn) new = (purchase : Purchase) × IsSent m old t purchase k ksn new
-Tells m old (came.Done t ksn code) new = (k : ℕ) × (frame : Frame) × IsAt old.answers k frame × ChangesTerminal t (IsToldOf frame ksn (Done code)) old new
-Tells m old _ new = Unit {0}
+abbrev pub Reports : {C L I : Type 0} → Meanings C L I → WorldOf C L I → Outcome → WorldOf C L I → Type 0
+Reports m old (came.Sent t k ksn) new = (purchase : Purchase) × IsSent m old t purchase k ksn new
+Reports m old (came.Done t ksn code) new = (k : ℕ) × (frame : Frame) × IsAt old.answers k frame × ChangesTerminal t (ReportsAnswerOf frame ksn (Done code)) old new
+Reports m old _ new = Unit {0}
 
 -- a quiet outcome is none of these
-quiet_tells : {C L I : Type 0} (m : Meanings C L I) (old : WorldOf C L I) (outcome : Outcome) (new : WorldOf C L I) → IsQuiet outcome → Tells m old outcome new
-quiet_tells m old (came.Sent t k ksn) new quiet = absurd quiet
-quiet_tells m old (came.Done t ksn code) new quiet = absurd quiet
-quiet_tells m old _ new quiet = tt
+quiet_reports : {C L I : Type 0} (m : Meanings C L I) (old : WorldOf C L I) (outcome : Outcome) (new : WorldOf C L I) → IsQuiet outcome → Reports m old outcome new
+quiet_reports m old (came.Sent t k ksn) new quiet = absurd quiet
+quiet_reports m old (came.Done t ksn code) new quiet = absurd quiet
+quiet_reports m old _ new quiet = tt
 
 -- each step's outcome says that
-pub step_tells : {C L I : Type 0} (m : Meanings C L I) (old : WorldOf C L I) (outcome : Outcome) (new : WorldOf C L I) → View m old outcome new → Tells m old outcome new
-step_tells m old outcome new (step.nothing same quiet) = quiet_tells m old outcome new quiet
-step_tells m old outcome new (step.load t iksn given quiet) = quiet_tells m old outcome new quiet
-step_tells m old outcome new (step.send t k purchase ksn is begins) = subst (λ outcome. Tells m old outcome new) (sym is) (purchase, begins)
-step_tells m old outcome new (step.terminal t change quiet) = quiet_tells m old outcome new quiet
-step_tells m old outcome new (step.accept k n ksn code is up) = subst (λ outcome. Tells m old outcome new) (sym is) tt
-step_tells m old outcome new (step.repeat k n ksn code is up) = subst (λ outcome. Tells m old outcome new) (sym is) tt
-step_tells m old outcome new (step.refuse k n ksn reason is up) = subst (λ outcome. Tells m old outcome new) (sym is) tt
-step_tells m old outcome new (step.done k t frame ksn code is at change) = subst (λ outcome. Tells m old outcome new) (sym is) (k, frame, at, change)
-step_tells m old outcome new (step.host touched rest quiet) = quiet_tells m old outcome new quiet
+pub step_reports : {C L I : Type 0} (m : Meanings C L I) (old : WorldOf C L I) (outcome : Outcome) (new : WorldOf C L I) → View m old outcome new → Reports m old outcome new
+step_reports m old outcome new (step.nothing same quiet) = quiet_reports m old outcome new quiet
+step_reports m old outcome new (step.load t iksn given quiet) = quiet_reports m old outcome new quiet
+step_reports m old outcome new (step.send t k purchase ksn is begins) = subst (λ outcome. Reports m old outcome new) (sym is) (purchase, begins)
+step_reports m old outcome new (step.terminal t change quiet) = quiet_reports m old outcome new quiet
+step_reports m old outcome new (step.accept k n ksn code is up) = subst (λ outcome. Reports m old outcome new) (sym is) tt
+step_reports m old outcome new (step.repeat k n ksn code is up) = subst (λ outcome. Reports m old outcome new) (sym is) tt
+step_reports m old outcome new (step.refuse k n ksn reason is up) = subst (λ outcome. Reports m old outcome new) (sym is) tt
+step_reports m old outcome new (step.done k t frame ksn code is at change) = subst (λ outcome. Reports m old outcome new) (sym is) (k, frame, at, change)
+step_reports m old outcome new (step.host touched rest quiet) = quiet_reports m old outcome new quiet
 
 -- one request more is sent, with this number
 pub record SendsNumber {C L I : Type 0} (old new : WorldOf C L I) (ksn : Serial) : Type 0 where
@@ -230,14 +230,14 @@ pub record SendsNumber {C L I : Type 0} (old new : WorldOf C L I) (ksn : Serial)
 
 -- where a request is sent, it is one more
 pub sends_number : {C L I : Type 0} (m : Meanings C L I) → BegunIsRequest m.cell → (old : WorldOf C L I) (outcome : Outcome) (new : WorldOf C L I) (t : ℕ) (ksn : Serial)
-    → Tells m old outcome new → Sends t ksn outcome → SendsNumber old new ksn
-sends_number m request old (came.Sent u k sent) new t ksn tells sends =
-    let hands = tells.1.terminal.changed in record {
-      frame = tells.1.frame;
-      requests = ap (λ world. world.requests) tells.1.rest;
-      number = record { request = _; is_request = request tells.0 _ _ tells.1.frame.items hands.begun; ksn_is = sym sends.1 ∙ hands.ksn_is };
+    → Reports m old outcome new → Sends t ksn outcome → SendsNumber old new ksn
+sends_number m request old (came.Sent u k sent) new t ksn reports sends =
+    let hands = reports.1.terminal.changed in record {
+      frame = reports.1.frame;
+      requests = ap (λ world. world.requests) reports.1.rest;
+      number = record { request = _; is_request = request reports.0 _ _ reports.1.frame.items hands.begun; ksn_is = sym sends.1 ∙ hands.ksn_is };
     }
-sends_number m request old _ new t ksn tells sends = absurd sends
+sends_number m request old _ new t ksn reports sends = absurd sends
 
 -- a terminal that sends owns the initial key serial number
 sends_by_owner : (owners : List Owner) (outcome : Outcome) (t : ℕ) (ksn : Serial) → IsSentByOwner owners outcome → Sends t ksn outcome → owner_of owners ksn.iksn ≡ Some t
@@ -254,7 +254,7 @@ abbrev pub SentByOwners : {C L I : Type 0} → Meanings C L I → Type 0
 SentByOwners {C} {L} {I} m = (old new : WorldOf C L I) (outcomes : List Outcome) → Reached m old → CallLeads m old outcomes new → All (IsSentByOwner new.owners) outcomes
 
 -- in a world in which nothing happened nothing is pending
-first_safe : {C L I : Type 0} (m : Meanings C L I) (world : WorldOf C L I) → IsFirst m world → OwnPending world
+first_safe : {C L I : Type 0} (m : Meanings C L I) (world : WorldOf C L I) → IsFirstWorld m world → OwnPending world
 first_safe m world first t ksn waits =
     let stands = at_contains world.terminals t waits.terminal waits.at in
     let stopped = (All-contains (IsNewTerminal m) world.terminals waits.terminal first.terminals stands).stopped in
@@ -268,7 +268,7 @@ step_safe m request old outcome new safe view owned t ksn waits = elim (pending_
       let was = safe t ksn before in
       (used_stays m old outcome new ksn view was.0, step_owners_stay m old new outcome view ksn.iksn t was.1)
   | inr sends ↦
-      let sent = sends_number m request old outcome new t ksn (step_tells m old outcome new view) sends in
+      let sent = sends_number m request old outcome new t ksn (step_reports m old outcome new view) sends in
       let stands : Contains new.requests sent.frame = subst (λ requests. Contains requests sent.frame) (sym sent.requests) (Contains-push old.requests sent.frame) in
       (record { frame = sent.frame; sent = stands; number = sent.number }, sends_by_owner new.owners outcome t ksn owned sends)
 ]
@@ -289,30 +289,30 @@ pending_safe m request owners world reached = reached_all m OwnPending (first_sa
 
 -- a transaction that is done was pending, and the accepted reply to it was sent
 pub done_by_host : {C L I : Type 0} (m : Meanings C L I) (old : WorldOf C L I) (t : ℕ) (ksn : Serial) (code : Code) (new : WorldOf C L I)
-    → Tells m old (came.Done t ksn code) new → IsPendingAt old.terminals t ksn × HasReply old.answers ksn code
+    → Reports m old (came.Done t ksn code) new → IsPendingAt old.terminals t ksn × HasReply old.answers ksn code
 done_by_host m old t ksn code new (k, frame, at, change) =
     let acts = change.terminal in
     let of = acts.changed in
-    let told = of.told in
-    let same : told.0.ksn ≡ ksn = ap (λ pending. pending.ksn) (one_pending acts.before.state told.0 of.pending told.1 of.was_pending) ∙ sym of.ksn_is in (
+    let reported = of.reported in
+    let same : reported.0.ksn ≡ ksn = ap (λ pending. pending.ksn) (one_pending acts.before.state reported.0 of.pending reported.1 of.was_pending) ∙ sym of.ksn_is in (
       acts_before t _ old.terminals new.terminals acts ksn (record { pending = of.pending; is_pending = of.was_pending; ksn_is = of.ksn_is }),
       record {
         frame = frame;
-        mac = told.2.mac;
+        mac = reported.2.mac;
         sent = at_contains old.answers k frame at;
-        reply = subst (λ serial. IsReply frame.items serial code told.2.mac) same told.2.reply;
+        reply = subst (λ serial. IsReply frame.items serial code reported.2.mac) same reported.2.reply;
       },
     )
 
 -- of a transaction that is done, nothing stays pending
 pub done_is_over : {C L I : Type 0} (m : Meanings C L I) (old : WorldOf C L I) (t : ℕ) (ksn : Serial) (code : Code) (new : WorldOf C L I)
-    → OwnPending old → Tells m old (came.Done t ksn code) new → ¬ IsPendingIn new.terminals ksn
-done_is_over m old t ksn code new safe tells (u, waits) =
-    let acts = tells.3.terminal in
+    → OwnPending old → Reports m old (came.Done t ksn code) new → ¬ IsPendingIn new.terminals ksn
+done_is_over m old t ksn code new safe reports (u, waits) =
+    let acts = reports.3.terminal in
     elim (acts_cases t _ old.terminals new.terminals acts u ksn waits) [
       | inl elsewhere ↦
-          let one = (safe t ksn (done_by_host m old t ksn code new tells).0).1 in
+          let one = (safe t ksn (done_by_host m old t ksn code new reports).0).1 in
           let other = (safe u ksn elsewhere.1).1 in
           elsewhere.0 cc
-      | inr here ↦ done_waits tells.1 ksn code acts.before acts.after here.1.pending acts.changed here.1.is_pending
+      | inr here ↦ done_waits reports.1 ksn code acts.before acts.after here.1.pending acts.changed here.1.is_pending
     ]

@@ -10,7 +10,7 @@ use Rattle.duk_net.specs.Reached.{Reached}
 use Rattle.duk_net.specs.World.{Meanings, WorldOf}
 use Rattle.duk_net.proofs.used_once.AboveUsed.{Books, KeptSafe, WorldLaws, books_of}
 use Rattle.duk_net.proofs.calm_stores.CalmStores.{all_at}
-use Rattle.duk_net.proofs.used_once.WorldStaysAboveUsed.{reached_is_safe}
+use Rattle.duk_net.proofs.used_once.UsedOnce.{reached_is_safe}
 
 -- the first byte of the image in the body of registers is 2
 first_is_2 : (set : RegisterSet) → slice_index (image_in (body_bytes set)) 0 ≡ 2

@@ -1,4 +1,5 @@
--- What holds of the terminals of every world that is reached: what they keep is above every used number.
+-- What holds of the terminals of every world that is reached: what they keep is above every used
+-- number.
 use Rattle.std.proofs.Common.{◌≡◌, ◌≢◌, ◌⊎◌, ◌<◌, ◌≤◌, ◌^◌, ◌++◌, ◌∷◌, [], ℕ, List, Some, None, length, inl, inr, sym, ap, subst, ◌∙◌, arith}
 use Rattle.std.proofs.lemmas.List.Elements.{Contains-push_cases}
 use Rattle.duk_frame.specs.Payment.{request_of}
@@ -6,7 +7,7 @@ use Rattle.duk_frame.specs.Request.{IsRequest}
 use Rattle.duk_frame.specs.declared.request.Request.{Request}
 use Rattle.duk_hsm.specs.Commands.{IsIssued}
 use Rattle.duk_hsm.specs.Keys.{HsmKeys}
-use Rattle.duk_regs.specs.Registers.{IsRegisterSet, IsSpentIksn, IsTaken, RegisterSet, StandsFor}
+use Rattle.duk_regs.specs.Registers.{IsRegisterSet, IsSpentIksn, IsTaken, RegisterSet, AreFutureKeysOf}
 use Rattle.duk_store.specs.Cell.{CellMeaning, Kept}
 use Rattle.duk_term.specs.Begin.{IsBegun, TakesNumber}
 use Rattle.duk_term.specs.Body.{IsFoundAgain, body_bytes}
@@ -21,14 +22,15 @@ use Rattle.duk_tree.specs.Next.{ComesAfter}
 use Rattle.duk_tree.specs.Path.{IsUsable, path_of}
 use Rattle.duk_tree.specs.Serial.{Serial}
 use Rattle.duk_net.specs.InitialKey.{IsInitialKeyOf}
-use Rattle.duk_net.specs.UsedNumbers.{AreOwned, HasNumber, IsUsedNumber, NoneTwice}
+use Rattle.duk_net.specs.UsedOnce.{AreUsedOwned, HasNumber, IsUsedNumber, UsedOnce}
 use Rattle.duk_net.specs.Owner.{owner_of}
-use Rattle.duk_net.specs.UnusedKeys.{RemembersUsed, StandsAboveUsed}
+use Rattle.duk_net.specs.NoUsedKey.{RemembersUsed, AreRegistersAboveUsed}
 use Rattle.duk_net.specs.World.{Frame, IsAt, Meanings, WorldOf}
 use Rattle.duk_net.specs.declared.owner.Owner.{Owner}
 use Rattle.duk_net.proofs.used_once.OwnersStay.{one_owner}
 
--- what the rest of a world is to a terminal: the host's keys, the requests that were sent, and the owners
+-- what the rest of a world is to a terminal: the host's keys, the requests that were sent, and the
+-- owners
 pub record Books : Type 0 where
   pub keys : HsmKeys
   pub requests : List Frame
@@ -41,11 +43,11 @@ books_of world = record { keys = world.host.keys; requests = world.requests; own
 abbrev pub HasSentNothing : Books → ℕ → Type 0
 HasSentNothing books t = (ksn : Serial) → IsUsedNumber books.requests ksn → owner_of books.owners ksn.iksn ≢ Some t
 
--- the terminal owns the registers' initial key serial number, they stand above every used number, and they remember under which initial
--- key serial numbers of its own requests were sent
+-- the terminal owns the registers' initial key serial number, they stand above every used number,
+-- and they remember under which initial key serial numbers of its own requests were sent
 pub record SetSafe (books : Books) (t : ℕ) (set : RegisterSet) : Type 0 where
   pub owned : owner_of books.owners set.iksn ≡ Some t
-  pub stands : StandsAboveUsed books.keys books.requests set
+  pub future_keys : AreRegistersAboveUsed books.keys books.requests set
   pub remembers : RemembersUsed books.requests books.owners t set
   pub set_is : IsRegisterSet set
   pub again : IsFoundAgain set
@@ -72,14 +74,15 @@ pub record TermSafe {C : Type 0} (cell : CellMeaning C) (books : Books) (t : ℕ
 
 -- each used number is owned
 abbrev pub BooksOwned : Books → Type 0
-BooksOwned books = AreOwned books.requests books.owners
+BooksOwned books = AreUsedOwned books.requests books.owners
 
 pub record WorldSafe {C L I : Type 0} (m : Meanings C L I) (world : WorldOf C L I) : Type 0 where
   pub terminals : (t : ℕ) (terminal : TerminalOf C) → IsAt world.terminals t terminal → TermSafe m.cell (books_of world) t terminal
   pub owned : BooksOwned (books_of world)
-  pub none_twice : NoneTwice world.requests
+  pub used_once : UsedOnce world.requests
 
--- where the books are others, but what is safe in the old ones is so in the new ones, a terminal stays safe
+-- where the books are others, but what is safe in the old ones is so in the new ones, a terminal
+-- stays safe
 pub record Follows (old : Books) (t : ℕ) (new : Books) : Type 0 where
   pub nothing : HasSentNothing old t → HasSentNothing new t
   pub set : (set : RegisterSet) → SetSafe old t set → SetSafe new t set
@@ -105,19 +108,19 @@ pub owners_follow : (old : Books) (t : ℕ) (new : Books) → new.keys ≡ old.k
     → ((iksn u : ℕ) → owner_of old.owners iksn ≡ Some u → owner_of new.owners iksn ≡ Some u) → BooksOwned old → Follows old t new
 owners_follow old t new keys requests stays owned =
     -- a used number that the terminal owns now was its own before
-    let owned_before : (ksn : Serial) → IsUsedNumber old.requests ksn → owner_of new.owners ksn.iksn ≡ Some t → owner_of old.owners ksn.iksn ≡ Some t = λ ksn was owner.
+    let owned_when_sent : (ksn : Serial) → IsUsedNumber old.requests ksn → owner_of new.owners ksn.iksn ≡ Some t → owner_of old.owners ksn.iksn ≡ Some t = λ ksn was owner.
     let had = owned ksn was in
     had.1 ∙ ap Some (one_owner new.owners ksn.iksn had.0 t (stays ksn.iksn had.0 had.1) owner) in
     record {
       nothing = λ nothing ksn used owner.
           let was = subst (λ list. IsUsedNumber list ksn) requests used in
-          nothing ksn was (owned_before ksn was owner);
+          nothing ksn was (owned_when_sent ksn was owner);
       set = λ set safe. record {
         owned = stays set.iksn t safe.owned;
-        stands = subst (λ list. StandsAboveUsed new.keys list set) (sym requests) (subst (λ keys. StandsAboveUsed keys old.requests set) (sym keys) safe.stands);
+        future_keys = subst (λ list. AreRegistersAboveUsed new.keys list set) (sym requests) (subst (λ keys. AreRegistersAboveUsed keys old.requests set) (sym keys) safe.future_keys);
         remembers = λ ksn used owner.
             let was = subst (λ list. IsUsedNumber list ksn) requests used in
-            safe.remembers ksn was (owned_before ksn was owner);
+            safe.remembers ksn was (owned_when_sent ksn was owner);
         set_is = safe.set_is;
         again = safe.again;
       };
@@ -154,8 +157,8 @@ next_is_above counter next fits usable after =
 pub record RegisterLaws : Type 0 where
   pub fits : UsableFits
   pub set : (old new : RegisterSet) (key : List ℕ) → IsUsable old.counter → IsTaken old key new → IsRegisterSet old → IsRegisterSet new
-  pub stands : (initial : List ℕ) (old new : RegisterSet) (key : List ℕ) → IsUsable old.counter → IsTaken old key new → StandsFor initial old → StandsFor initial new
-  pub again : (initial : List ℕ) (set : RegisterSet) → IsKey 16 initial → IsRegisterSet set → StandsFor initial set → IsFoundAgain set
+  pub future_keys : (initial : List ℕ) (old new : RegisterSet) (key : List ℕ) → IsUsable old.counter → IsTaken old key new → AreFutureKeysOf initial old → AreFutureKeysOf initial new
+  pub again : (initial : List ℕ) (set : RegisterSet) → IsKey 16 initial → IsRegisterSet set → AreFutureKeysOf initial set → IsFoundAgain set
 
 -- the frame of a transaction that is begun is a request
 abbrev pub BegunIsRequest : {C : Type 0} → CellMeaning C → Type 0
@@ -185,16 +188,16 @@ left_is_safe books t set left key requests laws safe takes used =
     let iksn = takes.taken.same_iksn in
     let above = next_is_above set.counter left.counter laws.fits takes.usable takes.taken.next_counter in
     let set_is = laws.set set left key takes.usable takes.taken safe.set_is in
-    let stands = laws.stands safe.stands.initial set left key takes.usable takes.taken safe.stands.stands in
+    let future_keys = laws.future_keys safe.future_keys.initial set left key takes.usable takes.taken safe.future_keys.future_keys in
     record {
       owned = ap (λ iksn. owner_of books.owners iksn) iksn ∙ safe.owned;
-      stands = record {
-        initial = safe.stands.initial;
-        initial_is = rw iksn safe.stands.initial_is;
+      future_keys = record {
+        initial = safe.future_keys.initial;
+        initial_is = rw iksn safe.future_keys.initial_is;
         counter_is = set_is.counter_is;
-        stands = stands;
+        future_keys = future_keys;
         above = λ ksn is same. elim (used ksn is) [
-          | inl before ↦ let below = safe.stands.above ksn before (same ∙ iksn) in omega (arith, below, above)
+          | inl before ↦ let below = safe.future_keys.above ksn before (same ∙ iksn) in omega (arith, below, above)
           | inr new ↦ subst (λ ksn. ksn.counter < left.counter) (sym new) above
         ];
       };
@@ -203,5 +206,5 @@ left_is_safe books t set left key requests laws safe takes used =
         | inr new ↦ inl (ap (λ ksn. ksn.iksn) new)
       ]);
       set_is = set_is;
-      again = laws.again safe.stands.initial left safe.stands.initial_is.is_key set_is stands;
+      again = laws.again safe.future_keys.initial left safe.future_keys.initial_is.is_key set_is future_keys;
     }

@@ -1,4 +1,5 @@
--- A terminal whose request goes out is safe, and so are the others: its number was used by none before.
+-- A terminal whose request goes out is safe, and so are the others: its number was used by none
+-- before.
 use Rattle.std.proofs.Common.{◌≡◌, ◌≢◌, ◌⊎◌, ◌++◌, ◌∷◌, [], ℕ, Some, get_or, inl, inr, refl, sym, ap, subst, ◌∙◌, arith}
 use Rattle.std.proofs.lemmas.List.Elements.{All-push, Contains-get_or}
 use Rattle.std.proofs.lemmas.List.Quantifiers.{all_pairs_push}
@@ -9,7 +10,7 @@ use Rattle.duk_term.specs.Begin.{IsBegun}
 use Rattle.duk_term.specs.Terminal.{TerminalOf, serial_of}
 use Rattle.duk_term.specs.declared.purchase.Purchase.{Purchase}
 use Rattle.duk_tree.specs.Serial.{Serial}
-use Rattle.duk_net.specs.UsedNumbers.{HasNumber, HasUsableNumber, HaveOtherNumbers, IsUsedNumber, NoneTwice}
+use Rattle.duk_net.specs.UsedOnce.{HasNumber, HasUsableNumber, HaveDifferentNumbers, IsUsedNumber, UsedOnce}
 use Rattle.duk_net.specs.Owner.{owner_of}
 use Rattle.duk_net.specs.World.{Frame}
 use Rattle.duk_net.proofs.used_once.OwnersStay.{one_owner}
@@ -64,13 +65,13 @@ begin_follows books t u frame new reading number owned other = record {
   ];
   set = λ set safe. record {
     owned = safe.owned;
-    stands = record {
-      initial = safe.stands.initial;
-      initial_is = safe.stands.initial_is;
-      counter_is = safe.stands.counter_is;
-      stands = safe.stands.stands;
+    future_keys = record {
+      initial = safe.future_keys.initial;
+      initial_is = safe.future_keys.initial_is;
+      counter_is = safe.future_keys.counter_is;
+      future_keys = safe.future_keys.future_keys;
       above = λ ksn used same. elim (used_then books frame new ksn reading number used) [
-        | inl before ↦ safe.stands.above ksn before same
+        | inl before ↦ safe.future_keys.above ksn before same
         | inr is ↦ absurd (other (one_owner books.owners set.iksn u t safe.owned (ap (owner_of books.owners) (sym same ∙ ap (λ ksn. ksn.iksn) is) ∙ owned)))
       ];
     };
@@ -91,12 +92,12 @@ begin_owned books t frame new reading number owned are ksn used = elim (used_the
 ]
 
 -- no two requests have one number
-pub begin_none_twice : (books : Books) (t : ℕ) (frame : Frame) (set : RegisterSet) → OneRequest → HasNumber frame (serial_of set) → HasUsableNumber frame → SetSafe books t set → NoneTwice books.requests → NoneTwice (books.requests ++ frame ∷ [])
+pub begin_none_twice : (books : Books) (t : ℕ) (frame : Frame) (set : RegisterSet) → OneRequest → HasNumber frame (serial_of set) → HasUsableNumber frame → SetSafe books t set → UsedOnce books.requests → UsedOnce (books.requests ++ frame ∷ [])
 begin_none_twice books t frame set reading number usable safe none = record {
   usable = All-push HasUsableNumber books.requests frame none.usable usable;
-  different = all_pairs_push HaveOtherNumbers books.requests frame none.different (λ k d within ksn one other.
+  different = all_pairs_push HaveDifferentNumbers books.requests frame none.different (λ k d within ksn one other.
       let is : ksn ≡ serial_of set = one_number frame ksn (serial_of set) reading other number in
       let used : IsUsedNumber books.requests ksn = record { frame = get_or books.requests k d; sent = Contains-get_or books.requests k d within; number = one } in
-      let below = safe.stands.above ksn used (ap (λ ksn. ksn.iksn) is) in
+      let below = safe.future_keys.above ksn used (ap (λ ksn. ksn.iksn) is) in
       omega (arith, below, ap (λ ksn. ksn.counter) is));
 }

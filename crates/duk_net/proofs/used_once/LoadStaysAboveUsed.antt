@@ -16,14 +16,15 @@ use Rattle.duk_tree.specs.Serial.{Serial}
 use Rattle.duk_net.specs.InitialKey.{IsInitialKeyOf}
 use Rattle.duk_net.specs.Load.{TakesLoad, owners_after_load}
 use Rattle.duk_net.specs.Owner.{IsElsewhere, owned_by, owner_of}
-use Rattle.duk_net.specs.UsedNumbers.{IsUsedNumber}
+use Rattle.duk_net.specs.UsedOnce.{IsUsedNumber}
 use Rattle.duk_net.specs.declared.outcome.Outcome.{Outcome}
 use Rattle.duk_net.specs.declared.outcome.Outcome.TheVariants as came
 use Rattle.duk_net.proofs.used_once.OwnersStay.{one_owner, owner_stays, owns_loaded}
 use Rattle.duk_net.proofs.used_once.AboveUsed.{BooksOwned, Books, Follows, RegisterLaws, SetSafe, StateSafe, TermSafe, kept_follows, owners_follow}
 use Rattle.duk_net.proofs.used_once.TerminalStaysAboveUsed.{put_failed_honest, put_failed_within, safe_body}
 
--- what a terminal is asked to load is its own initial key, and no other terminal owns the initial key serial number
+-- what a terminal is asked to load is its own initial key, and no other terminal owns the initial
+-- key serial number
 pub record MayBeGiven (books : Books) (t iksn : ℕ) (asked : Loading) : Type 0 where
   pub not_elsewhere : ¬ IsElsewhere books.owners iksn t
   pub iksn_is : asked.iksn ≡ iksn
@@ -39,8 +40,8 @@ pub load_follows : (books : Books) (t iksn u : ℕ) (outcome : Outcome) → Book
 load_follows books t iksn u outcome owned =
     owners_follow books u (after_load books outcome iksn t) refl refl (λ iksn' u'. owner_stays outcome books.owners iksn t iksn' u') owned
 
--- what the first registers are to know of the used numbers whose initial key serial number the terminal owns: none has the one that is loaded,
--- and each one's is a past one
+-- what the first registers are to know of the used numbers whose initial key serial number the
+-- terminal owns: none has the one that is loaded, and each one's is a past one
 abbrev pub AreRemembered : Books → ℕ → ℕ → RegisterSet → Type 0
 AreRemembered books t iksn set =
     (ksn : Serial) → IsUsedNumber books.requests ksn → owner_of books.owners ksn.iksn ≡ Some t → (ksn.iksn ≢ iksn) × IsSpentIksn ksn.iksn set
@@ -70,22 +71,22 @@ first_safe books t iksn asked state set v loaded laws given safe may first =
     let owners = owned_by books.owners iksn t in
     let own = given.own_key first.initial first.wrapped in
     let owned : owner_of owners set.iksn ≡ Some t = ap (owner_of owners) iksn_is ∙ owns_loaded books.owners iksn t given.not_elsewhere in
-    let owned_before : (ksn : Serial) → IsUsedNumber books.requests ksn → owner_of owners ksn.iksn ≡ Some t → owner_of books.owners ksn.iksn ≡ Some t = λ ksn used owner.
+    let owned_when_sent : (ksn : Serial) → IsUsedNumber books.requests ksn → owner_of owners ksn.iksn ≡ Some t → owner_of books.owners ksn.iksn ≡ Some t = λ ksn used owner.
     let had = given.owned ksn used in
     had.1 ∙ ap Some (one_owner owners ksn.iksn had.0 t (owner_stays (came.Loaded v loaded) books.owners iksn t ksn.iksn had.0 had.1) owner) in
     let remembered = are_remembered books t state asked set safe may first in
     record {
       owned = owned;
-      stands = record {
+      future_keys = record {
         initial = first.initial;
         initial_is = subst (λ iksn. IsInitialKeyOf books.keys iksn first.initial) (sym iksn_is) own;
         counter_is = first.set_is.counter_is;
-        stands = first.stands;
-        above = λ ksn used same. absurd ((remembered ksn used (owned_before ksn used (ap (owner_of owners) same ∙ owned))).0 (same ∙ first.iksn_is));
+        future_keys = first.future_keys;
+        above = λ ksn used same. absurd ((remembered ksn used (owned_when_sent ksn used (ap (owner_of owners) same ∙ owned))).0 (same ∙ first.iksn_is));
       };
-      remembers = λ ksn used owner. (remembered ksn used (owned_before ksn used owner)).1;
+      remembers = λ ksn used owner. (remembered ksn used (owned_when_sent ksn used owner)).1;
       set_is = first.set_is;
-      again = laws.again first.initial set own.is_key first.set_is first.stands;
+      again = laws.again first.initial set own.is_key first.set_is first.future_keys;
     }
 
 loaded_safe : {C : Type 0} (cell : CellMeaning C) (books : Books) (t iksn : ℕ) (asked : Loading) (v loaded : ℕ) (before after : TerminalOf C) → RegisterLaws → MayBeGiven books t iksn asked → TermSafe cell books t before

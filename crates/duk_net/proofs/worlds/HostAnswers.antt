@@ -2,44 +2,44 @@
 use Rattle.std.proofs.Common.{◌≡◌, ℕ, List, Result, Ok, Err, IfOk, OnErr}
 use Rattle.duk_frame.specs.Answer.{IsAnswer}
 use Rattle.duk_frame.specs.declared.answer.AnswerFrame.{AnswerFrame}
-use Rattle.duk_host.specs.Handle.{AnswersAs, IsTold}
+use Rattle.duk_host.specs.Handle.{AnswersAs, IsVerdictOn}
 use Rattle.duk_host.specs.declared.answered.Verdict.{Verdict}
 use Rattle.duk_host.specs.declared.answered.Verdict.TheVariants.{Accepted, Refused, Repeated}
-use Rattle.duk_net.specs.Up.{IsAnswered, ReachesHost, verdict_outcome}
+use Rattle.duk_net.specs.Up.{IsAnswerSent, ReachesHost, verdict_outcome}
 use Rattle.duk_net.specs.World.{Frame, IsAt, Meanings, WorldOf}
 
 -- bytes are the frame of at most one answer
 abbrev pub OneReading : Type 0
 OneReading = (bytes : List ℕ) (answer other : AnswerFrame) → IsAnswer bytes answer → IsAnswer bytes other → answer ≡ other
 
--- an answer is told by its outcome
+-- an answer is reported by its outcome
 pub up_answered : {C L I : Type 0} (m : Meanings C L I) (old : WorldOf C L I) (k n : ℕ) (request frame : Frame) (says : Verdict) (new : WorldOf C L I)
-    → IsAt old.requests k request → IsTold frame.items says → AnswersAs m.host request.items old.host new.host frame.items says → IsAnswered old n frame new
+    → IsAt old.requests k request → IsVerdictOn frame.items says → AnswersAs m.host request.items old.host new.host frame.items says → IsAnswerSent old n frame new
     → ReachesHost m old k (verdict_outcome n says) new
-up_answered m old k n request frame (Accepted ksn code) new sent told answered rest = record {
+up_answered m old k n request frame (Accepted ksn code) new sent reported answered rest = record {
   request = request;
   frame = frame;
-  mac = told.0;
+  mac = reported.0;
   sent = sent;
   accepted = answered;
-  told = told.1;
+  reported = reported.1;
   answered = rest;
 }
-up_answered m old k n request frame (Repeated ksn code) new sent told answered rest = record {
+up_answered m old k n request frame (Repeated ksn code) new sent reported answered rest = record {
   request = request;
   frame = frame;
-  mac = told.0;
+  mac = reported.0;
   sent = sent;
   repeated = answered;
-  told = told.1;
+  reported = reported.1;
   answered = rest;
 }
-up_answered m old k n request frame (Refused ksn reason) new sent told answered rest = record {
+up_answered m old k n request frame (Refused ksn reason) new sent reported answered rest = record {
   request = request;
   frame = frame;
   sent = sent;
   refused = answered;
-  told = told;
+  reported = reported;
   answered = rest;
 }
 

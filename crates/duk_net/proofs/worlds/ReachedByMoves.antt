@@ -2,9 +2,9 @@
 use Rattle.std.proofs.Common.{◌≡◌, ◌⊎◌, ◌++◌, ◌∷◌, [], zero, suc, ℕ, List, Result, Ok, Err, IfOk, IfErr, take, inl, inr, refl, sym, subst, append_assoc, append-nil}
 use Rattle.duk_host.specs.Host.{HostOf}
 use Rattle.duk_term.specs.Terminal.{TerminalOf}
-use Rattle.duk_net.specs.First.{IsFirst, IsNewHost, IsNewTerminal, first_world}
+use Rattle.duk_net.specs.First.{IsFirstWorld, IsNewHost, IsNewTerminal, first_world}
 use Rattle.std.specs.Prelude.{All}
-use Rattle.duk_net.specs.Gained.{HoldsOfGained}
+use Rattle.duk_net.specs.Gained.{GainedMeet}
 use Rattle.duk_net.specs.Reached.{CallLeads, Moves, Reached}
 use Rattle.duk_net.specs.Restart.{IsHostLeft}
 use Rattle.duk_net.specs.Run.{IsRefusedMemory, IsRun, Run, RunRefused}
@@ -22,9 +22,10 @@ pub starts : {C L I : Type 0} (m : Meanings C L I) (host : HostOf L I) (loading 
 starts m host loading terminals new_host new_terminals =
     (0, record { host = new_host; terminals = new_terminals; no_requests = refl; no_answers = refl; no_owners = refl })
 
--- what holds of a new world, and stays as a world that was reached moves on, holds of every world that is reached
+-- what holds of a new world, and stays as a world that was reached moves on, holds of every world
+-- that is reached
 pub reached_all : {C L I : Type 0} (m : Meanings C L I) (P : WorldOf C L I → Type 0)
-    → ((world : WorldOf C L I) → IsFirst m world → P world)
+    → ((world : WorldOf C L I) → IsFirstWorld m world → P world)
     → ((old new : WorldOf C L I) → Reached m old → P old → Moves m old new → P new)
     → (world : WorldOf C L I) → Reached m world → P world
 reached_all m P first moves world (zero, is) = first world is
@@ -63,7 +64,8 @@ reached_leads m old new outcomes reached leads =
       | inr left ↦ (suc mid.0, (leads.mid, mid.1, inr left))
     ]
 
--- what holds of no outcomes, stays with each step, and stays where the host's restart is refused memory, holds of the outcomes of a call
+-- what holds of no outcomes, stays with each step, and stays where the host's restart is refused
+-- memory, holds of the outcomes of a call
 pub leads_all : {C L I : Type 0} (m : Meanings C L I) (P : List Outcome → WorldOf C L I → Type 0)
     → ((outcomes : List Outcome) (old new : WorldOf C L I) (event : Event) (outcome : Outcome) → Reached m old → P outcomes old → Step m old event outcome new → P (outcomes ++ outcome ∷ []) new)
     → ((outcomes : List Outcome) (old new : WorldOf C L I) → Reached m old → P outcomes old → IsHostLeft m old new → P outcomes new)
@@ -82,7 +84,7 @@ left_alone m old _ new left = inl left
 
 -- however a call ends, it leads on by what it put at the end of the outcomes
 pub call_leads : {C L I : Type 0} (m : Meanings C L I) (old : WorldOf C L I) (events : List Event) (before after : List Outcome) (new : WorldOf C L I) (result : Result (Unit {0}) NetFault)
-    → IfOk result (λ _. IsRun m old events before after new) → IfErr result (RunRefused m old events before after new) → HoldsOfGained (λ outcomes. CallLeads m old outcomes new) before after
+    → IfOk result (λ _. IsRun m old events before after new) → IfErr result (RunRefused m old events before after new) → GainedMeet (λ outcomes. CallLeads m old outcomes new) before after
 call_leads m old events before after new (Ok done) run refused =
     record { outcomes = run.outcomes; gained = run.gained; holds = record { events = events; mid = new; run = run.run; left = inl refl } }
 call_leads m old events before after new (Err (NoMemory done)) run refused = record {
@@ -92,5 +94,5 @@ call_leads m old events before after new (Err (NoMemory done)) run refused = rec
 }
 
 -- what follows for the outcomes that a call put there
-pub gained_so : (P Q : List Outcome → Type 0) (before after : List Outcome) → ((outcomes : List Outcome) → P outcomes → Q outcomes) → HoldsOfGained P before after → HoldsOfGained Q before after
+pub gained_so : (P Q : List Outcome → Type 0) (before after : List Outcome) → ((outcomes : List Outcome) → P outcomes → Q outcomes) → GainedMeet P before after → GainedMeet Q before after
 gained_so P Q before after follows holds = record { outcomes = holds.outcomes; gained = holds.gained; holds = follows holds.outcomes holds.holds }

@@ -18,7 +18,7 @@ use Rattle.duk_term.specs.declared.purchase.Purchase.{Purchase}
 use Rattle.duk_tree.specs.Serial.{Serial}
 use Rattle.duk_net.specs.Arm.{ArmsCell, ArmsHost, ArmsLog, ArmsTerminal}
 use Rattle.duk_net.specs.Begin.{Begins, IsSent}
-use Rattle.duk_net.specs.Down.{IsToldOf, TakesAnswer}
+use Rattle.duk_net.specs.Down.{ReportsAnswerOf, TakesAnswer}
 use Rattle.duk_net.specs.Load.{IsGiven, TakesLoad}
 use Rattle.duk_net.specs.Restart.{IsHostLeft, RestartsHost, TakesRestart}
 use Rattle.duk_net.specs.Step.{Step}
@@ -63,7 +63,7 @@ pub data View {C L I : Type 0} (m : Meanings C L I) (old : WorldOf C L I) (outco
   repeat : (k n : ℕ) (ksn : Serial) (code : Code) → outcome ≡ came.Repeated n ksn code → UpRepeated m old k n ksn code new → View m old outcome new
   refuse : (k n : ℕ) (ksn : Serial) (reason : ℕ) → outcome ≡ came.Refused n ksn reason → UpRefused m old k n ksn reason new → View m old outcome new
   done : (k t : ℕ) (frame : Frame) (ksn : Serial) (code : Code) → outcome ≡ came.Done t ksn code → IsAt old.answers k frame
-      → ChangesTerminal t (IsToldOf frame ksn (answer.Done code)) old new → View m old outcome new
+      → ChangesTerminal t (ReportsAnswerOf frame ksn (answer.Done code)) old new → View m old outcome new
   host : TouchesHost m old.host new.host → new ≡ record old { host = new.host } → IsQuiet outcome → View m old outcome new
 
 -- a terminal that goes on in one way goes on in another that follows
@@ -95,7 +95,7 @@ goes_nowhere t P old new change stays =
 quiet_as : (outcome other : Outcome) → outcome ≡ other → IsQuiet other → IsQuiet outcome
 quiet_as outcome other is quiet = subst IsQuiet (sym is) quiet
 
--- a load is told by a quiet outcome
+-- a load is reported by a quiet outcome
 quiet_load : {C : Type 0} (meaning : CellMeaning C) (t : ℕ) (asked : Loading) (outcome : Outcome) (before after : TerminalOf C) → TakesLoad meaning t asked outcome before after → IsQuiet outcome
 quiet_load meaning at asked (came.Sent t k ksn) before after takes = absurd takes
 quiet_load meaning at asked (came.Accepted k ksn code) before after takes = absurd takes
@@ -120,7 +120,7 @@ up_view m old which _ new ups = absurd ups
 
 -- what a terminal makes of an answer changes it only where it is done
 down_view : {C L I : Type 0} (m : Meanings C L I) (old : WorldOf C L I) (k t : ℕ) (outcome : Outcome) (new : WorldOf C L I) (frame : Frame) → IsAt old.answers k frame → ChangesTerminal t (TakesAnswer t frame outcome) old new → View m old outcome new
-down_view m old which at (came.Done u ksn code) new frame sent change = done which at frame ksn code (ap (λ n. came.Done n ksn code) change.terminal.changed.0) sent (record { terminal = acts_as at _ (IsToldOf frame ksn (answer.Done code)) old.terminals new.terminals (λ before after takes. takes.1) change.terminal; rest = change.rest })
+down_view m old which at (came.Done u ksn code) new frame sent change = done which at frame ksn code (ap (λ n. came.Done n ksn code) change.terminal.changed.0) sent (record { terminal = acts_as at _ (ReportsAnswerOf frame ksn (answer.Done code)) old.terminals new.terminals (λ before after takes. takes.1) change.terminal; rest = change.rest })
 down_view m old which at (came.GotRefusal t ksn reason) new frame sent change = nothing (goes_nowhere at _ old new change (λ before after takes. takes.1.after_is)) tt
 down_view m old which at (came.TermFaulted t why) new frame sent change = nothing (goes_nowhere at _ old new change (λ before after takes. takes.2)) tt
 down_view m old which at _ new frame sent change = absurd change.terminal.changed

@@ -3,7 +3,7 @@ use Rattle.duk_tdes.specs.Cbc.{cbc_decrypted}
 use Rattle.duk_block.specs.Derived.{derived_key, encryption_usage}
 use Rattle.duk_block.specs.Faults.{Carries, HasPayload}
 use Rattle.duk_block.specs.KeyBlock.{payload_of}
-use Rattle.duk_block.proofs.OneBody.{HasParts-same}
+use Rattle.duk_block.proofs.OneSealedPart.{HasParts-same}
 use Rattle.duk_block.proofs.TextPlaces.{Carries-same, IsBlock-mac, fields_at, header_same, payload_at}
 use Rattle.duk_block.proofs.laws.one_reading.Goals as goal
 
@@ -17,8 +17,8 @@ returns c = λ text protection_key header other_header key other_key is_key bloc
     let one : HasPayload text protection_key payload = payload_at cbc.cipher_length text protection_key header key block derived in
     let two : HasPayload text protection_key other_payload = payload_at cbc.cipher_length text protection_key other_header other_key other derived in
     let same = HasParts-same text one.front one.ciphertext one.mac two.front two.ciphertext two.mac one.parts two.parts in
-    let one_mac = IsBlock-mac one.parts.body one.ciphertext one.mac one.parts.body_is_read one.parts.mac_width in
-    let two_mac = IsBlock-mac two.parts.body two.ciphertext two.mac two.parts.body_is_read two.parts.mac_width in
+    let one_mac = IsBlock-mac one.parts.sealed_part one.ciphertext one.mac one.parts.sealed_part_is_read one.parts.mac_width in
+    let two_mac = IsBlock-mac two.parts.sealed_part two.ciphertext two.mac two.parts.sealed_part_is_read two.parts.mac_width in
     let opened : payload ≡ cbc_decrypted enciphering one.mac one.ciphertext =
     sym (cbc.deciphered enciphering one.mac payload derived one_mac one.payload_is) ∙ ap (cbc_decrypted enciphering one.mac) (sym one.enciphered) in
     let other_opened : other_payload ≡ cbc_decrypted enciphering two.mac two.ciphertext =

@@ -33,19 +33,19 @@ returns-in-Some-clause-written g c =
         front = front;
         ciphertext = sealed.ciphertext;
         mac = sealed.mac;
-        body = encode_upper (sealed.ciphertext ++ sealed.mac);
+        sealed_part = encode_upper (sealed.ciphertext ++ sealed.mac);
         padding = c.args.pad.now;
         laid_out =
             sealed.laid_out
             ∙ append_assoc front (encode_upper sealed.ciphertext) (encode_upper sealed.mac)
-            ∙ ap (λ body. front ++ body) (sym (encode_with-append upper_digits sealed.ciphertext sealed.mac));
+            ∙ ap (λ sealed_part. front ++ sealed_part) (sym (encode_with-append upper_digits sealed.ciphertext sealed.mac));
         front_is = c.text.ensures ∙ ap (λ n. header_text n header 0 (codes "00")) (sym total) ∙ sym (append-nil (header_text (length text) header 0 (codes "00")));
         length_has_four_digits = omega (arith, total, c.in-Some.ensures.0.most, c.in-Some.ensures.1);
         header_is = is_header;
         reserved_width = refl;
         count_has_two_digits = lit< tt;
         each_optional = All-nil IsOptionalBlock;
-        body_is_read = IsHexadecimal-encode_upper (sealed.ciphertext ++ sealed.mac) (All-append (λ byte. byte < 2 ^ 8) sealed.ciphertext sealed.mac sealed.ciphertext_bytes sealed.mac_bytes);
+        sealed_part_is_read = IsHexadecimal-encode_upper (sealed.ciphertext ++ sealed.mac) (All-append (λ byte. byte < 2 ^ 8) sealed.ciphertext sealed.mac sealed.ciphertext_bytes sealed.mac_bytes);
         mac_width = sealed.mac_width;
         key_is = c.payload_with.ensures.key;
         payload_is = sealed.payload_is;

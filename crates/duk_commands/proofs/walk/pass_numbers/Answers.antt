@@ -15,7 +15,7 @@ loop-passed-preserved c =
     let taken = c.in_ok-use_next.ensures.taken in
     record {
       same_iksn = taken.same_iksn ∙ c.loop-passed.invariant.same_iksn;
-      stands = λ initial held. (c.in_ok-use_next.ensures.stands initial (c.loop-passed.invariant.stands initial held)).1;
+      future_keys = λ initial held. (c.in_ok-use_next.ensures.future_keys initial (c.loop-passed.invariant.future_keys initial held)).1;
       lines = λ line more count text printed.
           let next : c.loop-passed._passed + suc more ≡ c.loop-passed._passed + 1 + more = omega arith in
           subst (λ n. IsPassed line c.args.registers.counter n count text) next
@@ -25,7 +25,7 @@ loop-passed-preserved c =
 pub returns-clause-passed : goal.returns-clause-passed
 returns-clause-passed c = record {
   same_iksn = c.loop-passed.invariant.same_iksn;
-  stands = c.loop-passed.invariant.stands;
+  future_keys = c.loop-passed.invariant.future_keys;
   lines = λ line count text printed.
       let all : c.loop-passed._passed + 0 ≡ c.args.skip = omega arith in
       subst (λ n. IsPassed line c.args.registers.counter n count text) all (c.loop-passed.invariant.lines line 0 count text printed);

@@ -1,5 +1,5 @@
 use Rattle.std.proofs.Common.{◌≡◌, ℕ, List}
-use Rattle.duk_regs.specs.Registers.{StandsFor}
+use Rattle.duk_regs.specs.Registers.{AreFutureKeysOf}
 use Rattle.duk_commands.proofs.WalkedText.{GoesOn}
 use Rattle.duk_commands.proofs.walk.pass_numbers.Given as goal
 
@@ -7,6 +7,6 @@ use Rattle.duk_commands.proofs.walk.pass_numbers.Given as goal
 abbrev pub invariant-loop-passed : goal.invariant-loop-passed
 invariant-loop-passed l = record {
   same_iksn : l.registers.iksn ≡ l.fn.registers.iksn;
-  stands : (initial : List ℕ) → StandsFor initial l.fn.registers → StandsFor initial l.registers;
+  future_keys : (initial : List ℕ) → AreFutureKeysOf initial l.fn.registers → AreFutureKeysOf initial l.registers;
   lines : GoesOn l.fn.registers l.registers l._passed;
 }

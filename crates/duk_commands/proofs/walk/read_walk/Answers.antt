@@ -15,7 +15,7 @@ returns-clause-loaded c =
         skip_read = search rules;
       },
       record {
-        stands = c.load-registers.ensures.stands;
+        future_keys = c.load-registers.ensures.future_keys;
         same_iksn = c.load-registers.ensures.iksn;
         first = c.load-registers.ensures.counter;
         same_skip = refl;

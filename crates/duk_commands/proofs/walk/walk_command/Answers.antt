@@ -8,7 +8,7 @@ returns-in-Ok-write_walk-clause-done g c zero =
     let loaded = c.in-Ok.ensures.loaded in
     let asked = loaded.0 in
     let walk = c.in-Ok.walk in
-    let has = c.in-Ok-write_walk.ensures.written asked.initial loaded.2.stands in
+    let has = c.in-Ok-write_walk.ensures.written asked.initial loaded.2.future_keys in
     let passed = as_asked asked c.args.alone walk.registers walk.skip walk.count walk.count has.0 loaded.2 has.1 in
     let line = number_line asked.initial asked.iksn c.args.alone in
     record {
@@ -29,7 +29,7 @@ returns-in-Err-write_walk-clause-not_done g c one =
     let loaded = c.in-Ok.ensures.loaded in
     let asked = loaded.0 in
     let walk = c.in-Ok.walk in
-    let has = c.in-Err-write_walk.ensures.cut asked.initial loaded.2.stands in
+    let has = c.in-Err-write_walk.ensures.cut asked.initial loaded.2.future_keys in
     inr (record {
       text = has.1;
       asked = record {
@@ -39,5 +39,5 @@ returns-in-Err-write_walk-clause-not_done g c one =
         not_more = subst (λ n. has.0 ≤ n) loaded.2.same_count has.2;
         lines = as_asked asked c.args.alone walk.registers walk.skip walk.count has.0 has.1 loaded.2 has.3;
       };
-      failed = record { prefix = has.4; line = c.tell-in-Err-write_walk.ensures.line };
+      failed = record { prefix = has.4; line = c.report-in-Err-write_walk.ensures.line };
     })

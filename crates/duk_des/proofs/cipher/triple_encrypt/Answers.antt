@@ -1,6 +1,6 @@
 use Rattle.std.proofs.Common.{◌≡◌, Bool, List, reverse, sym, ap, ◌∙◌}
 use Rattle.duk_des.specs.Bits.{bits_of_bytes, bytes_of_bits}
-use Rattle.duk_des.specs.Des.{decipher, decrypted, des_computation, encipher, encrypted}
+use Rattle.duk_des.specs.Des.{decipher, des_decrypted, des_computation, encipher, des_encrypted}
 use Rattle.duk_des.proofs.BitsOfNumbers.{bits_of_bytes-bytes_of_bits}
 use Rattle.duk_des.proofs.DecipheringUndoes.{length-des_computation}
 use Rattle.duk_des.proofs.SideBySide.{both}
@@ -11,7 +11,7 @@ read_back : (keys : List (List Bool)) (block : List Bool) → bits_of_bytes (byt
 read_back keys block = bits_of_bytes-bytes_of_bits 8 _ (length-des_computation keys block)
 
 pub returns : goal.returns
-unfolding encipher decipher encrypted decrypted
+unfolding encipher decipher des_encrypted des_decrypted
 returns c =
     rw (← c.first.view_is, ← c.second.view_is, ← c.third.view_is)
     (let block = bits_of_bytes c.args.block in

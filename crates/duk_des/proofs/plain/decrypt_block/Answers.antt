@@ -1,13 +1,13 @@
 use Rattle.std.proofs.Common.{reverse, ap, ◌∙◌}
 use Rattle.duk_des.specs.Bits.{bits_of_bytes, bytes_of_bits}
-use Rattle.duk_des.specs.Des.{des_computation, round_keys, decipher, decrypted}
+use Rattle.duk_des.specs.Des.{des_computation, round_keys, decipher, des_decrypted}
 use Rattle.duk_des.proofs.BitsOfNumbers.{bits_of_bytes-bytes_of_bits}
 use Rattle.duk_des.proofs.SideBySide.{both}
 use Rattle.duk_des.proofs.DecipheringUndoes.{length-des_computation}
 use Rattle.duk_des.proofs.plain.decrypt_block.Goals as goal
 
 pub returns : goal.returns
-unfolding decipher decrypted
+unfolding decipher des_decrypted
 returns c =
     let keys = c.reverse.ensures.after ∙ ap reverse (c.round_keys-keys.ensures ∙ ap round_keys c.bits_of_bytes.ensures) in
     let bits = c.crypt_block.ensures ∙ both des_computation keys c.bits_of_bytes-2.ensures in

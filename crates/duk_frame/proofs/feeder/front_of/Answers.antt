@@ -7,4 +7,4 @@ returns c =
     let rest = c.args.rest.now in
     let piece = c.args.piece.now in
     let short = part_is_short rest piece c.requires in
-    ends_frame rest piece c.in-Some.body c.in-Some.ensures.said (omega arith) (omega (arith, short, c.in-Some.ensures.said)) (omega arith)
+    ends_frame rest piece c.in-Some.contents c.in-Some.ensures.said (omega arith) (omega (arith, short, c.in-Some.ensures.said)) (omega arith)

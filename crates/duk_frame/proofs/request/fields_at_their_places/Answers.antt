@@ -40,13 +40,13 @@ returns-clause-text c =
     let digits = c.from-digits.result in
     let rest = c.split_at.result.1.now in
     let size : length bytes ≡ 35 + digits = omega arith in
-    let behind : rest ≡ drop digits (drop 15 bytes) = c.split_at.ensures.back ∙ ap (drop digits) (take_rest bytes 15) in
+    let following : rest ≡ drop digits (drop 15 bytes) = c.split_at.ensures.back ∙ ap (drop digits) (take_rest bytes 15) in
     let fit : (i : ℕ) → get_or rest i 0 < 2 ^ 8 = λ i.
     let at : get_or rest i 0 ≡ get_or bytes (15 + (digits + i)) 0 =
-    ap (λ xs. get_or xs i 0) behind ∙ get_or-drop digits (drop 15 bytes) i 0 ∙ get_or-drop 15 bytes (digits + i) 0 in
+    ap (λ xs. get_or xs i 0) following ∙ get_or-drop digits (drop 15 bytes) i 0 ∙ get_or-drop 15 bytes (digits + i) 0 in
     let byte = c.type_inv.bytes (15 + (digits + i)) in
     omega arith in
-    let least : 4 ≤ length rest = omega (arith, ap length behind, length-drop digits (drop 15 bytes), length-drop 15 bytes) in
+    let least : 4 ≤ length rest = omega (arith, ap length following, length-drop digits (drop 15 bytes), length-drop 15 bytes) in
     text_at bytes rest
     (record {
       ksn = c.from_bytes.result;
@@ -58,7 +58,7 @@ returns-clause-text c =
     digits size (sym c.from-digits.ensures)
     (c.from_bytes.ensures.bytes ∙ c.array_of.ensures.bytes)
     (c.in_ok-read_pan.ensures.found ∙ c.split_at.ensures.front ∙ ap (take digits) (take_rest bytes 15))
-    behind
+    following
     (ap (big_bytes 4) c.read_u32.ensures ∙ four_bytes rest least fit)
     c.array_of-2.ensures.bytes
     (c.array_of-3.ensures.bytes ∙ take_rest rest 12)

@@ -1,5 +1,5 @@
 use Rattle.std.proofs.Common.{◌<◌, ◌≤◌, length, take, sym, ap, ◌∙◌, arith}
-use Rattle.duk_des.specs.Des.{encrypted, decrypted}
+use Rattle.duk_des.specs.Des.{des_encrypted, des_decrypted}
 use Rattle.duk_tdes.specs.Blocks.{blocks_of}
 use Rattle.duk_tdes.specs.Key.{xor_bytes}
 use Rattle.duk_tdes.specs.Tdes.{second_key}
@@ -10,7 +10,7 @@ use Rattle.duk_mac.proofs.retail_mac.retail.Goals as goal
 
 pub loop-rest-preserved : goal.loop-rest-preserved
 loop-rest-preserved c =
-    let enciphered = encrypted c.new-left.result in
+    let enciphered = des_encrypted c.new-left.result in
     let chain = c.loop-rest.chain in
     let rest = c.loop-rest.rest.now in
     let long : 8 < length rest = omega arith in
@@ -26,7 +26,7 @@ loop-rest-preserved c =
 pub returns : goal.returns
 unfolding retail_of
 returns c =
-    let enciphered = encrypted c.new-left.result in
+    let enciphered = des_encrypted c.new-left.result in
     let chain = c.loop-rest.chain in
     let rest = c.loop-rest.rest.now in
     let short : length rest ≤ 8 = omega arith in
@@ -36,5 +36,5 @@ returns c =
     let left = c.new-left.ensures ∙ c.bytes.ensures.bytes ∙ c.halves-left.ensures.left in
     let right = c.bytes-2.ensures.bytes ∙ c.halves-left.ensures.right in
     c.encrypt.ensures.bytes
-    ∙ ap enciphered (c.decrypt_block.ensures.bytes ∙ ap (λ key. decrypted key c.encrypt-chain-2.result) right ∙ ap (decrypted (second_key c.args.key.now)) last)
-    ∙ ap (λ key. encrypted key (decrypted (second_key c.args.key.now) (chained (encrypted key) zero_block (blocks_of (zero_filled c.args.message.now))))) left
+    ∙ ap enciphered (c.decrypt_block.ensures.bytes ∙ ap (λ key. des_decrypted key c.encrypt-chain-2.result) right ∙ ap (des_decrypted (second_key c.args.key.now)) last)
+    ∙ ap (λ key. des_encrypted key (des_decrypted (second_key c.args.key.now) (chained (des_encrypted key) zero_block (blocks_of (zero_filled c.args.message.now))))) left

@@ -9,7 +9,7 @@ laws_of g c = record {
   registers = record {
     fits = c.bits.ensures.usable;
     set = c.transactions.ensures.set;
-    stands = c.transactions.ensures.stands;
+    future_keys = c.transactions.ensures.future_keys;
     again = c.found_again.ensures.of_key;
   };
   reading = c.one_reading.ensures.request;

@@ -1,13 +1,13 @@
 use Rattle.std.proofs.Common.{inl}
 use Rattle.duk_pin.specs.PinBlock.{pin_block}
 use Rattle.duk_net.specs.World.{meanings_of}
-use Rattle.duk_net.proofs.own_key.FramesUnderOwnKeys.{KeyLaws, leads_refuses, reached_own}
+use Rattle.duk_net.proofs.own_key.OwnKey.{KeyLaws, leads_refuses, reached_own}
 use Rattle.duk_net.proofs.laws.own_key.Goals as goal
 use Rattle.duk_net.proofs.laws.own_key.Goals.{After-inverse}
 
 laws_of : (g : _) → After-inverse g → KeyLaws (meanings_of g.C.Cell.meaning g.L.UsedLog.meaning g.I.Issuer.decides)
 laws_of g c = record {
-  stands = c.no_used_key.ensures.above;
+  future_keys = c.no_used_key.ensures.above_used;
   one_request = c.one_reading.ensures.request;
   one_answer = c.one_reading.ensures.answer;
   refusals = c.refusals.ensures.request;
@@ -24,11 +24,11 @@ laws_of g c = record {
       c.inverse.ensures.deciphered key (pin_block pin pan) (record { length_is = inl is_key.size_is; bytes_fit = is_key.bytes_fit }) (record { eight = block.0; bytes_fit = block.1 });
 }
 
-pub returns-clause-requests : goal.returns-clause-requests
-returns-clause-requests g c = λ world reached. (reached_own _ (laws_of g c) world reached).0
+pub returns-clause-own_key_of_requests : goal.returns-clause-own_key_of_requests
+returns-clause-own_key_of_requests g c = λ world reached. (reached_own _ (laws_of g c) world reached).0
 
-pub returns-clause-replies : goal.returns-clause-replies
-returns-clause-replies g c = λ world reached. (reached_own _ (laws_of g c) world reached).1
+pub returns-clause-own_key_of_replies : goal.returns-clause-own_key_of_replies
+returns-clause-own_key_of_replies g c = λ world reached. (reached_own _ (laws_of g c) world reached).1
 
-pub returns-clause-refused : goal.returns-clause-refused
-returns-clause-refused g c = leads_refuses _ (laws_of g c)
+pub returns-clause-refused_as_used_or_full : goal.returns-clause-refused_as_used_or_full
+returns-clause-refused_as_used_or_full g c = leads_refuses _ (laws_of g c)

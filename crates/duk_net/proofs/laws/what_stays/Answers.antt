@@ -1,5 +1,5 @@
 use Rattle.duk_net.proofs.worlds.ReachedByMoves.{reached_leads}
-use Rattle.duk_net.proofs.used_once.WorldStaysAboveUsed.{leads_keys_stay, leads_owners_stay}
+use Rattle.duk_net.proofs.used_once.UsedOnce.{leads_keys_stay, leads_owners_stay}
 use Rattle.duk_net.proofs.laws.what_stays.Goals as goal
 
 pub returns-clause-owners : goal.returns-clause-owners

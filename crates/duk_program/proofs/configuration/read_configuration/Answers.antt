@@ -1,8 +1,8 @@
 use Rattle.std.proofs.Common.{inr, refl}
 use Rattle.duk_program.proofs.configuration.read_configuration.Goals as goal
 
-pub returns-clause-told : goal.returns-clause-told
-returns-clause-told g c = record {
+pub returns-clause-reported : goal.returns-clause-reported
+returns-clause-reported g c = record {
   line = _;
   refused = inr (record {
     bytes = _;
@@ -11,5 +11,5 @@ returns-clause-told g c = record {
     cause = rw c.as_slice.ensures.value at c.in-Err-read_config.ensures.refused;
     line_is = refl;
   });
-  line_told = c.tell.ensures.line;
+  line_reported = c.report.ensures.line;
 }

@@ -14,7 +14,7 @@ returns-in-Exit-eq0-clause-done g c zero =
 pub returns-in-Exit-eq0-clause-not_done : goal.returns-in-Exit-eq0-clause-not_done
 returns-in-Exit-eq0-clause-not_done g c one = inr (record {
   written = _;
-  told = _;
+  reported = _;
   answered = c.in-Exit-eq0.ensures.done c.in-Exit-eq0.field-0-test;
   lost = (c.hand_on.ensures.lost one).flush;
   line = c.writes.ensures.tried_later _ _ _ _ (c.in-Exit-eq0.ensures.no_fault c.in-Exit-eq0.field-0-test) (c.hand_on.ensures.lost one).line;

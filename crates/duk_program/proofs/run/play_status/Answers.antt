@@ -12,7 +12,7 @@ returns-in-Ok-clause-done g c zero = record {
 pub returns-in-Err-NoMemory-clause-not_done : goal.returns-in-Err-NoMemory-clause-not_done
 returns-in-Err-NoMemory-clause-not_done g c one =
     let refused = rw c.in-Err-NoMemory.field-0-is at c.in-Err-NoMemory.ensures.refused in
-    elim c.refuse_memory.ensures.told [
+    elim c.refuse_memory.ensures.reported [
       | inl kept ↦ inl (record { why = NoMemory; refused = script_refused_still _ _ _ _ _ refused kept.0; line = kept.1 })
-      | inr lost ↦ inr (record { written = _; played = inr refused; tells = lost })
+      | inr lost ↦ inr (record { written = _; played = inr refused; reports = lost })
     ]

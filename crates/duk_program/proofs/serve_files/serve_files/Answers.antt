@@ -1,8 +1,8 @@
 use Rattle.std.proofs.Common.{rules, inr}
 use Rattle.duk_program.proofs.serve_files.serve_files.Goals as goal
 
-pub returns-clause-told : goal.returns-clause-told
-returns-clause-told g c one = inr (record {
+pub returns-clause-reported : goal.returns-clause-reported
+returns-clause-reported g c one = inr (record {
   config = _;
   configured = c.in-Ok.ensures.configured;
   failed = search (rules, c.serve_on_file.ensures.not_done one);

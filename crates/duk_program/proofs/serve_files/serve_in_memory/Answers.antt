@@ -6,5 +6,5 @@ returns-in-Err-clause-not_done g c one = inl (record {
   why = _;
   written = _;
   refused = inl (record { idle = record { unread = refl; quiet = refl }; memory = refl });
-  tells = inl (c.writes.ensures.untouched _, c.tell.ensures.line);
+  reports = inl (c.writes.ensures.untouched _, c.report.ensures.line);
 })

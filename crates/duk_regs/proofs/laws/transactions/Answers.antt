@@ -1,4 +1,4 @@
-use Rattle.duk_regs.proofs.FrontierToFrontier.{TreeLaws, taken_key, taken_stands, taken_set}
+use Rattle.duk_regs.proofs.FrontierToFrontier.{TreeLaws, taken_key, taken_future_keys, taken_set}
 use Rattle.duk_regs.proofs.laws.transactions.Goals as goal
 
 pub returns : goal.returns
@@ -11,4 +11,4 @@ returns c =
       child = c.children.ensures.child;
       child_value = c.children.ensures.value;
     } in
-    record { key = taken_key laws; stands = taken_stands laws; set = taken_set laws }
+    record { key = taken_key laws; future_keys = taken_future_keys laws; set = taken_set laws }

@@ -1,4 +1,4 @@
--- The first numbers stand in their places, and zeros behind them.
+-- The first numbers stand in their places, and zeros after them.
 use Rattle.std.proofs.Common.{◌≡◌, ◌+◌, ◌-◌, ◌*◌, ◌∷◌, drop, length, map, replicate, take}
 use Rattle.std.specs.List.{concat}
 use Rattle.duk_tree.specs.Serial.{iksn_bytes}

@@ -8,19 +8,19 @@ returns-in_err-command-clause-every c = λ event is.
 
 pub returns-in-load-clause-every : goal.returns-in-load-clause-every
 returns-in-load-clause-every c =
-    load_every c.args.line.now c.in_ok-command.words.now c.load.result (rw c.in-load.is at c.in_ok-command.ensures.found) c.load.ensures.every
+    load_every c.args.line.now c.in_ok-command.tokens.now c.load.result (rw c.in-load.is at c.in_ok-command.ensures.found) c.load.ensures.every
 
 pub returns-in-begin-clause-every : goal.returns-in-begin-clause-every
 returns-in-begin-clause-every c =
-    begin_every c.args.line.now c.in_ok-command.words.now c.begin.result (rw c.in-begin.is at c.in_ok-command.ensures.found) c.begin.ensures.every
+    begin_every c.args.line.now c.in_ok-command.tokens.now c.begin.result (rw c.in-begin.is at c.in_ok-command.ensures.found) c.begin.ensures.every
 
 pub returns-in-down-clause-every : goal.returns-in-down-clause-every
 returns-in-down-clause-every c =
-    down_every c.args.line.now c.in_ok-command.words.now c.down.result (rw c.in-down.is at c.in_ok-command.ensures.found) c.down.ensures.every
+    down_every c.args.line.now c.in_ok-command.tokens.now c.down.result (rw c.in-down.is at c.in_ok-command.ensures.found) c.down.ensures.every
 
 pub returns-in-arm-clause-every : goal.returns-in-arm-clause-every
 returns-in-arm-clause-every c =
-    arm_every c.args.line.now c.in_ok-command.words.now c.arm.result (rw c.in-arm.is at c.in_ok-command.ensures.found) c.arm.ensures.every
+    arm_every c.args.line.now c.in_ok-command.tokens.now c.arm.result (rw c.in-arm.is at c.in_ok-command.ensures.found) c.arm.ensures.every
 
 pub returns-in_default-clause-every : goal.returns-in_default-clause-every
 returns-in_default-clause-every c = λ event is.

@@ -1,5 +1,5 @@
 use Rattle.duk_net.specs.World.{meanings_of}
-use Rattle.duk_script.proofs.CalmFirstWorld.{CallLaws, fails_once_armed, tells_no_damage}
+use Rattle.duk_script.proofs.CalmFirstWorld.{CallLaws, fails_once_armed, reports_no_damage}
 use Rattle.duk_script.proofs.laws.printed_faults.Goals as goal
 use Rattle.duk_script.proofs.laws.printed_faults.Goals.{After-what_stays}
 
@@ -13,7 +13,7 @@ laws_of g c = record {
 }
 
 pub returns-clause-no_damage : goal.returns-clause-no_damage
-returns-clause-no_damage g c first events outcomes played = tells_no_damage _ first events outcomes (laws_of g c) played
+returns-clause-no_damage g c first events outcomes played = reports_no_damage _ first events outcomes (laws_of g c) played
 
 pub returns-clause-once_armed : goal.returns-clause-once_armed
 returns-clause-once_armed g c end' first events outcomes played = fails_once_armed _ first events outcomes (laws_of g c) played end'

@@ -2,7 +2,7 @@ use Rattle.std.proofs.Common.{◌≡◌, ◌≤◌, ◌-◌, ◌%◌, ◌++◌, 
 use Rattle.duk_tdes.specs.Cbc.{cbc_encrypted}
 use Rattle.duk_tdes.proofs.chaining.encrypt_chain.Given as goal
 
--- what is done, and behind it what is to be done
+-- what is done, and after it what is to be done
 abbrev pub invariant-loop-place : goal.invariant-loop-place
 invariant-loop-place g l = record {
   kept : length l.bytes ≡ length l.fn.bytes;

@@ -17,7 +17,7 @@ pub returns-clause-again : goal.returns-clause-again
 returns-clause-again c = λ set is_set sizes. found_again set (written c set is_set sizes)
 
 pub returns-clause-of_key : goal.returns-clause-of_key
-returns-clause-of_key c = λ initial set is_key is_set stands. found_again set (written c set is_set (c.sixteen_bytes.ensures initial set is_key is_set stands))
+returns-clause-of_key c = λ initial set is_key is_set future_keys. found_again set (written c set is_set (c.sixteen_bytes.ensures initial set is_key is_set future_keys))
 
 pub returns-clause-left : goal.returns-clause-left
 returns-clause-left c = λ set left key takes sizes.

@@ -1,7 +1,7 @@
 use Rattle.std.proofs.Common.{rules}
-use Rattle.duk_host.specs.Handle.{AnswersAs, HandleRefused, IsReplied, IsToAccept, IsTold, IsToldReply, KeepRefused}
+use Rattle.duk_host.specs.Handle.{AnswersAs, HandleRefused, IsReplied, IsToAccept, IsVerdictOn, IsAcceptedVerdict, KeepRefused}
 use Rattle.duk_host.specs.Host.{HostOf, host_meaning_of}
-use Rattle.duk_host.proofs.AcceptedIsAnswered.{answers, answers_reply, if_err, if_ok, if_ok_both, refuses, reply_told, settles, to_accept}
+use Rattle.duk_host.proofs.AcceptedIsAnswered.{answers, answers_reply, if_err, if_ok, if_ok_both, refuses, reply_reported, settles, to_accept}
 use Rattle.duk_host.proofs.host.Host.answer.Goals as goal
 
 pub accept-requires : goal.accept-requires
@@ -18,14 +18,14 @@ returns-in-Fresh-clause-answered g c =
     let host : HostOf g.row.L.Denot g.row.I.Denot = record { keys = c.self.inside.hsm; issuer = c.self.inside.issuer; log = c.self.inside.log; state = c.self.inside.state } in
     let accept : IsToAccept meaning c.args.self.now c.in-Fresh.payment.request =
     rw (← c.self.view_is) (to_accept meaning host c.in-Some.running c.in-Fresh.payment.request c.room.result c.self.invariant.holds c.in-Some.is c.room.ensures c.in-Fresh.ensures.acceptable) in
-    if_ok_both (λ answered. IsReplied meaning c.args.bytes.now c.args.self.now c.accept.new.self c.in-Fresh.payment.request answered.frame.items) (λ answered. IsToldReply answered.frame.items answered.says)
+    if_ok_both (λ answered. IsReplied meaning c.args.bytes.now c.args.self.now c.accept.new.self c.in-Fresh.payment.request answered.frame.items) (λ answered. IsAcceptedVerdict answered.frame.items answered.says)
     (λ answered. AnswersAs meaning c.args.bytes.now c.args.self.now c.accept.new.self answered.frame.items answered.says)
     (λ answered replied. answers_reply meaning c.args.bytes.now c.args.self.now c.accept.new.self answered.frame.items answered.says (answers meaning c.args.bytes.now c.args.self.now c.accept.new.self c.in-Fresh.payment.request answered.frame.items accept c.in-Fresh.ensures.request replied))
-    c.accept.result c.accept.ensures.replied c.accept.ensures.told
+    c.accept.result c.accept.ensures.replied c.accept.ensures.reported
 
-pub returns-in-Fresh-clause-told : goal.returns-in-Fresh-clause-told
-returns-in-Fresh-clause-told g c =
-    if_ok (λ answered. IsToldReply answered.frame.items answered.says) (λ answered. IsTold answered.frame.items answered.says) (λ answered. reply_told answered.frame.items answered.says) c.accept.result c.accept.ensures.told
+pub returns-in-Fresh-clause-reported : goal.returns-in-Fresh-clause-reported
+returns-in-Fresh-clause-reported g c =
+    if_ok (λ answered. IsAcceptedVerdict answered.frame.items answered.says) (λ answered. IsVerdictOn answered.frame.items answered.says) (λ answered. reply_reported answered.frame.items answered.says) c.accept.result c.accept.ensures.reported
 
 pub returns-in-Fresh-clause-refused : goal.returns-in-Fresh-clause-refused
 returns-in-Fresh-clause-refused g c =

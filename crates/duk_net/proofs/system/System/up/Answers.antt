@@ -12,7 +12,7 @@ returns-in-Ok-clause-outcome g c =
     let meaning = host_meaning_of g.L.UsedLog.meaning g.I.Issuer.decides in
     rw (← c.self.view_is, c.outcome_of-outcome.ensures) (up_answered _ _ c.args.k _ c.index.result.now c.in-Ok.answered.frame c.in-Ok.answered.says _
     (is_at requests.items c.args.k c.in-Some.sent c.len.result c.index.result.now c.in-Some.ensures.0 c.in-Some.ensures.1 (c.len.ensures ∙ requests.ok.0) c.index.ensures)
-    c.in-Ok.ensures.told (subst (λ bytes. AnswersAs meaning bytes c.self.inside.host c.answer.new.self c.in-Ok.answered.frame.items c.in-Ok.answered.says) c.as_slice.ensures.value c.in-Ok.ensures.answered)
+    c.in-Ok.ensures.reported (subst (λ bytes. AnswersAs meaning bytes c.self.inside.host c.answer.new.self c.in-Ok.answered.frame.items c.in-Ok.answered.says) c.as_slice.ensures.value c.in-Ok.ensures.answered)
     (record {
       number = ap (λ n. n + 1) (c.len-in-Ok.ensures ∙ c.reserve.new.self.ok.0 ∙ ap length c.reserve.ensures.items);
       rest = rw (c.push_within.ensures, c.reserve.ensures.items) refl;
@@ -22,10 +22,10 @@ pub returns-in-Err-clause-outcome : goal.returns-in-Err-clause-outcome
 returns-in-Err-clause-outcome g c =
     let requests = c.self.inside.requests in
     let meaning = host_meaning_of g.L.UsedLog.meaning g.I.Issuer.decides in
-    rw (← c.self.view_is) (if_ok _ _ (λ outcome told. rw told.0 (record {
+    rw (← c.self.view_is) (if_ok _ _ (λ outcome reported. rw reported.0 (record {
       request = c.index.result.now;
       sent = is_at requests.items c.args.k c.in-Some.sent c.len.result c.index.result.now c.in-Some.ensures.0 c.in-Some.ensures.1 (c.len.ensures ∙ requests.ok.0) c.index.ensures;
-      not_memory = told.1;
+      not_memory = reported.1;
       faulted = subst (λ bytes. HandleRefused meaning bytes c.self.inside.host c.answer.new.self c.in-Err.fault) c.as_slice.ensures.value c.in-Err.ensures.refused;
       rest = rw c.reserve.ensures.items refl;
     })) c.outcome_of_fault.result c.outcome_of_fault.ensures.other)

@@ -2,7 +2,7 @@ use Rattle.std.proofs.Common.{subst}
 use Rattle.std.proofs.lemmas.Result.{err_from_is_err_and}
 use Rattle.duk_store.specs.Restart.{RestartFailed, Restarted}
 use Rattle.duk_store.specs.SlotCell.{slot_cell_state}
-use Rattle.duk_store.specs.declared.slot.SlotState.TheVariants.{Stopped}
+use Rattle.duk_store.specs.declared.slot_format.SlotState.TheVariants.{Stopped}
 use Rattle.duk_store.proofs.CellOnDisk.{is_restarted, restart_failed}
 use Rattle.duk_store.proofs.slot_cell.SlotCellCell.restart.Goals as goal
 

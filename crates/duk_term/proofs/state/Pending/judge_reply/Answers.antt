@@ -3,8 +3,8 @@ use Rattle.duk_frame.specs.Answer.{IsReply}
 use Rattle.duk_term.specs.Reply.{reply_to}
 use Rattle.duk_term.proofs.state.Pending.judge_reply.Goals as goal
 
-pub returns-then-is_payment_reply-clause-told : goal.returns-then-is_payment_reply-clause-told
-returns-then-is_payment_reply-clause-told c state is_pending =
+pub returns-then-is_payment_reply-clause-reported : goal.returns-then-is_payment_reply-clause-reported
+returns-then-is_payment_reply-clause-reported c state is_pending =
     let same : c.args.ksn ≡ c.args.self.now.ksn = search rules in
     let reply = subst (λ ksn. IsReply c.args.bytes.now ksn c.args.code c.args.mac) same c.requires in
     let bytes_are : c.args.bytes.now ≡ reply_to c.args.self.now c.args.code =

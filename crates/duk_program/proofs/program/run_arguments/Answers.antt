@@ -1,0 +1,47 @@
+use Rattle.std.proofs.Common.{inl}
+use Rattle.duk_program.proofs.Answered.{program_done, program_not_done}
+use Rattle.duk_program.proofs.FaultIsReported.{files_reported, unserved_reported}
+use Rattle.duk_arguments.specs.declared.request.Request.TheVariants as request
+use Rattle.duk_program.proofs.program.run_arguments.Goals as goal
+
+pub returns-in-Exit-clause-done : goal.returns-in-Exit-clause-done
+returns-in-Exit-clause-done g c zero = program_done _ _ _ (c.in-Exit.ensures.done zero)
+
+pub returns-in-Exit-clause-not_done : goal.returns-in-Exit-clause-not_done
+returns-in-Exit-clause-not_done g c one = program_not_done _ _ _ (c.in-Exit.ensures.not_done one)
+
+pub returns-in-Run-clause-fault : goal.returns-in-Run-clause-fault
+returns-in-Run-clause-fault g c failed =
+    rw (← c.in-Run.ensures.silent tt) (files_reported _ (c.run_files.ensures.reported failed))
+
+pub returns-in-Run-clause-done : goal.returns-in-Run-clause-done
+returns-in-Run-clause-done g c zero = inl (record {
+  request = request.Run c.in-Run.config c.in-Run.script;
+  asked = c.in-Run.ensures.asked;
+  done = rw (c.in-Run.ensures.quiet tt, c.in-Run.ensures.silent tt) at (c.run_files.ensures.done zero);
+})
+
+pub returns-in-Run-clause-not_done : goal.returns-in-Run-clause-not_done
+returns-in-Run-clause-not_done g c one = inl (record {
+  request = request.Run c.in-Run.config c.in-Run.script;
+  asked = c.in-Run.ensures.asked;
+  not_done = rw (c.in-Run.ensures.quiet tt, c.in-Run.ensures.silent tt) at (c.run_files.ensures.reported one);
+})
+
+pub returns-in-Serve-clause-fault : goal.returns-in-Serve-clause-fault
+returns-in-Serve-clause-fault g c failed =
+    rw (← c.in-Serve.ensures.silent tt) (unserved_reported _ _ (c.serve_files.ensures.reported failed))
+
+pub returns-in-Serve-clause-done : goal.returns-in-Serve-clause-done
+returns-in-Serve-clause-done g c zero = inl (record {
+  request = request.Serve c.in-Serve.config c.in-Serve.log;
+  asked = c.in-Serve.ensures.asked;
+  done = rw (c.in-Serve.ensures.quiet tt, c.in-Serve.ensures.silent tt) at (c.serve_files.ensures.done zero);
+})
+
+pub returns-in-Serve-clause-not_done : goal.returns-in-Serve-clause-not_done
+returns-in-Serve-clause-not_done g c one = inl (record {
+  request = request.Serve c.in-Serve.config c.in-Serve.log;
+  asked = c.in-Serve.ensures.asked;
+  not_done = rw (c.in-Serve.ensures.quiet tt, c.in-Serve.ensures.silent tt) at (c.serve_files.ensures.reported one);
+})

@@ -1,9 +1,0 @@
-use Rattle.duk_words.proofs.WrittenRequests.{all_made}
-use Rattle.duk_words.proofs.laws.written_requests.Goals as goal
-
-pub returns : goal.returns
-returns c = record {
-  taken = λ program request plain. (all_made program request plain).taken;
-  asks = λ program request plain. (all_made program request plain).asks;
-  only = λ program request other plain. (all_made program request plain).only other;
-}

@@ -1,9 +1,0 @@
-//! The words of the command line, read with `clap`.
-#![tactic(auto)]
-
-mod commands;
-mod help;
-pub mod laws;
-mod request;
-
-pub use request::{NoRequest, Request, read_request};
