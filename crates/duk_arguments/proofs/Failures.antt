@@ -7,7 +7,8 @@ use Rattle.clap.specs.Words.{App, IsAmong, Text, fault_of, is_simple_and_free, s
 use Rattle.clap.specs.declared.parser.matches.ArgMatches.{ArgMatches}
 use Rattle.clap.specs.declared.error.kind.ErrorKind.{ErrorKind}
 use Rattle.clap.specs.declared.error.kind.ErrorKind.TheVariants.{OutOfMemory}
-use Rattle.duk_arguments.specs.Asked.{IsReportedAs, MayFailBy, IsNoRequestOf, is_shown}
+use Rattle.duk_arguments.specs.Asked.{IsNoRequestOf, is_shown}
+use Rattle.duk_arguments.specs.inner.Asked.{IsReportedAs, MayFailBy}
 use Rattle.duk_arguments.specs.CommandLine.{command_line}
 use Rattle.duk_arguments.specs.declared.request.NoRequest.{NoRequest}
 use Rattle.duk_arguments.specs.declared.request.NoRequest.TheVariants as answer

@@ -1,13 +1,12 @@
 -- What the arguments of the command line ask for: this project's own, over the matches of the crate
 -- `clap`.
-use Rattle.std.specs.Prelude.{◌≡◌, ◌≢◌, ◌⊎◌, ⊤, List, Bool, Option, Some, None, IsSomeAnd, [], map}
+use Rattle.std.specs.Prelude.{◌≡◌, ◌⊎◌, ⊤, List, Bool, Option, Some, None, IsSomeAnd, [], map}
 use Rattle.std.specs.Prelude.{true, false, not, codes, String, string_bytes}
 use Rattle.std.specs.List.{list_any}
 use Rattle.std.specs.Option.{option_map}
-use Rattle.clap.specs.Words.{IsAmong, Row, Text, fault_of, first_of, one_of, subcommand_of}
+use Rattle.clap.specs.Words.{Row, Text, fault_of, first_of, one_of, subcommand_of}
 use Rattle.clap.specs.declared.error.kind.ErrorKind.{ErrorKind}
 use Rattle.clap.specs.declared.error.kind.ErrorKind.TheVariants.{DisplayHelp, DisplayVersion}
-use Rattle.clap.specs.declared.error.kind.ErrorKind.TheVariants.{MissingSubcommand, OutOfMemory}
 use Rattle.duk_arguments.specs.CommandLine.{command_line}
 use Rattle.duk_arguments.specs.declared.request.NoRequest.{NoRequest}
 use Rattle.duk_arguments.specs.declared.request.NoRequest.TheVariants as answer
@@ -88,16 +87,3 @@ abbrev pub IsNoRequestOf : List Text → NoRequest → Type 0
 IsNoRequestOf arguments (answer.Help text) = AskForHelp arguments
 IsNoRequestOf arguments (answer.Refused text) = AreRefused arguments
 IsNoRequestOf arguments answer.NoMemory = ⊤
-
--- the kinds of error by which no request is found in the arguments
-abbrev pub MayFailBy : List Text → ErrorKind → Type 0
-MayFailBy arguments kind = (kind ≡ OutOfMemory)
-    ⊎ (IsAmong kind (fault_of command_line arguments)
-    ⊎ ((kind ≡ MissingSubcommand)
-    × ((fault_of command_line arguments ≡ []) × AskForNothing arguments)))
-
--- what an error of this kind is reported as
-abbrev pub IsReportedAs : ErrorKind → NoRequest → Type 0
-IsReportedAs kind (answer.Help text) = is_shown kind ≡ true
-IsReportedAs kind (answer.Refused text) = (is_shown kind ≡ false) × (kind ≢ OutOfMemory)
-IsReportedAs kind answer.NoMemory = ⊤

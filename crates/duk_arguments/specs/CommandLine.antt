@@ -1,13 +1,8 @@
 -- The program's command line: this project's own, as a command of the crate `clap`.
-use Rattle.std.specs.Prelude.{◌≡◌, ◌∷◌, [], List, Some, false, true, codes}
-use Rattle.clap.specs.Words.{App, Rule, Shape, Text, new_rule, rule_of, shape_of}
+use Rattle.std.specs.Prelude.{◌∷◌, [], List, Some, false, true, codes}
+use Rattle.clap.specs.Words.{App, Rule, Shape, Text, new_rule}
 use Rattle.clap.specs.Simple.{new_shape}
 use Rattle.clap.specs.declared.builder.action.ArgAction.TheVariants.{SetTrue}
-use Rattle.clap.specs.declared.builder.arg.Arg.{Arg}
-use Rattle.clap.specs.declared.builder.command.Command.{Command}
-use Rattle.clap.specs.declared.builder.command.Command.TheViews.{out-Command as fields_of}
-use Rattle.duk_arguments.specs.declared.commands.Argument.{Argument}
-use Rattle.duk_arguments.specs.declared.commands.Argument.TheVariants as argument
 
 -- NAME: an argument that has to be there
 abbrev pub argument_rule : Text → Rule
@@ -20,12 +15,6 @@ option_rule name = record (new_rule name) { long = Some name; value_names = 1 }
 -- [--name]: an option that is there or not
 abbrev pub flag_rule : Text → Rule
 flag_rule name = record (new_rule name) { long = Some name; action = Some SetTrue }
-
--- the rule of an argument of the code
-abbrev pub rule_of_argument : Argument → Rule
-rule_of_argument (argument.Needed name help) = argument_rule name.now
-rule_of_argument (argument.Valued name value help) = option_rule name.now
-rule_of_argument (argument.Flag name help) = flag_rule name.now
 
 -- a command of this name, and what stands after it
 abbrev pub command : Text → List Rule → Shape
@@ -82,11 +71,3 @@ program_of commands = record {
 abbrev pub command_line : App
 command_line = program_of (derive_command ∷ walk_command ∷ pin_command ∷ wrap_command
     ∷ unwrap_command ∷ run_command ∷ serve_command ∷ [])
-
--- an argument that has this rule, of its own command alone
-abbrev pub IsArgument : Rule → Arg → Type 0
-IsArgument rule clap_argument = (rule_of clap_argument ≡ rule) × (clap_argument.global ≡ false)
-
--- a command of this shape, each of whose arguments is its own alone
-abbrev pub IsCommand : Shape → Command → Type 0
-IsCommand shape made = (shape_of made ≡ shape) × ((fields_of made).has_globals ≡ false)

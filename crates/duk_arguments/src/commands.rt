@@ -2,11 +2,13 @@
 
 ghost use Rattle.std.specs.Prelude.{◌≡◌, ◌∷◌, [], IfOk, codes, map};
 ghost use Rattle.clap.specs.Words.{Shape, app_of, with_subcommand};
-ghost use Rattle.duk_arguments.specs.CommandLine.{IsArgument, IsCommand, command, command_line};
+ghost use Rattle.duk_arguments.specs.CommandLine.{command, command_line};
+ghost use Rattle.duk_arguments.specs.inner.CommandLine.{IsArgument, IsCommand};
 ghost use Rattle.duk_arguments.specs.CommandLine.{derive_command, flag_rule, option_rule, pin_command};
 ghost use Rattle.duk_arguments.specs.CommandLine.{program_of, program_shape, run_command};
 ghost use Rattle.duk_arguments.specs.CommandLine.{serve_command};
-ghost use Rattle.duk_arguments.specs.CommandLine.{rule_of_argument, unwrap_command};
+ghost use Rattle.duk_arguments.specs.CommandLine.{unwrap_command};
+ghost use Rattle.duk_arguments.specs.inner.CommandLine.{rule_of_argument};
 ghost use Rattle.duk_arguments.specs.CommandLine.{walk_command, argument_rule, wrap_command};
 
 use crate::help;

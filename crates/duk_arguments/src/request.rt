@@ -3,7 +3,8 @@
 ghost use Rattle.std.specs.Prelude.{◌≡◌, [], IfErr, IfOk, IfSome, IsSome, codes};
 ghost use Rattle.clap.specs.Values.{kind_of};
 ghost use Rattle.clap.specs.Words.{app_of, fault_of, found_of, rows_of, subcommand_rows_of};
-ghost use Rattle.duk_arguments.specs.Asked.{Asks, AsksAfter, AsksFor, IsReportedAs, MayFailBy};
+ghost use Rattle.duk_arguments.specs.Asked.{Asks, AsksAfter, AsksFor};
+ghost use Rattle.duk_arguments.specs.inner.Asked.{IsReportedAs, MayFailBy};
 ghost use Rattle.duk_arguments.specs.Asked.{IsNoRequestOf, texts_of};
 ghost use Rattle.duk_arguments.specs.CommandLine.{command_line};
 

@@ -4,7 +4,8 @@ use Rattle.std.proofs.lemmas.Bool.{cases_lt}
 use Rattle.hex.proofs.HexLemmas.{decode_of-ok}
 use Rattle.duk_block.specs.declared.fault.BlockFault.{BlockFault}
 use Rattle.duk_block.specs.declared.fault.BlockFault.TheVariants.{Length, Version, HeaderField, OptionalBlock, Hex, Mac, Payload, PadLength}
-use Rattle.duk_block.specs.Faults.{HasSealedPart, HasHeader, HasPayload, IsFirstFault, Meets, MetBefore, rank}
+use Rattle.duk_block.specs.Faults.{HasSealedPart, HasPayload, IsFirstFault, Meets, rank}
+use Rattle.duk_block.specs.inner.Faults.{HasHeader, MetBefore}
 use Rattle.duk_block.specs.declared.header.Header.{Header}
 use Rattle.std.specs.List.{All}
 use Rattle.duk_block.specs.HeaderText.{IsPrintable}

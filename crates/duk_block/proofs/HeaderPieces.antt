@@ -5,7 +5,8 @@ use Rattle.std.proofs.lemmas.List.{append_assoc, append_cancel_right, length-tak
 use Rattle.duk_block.specs.declared.header.Header.{Header}
 use Rattle.duk_block.specs.Digits.{four_digits}
 use Rattle.duk_block.specs.HeaderText.{fields, header_text}
-use Rattle.duk_block.specs.Faults.{Carries, HasHeader, HasPayload}
+use Rattle.duk_block.specs.Faults.{Carries, HasPayload}
+use Rattle.duk_block.specs.inner.Faults.{HasHeader}
 use Rattle.duk_block.specs.KeyBlock.{IsKeyBlock}
 use Rattle.duk_block.proofs.OneSealedPart.{HasCount-same}
 

@@ -5,7 +5,8 @@ use Rattle.std.proofs.lemmas.List.{append_assoc, take_at, drop_at, length-take-l
 use Rattle.std.proofs.lemmas.List.Elements.{All-nil, All-cons, All-head, All-tail}
 use Rattle.hex.proofs.HexLemmas.{decode_of-ok, decode_of-same}
 use Rattle.duk_block.specs.Hexadecimal.{IsHexadecimal}
-use Rattle.duk_block.specs.Optional.{IsOptionalBlock, Leaves, LeavesOne}
+use Rattle.duk_block.specs.Optional.{IsOptionalBlock, Leaves}
+use Rattle.duk_block.specs.inner.Optional.{LeavesOne}
 
 digits_width : (block : List ℕ) (is : IsOptionalBlock block) → length is.digits ≡ 2
 digits_width block is = (decode_of-ok is.digits (length block ∷ []) is.length_is).2

@@ -2,7 +2,7 @@
 use Rattle.std.proofs.Common.{◌≡◌, ℕ, ◌+◌, ◌*◌, List, ◌++◌, length, ap, length-append, arith}
 use Rattle.hex.specs.Hex.{encode_upper, upper_digits}
 use Rattle.hex.proofs.HexLemmas.{length-encode_with}
-use Rattle.duk_block.specs.KeyBlock.{IsSealed}
+use Rattle.duk_block.specs.inner.KeyBlock.{IsSealed}
 
 pub length-sealed : (protection_key front payload text : List ℕ) → IsSealed protection_key front payload text → length front ≡ 16 → length text ≡ 32 + 2 * length payload
 length-sealed protection_key front payload text sealed sixteen = omega (

@@ -2,14 +2,13 @@
 use Rattle.std.specs.Prelude.{◌≡◌, ◌<◌, ◌≤◌, ◌%◌, ℕ, List, ◌++◌, length, take, drop, codes}
 use Rattle.std.specs.List.{All, AllPass}
 use Rattle.hex.specs.Hex.{is_hex_digit}
-use Rattle.duk_io.specs.FirstFault.{AllBefore, IsFirst}
+use Rattle.duk_io.specs.FirstFault.{IsFirst}
 use Rattle.duk_tdes.specs.Cbc.{AreWholeBlocks}
 use Rattle.duk_tdes.specs.Tdes.{IsTdesKey}
-use Rattle.duk_block.specs.declared.header.Header.{Header}
 use Rattle.duk_block.specs.declared.fault.BlockFault.{BlockFault}
 use Rattle.duk_block.specs.declared.fault.BlockFault.TheVariants.{Length, Version, HeaderField, OptionalBlock, Hex, Mac, Payload, PadLength}
 use Rattle.duk_block.specs.Digits.{four_digits, two_digits}
-use Rattle.duk_block.specs.HeaderText.{IsHeader, IsPrintable, fields}
+use Rattle.duk_block.specs.HeaderText.{IsPrintable}
 use Rattle.duk_block.specs.Hexadecimal.{IsHexadecimal}
 use Rattle.duk_block.specs.KeyBlock.{IsWithinLimits, ciphertext_of, mac_of, payload_of}
 use Rattle.duk_block.specs.Optional.{Leaves}
@@ -89,20 +88,7 @@ rank Mac = 5
 rank Payload = 6
 rank PadLength = 7
 
--- the text meets what comes before this fault in the order
-abbrev pub MetBefore : List ℕ → List ℕ → BlockFault → Type 0
-MetBefore text protection_key = AllBefore rank (Meets text protection_key)
-
 -- the first of the faults, in their order, whose condition the text does not meet
 abbrev pub IsFirstFault : List ℕ → List ℕ → BlockFault → Type 0
 IsFirstFault text protection_key =
     IsFirst rank (Meets text protection_key) (λ fault. ¬ Meets text protection_key fault)
-
--- the header's characters are this header's and this number of optional blocks: what a private
--- function of `unwrap` answers
-pub record HasHeader (text : List ℕ) (header : Header) (count : ℕ) : Type 0 where
-  pub length_is : HasLength text
-  pub version_is : HasVersion text
-  pub header_is : IsHeader header
-  pub fields_are : fields header ≡ take 7 (drop 5 text)
-  pub count_is : HasCount text count

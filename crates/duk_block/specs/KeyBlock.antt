@@ -1,5 +1,5 @@
 -- Key blocks of version B (ANSI X9.143, key derivation binding method).
-use Rattle.std.specs.Prelude.{◌≡◌, ◌<◌, ◌≤◌, ◌+◌, ◌*◌, ◌%◌, ◌^◌, ℕ, List, [], ◌++◌, length, codes}
+use Rattle.std.specs.Prelude.{◌≡◌, ◌<◌, ◌≤◌, ◌+◌, ◌*◌, ◌%◌, ℕ, List, [], ◌++◌, length, codes}
 use Rattle.std.specs.Int.{w16, to_be_bytes}
 use Rattle.std.specs.List.{All, concat}
 use Rattle.hex.specs.Hex.{encode_upper}
@@ -95,17 +95,3 @@ pub record IsWrittenKeyBlock (text protection_key : List ℕ) (header : Header) 
 pub record FitsKeyBlock (key padding : ℕ) : Type 0 where
   pub whole : (2 + key + padding) % 8 ≡ 0
   pub most : 32 + 2 * (2 + key + padding) ≤ 512
-
--- the text has these characters in front, and after them, in upper case, the ciphertext and the
--- MAC of this payload: what a private function of `wrap` writes
-pub record IsSealed (protection_key front payload text : List ℕ) : Type 0 where
-  pub mac : List ℕ
-  pub ciphertext : List ℕ
-  pub laid_out : text ≡ front ++ encode_upper ciphertext ++ encode_upper mac
-  pub mac_width : length mac ≡ 8
-  pub mac_bytes : All (λ byte. byte < 2 ^ 8) mac
-  pub ciphertext_width : length ciphertext ≡ length payload
-  pub ciphertext_bytes : All (λ byte. byte < 2 ^ 8) ciphertext
-  pub payload_is : AreWholeBlocks payload
-  pub authentic : mac ≡ mac_of protection_key front payload
-  pub enciphered : ciphertext ≡ ciphertext_of protection_key mac payload

@@ -8,3 +8,4 @@ pub mod Faults
 pub mod Unwrapped
 pub mod FaultName
 pub mod KeyUse
+pub mod inner

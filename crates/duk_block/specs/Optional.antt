@@ -19,10 +19,3 @@ pub record Leaves (count : ℕ) (text rest : List ℕ) : Type 0 where
   pub laid_out : text ≡ concat optional_blocks ++ rest
   pub count_is : length optional_blocks ≡ count
   pub each : All IsOptionalBlock optional_blocks
-
--- the text begins with an optional block, and this is what follows it: what a private function of
--- `unwrap` answers
-pub record LeavesOne (text rest : List ℕ) : Type 0 where
-  pub block : List ℕ
-  pub is_block : IsOptionalBlock block
-  pub laid_out : text ≡ block ++ rest

@@ -1,7 +1,8 @@
 //! The optional blocks after a header.
 
 ghost use Rattle.std.specs.Prelude.{◌≡◌, ℕ, List, MatchOption};
-ghost use Rattle.duk_block.specs.Optional.{Leaves, LeavesOne};
+ghost use Rattle.duk_block.specs.Optional.{Leaves};
+ghost use Rattle.duk_block.specs.inner.Optional.{LeavesOne};
 
 use crate::digits::read_hex;
 

@@ -7,7 +7,8 @@ ghost use Rattle.duk_tdes.specs.Tdes.{IsTdesLength};
 ghost use Rattle.duk_block.specs.Hexadecimal.{IsHexadecimal};
 ghost use Rattle.duk_block.specs.KeyBlock.{Wraps};
 ghost use Rattle.duk_tdes.specs.KeyBytes.{bytes_of, key_from};
-ghost use Rattle.duk_block.specs.Faults.{Carries, HasSealedPart, HasCount, HasHeader, HasPayload, IsFirstFault, MetBefore};
+ghost use Rattle.duk_block.specs.Faults.{Carries, HasSealedPart, HasCount, HasPayload, IsFirstFault};
+ghost use Rattle.duk_block.specs.inner.Faults.{HasHeader, MetBefore};
 ghost use Rattle.duk_block.specs.Unwrapped.{ReadsKeyBlocks, RefusesFirstFaults};
 
 use crate::digits::hex_bytes;

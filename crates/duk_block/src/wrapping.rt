@@ -3,7 +3,8 @@
 ghost use Rattle.std.specs.Prelude.{◌≡◌, ◌↔◌, ◌+◌, ◌*◌, ◌%◌, ◌≤◌, IfOk, IsOk, MatchOption, length};
 ghost use Rattle.duk_tdes.specs.Tdes.{IsTdesLength};
 ghost use Rattle.duk_block.specs.HeaderText.{IsHeader};
-ghost use Rattle.duk_block.specs.KeyBlock.{FitsKeyBlock, IsSealed, IsWithinLimits, IsWrittenKeyBlock};
+ghost use Rattle.duk_block.specs.KeyBlock.{FitsKeyBlock, IsWithinLimits, IsWrittenKeyBlock};
+ghost use Rattle.duk_block.specs.inner.KeyBlock.{IsSealed};
 
 use crate::fault::BlockFault;
 use crate::header::Header;

@@ -4,7 +4,8 @@ use Rattle.duk_io.specs.Known.{Known}
 use Rattle.duk_tree.specs.Next.{spent_counter}
 use Rattle.duk_tree.specs.Serial.{Serial}
 use Rattle.duk_regs.specs.Registers.{RegisterSet}
-use Rattle.duk_commands.specs.Walk.{Asked, IsPrinted, IsPassed, IsLoaded, Passes, IsSpentWithin, HasPrinted, HasPrintedInPart, HasWalked, HasWalkedInPart, number_text, number_line, spent_line}
+use Rattle.duk_commands.specs.Walk.{Asked, IsPrinted, IsPassed, number_text, number_line, spent_line}
+use Rattle.duk_commands.specs.inner.Walk.{IsLoaded, Passes, IsSpentWithin, HasPrinted, HasPrintedInPart, HasWalked, HasWalkedInPart}
 
 -- a line more is held, after what is left of the lines before
 pub text_more : (written held part left line rest pushed : List ℕ) → held ≡ part ++ left → pushed ≡ left ++ line

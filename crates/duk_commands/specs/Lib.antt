@@ -6,3 +6,4 @@ pub mod Pin
 pub mod Unwrap
 pub mod Walk
 pub mod Wrap
+pub mod inner

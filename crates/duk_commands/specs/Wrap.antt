@@ -33,11 +33,6 @@ pub record Wrapping : Type 0 where
   pub key : KeyBytes
   pub padding : List ℕ
 
--- a key, with this header and this padding, under this protection key
-abbrev pub wrapping : KeyBytes → Header → KeyBytes → List ℕ → Wrapping
-wrapping protection_key header key padding =
-    record { protection_key = protection_key; header = header; key = key; padding = padding }
-
 -- the text is the seven fields of this header
 pub record IsFieldsText (text : List ℕ) (header : Header) : Type 0 where
   pub widths : HasWidths header

@@ -5,7 +5,8 @@ ghost use Rattle.std.specs.Option.{option_copied};
 ghost use Rattle.arrayvec.specs.ArrayVec.{array_vec_len};
 ghost use Rattle.duk_regs.specs.Registers.{AreFutureKeysOf};
 ghost use Rattle.duk_commands.specs.Answer.{IsDone, IsNotDone, streams};
-ghost use Rattle.duk_commands.specs.Walk.{AreWalkArguments, Asked, HasPrinted, HasPrintedInPart, HasWalked, HasWalkedInPart, IsLoaded, IsSpentWithin, IsWalkRefused, Passes, number_text, spent_line, walk_of, walk_arguments};
+ghost use Rattle.duk_commands.specs.Walk.{AreWalkArguments, Asked, IsWalkRefused, number_text, spent_line, walk_of, walk_arguments};
+ghost use Rattle.duk_commands.specs.inner.Walk.{HasPrinted, HasPrintedInPart, HasWalked, HasWalkedInPart, IsLoaded, IsSpentWithin, Passes};
 
 use crate::count::{read_count, read_skip};
 use crate::fault::{Fault, report};

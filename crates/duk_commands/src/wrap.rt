@@ -7,7 +7,8 @@ ghost use Rattle.duk_tdes.specs.KeyBytes.{bytes_of};
 ghost use Rattle.duk_tdes.specs.Tdes.{IsTdesLength};
 ghost use Rattle.duk_commands.specs.Answer.{IsDone, IsNotDone, streams};
 ghost use Rattle.duk_commands.specs.Fault.{line_end};
-ghost use Rattle.duk_commands.specs.Wrap.{IsFieldsText, IsNoPadText, IsNotWrapped, IsWrapFault, IsWrapRefused, IsWrapText, IsWrapping, wrap_of, wrap_arguments, wrapping};
+ghost use Rattle.duk_commands.specs.Wrap.{IsFieldsText, IsNoPadText, IsNotWrapped, IsWrapFault, IsWrapRefused, IsWrapText, IsWrapping, wrap_of, wrap_arguments};
+ghost use Rattle.duk_commands.specs.inner.Wrap.{wrapping};
 
 use crate::answer::finish;
 use crate::fault::Fault;

@@ -6,7 +6,8 @@ use Rattle.std.proofs.lemmas.List.Quantifiers.{all_pairs_push}
 use Rattle.toml.specs.Data.{Data}
 use Rattle.toml.specs.View.{view}
 use Rattle.toml.specs.declared.value.Value.{Value}
-use Rattle.duk_config.specs.Entries.{AreEntries, IsBadAfter, IsFirstBadEntry, IsNextEntry}
+use Rattle.duk_config.specs.Entries.{AreEntries, IsBadAfter, IsFirstBadEntry}
+use Rattle.duk_config.specs.inner.Entries.{IsNextEntry}
 
 -- one more pair after the others
 zip_push : {A B : Type 0} (R : A → B → Type 0) (xs : List A) (ys : List B) (x : A) (y : B) → AllZip R xs ys → R x y → AllZip R (xs ++ x ∷ []) (ys ++ y ∷ [])

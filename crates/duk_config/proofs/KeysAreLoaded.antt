@@ -15,7 +15,8 @@ use Rattle.std.proofs.lemmas.Slice.Eq.{bytes_eq-Decides}
 use Rattle.duk_hsm.specs.Keys.{bdk_with}
 use Rattle.duk_hsm.specs.Load.{key_set}
 use Rattle.duk_config.specs.BaseKeys.{BaseKey, bdk_key_of, bdk_prefix_of}
-use Rattle.duk_config.specs.Opened.{WrapsAlone, key_sets_of}
+use Rattle.duk_config.specs.Opened.{key_sets_of}
+use Rattle.duk_config.specs.inner.Opened.{WrapsAlone}
 use Rattle.duk_config.specs.Settings.{HaveDistinctPrefixes}
 
 -- the key of a base derivation key's block is loaded

@@ -41,9 +41,3 @@ IsConfigFault bytes (fault.BadKey key) = HasTableFault bytes (fault.BadKey key)
 IsConfigFault bytes (fault.BadEntry key place) = HasTableFault bytes (fault.BadEntry key place)
 IsConfigFault bytes fault.NoMemory = length bytes ≤ longest_file
 IsConfigFault bytes _ = ⊥
-
--- why the bytes give no table, as a private function of `read_config` answers
-abbrev pub NoTable : List ℕ → ScriptFault → Type 0
-NoTable bytes fault.NotToml = (document : Members) → ¬ IsToml bytes document
-NoTable bytes fault.NoMemory = Unit {0}
-NoTable bytes _ = ⊥

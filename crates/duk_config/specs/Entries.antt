@@ -1,6 +1,6 @@
 -- The entries that an array of TOML states, one for each of its values: this project's own.
 use Rattle.std.specs.Prelude.{◌≡◌, ◌⊎◌, ℕ, List, [], ◌∷◌, Some, true, codes, Any, AllPairs}
-use Rattle.std.specs.List.{All, AllZip}
+use Rattle.std.specs.List.{AllZip}
 use Rattle.duk_pin.specs.Pan.{IsPan}
 use Rattle.duk_pin.specs.Pin.{IsPin}
 use Rattle.duk_pin.specs.declared.card.Card.{Card}
@@ -73,9 +73,3 @@ module _ {Entry : Type 0} (States : Data → Entry → Type 0) (Repeats : Entry 
   -- the value at this place, counted from 1, is the first that is bad
   abbrev pub IsFirstBadEntry : List Data → ℕ → Type 0
   IsFirstBadEntry = IsFirstItem StateEntries IsBadEntryAfter
-
-  -- the value states this entry, which repeats none of these: what a private function of
-  -- `read_config` answers
-  pub record IsNextEntry (earlier : List Entry) (value : Data) (entry : Entry) : Type 0 where
-    pub stated : States value entry
-    pub new : All (λ other. ¬ Repeats other entry) earlier

@@ -4,10 +4,10 @@ pub mod Settings
 pub mod Values
 pub mod Names
 pub mod Entries
-pub mod EntryFaults
 pub mod ConfigTable
 pub mod ConfigFaults
 pub mod ConfigFile
 pub mod Opened
 pub mod NewHost
 pub mod FaultText
+pub mod inner

@@ -1,10 +1,6 @@
 -- The keys that a host security module holds for a configuration: this project's own.
-use Rattle.std.specs.Prelude.{◌≡◌, ℕ, List, Some, map}
-use Rattle.duk_block.specs.Faults.{IsFirstFault}
-use Rattle.duk_block.specs.KeyBlock.{Wraps}
+use Rattle.std.specs.Prelude.{ℕ, List, Some, map}
 use Rattle.duk_tdes.specs.KeyBytes.{bytes_of}
-use Rattle.duk_block.specs.declared.fault.BlockFault.{BlockFault}
-use Rattle.duk_block.specs.declared.header.Header.{Header}
 use Rattle.duk_hsm.specs.Keys.{HsmKeys}
 use Rattle.duk_hsm.specs.Load.{key_set}
 use Rattle.duk_hsm.specs.declared.key_set.KeySet.{KeySet}
@@ -19,11 +15,3 @@ key_sets_of bdks = map (λ bdk. key_set (bdk_prefix_of bdk) (bdk_key_of bdk)) bd
 abbrev pub keys_for : List ℕ → Settings → HsmKeys
 keys_for lmk config =
     record { lmk = lmk; zone = Some (bytes_of config.zone); key_sets = key_sets_of config.bdks }
-
--- the text wraps this header and this key alone, and has no fault: what a private function of
--- `open_hsm` answers
-pub record WrapsAlone (lmk text : List ℕ) (header : Header) (key : List ℕ) : Type 0 where
-  pub wraps : Wraps lmk text header key
-  pub alone : (other_header : Header) (other_key : List ℕ) → Wraps lmk text other_header other_key
-      → (header ≡ other_header) × (key ≡ other_key)
-  pub has_no_fault : (why : BlockFault) → ¬ IsFirstFault text lmk why

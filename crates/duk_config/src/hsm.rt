@@ -8,7 +8,8 @@ ghost use Rattle.duk_tdes.specs.KeyBytes.{bytes_of};
 ghost use Rattle.duk_hsm.specs.Keys.{key_set_of};
 ghost use Rattle.duk_hsm.specs.Load.{with_key_set};
 ghost use Rattle.duk_config.specs.BaseKeys.{bdk_key_of, bdk_prefix_of};
-ghost use Rattle.duk_config.specs.Opened.{WrapsAlone, keys_for};
+ghost use Rattle.duk_config.specs.Opened.{keys_for};
+ghost use Rattle.duk_config.specs.inner.Opened.{WrapsAlone};
 
 use crate::config::Config;
 use duk_block::{BlockText, KeyUse, ZERO_PADDING, wrap};

@@ -2,7 +2,8 @@
 
 ghost use Rattle.std.specs.Prelude.{◌≡◌, IfOk, IfErr};
 ghost use Rattle.toml.specs.View.{table_view};
-ghost use Rattle.duk_config.specs.ConfigFile.{IsConfigFault, IsConfigFile, IsToml, NoTable};
+ghost use Rattle.duk_config.specs.ConfigFile.{IsConfigFault, IsConfigFile, IsToml};
+ghost use Rattle.duk_config.specs.inner.ConfigFile.{NoTable};
 
 mod arrays;
 mod entries;

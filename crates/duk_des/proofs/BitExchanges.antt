@@ -5,7 +5,8 @@ use lib.Bits.{bit_and, bit_xor}
 use Rattle.std.proofs.lemmas.Nat.{pow_pos, shr_below}
 use Rattle.std.proofs.lemmas.List.{take_at, drop_at, take-append-drop, length-append, length-replicate, length-take-le, length-drop}
 use Rattle.duk_des.specs.Bits.{xor_bits, bits_of}
-use Rattle.duk_des.specs.Words.{word_bits, chosen_by, first_exchanged, second_exchanged}
+use Rattle.duk_des.specs.Words.{word_bits}
+use Rattle.duk_des.specs.inner.Words.{chosen_by, first_exchanged, second_exchanged}
 use Rattle.duk_des.proofs.BitsOfNumbers.{length-bits_of}
 use Rattle.duk_des.proofs.SideBySide.{consed, both}
 use Rattle.duk_des.proofs.BitsOfXor.{length-xor_bits}

@@ -6,7 +6,8 @@ use Rattle.std.proofs.lemmas.List.{take_at, drop_at, length-append, length-repli
 use Rattle.duk_des.specs.Bits.{xor_bits, permute, bits_of}
 use Rattle.duk_des.specs.Des.{substitute_all, cipher_function, rotate}
 use Rattle.duk_des.specs.Tables.{output_places, boxes}
-use Rattle.duk_des.specs.Words.{word_bits, at_box, selected, group_at, groups, key_bits}
+use Rattle.duk_des.specs.Words.{word_bits, at_box, selected}
+use Rattle.duk_des.specs.inner.Words.{group_at, groups, key_bits}
 use Rattle.duk_des.specs.declared.words.round_keys.RoundKey.{RoundKey}
 use Rattle.duk_des.proofs.BitsOfNumbers.{length-bits_of}
 use Rattle.duk_des.proofs.SideBySide.{both}

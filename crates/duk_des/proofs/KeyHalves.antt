@@ -6,7 +6,7 @@ use Rattle.std.proofs.lemmas.List.{take_at, drop_at}
 use Rattle.duk_des.specs.Bits.{xor_bits, permute, bits_of}
 use Rattle.duk_des.specs.Des.{rotate}
 use Rattle.duk_des.specs.Tables.{left_key_places, right_key_places, round_key_places}
-use Rattle.duk_des.specs.Words.{long_bits, half_bits, groups, key_bits, halves_places, groups_places}
+use Rattle.duk_des.specs.inner.Words.{long_bits, half_bits, groups, key_bits, halves_places, groups_places}
 use Rattle.duk_des.specs.declared.words.round_keys.RoundKey.{RoundKey}
 use Rattle.duk_des.proofs.BitsOfNumbers.{length-bits_of}
 use Rattle.duk_des.proofs.SideBySide.{both}

@@ -5,7 +5,7 @@ use Rattle.duk_des.specs.Bits.{xor_bits, permute, bits_of, bits_of_bytes}
 use Rattle.duk_des.specs.Bytes.{xor_bytes}
 use Rattle.duk_des.specs.Des.{rotate, schedule, round_keys, xor_keys}
 use Rattle.duk_des.specs.Tables.{left_key_places, right_key_places, round_key_places, rotations}
-use Rattle.duk_des.specs.Words.{groups, key_bits}
+use Rattle.duk_des.specs.inner.Words.{groups, key_bits}
 use Rattle.duk_des.specs.declared.words.round_keys.RoundKey.{RoundKey}
 use Rattle.duk_des.proofs.SideBySide.{consed, both}
 use Rattle.duk_des.proofs.BitsOfNumbers.{length-bits_of_bytes}

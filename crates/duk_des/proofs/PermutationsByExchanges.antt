@@ -2,7 +2,8 @@
 use Rattle.std.proofs.Common.{◌≡◌, ℕ, Bool, false, List, ◌++◌, length, take, drop, refl, sym, ap, ◌∙◌}
 use Rattle.duk_des.specs.Bits.{permute}
 use Rattle.duk_des.specs.Tables.{initial_places, final_places}
-use Rattle.duk_des.specs.Words.{word_bits, first_exchanged, second_exchanged}
+use Rattle.duk_des.specs.Words.{word_bits}
+use Rattle.duk_des.specs.inner.Words.{first_exchanged, second_exchanged}
 use Rattle.duk_des.proofs.SideBySide.{both}
 use Rattle.duk_des.proofs.LiteralLists.{is_spelled}
 

@@ -3,7 +3,7 @@ use Rattle.std.proofs.Common.{◌≡◌, ℕ, zero, suc, ◌+◌, ◌-◌, ◌/�
 use lib.Bits.{bit_and, bit_xor}
 use Rattle.std.proofs.lemmas.Nat.{and_mask}
 use Rattle.duk_des.specs.Bits.{permute, bits_of, bits_of_bytes}
-use Rattle.duk_des.specs.Words.{long_bits, half_bits, halves_places, groups_places}
+use Rattle.duk_des.specs.inner.Words.{long_bits, half_bits, halves_places, groups_places}
 use Rattle.duk_des.proofs.WordTables.{combined, combined-append, spanned, looked_up, gathers, gathered}
 use Rattle.duk_des.proofs.SideBySide.{both}
 use Rattle.duk_des.proofs.LiteralLists.{spelled, is_spelled}

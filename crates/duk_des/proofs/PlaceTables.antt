@@ -3,7 +3,8 @@ use Rattle.std.proofs.Common.{◌≡◌, ℕ, zero, suc, ◌+◌, ◌-◌, ◌*�
 use Rattle.std.proofs.lemmas.Bool.{cases_lt}
 use Rattle.std.proofs.lemmas.Bool.Decides.{nat_tests}
 use Rattle.std.proofs.lemmas.List.{ext_get_or, get_or_append_left, get_or-append-add, drop-drop}
-use Rattle.duk_des.specs.Bits.{are_places, number_of, bytes_of_bits}
+use Rattle.duk_des.specs.Bits.{number_of, bytes_of_bits}
+use Rattle.duk_des.specs.inner.Bits.{are_places}
 
 -- each entry of a table of places is the number of a bit
 pub place_at : (count : ℕ) (places : List ℕ) (k : ℕ) → IsTrue (are_places count places) → k < length places → (0 < get_or places k 0) × (get_or places k 0 ≤ count)

@@ -3,7 +3,8 @@ use Rattle.std.proofs.Common.{◌≡◌, ℕ, ◌+◌, ◌<◌, List, [], ◌∷
 use Rattle.std.proofs.lemmas.List.{length-map, length-reverse, get_or-map, map-append, reverse-append}
 use Rattle.duk_des.specs.Bits.{xor_bits}
 use Rattle.duk_des.specs.Des.{Halves, cipher_function, rounds}
-use Rattle.duk_des.specs.Words.{word_bits, key_bits}
+use Rattle.duk_des.specs.Words.{word_bits}
+use Rattle.duk_des.specs.inner.Words.{key_bits}
 use Rattle.duk_des.specs.declared.words.round_keys.RoundKey.{RoundKey}
 use Rattle.duk_des.proofs.LiteralLists.{is_spelled, spelled}
 use Rattle.duk_des.proofs.OneMoreRound.{one_round, no_round}

@@ -1,6 +1,6 @@
 -- Lists of bits, and the bytes that they spell. As in NIST SP 800-67 the bits of a block are
 -- numbered from 1, from the most significant bit of its first byte on.
-use Rattle.std.specs.Prelude.{ℕ, zero, suc, ◌+◌, ◌-◌, ◌*◌, ◌/◌, ◌%◌, ◌^◌, ◌==◌, ◌&&◌, nat_lt, nat_le, Bool, true, false, List, [], ◌∷◌, ◌++◌, length, map, take, drop, slice_index_or}
+use Rattle.std.specs.Prelude.{ℕ, zero, suc, ◌+◌, ◌-◌, ◌*◌, ◌/◌, ◌%◌, ◌^◌, ◌==◌, Bool, true, false, List, [], ◌∷◌, ◌++◌, length, map, take, drop, slice_index_or}
 use Rattle.std.specs.Bool.{xor}
 
 -- the bits of two lists of one length, xored
@@ -17,12 +17,6 @@ bit bits place = slice_index_or bits (place - 1) false
 -- becomes output bit i
 abbrev pub permute : List ℕ → List Bool → List Bool
 permute table bits = map (bit bits) table
-
--- whether each entry of a table is the number of a bit, where there are `count` bits
-abbrev pub are_places : ℕ → List ℕ → Bool
-are_places count [] = true
-are_places count (place ∷ places) =
-    nat_lt 0 place && (nat_le place count && are_places count places)
 
 -- the lowest `count` bits of a number
 abbrev pub bits_of : ℕ → ℕ → List Bool

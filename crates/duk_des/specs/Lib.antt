@@ -4,3 +4,4 @@ pub mod Des
 pub mod Words
 pub mod Block
 pub mod Bytes
+pub mod inner

@@ -1,7 +1,8 @@
 //! Bits of bytes, the most significant first.
 
 ghost use Rattle.std.specs.Prelude.{◌≡◌, ◌+◌, ◌++◌, IsTrue, length};
-ghost use Rattle.duk_des.specs.Bits.{xor_bits, permute, are_places, bits_of, bits_of_bytes, bytes_of_bits, number_of};
+ghost use Rattle.duk_des.specs.Bits.{xor_bits, permute, bits_of, bits_of_bytes, bytes_of_bits, number_of};
+ghost use Rattle.duk_des.specs.inner.Bits.{are_places};
 
 /// The eight bits of each byte, one byte after another.
 macro_rules! eights {

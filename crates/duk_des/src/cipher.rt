@@ -24,7 +24,7 @@ impl Model for Des {
     ghost use Rattle.std.specs.Prelude.{◌≡◌, ℕ, List, map};
     ghost use Rattle.duk_des.specs.Bits.{bits_of_bytes};
     ghost use Rattle.duk_des.specs.Des.{round_keys};
-    ghost use Rattle.duk_des.specs.Words.{key_bits};
+    ghost use Rattle.duk_des.specs.inner.Words.{key_bits};
 
     ghost Value = { List ℕ };
 

@@ -3,7 +3,8 @@
 ghost use Rattle.std.specs.Prelude.{◌≡◌, map, reverse};
 ghost use Rattle.duk_des.specs.Bits.{xor_bits, bits_of_bytes, bytes_of_bits};
 ghost use Rattle.duk_des.specs.Des.{cipher_function, rounds, des_computation};
-ghost use Rattle.duk_des.specs.Words.{word_bits, key_bits};
+ghost use Rattle.duk_des.specs.Words.{word_bits};
+ghost use Rattle.duk_des.specs.inner.Words.{key_bits};
 
 mod entries;
 mod key_tables;

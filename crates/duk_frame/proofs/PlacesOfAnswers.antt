@@ -7,7 +7,7 @@ use Rattle.duk_frame.specs.Answer.{IsReply, IsRefusal, refusal_text, reply_text}
 use Rattle.duk_frame.specs.Code.{code_text}
 use Rattle.duk_frame.specs.declared.code.Code.{Code}
 use Rattle.duk_frame.specs.declared.code.Code.TheVariants.{Approved, NoCard, WrongPin, OverLimit, Unreadable}
-use Rattle.duk_frame.specs.Frame.{HasKind}
+use Rattle.duk_frame.specs.inner.Frame.{HasKind}
 use Rattle.duk_frame.proofs.PlacesOfFrames.{kind_of_frame, take-front, drop-front, Parts, parts_of, get_or-next}
 
 length-code_text : (code : Code) → length (code_text code) ≡ 2

@@ -1,7 +1,8 @@
 -- Where the fields of a frame stand.
 use Rattle.std.proofs.Common.{◌≡◌, ◌≤◌, ℕ, ◌+◌, ◌-◌, List, ◌∷◌, ◌++◌, length, take, drop, get_or, refl, sym, ap, ◌∙◌, arith, length-append, drop-drop}
 use Rattle.std.proofs.lemmas.List.{take-append-le, take_all, drop-append-le, drop_all, get_or-drop}
-use Rattle.duk_frame.specs.Frame.{HasKind, framed, mac_text_of}
+use Rattle.duk_frame.specs.Frame.{framed, mac_text_of}
+use Rattle.duk_frame.specs.inner.Frame.{HasKind}
 
 -- ---- lists
 

@@ -6,7 +6,7 @@ use Rattle.byteorder.specs.Numbers.{big_number-reads_back}
 use Rattle.duk_tree.specs.Serial.{Serial, serial_bytes}
 use Rattle.duk_frame.specs.Request.{IsRequest, request_text}
 use Rattle.duk_frame.specs.declared.request.Request.{Request}
-use Rattle.duk_frame.specs.Frame.{HasKind}
+use Rattle.duk_frame.specs.inner.Frame.{HasKind}
 use Rattle.duk_frame.proofs.PlacesOfFrames.{kind_of_frame, take-front, drop-front, Parts, parts_of, get_or-next, drop-next}
 
 -- what stands where a request has its fields

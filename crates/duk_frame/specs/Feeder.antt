@@ -1,8 +1,6 @@
 -- What a feeder takes of a stream: this project's own.
 use Rattle.std.specs.Prelude.{◌≡◌, ◌<◌, ◌≤◌, ◌++◌, ℕ, Bool, List, [], length, take}
-use Rattle.duk_frame.specs.Stream.{BeginsTooLong, IsFrame, IsPart}
-use Rattle.duk_frame.specs.declared.feeder.Front.{Front}
-use Rattle.duk_frame.specs.declared.feeder.Front.TheVariants as front
+use Rattle.duk_frame.specs.Stream.{IsFrame, IsPart}
 
 -- what a feeder has: the bytes of a frame that is not whole yet, and whether it found a length
 -- above 62
@@ -15,12 +13,6 @@ pub record EndsFrame (rest piece : List ℕ) (taken : ℕ) : Type 0 where
   pub least : 0 < taken
   pub within : taken ≤ length piece
   pub is_frame : IsFrame (rest ++ take taken piece)
-
--- what the rest and the piece after it begin with: what a private function answers
-abbrev pub IsFront : List ℕ → List ℕ → Front → Type 0
-IsFront rest piece front.Part = IsPart (rest ++ piece)
-IsFront rest piece (front.Whole taken) = EndsFrame rest piece taken
-IsFront rest piece front.TooLong = BeginsTooLong (rest ++ piece)
 
 -- a frame is handed out: it is the rest with the bytes that were taken after it, and the new rest
 -- is empty

@@ -5,3 +5,4 @@ pub mod Answer
 pub mod Payment
 pub mod Stream
 pub mod Feeder
+pub mod inner

@@ -1,7 +1,8 @@
 //! Frames out of a stream, however its bytes are cut.
 
 ghost use Rattle.std.specs.Prelude.{◌≡◌, ◌↔◌, ◌≤◌, ◌⊎◌, ◌++◌, [], false, IsTrue, IsErr, IsSome, IfOk, IfNone, IfSome, OnErr, length, slice_get};
-ghost use Rattle.duk_frame.specs.Feeder.{HandsOutFrame, IsFront, TakesAll};
+ghost use Rattle.duk_frame.specs.Feeder.{HandsOutFrame, TakesAll};
+ghost use Rattle.duk_frame.specs.inner.Feeder.{IsFront};
 ghost use Rattle.duk_frame.specs.Stream.{BeginsTooLong, IsPart, said_length};
 
 use crate::frame::{Frame, append};

@@ -3,7 +3,8 @@
 ghost use Rattle.std.specs.Prelude.{◌≡◌, ◌↔◌, ◌≤◌, ◌+◌, ◌++◌, [], ◌∷◌, IsTrue, length};
 ghost use Rattle.arrayvec.specs.ArrayVec.{array_vec_len};
 ghost use Rattle.byteorder.specs.Endian.{big_bytes};
-ghost use Rattle.duk_frame.specs.Frame.{HasKind, mac_text_of};
+ghost use Rattle.duk_frame.specs.Frame.{mac_text_of};
+ghost use Rattle.duk_frame.specs.inner.Frame.{HasKind};
 
 use arrayvec::ArrayVec;
 use byteorder::{BigEndian, ByteOrder};

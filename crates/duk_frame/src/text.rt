@@ -2,7 +2,8 @@
 
 ghost use Rattle.std.specs.Prelude.{◌≡◌, ◌≤◌, ◌++◌, drop, length};
 ghost use Rattle.duk_des.specs.Block.{IsBlock};
-ghost use Rattle.duk_frame.specs.Frame.{LacksMac, framed, mac_text_of};
+ghost use Rattle.duk_frame.specs.Frame.{framed, mac_text_of};
+ghost use Rattle.duk_frame.specs.inner.Frame.{LacksMac};
 
 use crate::frame::{Frame, append};
 use duk_tdes::array_of;
@@ -20,7 +21,7 @@ pub struct MacText {
 
 impl Model for MacText {
     ghost use Rattle.std.specs.Prelude.{ℕ, List, drop};
-    ghost use Rattle.duk_frame.specs.Frame.{LacksMac};
+    ghost use Rattle.duk_frame.specs.inner.Frame.{LacksMac};
 
     ghost Value = { List ℕ };
 

@@ -4,9 +4,11 @@ use Rattle.duk_frame.specs.Request.{IsRequest}
 use Rattle.duk_frame.specs.declared.request.Request.{Request}
 use Rattle.duk_store.specs.Log.{IsAppended, room_of}
 use Rattle.duk_tree.specs.Serial.{Serial}
-use Rattle.duk_host.specs.Handle.{Answers, AnswersAs, AnswersReply, HandleRefused, IsNumberAdded, IsNumberKept, IsRemembered, IsReplied, IsToAccept, IsVerdictOn, IsAcceptedVerdict, KeepRefused}
-use Rattle.duk_host.specs.Judged.{IsSettled}
-use Rattle.duk_host.specs.Host.{LogHolds, HostMeaning, HostOf, LogAgrees, basis_of}
+use Rattle.duk_host.specs.Handle.{Answers, AnswersAs, AnswersReply, HandleRefused, IsNumberKept, IsToAccept, IsVerdictOn, KeepRefused}
+use Rattle.duk_host.specs.inner.Handle.{IsNumberAdded, IsRemembered, IsReplied, IsAcceptedVerdict}
+use Rattle.duk_host.specs.inner.Judged.{IsSettled}
+use Rattle.duk_host.specs.Host.{HostMeaning, HostOf, basis_of}
+use Rattle.duk_host.specs.inner.Host.{LogHolds, LogAgrees}
 use Rattle.duk_host.specs.Judgement.{Decision, IsAcceptable, IsReplyTo, basis_with}
 use Rattle.duk_host.specs.Recent.{Exchange, exchange, with_exchange}
 use Rattle.duk_host.specs.Used.{IsOneMore}

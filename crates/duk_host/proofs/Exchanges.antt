@@ -8,7 +8,8 @@ use Rattle.byteorder.specs.Endian.{big_bytes}
 use Rattle.byteorder.specs.Numbers.{length-bytes_high_first}
 use Rattle.duk_frame.specs.Request.{request_text}
 use Rattle.duk_tree.specs.Serial.{Serial, serial_bytes}
-use Rattle.duk_host.specs.Recent.{Exchange, IsRequestOf, exchange, reply_given, with_exchange}
+use Rattle.duk_host.specs.Recent.{Exchange, exchange, reply_given, with_exchange}
+use Rattle.duk_host.specs.inner.Recent.{IsRequestOf}
 
 some_value : {A : Type 0} (one other : A) → Some one ≡ Some other → one ≡ other
 some_value one other is = cc

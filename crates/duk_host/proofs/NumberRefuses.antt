@@ -3,8 +3,8 @@ use Rattle.std.proofs.Common.{◌≡◌, ℕ, List, inr}
 use Rattle.duk_frame.specs.Request.{IsRequest}
 use Rattle.duk_frame.specs.declared.request.Request.{Request}
 use Rattle.duk_tree.specs.Serial.{serial_bytes}
-use Rattle.duk_host.specs.Handle.{IsRefusalVerdict}
-use Rattle.duk_host.specs.Judged.{IsReasonAgainstMac, IsReasonAgainstNumber, IsSettled}
+use Rattle.duk_host.specs.inner.Handle.{IsRefusalVerdict}
+use Rattle.duk_host.specs.inner.Judged.{IsReasonAgainstMac, IsReasonAgainstNumber, IsSettled}
 use Rattle.duk_host.specs.Judgement.{IsAuthentic, IsNoRepeat, JudgementBasis, refusal_frame}
 use Rattle.duk_host.specs.declared.answered.Verdict.{Verdict}
 use Rattle.duk_host.specs.declared.answered.Verdict.TheVariants.{Accepted, Refused, Repeated}

@@ -6,7 +6,7 @@ use Rattle.duk_store.specs.Log.{LogMeaning, Numbers, IsReadAt, ReadStopped}
 use Rattle.duk_store.specs.StoreState.{StoreState, FindsAsBefore, PreservesNature, Stays}
 use Rattle.duk_tree.specs.Path.{IsUsable}
 use Rattle.duk_tree.specs.Serial.{Serial}
-use Rattle.duk_host.specs.Reading.{AreBad, IsBadNumber, IsBadPlace, IsReadOne, AreFirstNumbers, ReadOneRefused, ReadAllRefused}
+use Rattle.duk_host.specs.inner.Reading.{AreBad, IsBadNumber, IsBadPlace, IsReadOne, AreFirstNumbers, ReadOneRefused, ReadAllRefused}
 use Rattle.duk_host.specs.Used.{AreUsable, Lists}
 use Rattle.duk_host.specs.declared.fault.HostFault.{HostFault}
 use Rattle.duk_host.specs.declared.fault.HostFault.TheVariants as fault

@@ -5,8 +5,8 @@ use Rattle.std.proofs.lemmas.List.Quantifiers.{all_pairs_push}
 use Rattle.duk_store.specs.Log.{LogMeaning, Numbers, IsAppended}
 use Rattle.duk_tree.specs.Path.{IsUsable}
 use Rattle.duk_tree.specs.Serial.{Serial}
-use Rattle.duk_host.specs.Host.{LogHolds}
-use Rattle.duk_host.specs.Reading.{IsTakenIn}
+use Rattle.duk_host.specs.inner.Host.{LogHolds}
+use Rattle.duk_host.specs.inner.Reading.{IsTakenIn}
 use Rattle.duk_host.specs.Used.{AreUsable, IsOneMore, IsUsed, Lists}
 
 one_contains : (ksn other : Serial) → Contains (ksn ∷ []) other → ksn ≡ other

@@ -8,7 +8,7 @@ use Rattle.duk_io.specs.FirstFault.{AllBefore}
 use Rattle.duk_tree.specs.Derivation.{derived_key_of}
 use Rattle.duk_tree.specs.Path.{IsUsable}
 use Rattle.duk_tree.specs.Serial.{Serial, prefix_of}
-use Rattle.duk_host.specs.Judged.{IsReasonAgainstMac}
+use Rattle.duk_host.specs.inner.Judged.{IsReasonAgainstMac}
 use Rattle.duk_host.specs.Judgement.{IsAuthentic, IsNoRepeat, IsReasonAgainst, JudgementBasis, Passes, authenticated_text, reason_number}
 use Rattle.duk_host.specs.Used.{IsUsed}
 use Rattle.duk_host.specs.declared.reason.Reason.{Reason}

@@ -4,8 +4,9 @@ use Rattle.duk_store.specs.Log.{LogMeaning, Numbers, LogRestarted, ReadStopped}
 use Rattle.duk_store.specs.StoreState.{StoreState, Stays}
 use Rattle.duk_store.specs.Restart.{Restarted, RestartFailed}
 use Rattle.duk_store.specs.declared.fault.StoreFault.TheVariants.{Device}
-use Rattle.duk_host.specs.Host.{LogHolds, HostOf}
-use Rattle.duk_host.specs.Reading.{AreRead, ReadAllRefused}
+use Rattle.duk_host.specs.Host.{HostOf}
+use Rattle.duk_host.specs.inner.Host.{LogHolds}
+use Rattle.duk_host.specs.inner.Reading.{AreRead, ReadAllRefused}
 use Rattle.duk_host.specs.Restart.{IsHostRestarted, PreservesEnds, HostRestartNoMemory, HostRestartRefused}
 use Rattle.duk_host.specs.Used.{Lists}
 use Rattle.duk_host.specs.declared.fault.HostFault.{HostFault}

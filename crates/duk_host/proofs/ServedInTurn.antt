@@ -10,7 +10,8 @@ use Rattle.duk_frame.specs.Stream.{BeginsTooLong, BeginsWith, IsFrame}
 use Rattle.duk_io.specs.Known.{Known}
 use Rattle.duk_io.specs.Sink.{IsWritten}
 use Rattle.duk_host.specs.Host.{HostMeaning, HostOf}
-use Rattle.duk_host.specs.Serve.{AnswerFailed, BytesFailed, FailsAtFrame, FailsAtLength, IsAnswerWritten, IsFrameServed, IsPieceHeld, IsServed, Serves, Service}
+use Rattle.duk_host.specs.Serve.{AnswerFailed, BytesFailed, FailsAtFrame, FailsAtLength, IsServed, Serves, Service}
+use Rattle.duk_host.specs.inner.Serve.{IsAnswerWritten, IsFrameServed, IsPieceHeld}
 use Rattle.duk_host.specs.declared.fault.HostFault.{HostFault}
 use Rattle.duk_host.specs.declared.fault.HostFault.TheVariants as fault
 

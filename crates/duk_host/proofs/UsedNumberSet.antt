@@ -8,7 +8,7 @@ use Rattle.std.proofs.lemmas.Bool.{true≢false}
 use Rattle.std.proofs.lemmas.Cmp.{eq_by_cmp_equiv, nat_cmp_total}
 use Rattle.std.proofs.lemmas.Map.Views.{btree_set_contains_iff, tells_apart}
 use Rattle.duk_tree.specs.Serial.{Serial, IsSerial, serial_bytes, serial_of_bytes}
-use Rattle.duk_host.specs.Index.{members_of, numbered_serial, serial_number}
+use Rattle.duk_host.specs.inner.Index.{members_of, numbered_serial, serial_number}
 use Rattle.duk_host.specs.Used.{IsOneMore, IsUsed}
 
 -- a set has a number where it is among its keys

@@ -1,11 +1,10 @@
 -- A host: what it is, and what its log holds of it: this project's own.
-use Rattle.std.specs.Prelude.{◌≡◌, ◌-◌, true, Option, Some, None, IsSome}
+use Rattle.std.specs.Prelude.{◌-◌, Option, Some, None}
 use Rattle.duk_hsm.specs.Keys.{HsmKeys}
-use Rattle.duk_store.specs.Log.{LogMeaning, Numbers}
-use Rattle.duk_store.specs.StoreState.{StoreState, FindsOnly}
+use Rattle.duk_store.specs.Log.{LogMeaning}
 use Rattle.duk_tree.specs.Serial.{Serial}
 use Rattle.duk_host.specs.Judgement.{JudgementBasis, Decision, basis_with}
-use Rattle.duk_host.specs.Used.{IsUsed, Lists}
+use Rattle.duk_host.specs.Used.{IsUsed}
 use Rattle.duk_host.specs.declared.running.Running.{Running}
 
 -- a host: the keys of its security module, its issuer, its log, and what it has in memory while it
@@ -21,11 +20,6 @@ abbrev pub IsUsedIn : Option Running → Serial → Type 0
 IsUsedIn None ksn = ⊥
 IsUsedIn (Some running) ksn = IsUsed running.used ksn
 
--- a host in this state runs, and the key serial number is not used
-abbrev pub IsFreshIn : Option Running → Serial → Type 0
-IsFreshIn None ksn = ⊥
-IsFreshIn (Some running) ksn = ¬ IsUsed running.used ksn
-
 -- what its log and its issuer mean
 pub record HostMeaning (L I : Type 0) : Type 1 where
   pub log : LogMeaning L
@@ -40,20 +34,3 @@ abbrev pub basis_of : {L I : Type 0} → HostMeaning L I → HostOf L I → Runn
 basis_of meaning host running =
     let room = meaning.log.capacity host.log - meaning.log.count host.log in
     basis_with host.keys running.used running.recent room (meaning.decides host.issuer)
-
--- the log runs, a restart would find one list alone, and the used numbers are those of that list
-pub record LogHolds (log : StoreState Numbers) (used : Numbers) : Type 0 where
-  pub runs : log.running ≡ true
-  pub lists : log.honest → (numbers : Numbers) × FindsOnly log numbers × Lists numbers used
-
--- what the log of a running host holds
-abbrev pub LogAgrees : StoreState Numbers → Option Running → Type 0
-LogAgrees log None = Unit {0}
-LogAgrees log (Some running) = LogHolds log running.used
-
--- what holds of a host at all times: a zone key is held, and the log of a running host holds its
--- used numbers
-pub record AgreesWithLog
-    (keys : HsmKeys) (log : StoreState Numbers) (state : Option Running) : Type 0 where
-  pub zone : IsSome keys.zone
-  pub holds : LogAgrees log state

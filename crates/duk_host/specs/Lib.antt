@@ -1,14 +1,12 @@
 pub mod Used
 pub mod Recent
-pub mod Index
 pub mod Table
 pub mod Judgement
-pub mod Judged
 pub mod Host
-pub mod Reading
 pub mod Restart
 pub mod Handle
 pub mod Serve
 pub mod Served
 pub mod Lifetime
 pub mod View
+pub mod inner

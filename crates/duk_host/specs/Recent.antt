@@ -1,11 +1,9 @@
 -- The latest requests that a host accepted, and what it replied: this project's own.
-use Rattle.std.specs.Prelude.{◌≡◌, ◌-◌, ℕ, List, [], ◌∷◌, ◌++◌, Option, length, drop, find}
+use Rattle.std.specs.Prelude.{◌-◌, ℕ, List, [], ◌∷◌, ◌++◌, Option, length, drop, find}
 use Rattle.std.specs.Option.{option_map}
 use Rattle.std.specs.Str.{bytes_eq}
 use Rattle.duk_frame.specs.Answer.{IsReply}
-use Rattle.duk_frame.specs.Request.{IsRequest}
 use Rattle.duk_frame.specs.declared.code.Code.{Code}
-use Rattle.duk_frame.specs.declared.request.Request.{Request}
 use Rattle.duk_tree.specs.Serial.{Serial}
 
 -- a request that was accepted, and the reply that it was given, each as the bytes of its frame
@@ -34,17 +32,6 @@ abbrev pub reply_given : List Exchange → List ℕ → Option (List ℕ)
 reply_given recent bytes =
     option_map (λ given. given.reply) (find (λ given. bytes_eq given.request bytes) recent)
 
--- the bytes are a request of this number
-pub record IsRequestOf (bytes : List ℕ) (ksn : Serial) : Type 0 where
-  pub request : Request
-  pub is_request : IsRequest bytes request
-  pub number : request.ksn ≡ ksn
-
 -- the frame is the accepted reply with this number and this code
 abbrev pub IsReplyWithCode : List ℕ → Serial → Code → Type 0
 IsReplyWithCode frame ksn code = (mac : List ℕ) × IsReply frame ksn code mac
-
--- request and reply have this number, and the reply has this code
-pub record IsExchangeOf (given : Exchange) (ksn : Serial) (code : Code) : Type 0 where
-  pub asked : IsRequestOf given.request ksn
-  pub replied : IsReplyWithCode given.reply ksn code

@@ -1,8 +1,7 @@
 -- A host that serves a stream of frames: this project's own.
-use Rattle.std.specs.Prelude.{◌≡◌, ◌+◌, ◌<◌, ◌≤◌, ◌⊎◌, ◌++◌, ℕ, List, [], ◌∷◌, Option, Some, None, length, take}
+use Rattle.std.specs.Prelude.{◌≡◌, ◌+◌, ◌<◌, ◌≤◌, ◌⊎◌, ◌++◌, ℕ, List, [], ◌∷◌, Option, length}
 use Rattle.std.specs.List.{concat}
 use Rattle.std.specs.Io.KnownBytes.{IsAtEnd}
-use Rattle.duk_frame.specs.Feeder.{Feeding}
 use Rattle.duk_frame.specs.Stream.{BeginsTooLong, BeginsWith, IsFrame, IsPart}
 use Rattle.duk_io.specs.Known.{Known}
 use Rattle.duk_io.specs.Sink.{IsCut, IsWritten}
@@ -38,14 +37,6 @@ pub record Supply : Type 0 where
 -- the two together
 abbrev pub supply : Known → Option ℕ → Supply
 supply known reads = record { known = known; reads = reads }
-
--- a frame is answered, and the answer is written whole
-pub record IsAnswerWritten
-    {L I : Type 0} (meaning : HostMeaning L I) (old new : Service L I)
-    (frame : List ℕ) : Type 0 where
-  pub answer : List ℕ
-  pub answers : Answers meaning frame old.host new.host answer
-  pub written : IsWritten old.writer new.writer answer
 
 -- a frame is answered, and the answer is not written whole
 pub record IsAnswerCut
@@ -106,30 +97,6 @@ abbrev pub BytesFailed : {L I : Type 0} → HostMeaning L I → Service L I → 
     → HostFault → Type 0
 BytesFailed meaning old new bytes fault.TooLong = FailsAtLength meaning old new bytes
 BytesFailed meaning old new bytes why = FailsAtFrame meaning old new bytes why
-
--- the first frame that ends in a piece is served, by so many bytes of it: what a private function
--- does
-pub record IsFrameServed
-    {L I : Type 0} (meaning : HostMeaning L I) (old new : Service L I) (before after : Feeding)
-    (piece : List ℕ) (taken : ℕ) : Type 0 where
-  pub least : 0 < taken
-  pub within : taken ≤ length piece
-  pub served : IsServed meaning old new (before.rest ++ take taken piece) after.rest 1
-
--- no frame ends in a piece
-pub record IsPieceHeld
-    {L I : Type 0} (meaning : HostMeaning L I) (old new : Service L I) (before after : Feeding)
-    (piece : List ℕ) : Type 0 where
-  pub served : IsServed meaning old new (before.rest ++ piece) after.rest 0
-  pub is_part : IsPart after.rest
-
--- one of these, by how many bytes a frame took
-abbrev pub IsPieceTried : {L I : Type 0} → HostMeaning L I → Service L I → Service L I → Feeding
-    → Feeding → List ℕ → Option ℕ → Type 0
-IsPieceTried meaning old new before after piece (Some taken) =
-    IsFrameServed meaning old new before after piece taken
-IsPieceTried meaning old new before after piece None =
-    IsPieceHeld meaning old new before after piece
 
 -- the reads that one run makes at most
 abbrev pub most_reads : ℕ

@@ -2,8 +2,9 @@
 
 ghost use Rattle.std.specs.Prelude.{◌≡◌, ◌≤◌, length};
 ghost use Rattle.std.specs.Str.{bytes_eq};
-ghost use Rattle.duk_host.specs.Handle.{IsRepeatedVerdict, IsAcceptedVerdict};
-ghost use Rattle.duk_host.specs.Recent.{IsReplyWithCode, IsRequestOf, exchange};
+ghost use Rattle.duk_host.specs.inner.Handle.{IsRepeatedVerdict, IsAcceptedVerdict};
+ghost use Rattle.duk_host.specs.Recent.{IsReplyWithCode, exchange};
+ghost use Rattle.duk_host.specs.inner.Recent.{IsRequestOf};
 
 use crate::answered::{Answered, Verdict};
 use duk_frame::{Code, Frame};
@@ -21,7 +22,8 @@ pub(crate) struct Exchange {
 }
 
 impl Model for Exchange {
-    ghost use Rattle.duk_host.specs.Recent.{Exchange as ExchangeValue, IsExchangeOf, exchange};
+    ghost use Rattle.duk_host.specs.Recent.{Exchange as ExchangeValue, exchange};
+    ghost use Rattle.duk_host.specs.inner.Recent.{IsExchangeOf};
 
     ghost Value = { ExchangeValue };
 

@@ -4,9 +4,11 @@ ghost use Rattle.std.specs.Prelude.{◌≡◌, ◌↔◌, ◌<◌, ◌-◌, [], 
 ghost use Rattle.duk_store.specs.StoreState.{StaysButCalm};
 ghost use Rattle.duk_frame.specs.Request.{IsRequest};
 ghost use Rattle.duk_hsm.specs.TransactionKeys.{AreTransactionKeys};
-ghost use Rattle.duk_host.specs.Handle.{Answers, AnswersAs, HandleRefused, IsNumberAdded, IsRemembered, IsReplied, IsToAccept, IsVerdictOn, IsAcceptedVerdict, KeepRefused};
+ghost use Rattle.duk_host.specs.Handle.{Answers, AnswersAs, HandleRefused, IsToAccept, IsVerdictOn, KeepRefused};
+ghost use Rattle.duk_host.specs.inner.Handle.{IsNumberAdded, IsRemembered, IsReplied, IsAcceptedVerdict};
 ghost use Rattle.duk_host.specs.Judgement.{IsReplyTo};
-ghost use Rattle.duk_host.specs.Host.{IsFreshIn, IsUsedIn, host_meaning_of};
+ghost use Rattle.duk_host.specs.Host.{IsUsedIn, host_meaning_of};
+ghost use Rattle.duk_host.specs.inner.Host.{IsFreshIn};
 ghost use Rattle.duk_host.specs.Restart.{IsHostRestarted, PreservesEnds, HostRestartRefused};
 ghost use Rattle.duk_tree.specs.Path.{IsUsable};
 
@@ -42,7 +44,8 @@ pub struct Host<const N: usize, L: UsedLog, I: Issuer> {
 }
 
 impl<const N: usize, L: UsedLog, I: Issuer> Model for Host<N, L, I> {
-    ghost use Rattle.duk_host.specs.Host.{AgreesWithLog, HostOf};
+    ghost use Rattle.duk_host.specs.Host.{HostOf};
+    ghost use Rattle.duk_host.specs.inner.Host.{AgreesWithLog};
 
     ghost Value = { HostOf L I };
 

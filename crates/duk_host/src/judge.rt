@@ -5,7 +5,7 @@ ghost use Rattle.duk_frame.specs.Frame.{mac_text_of};
 ghost use Rattle.duk_frame.specs.Request.{IsRequest};
 ghost use Rattle.duk_hsm.specs.TransactionKeys.{AreTransactionKeys};
 ghost use Rattle.duk_host.specs.Handle.{IsVerdictOn};
-ghost use Rattle.duk_host.specs.Judged.{IfFresh, IfSettled, IsReasonAgainstMac, IsReasonAgainstNumber, IsSettled};
+ghost use Rattle.duk_host.specs.inner.Judged.{IfFresh, IfSettled, IsReasonAgainstMac, IsReasonAgainstNumber, IsSettled};
 ghost use Rattle.duk_host.specs.Judgement.{Decision, IsAcceptable, IsAuthentic, basis_with, authenticated_text};
 ghost use Rattle.duk_host.specs.Used.{IsUsed};
 

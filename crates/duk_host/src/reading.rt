@@ -1,7 +1,7 @@
 //! How the used numbers are read from a log.
 
 ghost use Rattle.std.specs.Prelude.{◌≡◌, ◌<◌, true, IfOk, IfErr};
-ghost use Rattle.duk_host.specs.Reading.{AreRead, IsReadOne, IsTakenIn, ReadOneRefused, ReadAllRefused, TakeInRefused};
+ghost use Rattle.duk_host.specs.inner.Reading.{AreRead, IsReadOne, IsTakenIn, ReadOneRefused, ReadAllRefused, TakeInRefused};
 
 use crate::fault::HostFault;
 use crate::used::UsedNumbers;

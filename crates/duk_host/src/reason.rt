@@ -2,7 +2,7 @@
 
 ghost use Rattle.std.specs.Prelude.{◌≡◌};
 ghost use Rattle.duk_tree.specs.Serial.{serial_bytes};
-ghost use Rattle.duk_host.specs.Handle.{IsRefusalVerdict};
+ghost use Rattle.duk_host.specs.inner.Handle.{IsRefusalVerdict};
 ghost use Rattle.duk_host.specs.Judgement.{reason_number, refusal_frame};
 
 use crate::answered::{Answered, Verdict};

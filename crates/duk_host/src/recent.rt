@@ -2,8 +2,9 @@
 
 ghost use Rattle.std.specs.Prelude.{◌≡◌, [], IfOk, IfSome};
 ghost use Rattle.std.specs.Option.{option_map};
-ghost use Rattle.duk_host.specs.Handle.{IsRepeatedVerdict};
-ghost use Rattle.duk_host.specs.Recent.{IsRequestOf, most_exchanges, reply_given, with_exchange};
+ghost use Rattle.duk_host.specs.inner.Handle.{IsRepeatedVerdict};
+ghost use Rattle.duk_host.specs.Recent.{most_exchanges, reply_given, with_exchange};
+ghost use Rattle.duk_host.specs.inner.Recent.{IsRequestOf};
 
 use crate::answered::Answered;
 use crate::exchange::Exchange;

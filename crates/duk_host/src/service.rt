@@ -4,7 +4,8 @@ ghost use Rattle.std.specs.Prelude.{◌≡◌, ◌<◌, ◌≤◌, ◌++◌, [],
 ghost use Rattle.duk_frame.specs.Stream.{IsPart, IsFrame};
 ghost use Rattle.duk_host.specs.Host.{host_meaning_of};
 ghost use Rattle.duk_host.specs.declared.fault.HostFault.TheVariants.{Truncated};
-ghost use Rattle.duk_host.specs.Serve.{AnswerFailed, BytesFailed, IsAnswerWritten, IsPieceTried, IsReadToEnd, IsServed, ServiceFailed, service, supply};
+ghost use Rattle.duk_host.specs.Serve.{AnswerFailed, BytesFailed, IsReadToEnd, IsServed, ServiceFailed, service, supply};
+ghost use Rattle.duk_host.specs.inner.Serve.{IsAnswerWritten, IsPieceTried};
 
 use crate::fault::HostFault;
 use crate::host::Host;

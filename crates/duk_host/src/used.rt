@@ -6,7 +6,7 @@
 ghost use Rattle.std.specs.Prelude.{◌≡◌, ◌↔◌, [], IsTrue, IfOk, OnErr};
 ghost use Rattle.std.specs.Bool.{MatchBool};
 ghost use Rattle.duk_tree.specs.Serial.{IsSerial};
-ghost use Rattle.duk_host.specs.Index.{serial_number};
+ghost use Rattle.duk_host.specs.inner.Index.{serial_number};
 ghost use Rattle.duk_host.specs.Used.{IsOneMore, IsUsed};
 
 use byteorder::{BigEndian, ByteOrder};
@@ -22,7 +22,7 @@ pub(crate) struct UsedNumbers {
 }
 
 impl Model for UsedNumbers {
-    ghost use Rattle.duk_host.specs.Index.{members_of};
+    ghost use Rattle.duk_host.specs.inner.Index.{members_of};
     ghost use Rattle.duk_store.specs.Log.{Numbers};
 
     ghost Value = { Numbers };
@@ -61,7 +61,7 @@ impl UsedNumbers {
 }
 
 /// The number that the ten bytes of a key serial number spell.
-#[tactic(auto, unfolding(crate::specs::Index::serial_number))]
+#[tactic(auto, unfolding(crate::specs::inner::Index::serial_number))]
 fn number(ksn: Ksn) -> u128
     ensures value { result ≡ serial_number ksn }
     ensures serial { IsSerial ksn }

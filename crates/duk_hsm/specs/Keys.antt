@@ -3,10 +3,8 @@
 use Rattle.std.specs.Prelude.{◌≡◌, ◌≢◌, ◌≤◌, ℕ, List, Option, Some, AllPairs, find, length}
 use Rattle.std.specs.Option.{option_map}
 use Rattle.std.specs.Str.{bytes_eq}
-use Rattle.duk_tdes.specs.KeyBytes.{bytes_of}
 use Rattle.duk_tdes.specs.Key.{IsKey}
 use Rattle.duk_tdes.specs.Tdes.{IsTdesKey}
-use Rattle.duk_tdes.specs.declared.key.KeyBytes.{KeyBytes}
 use Rattle.duk_hsm.specs.declared.key_set.KeySet.{KeySet}
 
 -- what a host security module holds: its local master key, perhaps a zone key, and key sets, each
@@ -16,11 +14,6 @@ pub record HsmKeys : Type 0 where
   pub lmk : List ℕ
   pub zone : Option (List ℕ)
   pub key_sets : List KeySet
-
--- the keys held, where the zone key is one of either length
-abbrev pub held_keys : List ℕ → Option KeyBytes → List KeySet → HsmKeys
-held_keys lmk zone key_sets =
-    record { lmk = lmk; zone = option_map bytes_of zone; key_sets = key_sets }
 
 -- the base derivation key of the key set with this prefix, if there is one
 abbrev pub bdk_with : List ℕ → List KeySet → Option (List ℕ)

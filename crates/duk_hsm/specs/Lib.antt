@@ -3,3 +3,4 @@ pub mod Load
 pub mod Commands
 pub mod TransactionKeys
 pub mod View
+pub mod inner

@@ -1,9 +1,6 @@
 -- Key serial numbers that were opened: this project's own, over the transaction keys of ANSI
 -- X9.24-1:2009 annex A.
 use Rattle.std.specs.Prelude.{◌≡◌, ℕ, List, Option}
-use Rattle.std.specs.Option.{option_map}
-use Rattle.duk_tdes.specs.KeyBytes.{bytes_of}
-use Rattle.duk_tdes.specs.declared.key.KeyBytes.{KeyBytes}
 use Rattle.duk_tree.specs.Serial.{Serial}
 use Rattle.duk_hsm.specs.Keys.{HsmKeys}
 use Rattle.duk_hsm.specs.Commands.{IsTransactionKey}
@@ -12,10 +9,6 @@ use Rattle.duk_hsm.specs.Commands.{IsTransactionKey}
 pub record TransactionKeys : Type 0 where
   pub key : List ℕ
   pub zone : Option (List ℕ)
-
--- these together, where the zone key is one of either length
-abbrev pub transaction_keys : List ℕ → Option KeyBytes → TransactionKeys
-transaction_keys key zone = record { key = key; zone = option_map bytes_of zone }
 
 -- a key serial number is opened under the held keys: with its transaction key and the zone key
 pub record AreTransactionKeys (keys : HsmKeys) (ksn : Serial) (opened : TransactionKeys) : Type 0 where

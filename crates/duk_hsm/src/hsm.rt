@@ -27,7 +27,8 @@ pub struct Hsm<const N: usize> {
 }
 
 impl<const N: usize> Model for Hsm<N> {
-    ghost use Rattle.duk_hsm.specs.Keys.{AreHsmKeys, HsmKeys, held_keys};
+    ghost use Rattle.duk_hsm.specs.Keys.{AreHsmKeys, HsmKeys};
+    ghost use Rattle.duk_hsm.specs.inner.Keys.{held_keys};
 
     ghost Value = { HsmKeys };
 

@@ -7,7 +7,8 @@ ghost use Rattle.std.specs.Prelude.{◌≡◌, ◌↔◌, ◌<◌, IfOk, IfErr, 
 ghost use Rattle.duk_tree.specs.Serial.{Serial};
 ghost use Rattle.duk_hsm.specs.Keys.{HsmKeys};
 ghost use Rattle.duk_hsm.specs.Commands.{IsReplyMac, IsRequestMac, IsTranslated, TranslateRefused, VerifyRefused};
-ghost use Rattle.duk_hsm.specs.TransactionKeys.{AreTransactionKeys, transaction_keys};
+ghost use Rattle.duk_hsm.specs.TransactionKeys.{AreTransactionKeys};
+ghost use Rattle.duk_hsm.specs.inner.TransactionKeys.{transaction_keys};
 
 use crate::fault::HsmFault;
 use crate::pin_block::pin_in;
@@ -29,7 +30,8 @@ pub struct Transaction {
 }
 
 impl Model for Transaction {
-    ghost use Rattle.duk_hsm.specs.TransactionKeys.{TransactionKeys, transaction_keys};
+    ghost use Rattle.duk_hsm.specs.TransactionKeys.{TransactionKeys};
+    ghost use Rattle.duk_hsm.specs.inner.TransactionKeys.{transaction_keys};
 
     ghost Value = { TransactionKeys };
 

@@ -21,3 +21,4 @@ pub mod AcceptedOnce
 pub mod OwnKey
 pub mod CompletedByHost
 pub mod Calm
+pub mod inner

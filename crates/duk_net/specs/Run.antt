@@ -25,14 +25,6 @@ abbrev pub IsRefusedMemory : {C L I : Type 0} → Meanings C L I → WorldOf C L
 IsRefusedMemory m old event.RestartHost new = (new ≡ old) ⊎ IsHostLeft m old new
 IsRefusedMemory m old _ new = new ≡ old
 
--- one event is done
-pub record IsStepInto
-    {C L I : Type 0} (m : Meanings C L I) (old : WorldOf C L I) (event : Event)
-    (before after : List Outcome) (new : WorldOf C L I) : Type 0 where
-  pub outcome : Outcome
-  pub gained : after ≡ before ++ outcome ∷ []
-  pub step : Step m old event outcome new
-
 -- all events are done
 pub record IsRun
     {C L I : Type 0} (m : Meanings C L I) (old : WorldOf C L I) (events : List Event)

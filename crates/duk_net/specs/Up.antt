@@ -3,7 +3,6 @@ use Rattle.std.specs.Prelude.{◌≡◌, ◌≢◌, ◌+◌, ◌++◌, ◌∷◌
 use Rattle.duk_frame.specs.Answer.{IsRefusal, IsReply}
 use Rattle.duk_frame.specs.declared.code.Code.{Code}
 use Rattle.duk_host.specs.Handle.{AnswersRefusal, AnswersRepeat, AnswersReply, HandleRefused}
-use Rattle.duk_host.specs.declared.answered.Verdict.{Verdict}
 use Rattle.duk_host.specs.declared.answered.Verdict.TheVariants.{Accepted, Refused, Repeated}
 use Rattle.duk_host.specs.declared.fault.HostFault.{HostFault}
 use Rattle.duk_host.specs.declared.fault.HostFault.TheVariants.{NoMemory}
@@ -11,12 +10,6 @@ use Rattle.duk_tree.specs.Serial.{Serial}
 use Rattle.duk_net.specs.World.{Frame, HasNone, IsAt, Meanings, WorldOf}
 use Rattle.duk_net.specs.declared.outcome.Outcome.{Outcome}
 use Rattle.duk_net.specs.declared.outcome.Outcome.TheVariants as outcome
-
--- what comes of what the host says of a request, in the answer of this number
-abbrev pub verdict_outcome : ℕ → Verdict → Outcome
-verdict_outcome n (Accepted ksn code) = outcome.Accepted n ksn code
-verdict_outcome n (Repeated ksn code) = outcome.Repeated n ksn code
-verdict_outcome n (Refused ksn reason) = outcome.Refused n ksn reason
 
 -- the host answers, and the answer is sent
 pub record IsAnswerSent

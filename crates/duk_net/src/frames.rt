@@ -6,7 +6,7 @@
 ghost use Rattle.std.specs.Prelude.{◌≡◌};
 ghost use Rattle.duk_frame.specs.Answer.{IsAnswer};
 ghost use Rattle.duk_term.specs.Reply.{ksn_in};
-ghost use Rattle.duk_net.specs.Up.{verdict_outcome};
+ghost use Rattle.duk_net.specs.inner.Up.{verdict_outcome};
 
 use crate::outcome::Outcome;
 use duk_frame::{AnswerFrame, Frame, read_answer};

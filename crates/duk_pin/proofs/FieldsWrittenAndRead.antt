@@ -4,10 +4,10 @@ use Rattle.std.specs.Char.{IsAsciiDigit}
 use Rattle.std.proofs.lemmas.List.{drop_more, set_at, append_assoc, map_more, length-take-le, length-append, length-map, length-drop, length-replicate, drop-drop, drop-replicate, take-replicate, take_at, drop_at, take-append-drop, append-nil, replicate-append-replicate}
 use Rattle.std.proofs.lemmas.List.Elements.{All-cons, All-head, All-tail, All-append, All-replicate, All-map, All-weaker, All-same, All-take, All-drop}
 use Rattle.duk_pin.specs.Digits.{values, ascii_of}
-use Rattle.duk_pin.specs.Nibbles.{IsField}
+use Rattle.duk_pin.specs.inner.Nibbles.{IsField}
 use Rattle.duk_pin.specs.Pin.{HasPinLength, IsPin}
 use Rattle.duk_pin.specs.Pan.{IsPan}
-use Rattle.duk_pin.specs.Reading.{ReadsAsPin}
+use Rattle.duk_pin.specs.inner.Reading.{ReadsAsPin}
 use Rattle.duk_pin.specs.PinBlock.{pin_field, without_check_digit, account_digits, account_field}
 
 -- ---- the values of digits from a place on

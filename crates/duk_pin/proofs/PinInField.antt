@@ -5,9 +5,9 @@ use Rattle.std.proofs.lemmas.Bool.{and_parts, cases_Bool, eqb-true, leb-true, le
 use Rattle.std.proofs.lemmas.List.Elements.{All-weaker}
 use Rattle.std.proofs.lemmas.List.Sums.{AllPass-from_list_all, list_all-from_AllPass}
 use Rattle.duk_pin.specs.Digits.{ascii_of}
-use Rattle.duk_pin.specs.Nibbles.{IsField}
+use Rattle.duk_pin.specs.inner.Nibbles.{IsField}
 use Rattle.duk_pin.specs.PinBlock.{are_digits_and_fill, is_pin_start, pin_in_field}
-use Rattle.duk_pin.specs.Reading.{ReadsAsPin}
+use Rattle.duk_pin.specs.inner.Reading.{ReadsAsPin}
 
 both : (a b : Bool) → a ≡ true → b ≡ true → (a && b) ≡ true
 both a b first second = ap (λ x. x && b) first ∙ second

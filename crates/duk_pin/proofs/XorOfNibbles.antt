@@ -5,7 +5,8 @@ use Rattle.std.proofs.lemmas.List.{append_assoc, take_more, length-set, take_mor
 use Rattle.std.proofs.lemmas.List.Elements.{All-nil, All-cons, All-head, All-tail}
 use Rattle.std.proofs.lemmas.Nat.{xor_lt}
 use lib.Bits.{xor_assoc, xor_self, xor_zero_r}
-use Rattle.duk_pin.specs.Nibbles.{IsField, nibbles, xor_nibbles}
+use Rattle.duk_pin.specs.Nibbles.{nibbles, xor_nibbles}
+use Rattle.duk_pin.specs.inner.Nibbles.{IsField}
 
 -- ---- the exclusive or
 

@@ -1,5 +1,5 @@
 -- Lists of nibbles, the halves of bytes, the left half of each byte first (this project's own).
-use Rattle.std.specs.Prelude.{◌≡◌, ℕ, ◌+◌, ◌*◌, ◌/◌, ◌%◌, ◌<◌, List, [], ◌∷◌, length, All, bit_xor}
+use Rattle.std.specs.Prelude.{ℕ, ◌+◌, ◌*◌, ◌/◌, ◌%◌, List, [], ◌∷◌, bit_xor}
 
 -- the two nibbles of each byte
 abbrev pub nibbles : List ℕ → List ℕ
@@ -17,8 +17,3 @@ abbrev pub xor_nibbles : List ℕ → List ℕ → List ℕ
 xor_nibbles [] right = []
 xor_nibbles (a ∷ left) [] = []
 xor_nibbles (a ∷ left) (b ∷ right) = bit_xor a b ∷ xor_nibbles left right
-
--- sixteen nibbles, as the fields of a PIN block have
-pub record IsField (field : List ℕ) : Type 0 where
-  pub sixteen : length field ≡ 16
-  pub nibbles_fit : All (λ nibble. nibble < 16) field

@@ -27,7 +27,7 @@ impl Model for Digits {
 
     ghost Value = { List ℕ };
 
-    ghost use Rattle.duk_pin.specs.Padded.{text_of, IsPadded};
+    ghost use Rattle.duk_pin.specs.inner.Padded.{text_of, IsPadded};
 
     ghost view = { text_of };
 

@@ -3,10 +3,11 @@
 ghost use Rattle.std.specs.Prelude.{◌≡◌, ◌↔◌, IsTrue, ◌+◌, ◌<◌, ◌≤◌, ◌++◌, ℕ, List, length, take, drop, slice_index, IfSome, All};
 ghost use Rattle.std.specs.Char.{IsAsciiDigit};
 ghost use Rattle.duk_pin.specs.Digits.{values};
-ghost use Rattle.duk_pin.specs.Nibbles.{IsField, nibbles, xor_nibbles};
+ghost use Rattle.duk_pin.specs.Nibbles.{nibbles, xor_nibbles};
+ghost use Rattle.duk_pin.specs.inner.Nibbles.{IsField};
 ghost use Rattle.duk_pin.specs.Pin.{IsPin};
 ghost use Rattle.duk_pin.specs.Pan.{IsPan};
-ghost use Rattle.duk_pin.specs.Reading.{ReadsAsPin};
+ghost use Rattle.duk_pin.specs.inner.Reading.{ReadsAsPin};
 ghost use Rattle.duk_pin.specs.PinBlock.{pin_field, pin_in_field, account_digits, account_field};
 
 use crate::nibbles;
@@ -28,7 +29,7 @@ pub struct Field {
 
 impl Model for Field {
     ghost use Rattle.std.specs.Prelude.{ℕ, List};
-    ghost use Rattle.duk_pin.specs.Nibbles.{IsField};
+    ghost use Rattle.duk_pin.specs.inner.Nibbles.{IsField};
 
     ghost Value = { List ℕ };
 

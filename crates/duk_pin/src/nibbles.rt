@@ -1,7 +1,8 @@
 //! Nibbles, the halves of bytes.
 
 ghost use Rattle.std.specs.Prelude.{◌≡◌, ◌/◌, ◌%◌, ◌<◌};
-ghost use Rattle.duk_pin.specs.Nibbles.{IsField, nibbles, xor_nibbles};
+ghost use Rattle.duk_pin.specs.Nibbles.{nibbles, xor_nibbles};
+ghost use Rattle.duk_pin.specs.inner.Nibbles.{IsField};
 
 /// The two nibbles of each byte.
 pub fn split(block: &[u8; 8]) -> [u8; 16]

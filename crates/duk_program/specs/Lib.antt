@@ -11,3 +11,4 @@ pub mod Serve
 pub mod ServeFiles
 pub mod Status
 pub mod Reported
+pub mod inner

@@ -1,7 +1,6 @@
 -- What is left to do when the arguments are dealt with (this project's own).
 use Rattle.std.specs.Prelude.{◌≡◌, ◌⊎◌, ℕ, List}
 use Rattle.duk_arguments.specs.Asked.{Asks}
-use Rattle.duk_arguments.specs.declared.request.Request.{Request}
 use Rattle.duk_arguments.specs.declared.request.Request.TheVariants as request
 use Rattle.duk_program.specs.declared.dispatch.Todo.{Todo}
 use Rattle.duk_program.specs.declared.dispatch.Todo.TheVariants.{Exit, Run, Serve}
@@ -27,12 +26,6 @@ abbrev pub IsToRun : Todo → Type 0
 IsToRun (Exit status) = ⊥
 IsToRun (Run config script) = Unit {0}
 IsToRun (Serve config log) = Unit {0}
-
--- a script is left to run, or frames to serve, only where the request is that of these paths
-abbrev pub RunsRequest : Request → Todo → Type 0
-RunsRequest asked (Exit status) = Unit {0}
-RunsRequest asked (Run config script) = asked ≡ request.Run config script
-RunsRequest asked (Serve config log) = asked ≡ request.Serve config log
 
 -- a script is left to run, or frames to serve, only where the arguments ask for it, with these
 -- paths

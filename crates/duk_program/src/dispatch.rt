@@ -6,7 +6,8 @@ ghost use Rattle.duk_commands.specs.Answer.{IsDone, IsNotDone, streams};
 ghost use Rattle.duk_commands.specs.Fault.{IsFaultReported};
 ghost use Rattle.duk_io.specs.Sink.{IsUntouched};
 ghost use Rattle.duk_program.specs.Commands.{HasShown, IsCommandLineDone, IsNotShown, IsCommandLineFailed, command_for};
-ghost use Rattle.duk_program.specs.Status.{EndsWith, IsLeftToDo, IsStatus, IsToRun, RunsAsked, RunsRequest};
+ghost use Rattle.duk_program.specs.Status.{EndsWith, IsLeftToDo, IsStatus, IsToRun, RunsAsked};
+ghost use Rattle.duk_program.specs.inner.Status.{RunsRequest};
 ghost use Rattle.duk_arguments.specs.Asked.{AreRefused, IsNoRequestOf, texts_of};
 
 use crate::ending::hand_on;

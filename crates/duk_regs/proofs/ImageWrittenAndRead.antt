@@ -13,7 +13,7 @@ use Rattle.duk_regs.specs.Registers.{HaveSixteenBytes, IsRegisterSet, RegisterSe
 use Rattle.duk_tree.specs.Path.{IsUsable}
 use Rattle.duk_tree.specs.Next.{spent_counter}
 use Rattle.duk_regs.specs.Image.{IsImage, counted_past_in, counter_in, image_bytes, image_bytes_of_version_1, past_bytes, past_count_in, past_in, present_bytes, registers_in, serial_in, set_in}
-use Rattle.duk_regs.specs.ImageParts.{HasImageParts, HasPartsOfVersion1, HasPartsOfVersion2, IsPastPart, IsPresentPart}
+use Rattle.duk_regs.specs.inner.ImageParts.{HasImageParts, HasPartsOfVersion1, HasPartsOfVersion2, IsPastPart, IsPresentPart}
 use Rattle.duk_regs.proofs.CounterBounds.{BitLaws, counter_bounds}
 use Rattle.duk_regs.proofs.PiecesInARow.{concat-push, length-concat, length-put_mid, part_length, piece_found, pieces_from, take-add}
 use Rattle.duk_regs.proofs.PastWrittenAndRead.{HasPast, IsPastPart-written, counted_past, length-past_bytes, length-past_of, no_past, past_found}

@@ -7,7 +7,7 @@ use Rattle.std.specs.List.{concat}
 use borrow.Rule.Slice.PartMut.{put_mid}
 use Rattle.duk_tree.specs.Serial.{IsIksn, Serial, iksn_bytes, serial_bytes, serial_of_bytes}
 use Rattle.duk_regs.specs.Image.{counted_past_in, past_bytes, past_count_in, past_in, past_of, past_serial_in, serial_in}
-use Rattle.duk_regs.specs.ImageParts.{IsPastPart}
+use Rattle.duk_regs.specs.inner.ImageParts.{IsPastPart}
 use Rattle.duk_regs.proofs.PiecesInARow.{concat-push, length-concat, piece_found, pieces_from}
 
 each_is_10 : (past : List ℕ) → ((iksn : ℕ) → length (iksn_bytes iksn) ≡ 10) → (k : ℕ) → k < length past → length (get_or (map iksn_bytes past) k []) ≡ 10

@@ -1,5 +1,4 @@
-pub mod Past
 pub mod Registers
 pub mod Reload
 pub mod Image
-pub mod ImageParts
+pub mod inner

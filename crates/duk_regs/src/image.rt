@@ -4,7 +4,7 @@ ghost use Rattle.std.specs.Prelude.{◌≡◌, ◌↔◌, ◌⊎◌, ◌∷◌, 
 ghost use Rattle.duk_tree.specs.Serial.{IsIksn};
 ghost use Rattle.duk_regs.specs.Registers.{IsRegisterSet, register_at};
 ghost use Rattle.duk_regs.specs.Image.{IsImage, counter_in, image_bytes, image_bytes_of_version_1, present_bytes, registers_in, serial_in, set_in};
-ghost use Rattle.duk_regs.specs.ImageParts.{HasImageParts, IsPresentPart};
+ghost use Rattle.duk_regs.specs.inner.ImageParts.{HasImageParts, IsPresentPart};
 
 use crate::frontier::{PLACES, SPENT, leaves_empty, no_key};
 use crate::past::Past;

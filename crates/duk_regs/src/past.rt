@@ -18,7 +18,7 @@ pub(crate) struct Past {
 
 impl Model for Past {
     ghost use Rattle.std.specs.Prelude.{ℕ, List, take};
-    ghost use Rattle.duk_regs.specs.Past.{ArePadded};
+    ghost use Rattle.duk_regs.specs.inner.Past.{ArePadded};
 
     ghost Value = { List ℕ };
 

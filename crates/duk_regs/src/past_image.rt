@@ -3,7 +3,7 @@
 ghost use Rattle.std.specs.Prelude.{◌≡◌, ◌↔◌, ◌<◌, ◌≤◌, ℕ, All, IfSome, IsSome, IsTrue, drop, length, replicate};
 ghost use Rattle.duk_tree.specs.Serial.{IsIksn};
 ghost use Rattle.duk_regs.specs.Image.{counted_past_in, past_bytes, past_count_in, past_of, past_serial_in, serial_in};
-ghost use Rattle.duk_regs.specs.ImageParts.{IsPastPart};
+ghost use Rattle.duk_regs.specs.inner.ImageParts.{IsPastPart};
 
 use crate::past::{MOST_PAST, Past, are_different};
 use duk_tdes::array_of;

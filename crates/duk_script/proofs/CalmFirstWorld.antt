@@ -22,7 +22,8 @@ use Rattle.duk_store.specs.Cell.{CellMeaning}
 use Rattle.duk_store.specs.Log.{LogMeaning}
 use Rattle.duk_store.specs.StoreState.{IsNew}
 use Rattle.duk_term.specs.Terminal.{TerminalOf}
-use Rattle.duk_script.specs.Opening.{HasNewCell, AreEndsBroughtUp, StartsCalm, new_world_of, opening}
+use Rattle.duk_script.specs.Opening.{AreEndsBroughtUp, StartsCalm, new_world_of, opening}
+use Rattle.duk_script.specs.inner.Opening.{HasNewCell}
 use Rattle.duk_script.specs.Play.{ArePlayedIn}
 
 -- terminals over new cells are newly made

@@ -7,7 +7,7 @@ use Rattle.std.specs.Str.Parse.{AllDigits, ParsesUnsigned, digits_value}
 use Rattle.duk_net.specs.declared.event.End.{End}
 use Rattle.duk_net.specs.declared.event.End.TheVariants.{Host, Term}
 use Rattle.duk_script.specs.Script.{IsTerminal, IsEnd, terminal_name, end_name}
-use Rattle.duk_script.specs.Reading.{HasNoSpace, IsSplit, IsPlainNumber}
+use Rattle.duk_script.specs.inner.Reading.{HasNoSpace, IsSplit, IsPlainNumber}
 
 -- no digit is a space
 no_space_digits : (token : List ℕ) → AllDigits 10 token → HasNoSpace token

@@ -13,7 +13,8 @@ use Rattle.duk_net.specs.declared.runs.NetFault.{NetFault}
 use Rattle.duk_net.specs.declared.runs.NetFault.TheVariants as net
 use Rattle.duk_script.specs.Opening.{AreEndsBroughtUp, StartsCalm}
 use Rattle.duk_script.specs.OutcomeText.{lines_of}
-use Rattle.duk_script.specs.Play.{ArePlayed, ArePlayedIn, ArePlayedInPart, ArePlayedOn, HaveOutcomes, IsPlayed, IsPlayedUpTo, PlayRefused, Playing}
+use Rattle.duk_script.specs.Play.{ArePlayed, ArePlayedIn, ArePlayedInPart, ArePlayedOn, IsPlayed, IsPlayedUpTo, PlayRefused, Playing}
+use Rattle.duk_script.specs.inner.Play.{HaveOutcomes}
 use Rattle.duk_script.specs.Script.{IsNoScript, IsScript}
 use Rattle.duk_script.specs.Session.{IsScriptRefused}
 

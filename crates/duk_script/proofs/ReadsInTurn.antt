@@ -3,7 +3,8 @@ use Rattle.std.proofs.Common.{◌++◌, [], ℕ, List, Option, Some, None, sym, 
 use Rattle.std.specs.Io.KnownBytes.{Consumes}
 use Rattle.duk_io.specs.Known.{Rose, Stayed, Known}
 use Rattle.duk_io.specs.Source.{AreBytesRead, IsBroken}
-use Rattle.duk_script.specs.WholeText.{IsPieceTooLong, IsReadTooFar, PieceRefused, ReadRefused}
+use Rattle.duk_script.specs.WholeText.{IsReadTooFar, ReadRefused}
+use Rattle.duk_script.specs.inner.WholeText.{IsPieceTooLong, PieceRefused}
 use Rattle.duk_config.specs.declared.fault.ScriptFault.{ScriptFault}
 use Rattle.duk_config.specs.declared.fault.ScriptFault.TheVariants as fault
 

@@ -5,7 +5,7 @@ use Rattle.std.proofs.lemmas.List.Elements.{All-nil, All-cons, All-tail, All-hea
 use Rattle.duk_net.specs.declared.event.Event.{Event}
 use Rattle.duk_net.specs.declared.event.Event.TheVariants.{Load, Begin, Up, Down, RestartTerm, RestartHost, Arm}
 use Rattle.duk_script.specs.Script.{IsQuiet, IsEventLine, AreEvents, IsLawful, IsFirstBad}
-use Rattle.duk_script.specs.Reading.{AddsLine}
+use Rattle.duk_script.specs.inner.Reading.{AddsLine}
 
 -- the first so many lines of the whole are these events, and the rest is to be read
 pub record Stands (whole rest : List (List ℕ)) (events : List Event) (number : ℕ) : Type 0 where

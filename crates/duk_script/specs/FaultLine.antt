@@ -6,7 +6,3 @@ use Rattle.duk_config.specs.declared.fault.ScriptFault.{ScriptFault}
 -- the line of a fault: its text, and LF
 abbrev pub fault_line : ScriptFault → List ℕ
 fault_line why = script_fault_text why ++ codes "\n"
-
--- the line of a key of this name that is none of a configuration's
-abbrev pub unknown_line : List ℕ → List ℕ
-unknown_line name = codes "config: unknown " ++ name ++ codes "\n"

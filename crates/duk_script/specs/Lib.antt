@@ -1,5 +1,4 @@
 pub mod Script
-pub mod Reading
 pub mod FaultText
 pub mod OutcomeText
 pub mod FaultLine
@@ -8,3 +7,4 @@ pub mod OnDisk
 pub mod Opening
 pub mod Play
 pub mod Session
+pub mod inner

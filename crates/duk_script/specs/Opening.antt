@@ -1,5 +1,5 @@
 -- The first world of a script, and its ends brought up: this project's own.
-use Rattle.std.specs.Prelude.{◌≡◌, ◌+◌, ◌++◌, ◌∷◌, zero, suc, ℕ, List, [], None, All, length}
+use Rattle.std.specs.Prelude.{◌+◌, ◌++◌, ◌∷◌, zero, suc, ℕ, List, [], All, length}
 use Rattle.duk_config.specs.NewHost.{new_host_of}
 use Rattle.duk_config.specs.Settings.{Settings}
 use Rattle.duk_host.specs.Table.{CardTable}
@@ -11,22 +11,13 @@ use Rattle.duk_net.specs.declared.event.End.{End}
 use Rattle.duk_net.specs.declared.event.Event.{Event}
 use Rattle.duk_net.specs.declared.event.Event.TheVariants.{RestartHost, RestartTerm}
 use Rattle.duk_net.specs.declared.outcome.Outcome.{Outcome}
-use Rattle.duk_store.specs.Cell.{CellMeaning}
-use Rattle.duk_store.specs.StoreState.{IsNew}
 use Rattle.duk_term.specs.Terminal.{TerminalOf}
-use Rattle.duk_term.specs.declared.state.State.TheVariants.{Stopped}
 
 -- the world of a configuration with this log and these terminals, as it is made
 abbrev pub new_world_of : {C L : Type 0} → Settings → L → List (TerminalOf C)
     → WorldOf C L CardTable
 new_world_of config log terminals =
     first_world (new_host_of config log) config.loading terminals
-
--- a stopped terminal over a cell as it is made, which is honest, sound and calm and keeps nothing
-pub record HasNewCell {C : Type 0} (meaning : CellMeaning C) (terminal : TerminalOf C)
-    : Type 0 where
-  pub stopped : terminal.state ≡ Stopped
-  pub cell : IsNew (meaning.state_of terminal.cell) None
 
 -- the restarts of the host and of so many terminals
 abbrev pub opening : ℕ → List Event

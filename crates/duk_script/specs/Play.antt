@@ -26,12 +26,6 @@ pub record ArePlayedIn
   pub opened : AreEndsBroughtUp m first start
   pub run : Run m start events outcomes last
 
--- events have these outcomes from a world on
-abbrev pub HaveOutcomes : {C L I : Type 0} → Meanings C L I → WorldOf C L I → List Event
-    → List Outcome → Type 0
-HaveOutcomes {C} {L} {I} m start events outcomes =
-    (last : WorldOf C L I) × Run m start events outcomes last
-
 -- the world of a configuration over stores in memory, as it is made
 abbrev pub new_memory_world : Settings → MemoryWorld
 new_memory_world config =

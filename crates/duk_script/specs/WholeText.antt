@@ -1,6 +1,5 @@
 -- Reading all that a reader has left (this project's own).
-use Rattle.std.specs.Prelude.{◌≡◌, ◌<◌, ◌≤◌, ◌++◌, ℕ, Bool, List, [], length}
-use Rattle.std.specs.Bool.{MatchBool}
+use Rattle.std.specs.Prelude.{◌<◌, ◌≤◌, ℕ, List, length}
 use Rattle.std.specs.Io.KnownBytes.{IsAtEnd}
 use Rattle.duk_config.specs.ConfigFile.{longest_file}
 use Rattle.duk_config.specs.declared.fault.ScriptFault.{ScriptFault}
@@ -26,24 +25,3 @@ ReadRefused old new fault.CannotRead = (bytes : List ℕ) × IsBroken old new by
 ReadRefused old new fault.TooLong = IsReadTooFar old new
 ReadRefused old new fault.NoMemory = Unit {0}
 ReadRefused old new _ = ⊥
-
--- a piece is read to the end of a text: what a private function of the reading answers
-pub record IsPiece (old new : Known) (before after : List ℕ) (at_end : Bool) : Type 0 where
-  pub piece : List ℕ
-  pub read : AreBytesRead old new piece
-  pub after_is : after ≡ before ++ piece
-  pub fits : length after ≤ longest_file
-  pub more : MatchBool at_end ((piece ≡ []) × IsAtEnd new.contents) (0 < length piece)
-
--- a piece is longer than the text may get
-pub record IsPieceTooLong (old new : Known) (before : List ℕ) : Type 0 where
-  pub piece : List ℕ
-  pub read : AreBytesRead old new piece
-  pub too_long : longest_file < length (before ++ piece)
-
--- why a piece is not read
-abbrev pub PieceRefused : Known → Known → List ℕ → ScriptFault → Type 0
-PieceRefused old new before fault.CannotRead = IsBroken old new []
-PieceRefused old new before fault.TooLong = IsPieceTooLong old new before
-PieceRefused old new before fault.NoMemory = Unit {0}
-PieceRefused old new before _ = ⊥

@@ -5,7 +5,7 @@ ghost use Rattle.duk_net.specs.declared.event.End.{End};
 ghost use Rattle.duk_net.specs.declared.event.Event.{Event};
 ghost use Rattle.duk_term.specs.declared.purchase.Purchase.{Purchase};
 ghost use Rattle.duk_script.specs.Script.{IsNumber, IsTerminal, IsEventLine, terminal_name};
-ghost use Rattle.duk_script.specs.Reading.{AreLoadTokens, AreBeginTokens, AreDownTokens, AreArmTokens, IsPurchase};
+ghost use Rattle.duk_script.specs.inner.Reading.{AreLoadTokens, AreBeginTokens, AreDownTokens, AreArmTokens, IsPurchase};
 
 use crate::tokens::{read_end, read_number, read_terminal, split_token};
 use duk_net::{End, Event};

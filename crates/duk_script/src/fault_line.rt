@@ -2,7 +2,8 @@
 
 ghost use Rattle.std.specs.Prelude.{◌≡◌, ◌++◌, ◌≤◌, codes, length, OnOk, OnErr};
 ghost use Rattle.duk_config.specs.ConfigKeys.{key_name};
-ghost use Rattle.duk_script.specs.FaultLine.{fault_line, unknown_line};
+ghost use Rattle.duk_script.specs.FaultLine.{fault_line};
+ghost use Rattle.duk_script.specs.inner.FaultLine.{unknown_line};
 ghost use Rattle.duk_io.specs.Sink.{IsCut, IsTried, IsWritten};
 
 use crate::line::{Line, LineText};

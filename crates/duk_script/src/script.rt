@@ -4,7 +4,7 @@ ghost use Rattle.std.specs.Prelude.{◌≡◌, ◌⊎◌, ◌+◌, ◌<◌, ◌�
 ghost use Rattle.std.specs.Str.Lines.{lines, strip_carriage_return};
 ghost use Rattle.duk_net.specs.declared.event.Event.{Event};
 ghost use Rattle.duk_script.specs.Script.{IsQuiet, IsLawful, IsEventLine, IsScript, IsNoScript};
-ghost use Rattle.duk_script.specs.Reading.{AddsLine};
+ghost use Rattle.duk_script.specs.inner.Reading.{AddsLine};
 
 use crate::event_line::read_event;
 use duk_config::ScriptFault;

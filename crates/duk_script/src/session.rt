@@ -4,7 +4,8 @@ ghost use Rattle.std.specs.Prelude.{◌≡◌, ◌⊎◌, false, true, OnOk, IfE
 ghost use Rattle.duk_io.specs.Sink.{IsCut, IsWritten};
 ghost use Rattle.duk_net.specs.World.{meanings_of};
 ghost use Rattle.duk_script.specs.OutcomeText.{lines_of};
-ghost use Rattle.duk_script.specs.Play.{ArePlayed, ArePlayedOn, HaveOutcomes, IsPlayed, PlayRefused};
+ghost use Rattle.duk_script.specs.Play.{ArePlayed, ArePlayedOn, IsPlayed, PlayRefused};
+ghost use Rattle.duk_script.specs.inner.Play.{HaveOutcomes};
 ghost use Rattle.duk_script.specs.Session.{IsRunDone, IsRunRefused, IsScriptDone, IsScriptRefused, session};
 ghost use Rattle.duk_tdes.specs.KeyBytes.{bytes_of};
 ghost use Rattle.duk_tdes.specs.Tdes.{IsTdesLength};

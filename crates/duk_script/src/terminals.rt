@@ -3,7 +3,7 @@
 ghost use Rattle.std.specs.Prelude.{◌≡◌, All, None, IfOk, IfErr, replicate};
 ghost use Rattle.duk_net.specs.InMemory.{new_terminal};
 ghost use Rattle.duk_script.specs.OnDisk.{disk_cell_meaning, new_disk_cell, new_disk_terminal};
-ghost use Rattle.duk_script.specs.Opening.{HasNewCell};
+ghost use Rattle.duk_script.specs.inner.Opening.{HasNewCell};
 ghost use Rattle.duk_store.specs.MemoryCell.{memory_cell_meaning};
 ghost use Rattle.duk_store.specs.StoreState.{IsNew};
 

@@ -3,7 +3,7 @@
 ghost use Rattle.std.specs.Prelude.{◌≡◌, ◌<◌, ◌^◌, ◌++◌, ◌∷◌, ℕ, List, Some, decimal, IfSome, IsTrue, MatchOption};
 ghost use Rattle.duk_net.specs.declared.event.End.{End};
 ghost use Rattle.duk_script.specs.Script.{IsTerminal, IsEnd, terminal_name, end_name};
-ghost use Rattle.duk_script.specs.Reading.{IsPlainNumber, IsSplit};
+ghost use Rattle.duk_script.specs.inner.Reading.{IsPlainNumber, IsSplit};
 
 use duk_net::End;
 

@@ -2,7 +2,8 @@
 
 ghost use Rattle.std.specs.Prelude.{◌≤◌, length, IfOk, IfErr};
 ghost use Rattle.duk_config.specs.ConfigFile.{longest_file};
-ghost use Rattle.duk_script.specs.WholeText.{IsPiece, IsReadWhole, PieceRefused, ReadRefused};
+ghost use Rattle.duk_script.specs.WholeText.{IsReadWhole, ReadRefused};
+ghost use Rattle.duk_script.specs.inner.WholeText.{IsPiece, PieceRefused};
 
 use duk_config::{LONGEST_FILE, ScriptFault};
 use duk_io::Source;

@@ -1,9 +1,10 @@
 -- A body put in the place of another, step by step.
 use Rattle.std.proofs.Common.{◌≡◌, inr, ℕ, ◌<◌, ◌^◌, List, sym, subst}
 use Rattle.duk_store.specs.Disk.{DiskState}
-use Rattle.duk_store.specs.SlotCell.{IsReadyFor, IsReplaced, KeepsOldOrNew, ReplaceFailed}
+use Rattle.duk_store.specs.SlotCell.{IsReplaced}
+use Rattle.duk_store.specs.inner.SlotCell.{IsReadyFor, KeepsOldOrNew, ReplaceFailed}
 use Rattle.duk_store.specs.SlotFormat.{HoldsAlone, IsOpen, other_than, sequence_of, slot_at}
-use Rattle.duk_store.specs.SlotSteps.{ChangesAt, IsEmptied, IsFilled, IsPartlyEmptied, IsPartlyFilled, IsStepDone, IsStepFailed}
+use Rattle.duk_store.specs.inner.SlotSteps.{ChangesAt, IsEmptied, IsFilled, IsPartlyEmptied, IsPartlyFilled, IsStepDone, IsStepFailed}
 use Rattle.duk_store.specs.declared.fault.StoreFault.{StoreFault}
 use Rattle.duk_store.specs.declared.slot_format.Place.{Place}
 use Rattle.duk_store.proofs.StepsInTurn.{done_then, done_then_failed, done_where, failed_where}

@@ -8,8 +8,10 @@ use Rattle.duk_store.specs.MemoryDisk.{memory_disk_state, new_disk}
 use Rattle.duk_store.specs.Cell.{IsPut, Kept, OldOrNew, PutFailed}
 use Rattle.duk_store.specs.Disk.{DiskMeaning, DiskState, PreservesDisk, LeavesChanged, LeavesReads, ReadsMayStay, StaysButArmed}
 use Rattle.duk_store.specs.Restart.{RestartFailed, Restarted}
-use Rattle.duk_store.specs.SlotCell.{CellReplaceFailed, IsBlankDisk, IsZeroDisk, LeavesOneBody, RunsWithBody, IsCellBroughtUp, IsCellReplaced, IsDamagedDisk, IsInItsSlot, IsNextOf, IsPutNext, IsReadyFor, IsReplaced, IsRestored, IsSoundDisk, IsWorn, Knows, MayFind, RecoveryFailed, ReplaceFailed, SlotCellOf, StandsAlone, is_running, slot_cell_meaning, slot_cell_state}
-use Rattle.duk_store.specs.SlotFormat.{HoldsAlone, IsEmpty, IsOpen, KeepsBody, cell_disk_size, other_than, sequence_of, slot_at}
+use Rattle.duk_store.specs.SlotCell.{IsBlankDisk, IsZeroDisk, LeavesOneBody, RunsWithBody, IsCellReplaced, IsInItsSlot, IsNextOf, IsPutNext, IsReplaced, IsRestored, IsSoundDisk, IsWorn, MayFind, SlotCellOf, StandsAlone, is_running, slot_cell_meaning, slot_cell_state}
+use Rattle.duk_store.specs.inner.SlotCell.{CellReplaceFailed, IsCellBroughtUp, IsDamagedDisk, IsReadyFor, Knows, RecoveryFailed, ReplaceFailed}
+use Rattle.duk_store.specs.SlotFormat.{HoldsAlone, IsOpen, KeepsBody, cell_disk_size, other_than, sequence_of, slot_at}
+use Rattle.duk_store.specs.inner.SlotFormat.{IsEmpty}
 use Rattle.duk_store.specs.StoreState.{FindsSome, FindsWithin, IsNew, KeepsNothing, StaysButCalm}
 use Rattle.duk_store.specs.declared.fault.StoreFault.{StoreFault}
 use Rattle.duk_store.specs.declared.fault.StoreFault.TheVariants as fault

@@ -6,13 +6,15 @@ use Rattle.std.proofs.lemmas.List.{drop_at, get_or-drop, get_or-replicate, get_o
 use Rattle.std.specs.List.{slice_get}
 use Rattle.duk_tree.specs.Serial.{IsSerial, Serial, serial_bytes, serial_of_bytes}
 use Rattle.duk_store.specs.Disk.{DiskMeaning, DiskState, PreservesDisk, LeavesItsSize, LeavesWithin, ReadsMayStay}
-use Rattle.duk_store.specs.DiskLog.{ChangesRecord, CountFailed, DiskLogOf, IsBlankLogDisk, IsDamagedLog, IsLogOpen, IsLogUp, IsRecordRead, IsRecordTorn, IsRecordWritten, IsSoundLogDisk, IsZeroLogDisk, KnowsCount, LogUpFailed, MayFindNumbers, disk_log_meaning, disk_log_state, is_log_running}
+use Rattle.duk_store.specs.DiskLog.{DiskLogOf, IsBlankLogDisk, IsSoundLogDisk, IsZeroLogDisk, MayFindNumbers, disk_log_meaning, disk_log_state, is_log_running}
+use Rattle.duk_store.specs.inner.DiskLog.{ChangesRecord, CountFailed, IsDamagedLog, IsLogOpen, IsLogUp, IsRecordRead, IsRecordTorn, IsRecordWritten, KnowsCount, LogUpFailed}
 use Rattle.duk_store.specs.Log.{AppendFailed, IsAppended, IsReadAt, LogRestarted, Numbers, OldOrAppended}
 use Rattle.duk_store.specs.MemoryDisk.{memory_disk_state, new_disk}
-use Rattle.duk_store.specs.RecordFormat.{HasRecordNumber, IsLog, IsLogSize, KeepsNumbers, number_bytes, number_in, numbers_in, record_at}
+use Rattle.duk_store.specs.RecordFormat.{HasRecordNumber, IsLog, IsLogSize, KeepsNumbers, number_in, numbers_in, record_at}
+use Rattle.duk_store.specs.inner.RecordFormat.{number_bytes}
 use Rattle.duk_store.specs.Restart.{RestartFailed}
 use Rattle.duk_store.specs.SlotFormat.{IsOpen, after_commit, commit_of}
-use Rattle.duk_store.specs.SlotSteps.{IsStepDone, IsStepFailed}
+use Rattle.duk_store.specs.inner.SlotSteps.{IsStepDone, IsStepFailed}
 use Rattle.duk_store.specs.StoreState.{IsNew, KeepsNothing}
 use Rattle.duk_store.specs.declared.fault.StoreFault.{StoreFault}
 use Rattle.duk_store.specs.declared.fault.StoreFault.TheVariants as fault

@@ -4,7 +4,8 @@ use Rattle.std.proofs.lemmas.Bool.{false≢true}
 use Rattle.std.proofs.lemmas.List.{places, ext_get_or, length-replicate}
 use Rattle.std.proofs.lemmas.Grind.{same_number_lists}
 use Rattle.duk_store.specs.Disk.{DiffersWithin, written}
-use Rattle.duk_store.specs.MemoryDisk.{MemoryDisk, CouldLeave, IsHonestDisk, IsUnsyncedWithin, IsMarked, IsSyncedAt, marked, wanting, synced_disk}
+use Rattle.duk_store.specs.MemoryDisk.{MemoryDisk, CouldLeave, IsHonestDisk, IsSyncedAt, marked, wanting, synced_disk}
+use Rattle.duk_store.specs.inner.MemoryDisk.{IsUnsyncedWithin, IsMarked}
 use Rattle.duk_store.proofs.MemoryDiskBytes.{IsOutside, false_or_true, flag_false, over, inside_or_outside, length_marked, length_over, marked_outside, marked_synced, marked_unsynced, over_inside, over_outside}
 
 -- a disk with a write under way is honest

@@ -4,8 +4,9 @@ use Rattle.std.proofs.lemmas.Bool.{cases_lt}
 use Rattle.std.proofs.lemmas.List.{drop-drop, drop-take, drop_at, get_or-take, length-take-le, take-take, take_at}
 use Rattle.duk_tree.specs.Serial.{Serial}
 use Rattle.duk_store.specs.Disk.{DiffersWithin, written}
-use Rattle.duk_store.specs.DiskLog.{ChangesRecord, IsRecordTorn, IsRecordWritten}
-use Rattle.duk_store.specs.RecordFormat.{number_bytes, record_at}
+use Rattle.duk_store.specs.inner.DiskLog.{ChangesRecord, IsRecordTorn, IsRecordWritten}
+use Rattle.duk_store.specs.RecordFormat.{record_at}
+use Rattle.duk_store.specs.inner.RecordFormat.{number_bytes}
 use Rattle.duk_store.specs.SlotFormat.{after_commit, commit_of}
 use Rattle.duk_store.proofs.MemoryDiskBytes.{length_over}
 use Rattle.duk_store.proofs.SlotBytes.{IsAround, around_torn, around_written}

@@ -2,9 +2,10 @@
 use Rattle.std.proofs.Common.{◌≡◌, inl, inr, ℕ, ◌*◌, ◌≤◌, true, List, [], length, take, ap, subst, arith}
 use Rattle.std.proofs.lemmas.Bool.{cases_lt}
 use Rattle.std.proofs.lemmas.List.{drop_all}
-use Rattle.duk_store.specs.DiskLog.{CountsUpTo, KeepsNoList}
-use Rattle.duk_store.specs.RecordCount.{IsNoList}
-use Rattle.duk_store.specs.RecordFormat.{IsLog, SaysRecord, record_at}
+use Rattle.duk_store.specs.inner.DiskLog.{CountsUpTo, KeepsNoList}
+use Rattle.duk_store.specs.inner.RecordCount.{IsNoList}
+use Rattle.duk_store.specs.RecordFormat.{IsLog, record_at}
+use Rattle.duk_store.specs.inner.RecordFormat.{SaysRecord}
 use Rattle.duk_store.specs.SlotFormat.{IsOpen}
 use Rattle.duk_store.specs.declared.record_format.Record.{Record}
 

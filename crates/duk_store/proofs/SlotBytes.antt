@@ -3,8 +3,9 @@ use Rattle.std.proofs.Common.{◌≡◌, inl, inr, ℕ, ◌+◌, ◌<◌, ◌≤
 use Rattle.std.proofs.lemmas.Grind.{same_number_lists}
 use Rattle.std.proofs.lemmas.List.{append-nil, drop-drop, drop-take, drop_all, drop_at, get_or-drop, get_or-take, length-take, length-take-le, take-take, take_all, take_at}
 use Rattle.duk_store.specs.Disk.{DiffersWithin, range_of, written}
-use Rattle.duk_store.specs.SlotFormat.{after_commit, commit_of, commit_place, slot_at}
-use Rattle.duk_store.specs.SlotSteps.{ChangesAt}
+use Rattle.duk_store.specs.SlotFormat.{after_commit, commit_of, slot_at}
+use Rattle.duk_store.specs.inner.SlotFormat.{commit_place}
+use Rattle.duk_store.specs.inner.SlotSteps.{ChangesAt}
 use Rattle.duk_store.specs.declared.slot_format.Place.{Place}
 use Rattle.duk_store.specs.declared.slot_format.Place.TheVariants.{First, Second}
 

@@ -1,8 +1,9 @@
 -- What each write of a cell does to its slots.
 use Rattle.std.proofs.Common.{◌≡◌, inl, inr, ℕ, ◌+◌, List, [], ◌∷◌, Bool, true, false, length, replicate, sym, ◌∙◌, subst, arith}
 use Rattle.duk_store.specs.Disk.{DiffersWithin, DiskState, written}
-use Rattle.duk_store.specs.SlotFormat.{IsOpen, after_commit, contents_of, commit_of, commit_place, slot_at}
-use Rattle.duk_store.specs.SlotSteps.{Change, ChangesAt, IsCleared, IsClosed, IsEmptied, IsFilled, IsPartlyCleared, IsPartlyClosed, IsPartlyFilled, IsPartlyWiped, IsWiped, KnowsCommit}
+use Rattle.duk_store.specs.SlotFormat.{IsOpen, after_commit, commit_of, slot_at}
+use Rattle.duk_store.specs.inner.SlotFormat.{contents_of, commit_place}
+use Rattle.duk_store.specs.inner.SlotSteps.{Change, ChangesAt, IsCleared, IsClosed, IsEmptied, IsFilled, IsPartlyCleared, IsPartlyClosed, IsPartlyFilled, IsPartlyWiped, IsWiped, KnowsCommit}
 use Rattle.duk_store.specs.declared.slot_format.Place.{Place}
 use Rattle.duk_store.proofs.SlotBytes.{torn_after, torn_commit, written_after, written_commit}
 

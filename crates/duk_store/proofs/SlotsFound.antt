@@ -2,10 +2,12 @@
 use Rattle.std.proofs.Common.{◌≡◌, inr, Some, None, refl, sym, ◌∙◌, ap, subst, arith}
 use Rattle.duk_store.specs.Cell.{Kept}
 use Rattle.duk_store.specs.Disk.{DiskState, LeavesChanged}
-use Rattle.duk_store.specs.SlotCell.{IsCellBroughtUp, IsRestored, RecoveryFailed}
-use Rattle.duk_store.specs.SlotChoice.{AreEquallyNew, IsCurrent}
-use Rattle.duk_store.specs.SlotFormat.{Counts, HoldsAlone, IsOpen, KeepsBody, body_of, other_than, sequence_of, slot_at, slot_in}
-use Rattle.duk_store.specs.SlotSteps.{ChangesAt, IsCleared, IsFound, IsPartlyCleared, IsStepDone, IsStepFailed}
+use Rattle.duk_store.specs.SlotCell.{IsRestored}
+use Rattle.duk_store.specs.inner.SlotCell.{IsCellBroughtUp, RecoveryFailed}
+use Rattle.duk_store.specs.inner.SlotChoice.{AreEquallyNew, IsCurrent}
+use Rattle.duk_store.specs.SlotFormat.{Counts, HoldsAlone, IsOpen, KeepsBody, body_of, other_than, sequence_of, slot_at}
+use Rattle.duk_store.specs.inner.SlotFormat.{slot_in}
+use Rattle.duk_store.specs.inner.SlotSteps.{ChangesAt, IsCleared, IsFound, IsPartlyCleared, IsStepDone, IsStepFailed}
 use Rattle.duk_store.specs.declared.fault.StoreFault.{StoreFault}
 use Rattle.duk_store.specs.declared.fault.StoreFault.TheVariants.{Damaged}
 use Rattle.duk_store.specs.declared.slot_format.Place.{Place}

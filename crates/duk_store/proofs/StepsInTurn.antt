@@ -1,7 +1,7 @@
 -- One step of a disk after another.
 use Rattle.std.proofs.Common.{◌≡◌, ℕ, List, length, ◌∙◌, subst, sym}
 use Rattle.duk_store.specs.Disk.{DiskState, HasFailed, PreservesBytes, PreservesDisk, LeavesItsSize}
-use Rattle.duk_store.specs.SlotSteps.{Change, IsStepDone, IsStepFailed}
+use Rattle.duk_store.specs.inner.SlotSteps.{Change, IsStepDone, IsStepFailed}
 use Rattle.duk_store.specs.declared.fault.StoreFault.{StoreFault}
 
 pub keeps_on : (old mid new : DiskState) → PreservesDisk old mid → PreservesDisk mid new → PreservesDisk old new

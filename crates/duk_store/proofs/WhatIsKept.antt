@@ -5,9 +5,11 @@ use Rattle.std.proofs.lemmas.List.{drop_at}
 use Rattle.byteorder.specs.Endian.{big_bytes, big_number}
 use Rattle.byteorder.specs.Numbers.{big_number-reads_back}
 use Rattle.duk_store.specs.Cell.{Kept}
-use Rattle.duk_store.specs.SlotCell.{IsRestored, KeepsOldOrNew}
-use Rattle.duk_store.specs.SlotFormat.{Counts, HoldsAlone, IsEmpty, IsOpen, KeepsBody, after_commit, body_of, contents_of, commit_of, other_than, sequence_of, slot_at}
-use Rattle.duk_store.specs.SlotSteps.{BothCommitsStay, ChangesAt, IsCleared, IsEmptied, IsFilled, IsPartlyCleared, IsPartlyEmptied, IsPartlyFilled, IsWipedBoth}
+use Rattle.duk_store.specs.SlotCell.{IsRestored}
+use Rattle.duk_store.specs.inner.SlotCell.{KeepsOldOrNew}
+use Rattle.duk_store.specs.SlotFormat.{Counts, HoldsAlone, IsOpen, KeepsBody, after_commit, body_of, commit_of, other_than, sequence_of, slot_at}
+use Rattle.duk_store.specs.inner.SlotFormat.{IsEmpty, contents_of}
+use Rattle.duk_store.specs.inner.SlotSteps.{BothCommitsStay, ChangesAt, IsCleared, IsEmptied, IsFilled, IsPartlyCleared, IsPartlyEmptied, IsPartlyFilled, IsWipedBoth}
 use Rattle.duk_store.specs.declared.slot_format.Place.{Place}
 use Rattle.duk_store.specs.declared.slot_format.Place.TheVariants.{First, Second}
 

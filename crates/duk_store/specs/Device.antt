@@ -1,5 +1,5 @@
 -- The device under a store in memory: this project's own.
-use Rattle.std.specs.Prelude.{◌≡◌, ◌≢◌, ◌+◌, ◌%◌, ◌^◌, ℕ, Bool, true, false, Option, Some, None}
+use Rattle.std.specs.Prelude.{◌≡◌, ◌+◌, ◌%◌, ◌^◌, ℕ, Bool, true, false, Option, Some, None}
 
 -- whether the store runs, how many device steps pass before one fails, if any is to fail, and how
 -- many have failed
@@ -29,26 +29,10 @@ abbrev pub failed : Device → Device
 failed device =
     record device { running = false; passes = Some 0; failures = one_more device.failures }
 
--- how many steps are to pass after one
-abbrev pub after_one : Option ℕ → Option ℕ → Type 0
-after_one None passes = passes ≡ None
-after_one (Some before) passes = (after : ℕ) × (before ≡ after + 1) × (passes ≡ Some after)
-
 -- how many steps are to pass after the two of a write
 abbrev pub after_two : Option ℕ → Option ℕ → Type 0
 after_two None passes = passes ≡ None
 after_two (Some before) passes = (after : ℕ) × (before ≡ after + 2) × (passes ≡ Some after)
-
--- a step passed
-pub record HasPassed (old new : Device) : Type 0 where
-  pub passes_are : after_one old.passes new.passes
-  pub device_is : new ≡ record old { passes = new.passes }
-
--- a step came due
-pub record IsStepDue (old new : Device) : Type 0 where
-  pub due : old.passes ≡ Some 0
-  pub device_is : new ≡ failed old
-  pub counted : new.failures ≢ old.failures
 
 -- both steps of a write passed
 pub record HavePassed (old new : Device) : Type 0 where

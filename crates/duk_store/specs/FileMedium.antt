@@ -1,6 +1,6 @@
 -- A medium over an open file: this project's own.
 use Rattle.std.specs.Prelude.{◌≡◌, ℕ, Bool, true, false}
-use Rattle.duk_store.specs.Medium.{IsSizeOf, MediumState}
+use Rattle.duk_store.specs.Medium.{MediumState}
 
 -- a medium over an open file: the file, how many bytes it had when it was opened, and whether a
 -- write or a sync of it has failed since
@@ -27,8 +27,3 @@ file_medium_state state medium = record (state medium.file) {
 }
 
 -- Of what follows only the code of the medium speaks.
-
--- the size is that of the file, and no failure of the file is forgotten
-pub record RemembersFailure (file : MediumState) (size : ℕ) (has_failed : Bool) : Type 0 where
-  pub size_is : IsSizeOf size file
-  pub kept : file.failed → has_failed ≡ true

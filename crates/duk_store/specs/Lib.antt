@@ -5,12 +5,9 @@ pub mod CellCalls
 pub mod Log
 pub mod Disk
 pub mod SlotFormat
-pub mod SlotChoice
-pub mod SlotSteps
 pub mod SlotCell
 pub mod RecordFormat
 pub mod DiskLog
-pub mod RecordCount
 pub mod Device
 pub mod MemoryCell
 pub mod MemoryLog
@@ -19,3 +16,4 @@ pub mod MemoryDisk
 pub mod Medium
 pub mod FileMedium
 pub mod MediumDisk
+pub mod inner

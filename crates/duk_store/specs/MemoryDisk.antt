@@ -1,5 +1,5 @@
 -- A disk in memory: this project's own.
-use Rattle.std.specs.Prelude.{◌≡◌, ◌+◌, ◌<◌, ◌≤◌, ◌++◌, ℕ, Bool, true, false, List, length, take, drop, replicate, get_or, set, slice_index, None, if◌then◌else◌}
+use Rattle.std.specs.Prelude.{◌≡◌, ◌+◌, ◌++◌, ℕ, Bool, true, false, List, length, take, drop, replicate, get_or, slice_index, None}
 use Rattle.duk_store.specs.Disk.{DiskMeaning, DiskState, written}
 use Rattle.duk_store.specs.DiskDevice.{DiskDevice, IsCalmDevice, armed_device, disarmed_device, failing_once, new_disk_device}
 use Rattle.duk_store.specs.declared.memory_disk.Filling.{Filling}
@@ -128,22 +128,3 @@ pub record IsRefilled (old new : MemoryDisk) : Type 0 where
       → slice_index new.reads place ≡ slice_index old.reads place
 
 -- Of what follows only the code of the disk speaks.
-
--- all that was written since the last sync lies between these two places
-pub record IsUnsyncedWithin (from to : ℕ) (disk : MemoryDisk) : Type 0 where
-  pub in_order : from ≤ to
-  pub inside : to ≤ length disk.reads
-  pub around : (place : ℕ) → IsUnsyncedAt disk place → (from ≤ place) × (place < to)
-  pub honest : IsHonestDisk disk
-
--- all of this range counts as written since the last sync
-abbrev pub IsMarked : MemoryDisk → ℕ → ℕ → Type 0
-IsMarked disk at count = (place : ℕ) → at ≤ place → place < at + count → IsUnsyncedAt disk place
-
--- the disk with this byte as a restart leaves it
-abbrev pub refilled_at : ℕ → MemoryDisk → MemoryDisk
-refilled_at place disk = record disk {
-  reads = if get_or disk.unsynced place false
-      then set disk.reads place (byte_left disk.filling disk place)
-      else disk.reads;
-}

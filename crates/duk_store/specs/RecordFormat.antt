@@ -1,11 +1,10 @@
 -- The disk of a log: a format of this project's own. It is a positive number of records of 16
 -- bytes: a commit byte, a key serial number in 10 bytes with the highest first, and five zero
 -- bytes.
-use Rattle.std.specs.Prelude.{◌≡◌, ◌<◌, ◌≤◌, ◌*◌, ◌↔◌, ◌++◌, ◌∷◌, zero, suc, ℕ, true, List, [], take, drop, replicate, length}
-use Rattle.duk_tree.specs.Serial.{Serial, serial_bytes, serial_of_bytes}
+use Rattle.std.specs.Prelude.{◌≡◌, ◌<◌, ◌≤◌, ◌*◌, ◌++◌, ◌∷◌, zero, suc, ℕ, List, [], take, drop, replicate, length}
+use Rattle.duk_tree.specs.Serial.{Serial, serial_of_bytes}
 use Rattle.duk_store.specs.Log.{Numbers}
 use Rattle.duk_store.specs.SlotFormat.{IsOpen, after_commit}
-use Rattle.duk_store.specs.declared.record_format.Record.{Record}
 
 -- the bytes of a record
 abbrev pub record_length : ℕ
@@ -26,10 +25,6 @@ number_in bytes = serial_of_bytes (take 10 (after_commit bytes))
 abbrev pub after_number : List ℕ → List ℕ
 after_number bytes = drop 10 (after_commit bytes)
 
--- a number, as it stands after a commit byte
-abbrev pub number_bytes : Serial → List ℕ
-number_bytes number = serial_bytes number ++ replicate 5 0
-
 -- a record that has a number: it is open, and has zeros after its number
 pub record HasRecordNumber (bytes : List ℕ) : Type 0 where
   pub is_open : IsOpen bytes
@@ -49,9 +44,3 @@ numbers_in (suc count) bytes = numbers_in count bytes ++ number_in (record_at co
 -- the log of such a disk keeps these numbers
 abbrev pub KeepsNumbers : List ℕ → Numbers → Type 0
 KeepsNumbers bytes numbers = (count : ℕ) × IsLog count bytes × (numbers ≡ numbers_in count bytes)
-
--- what the bytes of a record say
-pub record SaysRecord (bytes : List ℕ) (said : Record) : Type 0 where
-  pub commit : (said.is_open ≡ true) ↔ IsOpen bytes
-  pub number : said.number ≡ number_in bytes
-  pub zeros : (said.has_zeros ≡ true) ↔ (after_number bytes ≡ replicate 5 0)

@@ -1,12 +1,10 @@
 -- The disk of a cell: a format of this project's own. It has 1,024 bytes, which are two slots of
 -- 512: a commit byte, a sequence in 8 bytes with the highest first, and a body in 503.
-use Rattle.std.specs.Prelude.{◌≡◌, ◌<◌, ◌↔◌, ◌++◌, ℕ, true, List, Some, None, take, drop, replicate, slice_index}
-use Rattle.byteorder.specs.Endian.{big_bytes, big_number}
+use Rattle.std.specs.Prelude.{◌≡◌, ◌<◌, ℕ, List, Some, None, take, drop, replicate, slice_index}
+use Rattle.byteorder.specs.Endian.{big_number}
 use Rattle.duk_store.specs.Cell.{Kept}
 use Rattle.duk_store.specs.declared.slot_format.Place.{Place}
 use Rattle.duk_store.specs.declared.slot_format.Place.TheVariants.{First, Second}
-use Rattle.duk_store.specs.declared.slot_format.Slot.{Slot}
-use Rattle.duk_store.specs.declared.slot_format.Slots.{Slots}
 
 -- the bytes of the disk
 abbrev pub cell_disk_size : ℕ
@@ -22,11 +20,6 @@ abbrev pub other_than : Place → Place
 other_than First = Second
 other_than Second = First
 
--- the place of a slot's commit byte
-abbrev pub commit_place : Place → ℕ
-commit_place First = 0
-commit_place Second = 512
-
 -- the commit byte of a slot, and what stands after it
 abbrev pub commit_of : List ℕ → ℕ
 commit_of slot = slice_index slot 0
@@ -39,10 +32,6 @@ sequence_of slot = big_number 8 (after_commit slot)
 
 abbrev pub body_of : List ℕ → List ℕ
 body_of slot = drop 8 (after_commit slot)
-
--- a sequence and a body, as they stand after a commit byte
-abbrev pub contents_of : ℕ → List ℕ → List ℕ
-contents_of sequence body = big_bytes 8 sequence ++ body
 
 -- a slot is open where its commit byte is 1, and closed where it is anything else
 abbrev pub IsOpen : List ℕ → Type 0
@@ -66,28 +55,9 @@ KeepsBody bytes (Some body) =
     (place : Place) × Counts (slot_at place bytes) (slot_at (other_than place) bytes)
     × (body ≡ body_of (slot_at place bytes))
 
--- both slots are closed and zero
-abbrev pub IsEmpty : List ℕ → Type 0
-IsEmpty bytes = (place : Place) → IsBlank (slot_at place bytes)
-
 -- one slot is open, with this sequence and this body, and the other is closed and zero
 pub record HoldsAlone (place : Place) (sequence : ℕ) (body bytes : List ℕ) : Type 0 where
   pub is_open : IsOpen (slot_at place bytes)
   pub sequence_is : sequence_of (slot_at place bytes) ≡ sequence
   pub body_is : body_of (slot_at place bytes) ≡ body
   pub other_blank : IsBlank (slot_at (other_than place) bytes)
-
--- what the bytes of a slot say
-pub record Says (bytes : List ℕ) (slot : Slot) : Type 0 where
-  pub commit : (slot.is_open ≡ true) ↔ IsOpen bytes
-  pub sequence : slot.sequence ≡ sequence_of bytes
-  pub body : slot.body ≡ body_of bytes
-
--- the slot that was read at this place
-abbrev pub slot_in : Place → Slots → Slot
-slot_in First slots = slots.first
-slot_in Second slots = slots.second
-
--- what the bytes of a disk say
-abbrev pub SlotsSay : List ℕ → Slots → Type 0
-SlotsSay bytes slots = (place : Place) → Says (slot_at place bytes) (slot_in place slots)

@@ -1,7 +1,8 @@
 //! Which device step of a store in memory fails.
 
 ghost use Rattle.std.specs.Prelude.{◌≡◌, IfOk, IfErr};
-ghost use Rattle.duk_store.specs.Device.{HasPassed, IsStepDue, armed, new_device, started};
+ghost use Rattle.duk_store.specs.Device.{armed, new_device, started};
+ghost use Rattle.duk_store.specs.inner.Device.{HasPassed, IsStepDue};
 
 use crate::fault::StoreFault;
 use std::marker::Model;

@@ -2,7 +2,8 @@
 
 ghost use Rattle.std.specs.Prelude.{◌≡◌, ◌+◌, ◌<◌, [], true, IfErr, IfOk};
 ghost use Rattle.duk_store.specs.Disk.{LeavesWithin, StaysArmed};
-ghost use Rattle.duk_store.specs.DiskLog.{IsBlankLogDisk, IsLogUp, IsZeroLogDisk, LogUpFailed, disk_log_meaning, disk_log_state, new_disk_log};
+ghost use Rattle.duk_store.specs.DiskLog.{IsBlankLogDisk, IsZeroLogDisk, disk_log_meaning, disk_log_state, new_disk_log};
+ghost use Rattle.duk_store.specs.inner.DiskLog.{IsLogUp, LogUpFailed};
 ghost use Rattle.duk_store.specs.Log.{AppendFailed, IsAppended, IsReadAt, LogRestarted, ReadFailed};
 ghost use Rattle.duk_store.specs.Restart.{RestartFailed};
 ghost use Rattle.duk_store.specs.StoreState.{IsNew, KeepsNothing};
@@ -28,7 +29,8 @@ pub struct DiskLog<D: Disk> {
 }
 
 impl<D: Disk> Model for DiskLog<D> {
-    ghost use Rattle.duk_store.specs.DiskLog.{DiskLogOf, KnowsLog};
+    ghost use Rattle.duk_store.specs.DiskLog.{DiskLogOf};
+    ghost use Rattle.duk_store.specs.inner.DiskLog.{KnowsLog};
 
     ghost Value = { DiskLogOf D };
 

@@ -24,7 +24,8 @@ pub struct FileMedium<F: OpenFile> {
 }
 
 impl<F: OpenFile> Model for FileMedium<F> {
-    ghost use Rattle.duk_store.specs.FileMedium.{FileMediumOf, RemembersFailure};
+    ghost use Rattle.duk_store.specs.FileMedium.{FileMediumOf};
+    ghost use Rattle.duk_store.specs.inner.FileMedium.{RemembersFailure};
 
     ghost Value = { FileMediumOf F };
 

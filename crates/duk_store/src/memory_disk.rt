@@ -3,7 +3,8 @@
 ghost use Rattle.std.specs.Prelude.{◌≡◌, ◌+◌, ◌-◌, ◌<◌, ◌≤◌, ◌++◌, length, take, drop, replicate, refl, slice_index, None, IsOk, IfOk, IfErr, OnOk, OnErr};
 ghost use Rattle.duk_store.specs.Disk.{StaysArmed, PreservesDisk, PreservesBytes, LeavesChanged, LeavesReads, LeavesWithin, DiffersWithin, HasFailed, IsSynced, StaysButArmed, range_of, written};
 ghost use Rattle.duk_store.specs.DiskDevice.{HasDiskStepPassed, IsCalmDevice, IsDiskStepDue};
-ghost use Rattle.duk_store.specs.MemoryDisk.{IsHonestDisk, IsMarked, IsRefilled, SameButDevice, armed_disk, byte_left, disarmed_disk, disk_failing_once, memory_disk_meaning, memory_disk_state, new_disk, refilled_at, synced_disk, wanting, written_disk};
+ghost use Rattle.duk_store.specs.MemoryDisk.{IsHonestDisk, IsRefilled, SameButDevice, armed_disk, byte_left, disarmed_disk, disk_failing_once, memory_disk_meaning, memory_disk_state, new_disk, synced_disk, wanting, written_disk};
+ghost use Rattle.duk_store.specs.inner.MemoryDisk.{IsMarked, refilled_at};
 
 use crate::disk::Disk;
 use crate::disk_device::DiskDevice;
@@ -46,7 +47,8 @@ pub struct MemDisk {
 }
 
 impl Model for MemDisk {
-    ghost use Rattle.duk_store.specs.MemoryDisk.{MemoryDisk, IsUnsyncedWithin};
+    ghost use Rattle.duk_store.specs.MemoryDisk.{MemoryDisk};
+    ghost use Rattle.duk_store.specs.inner.MemoryDisk.{IsUnsyncedWithin};
 
     ghost Value = { MemoryDisk };
 

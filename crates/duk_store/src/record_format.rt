@@ -2,7 +2,7 @@
 
 ghost use Rattle.std.specs.Prelude.{◌≡◌, length};
 ghost use Rattle.duk_tree.specs.Serial.{IsSerial};
-ghost use Rattle.duk_store.specs.RecordFormat.{SaysRecord, number_bytes as bytes_of_number};
+ghost use Rattle.duk_store.specs.inner.RecordFormat.{SaysRecord, number_bytes as bytes_of_number};
 
 use duk_tree::Ksn;
 

@@ -2,11 +2,11 @@
 
 ghost use Rattle.std.specs.Prelude.{◌≡◌, ◌<◌, ◌≤◌, ◌^◌, ◌↔◌, true, IfErr, IfOk, OnOk};
 ghost use Rattle.duk_store.specs.Disk.{StaysArmed};
-ghost use Rattle.duk_store.specs.DiskLog.{ChangesRecord, CountFailed, HasRecord, IsCounted, IsLogOpen, IsRecordRead, IsRecordTorn, IsRecordWritten, OpenFailed, RecordUnread};
+ghost use Rattle.duk_store.specs.inner.DiskLog.{ChangesRecord, CountFailed, HasRecord, IsCounted, IsLogOpen, IsRecordRead, IsRecordTorn, IsRecordWritten, OpenFailed, RecordUnread};
 ghost use Rattle.duk_store.specs.RecordFormat.{IsLogSize};
 ghost use Rattle.duk_tree.specs.Serial.{IsSerial};
-ghost use Rattle.duk_store.specs.RecordCount.{CountsNext, IsNoList};
-ghost use Rattle.duk_store.specs.SlotSteps.{IsStepDone, IsStepFailed};
+ghost use Rattle.duk_store.specs.inner.RecordCount.{CountsNext, IsNoList};
+ghost use Rattle.duk_store.specs.inner.SlotSteps.{IsStepDone, IsStepFailed};
 
 use crate::disk::Disk;
 use crate::fault::StoreFault;

@@ -3,8 +3,9 @@
 ghost use Rattle.std.specs.Prelude.{◌≡◌, IfErr, IfOk, OnOk};
 ghost use Rattle.duk_store.specs.Disk.{LeavesChanged};
 ghost use Rattle.duk_store.specs.SlotFormat.{cell_disk_size};
-ghost use Rattle.duk_store.specs.SlotCell.{IsCellBroughtUp, IsRestored, RecoveryFailed};
-ghost use Rattle.duk_store.specs.SlotSteps.{ChangesAt, IsCleared, IsPartlyCleared, IsPartlyWipedBoth, IsStepDone, IsStepFailed, IsWipedBoth, KnowsCommit};
+ghost use Rattle.duk_store.specs.SlotCell.{IsRestored};
+ghost use Rattle.duk_store.specs.inner.SlotCell.{IsCellBroughtUp, RecoveryFailed};
+ghost use Rattle.duk_store.specs.inner.SlotSteps.{ChangesAt, IsCleared, IsPartlyCleared, IsPartlyWipedBoth, IsStepDone, IsStepFailed, IsWipedBoth, KnowsCommit};
 
 use crate::cell::Body;
 use crate::disk::Disk;

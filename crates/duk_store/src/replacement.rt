@@ -3,7 +3,8 @@
 ghost use Rattle.std.specs.Prelude.{◌≡◌, IfErr, OnOk};
 ghost use Rattle.duk_store.specs.Disk.{StaysArmed};
 ghost use Rattle.duk_store.specs.SlotFormat.{cell_disk_size};
-ghost use Rattle.duk_store.specs.SlotCell.{IsReadyFor, IsReplaced, ReplaceFailed};
+ghost use Rattle.duk_store.specs.SlotCell.{IsReplaced};
+ghost use Rattle.duk_store.specs.inner.SlotCell.{IsReadyFor, ReplaceFailed};
 
 use crate::cell::Body;
 use crate::disk::Disk;

@@ -4,7 +4,8 @@ ghost use Rattle.std.specs.Prelude.{◌≡◌, ℕ, List, IfErr, IfOk, None, OnO
 ghost use Rattle.duk_store.specs.Cell.{IsPut, PutFailed};
 ghost use Rattle.duk_store.specs.Disk.{LeavesChanged, StaysArmed};
 ghost use Rattle.duk_store.specs.Restart.{RestartFailed, Restarted};
-ghost use Rattle.duk_store.specs.SlotCell.{CellReplaceFailed, IsBlankDisk, IsCellReplaced, IsInItsSlot, IsPutNext, IsReadyFor, IsRestored, IsZeroDisk, RunsWithBody, StandsAlone, new_slot_cell, slot_cell_meaning};
+ghost use Rattle.duk_store.specs.SlotCell.{IsBlankDisk, IsCellReplaced, IsInItsSlot, IsPutNext, IsRestored, IsZeroDisk, RunsWithBody, StandsAlone, new_slot_cell, slot_cell_meaning};
+ghost use Rattle.duk_store.specs.inner.SlotCell.{CellReplaceFailed, IsReadyFor};
 ghost use Rattle.duk_store.specs.SlotFormat.{cell_disk_size};
 ghost use Rattle.duk_store.specs.StoreState.{IsNew, KeepsNothing, StaysButCalm};
 
@@ -30,7 +31,8 @@ pub struct SlotCell<D: Disk> {
 }
 
 impl<D: Disk> Model for SlotCell<D> {
-    ghost use Rattle.duk_store.specs.SlotCell.{Knows, SlotCellOf};
+    ghost use Rattle.duk_store.specs.SlotCell.{SlotCellOf};
+    ghost use Rattle.duk_store.specs.inner.SlotCell.{Knows};
 
     ghost Value = { SlotCellOf D };
 

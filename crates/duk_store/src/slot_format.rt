@@ -1,8 +1,9 @@
 //! The format of a cell's disk: its two slots, and which of them counts.
 
 ghost use Rattle.std.specs.Prelude.{◌≡◌, ◌<◌, ◌^◌, length, IfErr, IfOk};
-ghost use Rattle.duk_store.specs.SlotFormat.{Says, contents_of as contents, commit_place, other_than, slot_in};
-ghost use Rattle.duk_store.specs.SlotChoice.{AreEquallyNew, IsCurrent};
+ghost use Rattle.duk_store.specs.SlotFormat.{other_than};
+ghost use Rattle.duk_store.specs.inner.SlotFormat.{Says, contents_of as contents, commit_place, slot_in};
+ghost use Rattle.duk_store.specs.inner.SlotChoice.{AreEquallyNew, IsCurrent};
 
 use crate::cell::{BODY_LENGTH, Body};
 use crate::fault::StoreFault;

@@ -2,8 +2,9 @@
 
 ghost use Rattle.std.specs.Prelude.{◌≡◌, ◌+◌, ◌≤◌, ◌<◌, ◌↔◌, true, length, IfErr, IfOk, OnOk};
 ghost use Rattle.duk_store.specs.Disk.{DiffersWithin, StaysArmed, written};
-ghost use Rattle.duk_store.specs.SlotFormat.{Says, cell_disk_size, slot_at};
-ghost use Rattle.duk_store.specs.SlotSteps.{ChangesAt, FindFailed, IsClosed, IsEmptied, IsFilled, IsFound, IsPartlyClosed, IsPartlyEmptied, IsPartlyFilled, IsPartlyWiped, IsRead, IsStepDone, IsStepFailed, IsWiped};
+ghost use Rattle.duk_store.specs.SlotFormat.{cell_disk_size, slot_at};
+ghost use Rattle.duk_store.specs.inner.SlotFormat.{Says};
+ghost use Rattle.duk_store.specs.inner.SlotSteps.{ChangesAt, FindFailed, IsClosed, IsEmptied, IsFilled, IsFound, IsPartlyClosed, IsPartlyEmptied, IsPartlyFilled, IsPartlyWiped, IsRead, IsStepDone, IsStepFailed, IsWiped};
 
 use crate::cell::Body;
 use crate::disk::Disk;

@@ -4,3 +4,4 @@ pub mod KeyText
 pub mod Tdes
 pub mod Blocks
 pub mod Cbc
+pub mod inner

@@ -1,5 +1,5 @@
 -- Triple DES (NIST SP 800-67 section 3) over lists of bytes.
-use Rattle.std.specs.Prelude.{◌≡◌, ◌⊎◌, ◌<◌, ◌^◌, ℕ, List, Option, length, take, drop, ◌==◌, if◌then◌else◌, MatchOption}
+use Rattle.std.specs.Prelude.{◌≡◌, ◌⊎◌, ◌<◌, ◌^◌, ℕ, List, length, take, drop, ◌==◌, if◌then◌else◌}
 use Rattle.std.specs.List.{All}
 use Rattle.duk_des.specs.Des.{des_encrypted, des_decrypted}
 
@@ -36,10 +36,3 @@ tdes_decrypted key block =
 pub record IsTdesKey (key : List ℕ) : Type 0 where
   pub length_is : IsTdesLength (length key)
   pub bytes_fit : All (λ byte. byte < 2 ^ 8) key
-
--- these are the single keys of a key, where a third that is not given is the first again: what a
--- cipher under one key keeps
-pub record AreSingleKeys (key first second : List ℕ) (third : Option (List ℕ)) : Type 0 where
-  pub first_is : first ≡ first_key key
-  pub second_is : second ≡ second_key key
-  pub third_is : MatchOption third (third_key key ≡ first_key key) (λ third. third ≡ third_key key)

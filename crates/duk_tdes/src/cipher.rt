@@ -22,7 +22,7 @@ pub struct Tdes<const N: usize> {
 
 impl<const N: usize> Model for Tdes<N> {
     ghost use Rattle.std.specs.Prelude.{ℕ, List};
-    ghost use Rattle.duk_tdes.specs.Tdes.{AreSingleKeys};
+    ghost use Rattle.duk_tdes.specs.inner.Tdes.{AreSingleKeys};
 
     ghost Value = { List ℕ };
 

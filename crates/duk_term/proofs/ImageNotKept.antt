@@ -13,7 +13,8 @@ use Rattle.duk_term.specs.Begin.{BeginRefused, TakesFrom}
 use Rattle.duk_term.specs.Body.{body_bytes}
 use Rattle.duk_term.specs.Load.{IsFirstSet, IsTerminalLoaded, KeepsState, LoadRefused, Loading, MayTake}
 use Rattle.duk_term.specs.Loading.{term_fault_of}
-use Rattle.duk_term.specs.Terminal.{Agrees, CellHoldsRegisters, HasRegistersIn, IsImageNotKept, PromisesBody, TerminalOf}
+use Rattle.duk_term.specs.Terminal.{HasRegistersIn, PromisesBody, TerminalOf}
+use Rattle.duk_term.specs.inner.Terminal.{Agrees, CellHoldsRegisters, IsImageNotKept}
 use Rattle.duk_term.specs.declared.fault.TermFault.{TermFault}
 use Rattle.duk_term.specs.declared.fault.TermFault.TheVariants as fault
 use Rattle.duk_term.specs.declared.state.State.{State}

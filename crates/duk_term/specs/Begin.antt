@@ -93,10 +93,3 @@ BeginRefused meaning old new fault.NotLoaded = (old.state ≡ Empty) × (new ≡
 BeginRefused meaning old new fault.Spent = IsSpent old.state × (new ≡ old)
 BeginRefused meaning old new (fault.Store why) = BeginStopped meaning old new why
 BeginRefused meaning old new _ = ⊥
-
--- why no number is taken from a state
-abbrev pub IsNotTaken : State → TermFault → Type 0
-IsNotTaken state fault.Stopped = state ≡ Stopped
-IsNotTaken state fault.NotLoaded = state ≡ Empty
-IsNotTaken state fault.Spent = IsSpent state
-IsNotTaken state _ = ⊥

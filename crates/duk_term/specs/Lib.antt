@@ -6,3 +6,4 @@ pub mod Load
 pub mod Begin
 pub mod Reply
 pub mod View
+pub mod inner

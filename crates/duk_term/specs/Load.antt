@@ -87,14 +87,6 @@ pub record LoadStopped
   pub set_is : IsFirstSet asked old.state set
   pub stops : StopsBetween meaning (KeepsState old.state) set old new why
 
--- why a terminal in this state may not be given an initial key serial number, the first that holds
--- of these
-abbrev pub MayNotTake : State → ℕ → TermFault → Type 0
-MayNotTake state iksn fault.Stopped = state ≡ Stopped
-MayNotTake state iksn fault.IksnSpent = HasHad state iksn
-MayNotTake state iksn fault.LoadsSpent = (¬ HasHad state iksn) × HasEightPast state
-MayNotTake state iksn _ = ⊥
-
 -- why a load is refused, and what that leaves
 abbrev pub LoadRefused : {C : Type 0} → CellMeaning C → Loading → TerminalOf C → TerminalOf C
     → TermFault → Type 0

@@ -1,16 +1,14 @@
 -- A terminal: what it is, and what its store holds of it: this project's own.
-use Rattle.std.specs.Prelude.{◌≡◌, ◌⊎◌, true, ℕ, List, Some, None, ◌==◌, if◌then◌else◌}
+use Rattle.std.specs.Prelude.{◌≡◌, ◌⊎◌, ℕ, List, Some, ◌==◌, if◌then◌else◌}
 use Rattle.duk_store.specs.Cell.{CellMeaning, Kept, PutFailed}
 use Rattle.duk_store.specs.declared.fault.StoreFault.{StoreFault}
-use Rattle.duk_store.specs.StoreState.{StoreState, FindsOnly, FindsWithin}
+use Rattle.duk_store.specs.StoreState.{FindsWithin}
 use Rattle.duk_regs.specs.Registers.{RegisterSet}
 use Rattle.duk_tree.specs.Next.{spent_counter}
 use Rattle.duk_tree.specs.Serial.{Serial}
 use Rattle.duk_term.specs.Body.{KeepsRegisters, body_bytes}
 use Rattle.duk_term.specs.declared.answer.Next.{Next}
 use Rattle.duk_term.specs.declared.answer.Next.TheVariants as next
-use Rattle.duk_term.specs.declared.fault.TermFault.{TermFault}
-use Rattle.duk_term.specs.declared.fault.TermFault.TheVariants as fault
 use Rattle.duk_term.specs.declared.state.State.{State}
 use Rattle.duk_term.specs.declared.state.State.TheVariants.{Stopped, Empty, Loaded}
 
@@ -24,25 +22,9 @@ pub record TerminalOf (C : Type 0) : Type 0 where
 abbrev pub serial_of : RegisterSet → Serial
 serial_of set = record { iksn = set.iksn; counter = set.counter }
 
--- the cell runs, and a restart would find this alone
-pub record CellHolds (cell : StoreState Kept) (kept : Kept) : Type 0 where
-  pub runs : cell.running ≡ true
-  pub finds : cell.honest → FindsOnly cell kept
-
 -- a cell keeps these registers, where it keeps this
 abbrev pub HasRegistersIn : RegisterSet → Kept → Type 0
 HasRegistersIn set kept = (body : List ℕ) × (kept ≡ Some body) × KeepsRegisters body set
-
--- the cell runs, and a restart would find one body alone, which keeps these registers
-pub record CellHoldsRegisters (cell : StoreState Kept) (set : RegisterSet) : Type 0 where
-  pub runs : cell.running ≡ true
-  pub finds : cell.honest → (kept : Kept) × FindsOnly cell kept × HasRegistersIn set kept
-
--- what the cell of a running terminal holds: nothing, or a body that keeps its registers
-abbrev pub Agrees : StoreState Kept → State → Type 0
-Agrees cell Stopped = Unit {0}
-Agrees cell Empty = CellHolds cell None
-Agrees cell (Loaded set pending) = CellHoldsRegisters cell set
 
 -- what a terminal answers of its next number
 abbrev pub next_of : State → Next
@@ -67,10 +49,3 @@ pub record StopsBetween
   pub not_kept : PutFailed meaning old.cell new.cell (body_bytes set) why
   pub within : (meaning.state_of old.cell).honest → FindsWithin (meaning.state_of new.cell)
       (λ kept. held kept ⊎ (kept ≡ Some (body_bytes set)))
-
--- an image that was not kept: the terminal is stopped
-abbrev pub IsImageNotKept : {C : Type 0} → CellMeaning C → List ℕ → TerminalOf C → TerminalOf C
-    → TermFault → Type 0
-IsImageNotKept meaning body old new (fault.Store why) =
-    (new.state ≡ Stopped) × PutFailed meaning old.cell new.cell body why
-IsImageNotKept meaning body old new _ = ⊥

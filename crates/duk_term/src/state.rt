@@ -4,8 +4,10 @@ ghost use Rattle.std.specs.Prelude.{◌≡◌, ◌≢◌, ◌↔◌, IsTrue, ℕ
 ghost use Rattle.duk_regs.specs.Registers.{RegisterSet};
 ghost use Rattle.duk_frame.specs.Answer.{IsAnswer, IsReply};
 ghost use Rattle.duk_regs.specs.Registers.{IsRegisterSet, AreFutureKeysOf};
-ghost use Rattle.duk_term.specs.Begin.{IsNotTaken, TakesFrom};
-ghost use Rattle.duk_term.specs.Load.{MayNotTake, MayTake, past_after_load};
+ghost use Rattle.duk_term.specs.Begin.{TakesFrom};
+ghost use Rattle.duk_term.specs.inner.Begin.{IsNotTaken};
+ghost use Rattle.duk_term.specs.Load.{MayTake, past_after_load};
+ghost use Rattle.duk_term.specs.inner.Load.{MayNotTake};
 ghost use Rattle.duk_term.specs.Terminal.{next_of, serial_of};
 ghost use Rattle.duk_term.specs.Reply.{ReportsAnswer, IsPending, ReplyRefused, completed, reply_to};
 

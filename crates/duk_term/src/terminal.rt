@@ -10,7 +10,8 @@ ghost use Rattle.duk_store.specs.Cell.{IsPut};
 ghost use Rattle.duk_term.specs.Load.{IsTerminalLoaded, LoadRefused, loading_of};
 ghost use Rattle.duk_term.specs.Reply.{ReportsAnswer, ReplyRefused, after_answer};
 ghost use Rattle.duk_term.specs.Restart.{IsTerminalRestarted, TerminalRestartRefused};
-ghost use Rattle.duk_term.specs.Terminal.{IsImageNotKept, PromisesBody, next_of};
+ghost use Rattle.duk_term.specs.Terminal.{PromisesBody, next_of};
+ghost use Rattle.duk_term.specs.inner.Terminal.{IsImageNotKept};
 ghost use Rattle.duk_term.specs.declared.state.State.TheVariants as state;
 
 use crate::answer::{Answer, Begun, Next};
@@ -34,7 +35,8 @@ pub struct Terminal<C: Cell> {
 }
 
 impl<C: Cell> Model for Terminal<C> {
-    ghost use Rattle.duk_term.specs.Terminal.{TerminalOf, Agrees};
+    ghost use Rattle.duk_term.specs.Terminal.{TerminalOf};
+    ghost use Rattle.duk_term.specs.inner.Terminal.{Agrees};
 
     ghost Value = { TerminalOf C };
 

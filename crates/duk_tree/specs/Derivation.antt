@@ -1,5 +1,5 @@
 -- The keys of DUKPT with double-length keys (ANSI X9.24-1:2009 annex A).
-use Rattle.std.specs.Prelude.{◌≡◌, ℕ, List, [], ◌∷◌, ◌++◌, take}
+use Rattle.std.specs.Prelude.{ℕ, List, [], ◌∷◌, ◌++◌, take}
 use Rattle.duk_des.specs.Des.{des_encrypted}
 use Rattle.duk_tdes.specs.Key.{xor_bytes}
 use Rattle.duk_tdes.specs.Tdes.{first_key, second_key, tdes_encrypted}
@@ -34,12 +34,6 @@ half_step_of key crypto_register =
 unfoldable pub step_of : List ℕ → List ℕ → List ℕ
 step_of key crypto_register =
     half_step_of (xor_bytes key derivation_mask) crypto_register ++ half_step_of key crypto_register
-
--- these are the halves of a key (this project's own word, for what a node keeps whose children are
--- derived)
-pub record AreHalves (key left right : List ℕ) : Type 0 where
-  pub left_is : left ≡ first_key key
-  pub right_is : right ≡ second_key key
 
 -- the key of a node: the initial key at the root, and else a step from the parent's key with the
 -- node's own key serial number

@@ -3,3 +3,4 @@ pub mod Path
 pub mod Derivation
 pub mod Next
 pub mod Frontier
+pub mod inner

@@ -27,7 +27,8 @@ pub struct Parent {
 impl Model for Parent {
     ghost use Rattle.std.specs.Prelude.{ℕ, List, ◌++◌};
     ghost use Rattle.duk_tdes.specs.Key.{xor_bytes};
-    ghost use Rattle.duk_tree.specs.Derivation.{AreHalves, derivation_mask};
+    ghost use Rattle.duk_tree.specs.Derivation.{derivation_mask};
+    ghost use Rattle.duk_tree.specs.inner.Derivation.{AreHalves};
 
     ghost Value = { List ℕ };
 

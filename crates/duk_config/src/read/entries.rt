@@ -2,8 +2,9 @@
 
 ghost use Rattle.std.specs.Prelude.{◌≡◌, IfOk, IfErr, MatchOption, length, map};
 ghost use Rattle.toml.specs.View.{view};
-ghost use Rattle.duk_config.specs.EntryFaults.{IsEntriesFault};
-ghost use Rattle.duk_config.specs.Entries.{AreEntries, IsBadAfter, IsNextEntry};
+ghost use Rattle.duk_config.specs.inner.EntryFaults.{IsEntriesFault};
+ghost use Rattle.duk_config.specs.Entries.{AreEntries, IsBadAfter};
+ghost use Rattle.duk_config.specs.inner.Entries.{IsNextEntry};
 
 use super::entry::Entry;
 use crate::fault::{ConfigKey, ScriptFault};

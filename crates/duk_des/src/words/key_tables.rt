@@ -2,7 +2,7 @@
 
 ghost use Rattle.std.specs.Prelude.{◌≡◌, ◌++◌};
 ghost use Rattle.duk_des.specs.Bits.{permute, bits_of_bytes};
-ghost use Rattle.duk_des.specs.Words.{half_bits, long_bits, halves_places, groups_places};
+ghost use Rattle.duk_des.specs.inner.Words.{half_bits, long_bits, halves_places, groups_places};
 
 /// The words of 64 bits that hold each of seven bits at its place, counted from 1, by the number
 /// that the seven bits spell. A bit with no place, `_`, is in none.

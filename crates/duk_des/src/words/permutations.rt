@@ -3,7 +3,8 @@
 ghost use Rattle.std.specs.Prelude.{◌≡◌, ◌<◌, ◌++◌, take, drop};
 ghost use Rattle.duk_des.specs.Bits.{permute, bits_of_bytes, bytes_of_bits};
 ghost use Rattle.duk_des.specs.Tables.{initial_places, final_places};
-ghost use Rattle.duk_des.specs.Words.{word_bits, first_exchanged, second_exchanged};
+ghost use Rattle.duk_des.specs.Words.{word_bits};
+ghost use Rattle.duk_des.specs.inner.Words.{first_exchanged, second_exchanged};
 
 /// One exchange after another, each of bits of two words.
 macro_rules! exchange {

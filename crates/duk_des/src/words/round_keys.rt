@@ -4,7 +4,7 @@ ghost use Rattle.std.specs.Prelude.{◌≡◌, ◌+◌, ◌≤◌, ◌<◌, ◌^
 ghost use Rattle.duk_des.specs.Bits.{permute, xor_bits, bits_of_bytes};
 ghost use Rattle.duk_des.specs.Des.{rotate, round_keys, xor_keys};
 ghost use Rattle.duk_des.specs.Tables.{left_key_places, right_key_places, round_key_places};
-ghost use Rattle.duk_des.specs.Words.{half_bits, key_bits};
+ghost use Rattle.duk_des.specs.inner.Words.{half_bits, key_bits};
 
 use super::key_tables::{halves_of_key, words_of_halves};
 

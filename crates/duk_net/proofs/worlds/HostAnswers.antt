@@ -5,7 +5,8 @@ use Rattle.duk_frame.specs.declared.answer.AnswerFrame.{AnswerFrame}
 use Rattle.duk_host.specs.Handle.{AnswersAs, IsVerdictOn}
 use Rattle.duk_host.specs.declared.answered.Verdict.{Verdict}
 use Rattle.duk_host.specs.declared.answered.Verdict.TheVariants.{Accepted, Refused, Repeated}
-use Rattle.duk_net.specs.Up.{IsAnswerSent, ReachesHost, verdict_outcome}
+use Rattle.duk_net.specs.Up.{IsAnswerSent, ReachesHost}
+use Rattle.duk_net.specs.inner.Up.{verdict_outcome}
 use Rattle.duk_net.specs.World.{Frame, IsAt, Meanings, WorldOf}
 
 -- bytes are the frame of at most one answer

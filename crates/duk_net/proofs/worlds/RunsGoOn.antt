@@ -1,7 +1,8 @@
 -- Runs that go on by one event.
 use Rattle.std.proofs.Common.{◌≡◌, ◌+◌, ◌++◌, ◌∷◌, [], ℕ, zero, suc, List, Some, take, refl, sym, ap, subst, ◌∙◌, arith, append_assoc, append-nil}
 use Rattle.std.specs.List.{slice_get}
-use Rattle.duk_net.specs.Run.{IsRun, IsStepInto, Run}
+use Rattle.duk_net.specs.Run.{IsRun, Run}
+use Rattle.duk_net.specs.inner.Run.{IsStepInto}
 use Rattle.duk_net.specs.Step.{Step}
 use Rattle.duk_net.specs.World.{Meanings, WorldOf}
 use Rattle.duk_net.specs.declared.event.Event.{Event}

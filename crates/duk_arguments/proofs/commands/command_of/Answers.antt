@@ -3,7 +3,8 @@ use Rattle.std.proofs.lemmas.List.{map-append, take_more}
 use Rattle.clap.specs.Words.{AddsArg, App, Rule, Shape, Text}
 use Rattle.clap.specs.declared.builder.arg.Arg.{Arg}
 use Rattle.clap.specs.declared.builder.command.Command.{Command}
-use Rattle.duk_arguments.specs.CommandLine.{IsArgument, IsCommand, command, rule_of_argument}
+use Rattle.duk_arguments.specs.CommandLine.{command}
+use Rattle.duk_arguments.specs.inner.CommandLine.{IsArgument, IsCommand, rule_of_argument}
 use Rattle.duk_arguments.specs.declared.commands.Argument.{Argument}
 use Rattle.duk_arguments.proofs.commands.command_of.Goals as goal
 

@@ -1,5 +1,6 @@
 use Rattle.std.proofs.Common.{map, take}
-use Rattle.duk_arguments.specs.CommandLine.{IsCommand, command, rule_of_argument}
+use Rattle.duk_arguments.specs.CommandLine.{command}
+use Rattle.duk_arguments.specs.inner.CommandLine.{IsCommand, rule_of_argument}
 use Rattle.duk_arguments.proofs.commands.command_of.Given as goal
 
 -- the command has the arguments so far

@@ -2,7 +2,8 @@ use Rattle.std.proofs.Common.{arith, false, true, rules, inr, [], ap, List, Opti
 use Rattle.clap.specs.Values.{kind_of}
 use Rattle.clap.specs.Kinds.{HasKind}
 use Rattle.clap.specs.Words.{App, Row, Text, app_of, fault_of, is_simple_and_free, subcommand_of, subcommand_rows_of}
-use Rattle.duk_arguments.specs.Asked.{AskForNothing, AsksAfter, MayFailBy, texts_of}
+use Rattle.duk_arguments.specs.Asked.{AskForNothing, AsksAfter, texts_of}
+use Rattle.duk_arguments.specs.inner.Asked.{MayFailBy}
 use Rattle.clap.specs.declared.error.kind.ErrorKind.TheVariants.{MissingSubcommand}
 use Rattle.duk_arguments.specs.CommandLine.{command_line}
 use Rattle.duk_arguments.proofs.Failures.{command_found, is_reported_of, may_fail}

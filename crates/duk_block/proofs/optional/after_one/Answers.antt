@@ -2,7 +2,7 @@ use Rattle.std.proofs.Common.{◌≡◌, ◌∷◌, [], ℕ, List, length, take,
 use Rattle.std.proofs.lemmas.List.{take_rest}
 use Rattle.hex.proofs.HexLemmas.{decode_of-ok, decode_of-same}
 use Rattle.duk_block.specs.Hexadecimal.{IsHexadecimal}
-use Rattle.duk_block.specs.Optional.{LeavesOne}
+use Rattle.duk_block.specs.inner.Optional.{LeavesOne}
 use Rattle.duk_block.proofs.OptionalBlocks.{least_length, length_at, length-LeavesOne, LeavesOne-drop}
 use Rattle.duk_block.proofs.optional.after_one.Goals as goal
 

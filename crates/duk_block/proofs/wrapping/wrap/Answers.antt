@@ -2,7 +2,8 @@ use Rattle.std.proofs.Common.{lit<, ◌≡◌, ◌≤◌, ◌<◌, ◌+◌, ◌^
 use Rattle.std.proofs.lemmas.List.Elements.{All-append, All-nil}
 use Rattle.hex.specs.Hex.{encode_upper, upper_digits}
 use Rattle.duk_block.specs.HeaderText.{IsHeader, header_text}
-use Rattle.duk_block.specs.KeyBlock.{IsSealed, payload_of}
+use Rattle.duk_block.specs.KeyBlock.{payload_of}
+use Rattle.duk_block.specs.inner.KeyBlock.{IsSealed}
 use Rattle.duk_block.specs.Optional.{IsOptionalBlock}
 use Rattle.duk_block.proofs.HeaderLength.{length-header_text}
 use Rattle.std.proofs.lemmas.List.{append_assoc}

@@ -1,7 +1,8 @@
 use Rattle.std.proofs.Common.{◌≡◌, ◌+◌, ◌-◌, [], ◌++◌, suc, inl, inr, refl, ap, subst, ◌∙◌, append-nil, rules, arith}
 use Rattle.duk_tree.specs.Derivation.{transaction_key_of}
 use Rattle.duk_tree.specs.Next.{spent_counter}
-use Rattle.duk_commands.specs.Walk.{IsPrinted, number_line, spent_line, HasPrinted, HasPrintedInPart}
+use Rattle.duk_commands.specs.Walk.{IsPrinted, number_line, spent_line}
+use Rattle.duk_commands.specs.inner.Walk.{HasPrinted, HasPrintedInPart}
 use Rattle.duk_commands.proofs.WalkedText.{text_more, text_last, line_of_number, on_done, on_failed, on_err}
 use Rattle.duk_commands.proofs.walk.write_numbers.Goals as goal
 

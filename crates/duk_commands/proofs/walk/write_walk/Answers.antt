@@ -1,5 +1,6 @@
 use Rattle.std.proofs.Common.{arith}
-use Rattle.duk_commands.specs.Walk.{number_line, spent_line, HasWalkedInPart}
+use Rattle.duk_commands.specs.Walk.{number_line, spent_line}
+use Rattle.duk_commands.specs.inner.Walk.{HasWalkedInPart}
 use Rattle.duk_commands.proofs.WalkedText.{on_done, on_failed, walked, walked_in_part}
 use Rattle.duk_commands.proofs.walk.write_walk.Goals as goal
 

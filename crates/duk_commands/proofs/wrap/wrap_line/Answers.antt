@@ -1,6 +1,7 @@
 use Rattle.std.proofs.Common.{length, rules, subst}
 use Rattle.duk_tdes.specs.KeyBytes.{bytes_of}
-use Rattle.duk_commands.specs.Wrap.{IsNotWrapped, wrapping}
+use Rattle.duk_commands.specs.Wrap.{IsNotWrapped}
+use Rattle.duk_commands.specs.inner.Wrap.{wrapping}
 use Rattle.duk_commands.proofs.wrap.wrap_line.Goals as goal
 
 pub returns-in_default-clause-refused : goal.returns-in_default-clause-refused

@@ -2,7 +2,7 @@ use Rattle.std.proofs.Common.{Bool, List, ◌++◌, map, reverse, ap, ◌∙◌}
 use Rattle.duk_des.specs.Bits.{permute, bytes_of_bits}
 use Rattle.duk_des.specs.Des.{Halves, rounds, des_computation}
 use Rattle.duk_des.specs.Tables.{final_places}
-use Rattle.duk_des.specs.Words.{key_bits}
+use Rattle.duk_des.specs.inner.Words.{key_bits}
 use Rattle.duk_des.proofs.SideBySide.{both}
 use Rattle.duk_des.proofs.words.crypt_block_backwards.Goals as goal
 

@@ -1,6 +1,6 @@
 use Rattle.std.proofs.Common.{map, reverse, ap, ◌∙◌}
 use Rattle.duk_des.specs.Bits.{bits_of_bytes, bytes_of_bits}
-use Rattle.duk_des.specs.Words.{key_bits}
+use Rattle.duk_des.specs.inner.Words.{key_bits}
 use Rattle.duk_des.proofs.ThreePasses.{three_passes}
 use Rattle.duk_des.proofs.words.crypt_thrice.Goals as goal
 

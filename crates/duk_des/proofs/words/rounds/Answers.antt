@@ -1,6 +1,6 @@
 use Rattle.std.proofs.Common.{◌≡◌, map, arith, ap, ◌∙◌}
 use Rattle.duk_des.specs.Des.{Halves, rounds}
-use Rattle.duk_des.specs.Words.{key_bits}
+use Rattle.duk_des.specs.inner.Words.{key_bits}
 use Rattle.duk_des.proofs.RoundsOfWords.{halves_of, one_word_round, no_word_round}
 use Rattle.duk_des.proofs.words.rounds.Goals as goal
 

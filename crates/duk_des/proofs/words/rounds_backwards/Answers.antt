@@ -1,6 +1,6 @@
 use Rattle.std.proofs.Common.{◌≡◌, map, reverse, arith, ap, ◌∙◌}
 use Rattle.duk_des.specs.Des.{Halves, rounds}
-use Rattle.duk_des.specs.Words.{key_bits}
+use Rattle.duk_des.specs.inner.Words.{key_bits}
 use Rattle.duk_des.proofs.RoundsOfWords.{halves_of, one_round_backwards, no_round_backwards}
 use Rattle.duk_des.proofs.words.rounds_backwards.Goals as goal
 

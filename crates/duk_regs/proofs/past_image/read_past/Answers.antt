@@ -2,7 +2,7 @@ use Rattle.std.proofs.Common.{◌≡◌, ◌≢◌, ◌+◌, ◌*◌, ◌<◌, �
 use Rattle.std.proofs.lemmas.Bool.{false≢true}
 use Rattle.std.proofs.lemmas.List.Elements.{All-drop, All-from_get_or, All-take}
 use Rattle.duk_regs.specs.Image.{counted_past_in, past_count_in, serial_in}
-use Rattle.duk_regs.specs.ImageParts.{IsPastPart}
+use Rattle.duk_regs.specs.inner.ImageParts.{IsPastPart}
 use Rattle.duk_regs.proofs.PastWrittenAndRead.{AreWrittenAgain, past_bytes-counted_past_in, unused_zeros}
 use Rattle.duk_regs.proofs.PiecesInARow.{part_length}
 use Rattle.duk_regs.proofs.past_image.read_past.Goals as goal

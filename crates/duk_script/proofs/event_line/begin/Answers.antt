@@ -1,6 +1,6 @@
 use Rattle.std.proofs.Common.{ℕ, List, sym, subst}
 use Rattle.duk_script.specs.Script.{terminal_name}
-use Rattle.duk_script.specs.Reading.{IsPurchase}
+use Rattle.duk_script.specs.inner.Reading.{IsPurchase}
 use Rattle.duk_script.proofs.event_line.begin.Goals as goal
 
 pub returns-in_err-t-clause-every : goal.returns-in_err-t-clause-every

@@ -1,5 +1,5 @@
 use Rattle.std.proofs.Common.{[], ◌∷◌, ◌++◌, ap, ◌∙◌, subst}
-use Rattle.duk_script.specs.FaultLine.{unknown_line}
+use Rattle.duk_script.specs.inner.FaultLine.{unknown_line}
 use Rattle.duk_io.specs.Sink.{IsTried}
 use Rattle.duk_script.proofs.fault_line.print_fault.Goals as goal
 

@@ -5,7 +5,7 @@ use Rattle.std.specs.List.{All}
 use Rattle.duk_term.specs.Terminal.{TerminalOf}
 use Rattle.duk_term.specs.declared.state.State.TheVariants.{Stopped}
 use Rattle.duk_script.specs.OnDisk.{DiskCell, disk_cell_meaning, new_disk_terminal}
-use Rattle.duk_script.specs.Opening.{HasNewCell}
+use Rattle.duk_script.specs.inner.Opening.{HasNewCell}
 use Rattle.duk_script.proofs.terminals.disk_terminals.Goals as goal
 
 pub loop-preserved : goal.loop-preserved

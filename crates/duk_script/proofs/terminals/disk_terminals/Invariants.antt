@@ -1,7 +1,7 @@
 use Rattle.std.proofs.Common.{◌≡◌, replicate}
 use Rattle.std.specs.List.{All}
 use Rattle.duk_script.specs.OnDisk.{disk_cell_meaning, new_disk_terminal}
-use Rattle.duk_script.specs.Opening.{HasNewCell}
+use Rattle.duk_script.specs.inner.Opening.{HasNewCell}
 use Rattle.duk_script.proofs.terminals.disk_terminals.Given as goal
 
 abbrev pub invariant-loop : goal.invariant-loop

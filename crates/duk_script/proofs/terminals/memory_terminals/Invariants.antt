@@ -1,7 +1,7 @@
 use Rattle.std.proofs.Common.{◌≡◌, replicate}
 use Rattle.std.specs.List.{All}
 use Rattle.duk_net.specs.InMemory.{new_terminal}
-use Rattle.duk_script.specs.Opening.{HasNewCell}
+use Rattle.duk_script.specs.inner.Opening.{HasNewCell}
 use Rattle.duk_store.specs.MemoryCell.{memory_cell_meaning}
 use Rattle.duk_script.proofs.terminals.memory_terminals.Given as goal
 

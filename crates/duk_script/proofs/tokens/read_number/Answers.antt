@@ -1,6 +1,6 @@
 use Rattle.std.proofs.Common.{refl, sym, subst, arith}
 use Rattle.std.proofs.lemmas.Bool.{false≢true}
-use Rattle.duk_script.specs.Reading.{IsPlainNumber}
+use Rattle.duk_script.specs.inner.Reading.{IsPlainNumber}
 use Rattle.duk_script.proofs.LineTokens.{number_found, number_every, plain_decimal}
 use Rattle.duk_script.proofs.tokens.read_number.Goals as goal
 

@@ -1,6 +1,7 @@
 use Rattle.std.proofs.Common.{◌≡◌, ◌∙◌, ◌/◌, arith, subst}
 use Rattle.std.proofs.lemmas.Result.{err_from_is_err_and}
-use Rattle.duk_store.specs.RecordFormat.{SaysRecord, record_at}
+use Rattle.duk_store.specs.RecordFormat.{record_at}
+use Rattle.duk_store.specs.inner.RecordFormat.{SaysRecord}
 use Rattle.duk_store.proofs.RecordsCounted.{counted_all, no_list}
 use Rattle.duk_store.proofs.StepsInTurn.{bytes_on, keeps_on}
 use Rattle.duk_store.proofs.record_steps.count_records.Goals as goal

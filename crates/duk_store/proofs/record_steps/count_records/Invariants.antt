@@ -1,6 +1,6 @@
 use Rattle.std.proofs.Common.{◌≡◌, ◌≤◌, ◌*◌, ◌<◌, ◌^◌}
 use Rattle.duk_store.specs.Disk.{PreservesBytes, PreservesDisk}
-use Rattle.duk_store.specs.DiskLog.{CountsUpTo}
+use Rattle.duk_store.specs.inner.DiskLog.{CountsUpTo}
 use Rattle.duk_store.proofs.record_steps.count_records.Given as goal
 
 abbrev pub invariant-loop-place : goal.invariant-loop-place

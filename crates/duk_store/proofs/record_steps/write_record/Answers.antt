@@ -1,7 +1,7 @@
 use Rattle.std.proofs.Common.{List, [], ◌∷◌, ◌≡◌, ◌+◌, ◌*◌, ℕ, length, arith}
 use Rattle.std.proofs.lemmas.Result.{IfErr-weaker, err_from_is_err_and, on_ok_weaker}
 use Rattle.duk_store.specs.Disk.{DiffersWithin, written}
-use Rattle.duk_store.specs.DiskLog.{ChangesRecord, IsRecordTorn, IsRecordWritten}
+use Rattle.duk_store.specs.inner.DiskLog.{ChangesRecord, IsRecordTorn, IsRecordWritten}
 use Rattle.duk_store.proofs.RecordBytes.{record_written, torn_commit, torn_number}
 use Rattle.duk_store.proofs.StepsInTurn.{done_then, done_then_failed, done_where, failed_where}
 use Rattle.duk_store.proofs.record_steps.write_record.Goals as goal

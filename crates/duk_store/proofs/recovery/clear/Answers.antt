@@ -1,5 +1,5 @@
 use Rattle.std.proofs.lemmas.Result.{IfErr-weaker, on_ok_weaker}
-use Rattle.duk_store.specs.SlotSteps.{ChangesAt, IsCleared, IsEmptied, IsPartlyCleared, IsPartlyWiped, IsWiped}
+use Rattle.duk_store.specs.inner.SlotSteps.{ChangesAt, IsCleared, IsEmptied, IsPartlyCleared, IsPartlyWiped, IsWiped}
 use Rattle.duk_store.proofs.SlotChanges.{emptied_is_cleared, wiped_is_cleared, partly_wiped_is_cleared}
 use Rattle.duk_store.proofs.StepsInTurn.{done_where, failed_where}
 use Rattle.duk_store.proofs.recovery.clear.Goals as goal

@@ -1,6 +1,6 @@
 use Rattle.std.proofs.Common.{subst}
 use Rattle.std.proofs.lemmas.Result.{err_from_is_err_and}
-use Rattle.duk_store.specs.SlotChoice.{IsCurrent}
+use Rattle.duk_store.specs.inner.SlotChoice.{IsCurrent}
 use Rattle.duk_store.proofs.SlotsFound.{brought_up, cleared_restores, damaged, failed_restores}
 use Rattle.duk_store.proofs.recovery.recover.Goals as goal
 

@@ -1,7 +1,7 @@
 use Rattle.std.proofs.Common.{[], ◌∷◌, ◌≡◌}
 use Rattle.std.proofs.lemmas.Result.{IfErr-weaker, on_ok_weaker}
 use Rattle.duk_store.specs.Disk.{DiffersWithin, written}
-use Rattle.duk_store.specs.SlotSteps.{ChangesAt, IsClosed, IsPartlyClosed}
+use Rattle.duk_store.specs.inner.SlotSteps.{ChangesAt, IsClosed, IsPartlyClosed}
 use Rattle.duk_store.proofs.SlotChanges.{is_closed, is_partly_closed}
 use Rattle.duk_store.proofs.StepsInTurn.{done_as, failed_as}
 use Rattle.duk_store.proofs.slot_steps.close.Goals as goal

@@ -1,6 +1,6 @@
 use Rattle.std.proofs.Common.{inl}
 use Rattle.std.proofs.lemmas.Result.{err_from_is_err_and}
-use Rattle.duk_store.specs.SlotSteps.{ChangesAt, IsPartlyClosed, IsPartlyEmptied}
+use Rattle.duk_store.specs.inner.SlotSteps.{ChangesAt, IsPartlyClosed, IsPartlyEmptied}
 use Rattle.duk_store.proofs.SlotChanges.{changes_as}
 use Rattle.duk_store.proofs.StepsInTurn.{failed_as}
 use Rattle.duk_store.proofs.slot_steps.empty.Goals as goal

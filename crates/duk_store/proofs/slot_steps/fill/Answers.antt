@@ -2,7 +2,7 @@ use Rattle.std.proofs.Common.{List, [], ◌∷◌, ◌≡◌, ◌+◌, ◌∙◌
 use Rattle.std.proofs.lemmas.Result.{IfErr-weaker, err_from_is_err_and, on_ok_weaker}
 use Rattle.duk_store.specs.Disk.{DiffersWithin, written}
 use Rattle.duk_store.specs.SlotFormat.{after_commit, commit_of}
-use Rattle.duk_store.specs.SlotSteps.{ChangesAt, IsFilled, IsPartlyClosed, IsPartlyFilled}
+use Rattle.duk_store.specs.inner.SlotSteps.{ChangesAt, IsFilled, IsPartlyClosed, IsPartlyFilled}
 use Rattle.duk_store.proofs.SlotChanges.{contents_are, filled, commit_is, is_partly_closed, is_partly_wiped, not_filled, partly_filled}
 use Rattle.duk_store.proofs.StepsInTurn.{done_as, done_then, done_then_failed, failed_as}
 use Rattle.duk_store.proofs.slot_steps.fill.Goals as goal

@@ -1,7 +1,7 @@
 use Rattle.std.proofs.Common.{◌≡◌, ◌+◌, ℕ, refl, length, replicate}
 use Rattle.std.proofs.lemmas.Result.{IfErr-weaker, on_ok_weaker}
 use Rattle.duk_store.specs.Disk.{DiffersWithin, written}
-use Rattle.duk_store.specs.SlotSteps.{ChangesAt, IsPartlyWiped, IsWiped}
+use Rattle.duk_store.specs.inner.SlotSteps.{ChangesAt, IsPartlyWiped, IsWiped}
 use Rattle.duk_store.proofs.SlotChanges.{is_partly_wiped, is_wiped}
 use Rattle.duk_store.proofs.StepsInTurn.{done_as, failed_as}
 use Rattle.duk_store.proofs.slot_steps.wipe.Goals as goal

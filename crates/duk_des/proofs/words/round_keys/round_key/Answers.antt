@@ -1,5 +1,5 @@
 use Rattle.std.proofs.Common.{◌++◌}
-use Rattle.duk_des.specs.Words.{half_bits}
+use Rattle.duk_des.specs.inner.Words.{half_bits}
 use Rattle.duk_des.proofs.KeyHalves.{key_of_words}
 use Rattle.duk_des.proofs.words.round_keys.round_key.Goals as goal
 

@@ -1,7 +1,7 @@
 use Rattle.std.proofs.Common.{drop, ◌∙◌}
 use Rattle.duk_des.specs.Des.{schedule, round_keys}
 use Rattle.duk_des.specs.Tables.{rotations}
-use Rattle.duk_des.specs.Words.{half_bits}
+use Rattle.duk_des.specs.inner.Words.{half_bits}
 use Rattle.duk_des.proofs.SideBySide.{both}
 use Rattle.duk_des.proofs.OneMoreRoundKey.{one_key, no_key}
 use Rattle.duk_des.proofs.words.round_keys.round_keys.Goals as goal

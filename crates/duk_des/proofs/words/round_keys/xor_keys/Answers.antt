@@ -1,6 +1,6 @@
 use Rattle.std.proofs.Common.{map, refl, sym, ◌∙◌}
 use Rattle.duk_des.specs.Des.{xor_keys}
-use Rattle.duk_des.specs.Words.{key_bits}
+use Rattle.duk_des.specs.inner.Words.{key_bits}
 use Rattle.duk_des.proofs.SideBySide.{consed, both}
 use Rattle.duk_des.proofs.LiteralLists.{is_spelled}
 use Rattle.duk_des.proofs.RoundsOfWords.{no_key}

@@ -1,5 +1,6 @@
 use Rattle.std.proofs.Common.{rules}
-use Rattle.duk_host.specs.Handle.{AnswersAs, HandleRefused, IsReplied, IsToAccept, IsVerdictOn, IsAcceptedVerdict, KeepRefused}
+use Rattle.duk_host.specs.Handle.{AnswersAs, HandleRefused, IsToAccept, IsVerdictOn, KeepRefused}
+use Rattle.duk_host.specs.inner.Handle.{IsReplied, IsAcceptedVerdict}
 use Rattle.duk_host.specs.Host.{HostOf, host_meaning_of}
 use Rattle.duk_host.proofs.AcceptedIsAnswered.{answers, answers_reply, if_err, if_ok, if_ok_both, refuses, reply_reported, settles, to_accept}
 use Rattle.duk_host.proofs.host.Host.answer.Goals as goal

@@ -1,6 +1,6 @@
 use Rattle.std.proofs.Common.{rules, refl, subst}
-use Rattle.duk_host.specs.Reading.{IsTakenIn}
-use Rattle.duk_host.specs.Host.{LogHolds, LogAgrees}
+use Rattle.duk_host.specs.inner.Reading.{IsTakenIn}
+use Rattle.duk_host.specs.inner.Host.{LogHolds, LogAgrees}
 use Rattle.duk_host.specs.Used.{IsOneMore, IsUsed}
 use Rattle.duk_host.proofs.OneNumberMore.{holds_more}
 use Rattle.duk_host.proofs.host.Host.keep.Goals as goal

@@ -1,7 +1,7 @@
 use Rattle.std.proofs.Common.{◌≡◌, ℕ, true, cond, not, subst}
 use Rattle.std.specs.BTreeSet.{contains}
 use Rattle.std.specs.Ordering.{eq_by_cmp, nat_cmp}
-use Rattle.duk_host.specs.Index.{members_of, serial_number}
+use Rattle.duk_host.specs.inner.Index.{members_of, serial_number}
 use Rattle.duk_host.specs.Used.{IsUsed}
 use Rattle.duk_host.proofs.UsedNumberSet.{index_has, match_fresh, set_one_more}
 use Rattle.duk_host.proofs.used.UsedNumbers.insert.Goals as goal

@@ -1,6 +1,7 @@
 -- The keys are lawful with the new key set, and as they were where there is no free slot.
 use Rattle.std.proofs.Common.{◌≡◌, ◌<◌, None, length, arith}
-use Rattle.duk_hsm.specs.Keys.{held_keys, key_set_of}
+use Rattle.duk_hsm.specs.Keys.{key_set_of}
+use Rattle.duk_hsm.specs.inner.Keys.{held_keys}
 use Rattle.duk_hsm.proofs.KeySets.{one_more, sixteen_bytes}
 use Rattle.duk_hsm.proofs.hsm.Hsm.load_bdk.Goals as goal
 use Rattle.duk_hsm.proofs.hsm.Hsm.load_bdk.Goals.{in-Ok, in-Err}

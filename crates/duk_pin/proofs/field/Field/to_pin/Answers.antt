@@ -1,5 +1,5 @@
 use Rattle.std.proofs.Common.{◌≡◌, Some, rules, sym, ap, ◌∙◌}
-use Rattle.duk_pin.specs.Reading.{ReadsAsPin}
+use Rattle.duk_pin.specs.inner.Reading.{ReadsAsPin}
 use Rattle.duk_pin.specs.Digits.{ascii_of}
 use Rattle.duk_pin.specs.PinBlock.{pin_field}
 use Rattle.duk_pin.proofs.FieldsWrittenAndRead.{ascii_of_values, field_of_digits_read, one_pin_of_field}

@@ -1,6 +1,7 @@
 use Rattle.std.proofs.Common.{◌≡◌, ◌+◌, ◌*◌, ◌/◌, ◌<◌, ◌≤◌, ℕ, true, None, Some, ap, arith, refl, sym, subst}
 use Rattle.std.proofs.lemmas.Result.{err_from_is_err_and}
-use Rattle.duk_store.specs.DiskLog.{DiskLogOf, KnowsCount, KnowsLog, count_in, disk_log_meaning, is_log_running}
+use Rattle.duk_store.specs.DiskLog.{DiskLogOf, count_in, disk_log_meaning, is_log_running}
+use Rattle.duk_store.specs.inner.DiskLog.{KnowsCount, KnowsLog}
 use Rattle.duk_store.specs.Disk.{DiskMeaning}
 use Rattle.duk_store.specs.Log.{AppendFailed, IsAppended}
 use Rattle.duk_store.proofs.LogOnDisk.{append_failed, knows_then, log_appended}

@@ -1,5 +1,6 @@
 use Rattle.std.proofs.Common.{◌<◌, ◌∙◌, ap, refl, sym, subst}
-use Rattle.duk_store.specs.DiskLog.{KnowsLog, count_in, disk_log_meaning, is_log_running}
+use Rattle.duk_store.specs.DiskLog.{count_in, disk_log_meaning, is_log_running}
+use Rattle.duk_store.specs.inner.DiskLog.{KnowsLog}
 use Rattle.duk_store.specs.Log.{IsReadAt}
 use Rattle.duk_store.proofs.LogOnDisk.{log_read}
 use Rattle.duk_store.proofs.disk_log.DiskLogUsedLog.at.Goals as goal

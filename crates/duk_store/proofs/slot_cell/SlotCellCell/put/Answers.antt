@@ -1,5 +1,5 @@
 use Rattle.std.proofs.Common.{◌∙◌, ◌≡◌, sym, ap, subst}
-use Rattle.duk_store.specs.SlotCell.{Knows}
+use Rattle.duk_store.specs.inner.SlotCell.{Knows}
 use Rattle.duk_store.specs.declared.slot_format.SlotState.TheVariants.{Empty, Holds}
 use Rattle.duk_store.proofs.CellOnDisk.{body_alone, body_next, body_put, body_put_failed, empty_alone, empty_next, empty_put, empty_put_failed, empty_ready}
 use Rattle.duk_store.proofs.slot_cell.SlotCellCell.put.Goals as goal

@@ -1,7 +1,8 @@
 use Rattle.std.proofs.Common.{subst}
 use Rattle.std.proofs.lemmas.Result.{err_from_is_err_and}
 use Rattle.duk_term.specs.Load.{IsFirstSet, Loading, MayTake, loading_of}
-use Rattle.duk_term.specs.Terminal.{Agrees, TerminalOf}
+use Rattle.duk_term.specs.Terminal.{TerminalOf}
+use Rattle.duk_term.specs.inner.Terminal.{Agrees}
 use Rattle.duk_term.proofs.ImageNotKept.{load_done, load_not_done, load_without_key, promises_kept}
 use Rattle.duk_term.proofs.terminal.Terminal.load.Goals as goal
 

@@ -1,7 +1,7 @@
 use Rattle.std.proofs.Common.{inr, refl, sym, subst}
 use Rattle.std.proofs.lemmas.Result.{err_from_is_err_and}
 use Rattle.duk_store.specs.Restart.{Restarted}
-use Rattle.duk_term.specs.Terminal.{Agrees}
+use Rattle.duk_term.specs.inner.Terminal.{Agrees}
 use Rattle.duk_term.proofs.BodyIsFoundAgain.{if_read, none_found}
 use Rattle.duk_term.proofs.terminal.Terminal.restart.Goals as goal
 use Rattle.duk_term.proofs.terminal.Terminal.restart.Goals.{in-None, in-Some+in_ok-ok_or-in-Some}

@@ -3,7 +3,8 @@ use Rattle.std.proofs.lemmas.List.{take_all}
 use Rattle.std.proofs.Math.Seq.{take-add}
 use Rattle.duk_tdes.specs.Key.{xor_bytes}
 use Rattle.duk_tdes.specs.Tdes.{first_key, second_key}
-use Rattle.duk_tree.specs.Derivation.{AreHalves, derivation_mask}
+use Rattle.duk_tree.specs.Derivation.{derivation_mask}
+use Rattle.duk_tree.specs.inner.Derivation.{AreHalves}
 use Rattle.duk_tree.proofs.parent.Parent.new.Goals as goal
 
 -- the first bytes under a mask, and the others

@@ -2,7 +2,8 @@
 -- and where it fails: this project's own.
 use Rattle.std.specs.Prelude.{◌≡◌, ◌≢◌, ◌⊎◌, ◌↔◌, ℕ, Bool, true, List, replicate}
 use Rattle.duk_store.specs.Disk.{DiskState, HasFailed, PreservesBytes, PreservesDisk, LeavesChanged, LeavesReads, LeavesWithin}
-use Rattle.duk_store.specs.SlotFormat.{IsBlank, IsOpen, Says, SlotsSay, after_commit, cell_disk_size, contents_of, commit_of, other_than, slot_at}
+use Rattle.duk_store.specs.SlotFormat.{IsBlank, IsOpen, after_commit, cell_disk_size, commit_of, other_than, slot_at}
+use Rattle.duk_store.specs.inner.SlotFormat.{Says, SlotsSay, contents_of}
 use Rattle.duk_store.specs.declared.fault.StoreFault.{StoreFault}
 use Rattle.duk_store.specs.declared.fault.StoreFault.TheVariants.{Damaged, Device}
 use Rattle.duk_store.specs.declared.slot_format.Place.{Place}

@@ -1,5 +1,4 @@
--- What is tested of nibbles that may be a PIN field (this project's own). No public contract cites
--- it.
+-- What is tested of nibbles that may be a PIN field (this project's own).
 use Rattle.std.specs.Prelude.{◌≡◌, ℕ, ◌<◌, ◌≤◌, List, take, drop, slice_index, All}
 
 -- 0, a length of 4 to 12, as many digits, and F

@@ -1,4 +1,4 @@
--- How a line is read (this project's own). No public contract cites it.
+-- How a line is read (this project's own).
 use Rattle.std.specs.Prelude.{◌≡◌, ◌≢◌, ◌⊎◌, ℕ, List, [], ◌∷◌, ◌++◌, length, slice_index, EachIndex, decimal, Some}
 use Rattle.duk_pin.specs.Pan.{IsPan}
 use Rattle.duk_pin.specs.Pin.{IsPin}

@@ -1,7 +1,7 @@
--- Which of two slots counts, by what was read of them: this project's own. No public contract cites
--- it.
+-- Which of two slots counts, by what was read of them: this project's own.
 use Rattle.std.specs.Prelude.{◌≡◌, ◌<◌, true, false, Option, Some, None}
-use Rattle.duk_store.specs.SlotFormat.{other_than, slot_in}
+use Rattle.duk_store.specs.SlotFormat.{other_than}
+use Rattle.duk_store.specs.inner.SlotFormat.{slot_in}
 use Rattle.duk_store.specs.declared.slot_format.Place.{Place}
 use Rattle.duk_store.specs.declared.slot_format.Slots.{Slots}
 

@@ -1,4 +1,4 @@
--- How records are counted, one after the other: this project's own. No public contract cites it.
+-- How records are counted, one after the other: this project's own.
 use Rattle.std.specs.Prelude.{◌≡◌, ◌⊎◌, ◌<◌, ◌+◌, ℕ, true, false}
 use Rattle.duk_store.specs.declared.record_format.Record.{Record}
 

@@ -1,0 +1,4 @@
+pub mod ConfigFile
+pub mod Entries
+pub mod EntryFaults
+pub mod Opened

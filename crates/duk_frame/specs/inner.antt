@@ -1,0 +1,2 @@
+pub mod Feeder
+pub mod Frame

@@ -1,0 +1,12 @@
+-- What only private functions and proofs say beside `Status.antt`: this project's own.
+use Rattle.std.specs.Prelude.{◌≡◌}
+use Rattle.duk_arguments.specs.declared.request.Request.{Request}
+use Rattle.duk_arguments.specs.declared.request.Request.TheVariants as request
+use Rattle.duk_program.specs.declared.dispatch.Todo.{Todo}
+use Rattle.duk_program.specs.declared.dispatch.Todo.TheVariants.{Exit, Run, Serve}
+
+-- a script is left to run, or frames to serve, only where the request is that of these paths
+abbrev pub RunsRequest : Request → Todo → Type 0
+RunsRequest asked (Exit status) = Unit {0}
+RunsRequest asked (Run config script) = asked ≡ request.Run config script
+RunsRequest asked (Serve config log) = asked ≡ request.Serve config log

@@ -1,0 +1,2 @@
+pub mod ImageParts
+pub mod Past

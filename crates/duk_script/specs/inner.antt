@@ -1,0 +1,5 @@
+pub mod FaultLine
+pub mod Opening
+pub mod Play
+pub mod Reading
+pub mod WholeText

@@ -1,0 +1,10 @@
+pub mod Device
+pub mod DiskLog
+pub mod FileMedium
+pub mod MemoryDisk
+pub mod RecordCount
+pub mod RecordFormat
+pub mod SlotCell
+pub mod SlotChoice
+pub mod SlotFormat
+pub mod SlotSteps
