@@ -6,7 +6,7 @@ import shutil
 from pathlib import Path
 
 from definitions_of.code import NAMELESS
-from definitions_of.faults import GENERATED, PROVED, faults
+from definitions_of.faults import GENERATED, PROVED, READING, faults
 from definitions_of.proved import named_in
 from definitions_of.reach import Reach
 from definitions_of.specs import INNER, SpecFile
@@ -32,7 +32,7 @@ def copy_of_sources(to: Path) -> Path:
             target = to / path.relative_to(ROOT)
             target.parent.mkdir(parents=True, exist_ok=True)
             shutil.copy(path, target)
-    for parts in (PROVED, GENERATED):
+    for parts in (PROVED, READING, GENERATED):
         to.joinpath(*parts).parent.mkdir(exist_ok=True)
         shutil.copy(ROOT.joinpath(*parts), to.joinpath(*parts))
     return to
@@ -58,7 +58,8 @@ class Definitions(Case):
         reach = Reach(root)
         first, second, *_ = reached_files(reach)
         wanted = [plant_unread(first), plant_inner(root, first), plant_no_source(root, second),
-                  plant_gone_clause(root, reach), "is not what tools/definitions writes"]
+                  plant_gone_clause(root, reach), plant_gone_file(root, first),
+                  "is not what tools/definitions writes"]
         found = faults(root)
         for want in wanted:
             self.assertTrue(any(want in it for it in found), f"{want} is not in {found}")
@@ -102,3 +103,10 @@ def plant_gone_clause(root: Path, reach: Reach) -> str:
     call.path.write_text(text.replace(f"ensures {clause} {{", f"ensures other_{clause} {{"),
                          encoding="utf-8")
     return f"there is no public {call.crate}::{call.name}.{clause}"
+
+
+def plant_gone_file(root: Path, file: SpecFile) -> str:
+    """A file that the list of what is to be read names, and that is not there."""
+    with open(root.joinpath(*READING), "a", encoding="utf-8") as document:
+        document.write(f"\n| 15 | `{file.crate}`: `NotThere` | nothing |\n")
+    return f"{file.crate} has no NotThere"

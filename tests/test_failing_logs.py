@@ -1,6 +1,6 @@
 """A log that fails while the service has it open: a call on it, or a file that is cut short.
 
-Behind the first call that fails nothing is acknowledged any more, whatever later calls would
+After the first call that fails nothing is acknowledged any more, whatever later calls would
 answer.
 """
 from __future__ import annotations

@@ -1,4 +1,4 @@
-"""Streams, statuses and real files: what the program makes of words, and of the files they name."""
+"""Streams, statuses and real files: what the program makes of arguments, and of the files that they name."""
 from __future__ import annotations
 
 import os
@@ -24,7 +24,7 @@ pin 042666B49184CF5C68DE9628D0397B36
 """
 PIN_KEY = "042666B49184CF5C68DE9628D0397B36"
 
-# Words, with the output and the fault that they have.
+# Arguments, with the output and the fault that they have.
 COMMANDS = [
     (("--version",), b"dukpt 0.1.0\n", ""),
     (("derive", BASE, SERIAL), DERIVED, ""),
@@ -40,7 +40,7 @@ COMMANDS = [
     (("wrap", PROTECTION, "P0TE00E", ZONE, "0000000000"), b"", "PadLength"),
 ]
 
-# Words that are refused, and those that are because one is no UTF-8.
+# Arguments that are refused, and those that are because one is no UTF-8.
 REFUSED_WORDS = [
     ("run", "bank.toml"), ("derive", BASE, SERIAL, SERIAL), ("serve",), ("",), ("--", "-x"),
 ]

@@ -1,4 +1,4 @@
-"""An output that takes nothing, or no more behind some byte, and faults that cannot be written."""
+"""An output that takes nothing, or no more after some byte, and faults that cannot be written."""
 from __future__ import annotations
 
 from typing import Iterable, Sequence

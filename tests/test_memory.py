@@ -2,7 +2,7 @@
 
 What a call leaves where memory is refused is proved. That it reports it where a growth was refused,
 and at each one, is shown here, with what it leaves once more. The program `duk_driver` makes one
-call, with the words `refuse CALL GROWTH`, and looks at what came of it, in runs of which each has
+call, with the arguments `refuse CALL GROWTH`, and looks at what came of it, in runs of which each has
 one allocation refused: from the first that the call and what it needs take to the last, and some
 beyond it, where nothing is refused any more. It needs the kit's `rt`, which builds that program
 anew, with checks and without proofs.
@@ -18,7 +18,7 @@ from .support.program import ROOT
 
 CRATE = ROOT / "crates" / "duk_driver"
 # The number of the allocation that is refused: so many the program takes before its call and in it,
-# behind those for its own words.
+# after those for its own.
 REFUSED_AT = 4000 + 7
 SECONDS = 900
 

@@ -1,7 +1,7 @@
 """The recipes of docs/RECIPES.md.
 
 A recipe is a part of the document below a heading of the second level. Of its indented lines `$ `
-begins a command and `> ` goes on with it, and what stands behind a command is what it prints. The
+begins a command and `> ` goes on with it, and what stands after a command is what it prints. The
 commands of a recipe are run in one bash, in a folder that has the program as `dukpt` beside `tests`
 and `examples`. Each ends with status 0, and nothing is on standard error.
 """
@@ -15,7 +15,7 @@ from .support.case import ProgramCase
 from .support.program import ROOT, SECONDS
 
 RECIPES = ROOT / "docs" / "RECIPES.md"
-# Stands behind what a command prints, with its status. No command prints it.
+# Stands after what a command prints, with its status. No command prints it.
 END = "\x1e"
 
 
@@ -75,7 +75,7 @@ class Recipes(ProgramCase):
             ["bash", "-c", script], cwd=folder, stdin=subprocess.DEVNULL, capture_output=True,
             env={**os.environ, "LC_ALL": "C", "TMPDIR": str(folder)}, timeout=SECONDS, check=False)
         parts = done.stdout.decode(errors="replace").split(END)
-        self.assertEqual(parts[-1], "", "what is printed behind the last command")
+        self.assertEqual(parts[-1], "", "what is printed after the last command")
         return list(zip(parts[::2], parts[1::2])), done.stderr.decode(errors="replace")
 
     def test_a_loading_block(self) -> None:

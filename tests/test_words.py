@@ -1,4 +1,4 @@
-"""The words of the program's help: the files that name them, and the examples of each help."""
+"""The arguments that the program's help names: the files that name them too, and the examples of each help."""
 from __future__ import annotations
 
 import os
@@ -12,7 +12,7 @@ from .support.words_of_files import (
 
 
 class Words(ProgramCase):
-    """The manual page, the completions and docs/COMMANDS.md name the words that the help names."""
+    """The manual page, the completions and docs/COMMANDS.md name the arguments that the help names."""
 
     weight = 2
 

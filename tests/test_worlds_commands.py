@@ -1,4 +1,4 @@
-"""Random words of the commands over keys, PINs and key blocks: what they write, to the letter."""
+"""Random arguments of the commands over keys, PINs and key blocks: what they write, to the letter."""
 from __future__ import annotations
 
 import random

@@ -1,5 +1,5 @@
 """What the commands over keys, PINs and key blocks write, by docs/COMMANDS.md: their output, or the
-first fault of their words."""
+first fault of their arguments."""
 from __future__ import annotations
 
 import re

@@ -30,7 +30,7 @@ def pin_in(block: int, pan: str) -> Optional[str]:
 
 
 def fault_of(pin: bytes, pan: bytes) -> Optional[str]:
-    """What the command `pin` tells of these words."""
+    """What the command `pin` reports of these arguments."""
     for name, word, lengths in (("Pin", pin, PIN_LENGTHS), ("Pan", pan, PAN_LENGTHS)):
         if len(word) not in lengths:
             return f"{name}Length"

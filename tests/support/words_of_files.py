@@ -1,4 +1,4 @@
-"""The words of the program: as its help has them, and as the files have them that name them.
+"""The arguments of the program: as its help has them, and as the files have them that name them.
 
 Of each source these are the commands, the words for values behind each, its options, and what an
 option's value is called. The files are read as text: it needs no man, no zsh and no fish.
