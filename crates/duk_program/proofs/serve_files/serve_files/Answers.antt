@@ -1,6 +1,13 @@
 use Rattle.std.proofs.Common.{rules, inr}
 use Rattle.duk_program.proofs.serve_files.serve_files.Goals as goal
 
+pub returns-in-None-clause-reported : goal.returns-in-None-clause-reported
+returns-in-None-clause-reported g c one = inr (record {
+  config = _;
+  configured = c.in-Ok.ensures.configured;
+  failed = search (rules, c.serve_in_memory.ensures.not_done one);
+})
+
 pub returns-clause-reported : goal.returns-clause-reported
 returns-clause-reported g c one = inr (record {
   config = _;
