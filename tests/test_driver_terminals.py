@@ -99,7 +99,7 @@ class TestLives(DriverCase):
 
     def test_lives(self) -> None:
         drive, stops = Drive(), 0
-        for _ in range(60 * self.times):
+        for _ in range(360 * self.times):
             life = Life(self, drive, Keys(self.chance))
             for _ in range(self.chance.randint(1, 2)):
                 for _ in range(self.chance.randrange(22)):
