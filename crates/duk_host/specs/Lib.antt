@@ -1,3 +1,4 @@
+pub mod FaultText
 pub mod Used
 pub mod Recent
 pub mod Table

@@ -1,5 +1,4 @@
 pub mod Script
-pub mod FaultText
 pub mod OutcomeText
 pub mod FaultLine
 pub mod WholeText

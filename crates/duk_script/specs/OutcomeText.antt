@@ -8,7 +8,8 @@ use Rattle.duk_term.specs.declared.answer.Next.{Next}
 use Rattle.duk_term.specs.declared.answer.Next.TheVariants.{Stopped, Empty, Spent, At}
 use Rattle.duk_net.specs.declared.outcome.Outcome.{Outcome}
 use Rattle.duk_net.specs.declared.outcome.Outcome.TheVariants.{Loaded, Sent, Accepted, Repeated, Refused, Done, GotRefusal, TermNext, HostUsed, Armed, TermFaulted, HostFaulted, IksnElsewhere, NoKeySet, NoSuchTerminal, NoSuchFrame}
-use Rattle.duk_script.specs.FaultText.{term_fault_text, host_fault_text}
+use Rattle.duk_host.specs.FaultText.{host_fault_text}
+use Rattle.duk_term.specs.FaultText.{term_fault_text}
 use Rattle.duk_script.specs.Script.{end_name, spaced, terminal_name}
 
 -- a key serial number: twenty hexadecimal digits in upper case

@@ -1,3 +1,4 @@
+pub mod FaultName
 pub mod StoreState
 pub mod Restart
 pub mod Cell

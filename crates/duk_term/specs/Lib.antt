@@ -1,3 +1,4 @@
+pub mod FaultText
 pub mod Body
 pub mod Loading
 pub mod Terminal

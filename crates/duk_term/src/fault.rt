@@ -1,54 +1,82 @@
 //! Why a terminal refuses.
 
 ghost use Rattle.std.specs.Prelude.{◌≡◌};
+ghost use Rattle.duk_term.specs.FaultText.{term_fault_name, term_fault_text};
 ghost use Rattle.duk_term.specs.Loading.{reload_fault_of, term_fault_of};
 
 use duk_block::{BlockFault, KeyFault};
 use duk_regs::ReloadFault;
 use duk_store::StoreFault;
-use thiserror::Error;
+use std::error::Error;
+use std::fmt;
 
 /// Why a terminal does not do what it was asked. `Display` writes the name, and that of the fault
 /// inside it.
-#[derive(Debug, Clone, Copy, PartialEq, Eq, Error)]
+#[derive(Debug, Clone, Copy, PartialEq, Eq)]
 pub enum TermFault {
     /// The terminal is not loaded yet.
-    #[error("NotLoaded")]
     NotLoaded,
     /// The loading block cannot be read.
-    #[error("Block {0}")]
     Block(BlockFault),
     /// The loading block has a key for another use than an initial key.
-    #[error("WrongUse")]
     WrongUse,
     /// The terminal has used all its numbers.
-    #[error("Spent")]
     Spent,
     /// The terminal is stopped.
-    #[error("Stopped")]
     Stopped,
     /// The cell failed, or kept what is no image. The terminal is stopped, and nothing is pending.
-    #[error("Store {0}")]
     Store(StoreFault),
     /// The bytes are no answer's frame.
-    #[error("Malformed")]
     Malformed,
     /// No transaction is pending.
-    #[error("NotPending")]
     NotPending,
     /// The answer is to another key serial number than the pending one.
-    #[error("NotMine")]
     NotMine,
     /// The MAC of the reply is not that of the host.
-    #[error("BadMac")]
     BadMac,
     /// The initial key serial number is the terminal's own, or one that it had before.
-    #[error("IksnSpent")]
     IksnSpent,
     /// The terminal had eight initial key serial numbers before its own, and takes no other.
-    #[error("LoadsSpent")]
     LoadsSpent,
 }
+
+impl TermFault {
+    /// The fault's own name, without that of the fault inside it.
+    pub fn name(self) -> &'static str
+        ensures { result.now ≡ term_fault_name self }
+    {
+        match self {
+            TermFault::NotLoaded => "NotLoaded",
+            TermFault::Block(_) => "Block",
+            TermFault::WrongUse => "WrongUse",
+            TermFault::Spent => "Spent",
+            TermFault::Stopped => "Stopped",
+            TermFault::Store(_) => "Store",
+            TermFault::Malformed => "Malformed",
+            TermFault::NotPending => "NotPending",
+            TermFault::NotMine => "NotMine",
+            TermFault::BadMac => "BadMac",
+            TermFault::IksnSpent => "IksnSpent",
+            TermFault::LoadsSpent => "LoadsSpent",
+        }
+    }
+}
+
+impl fmt::Display for TermFault {
+    ghost use Rattle.std.specs.Prelude.{Some};
+
+    ghost output = { λ fault. Some (term_fault_text fault) };
+
+    fn fmt<W: fmt::Write>(&self, f: &mut fmt::Formatter<W>) -> fmt::Result {
+        match self {
+            TermFault::Block(inside) => write!(f, "{} {inside}", self.name()),
+            TermFault::Store(inside) => write!(f, "{} {inside}", self.name()),
+            _ => f.write_str(self.name()),
+        }
+    }
+}
+
+impl Error for TermFault {}
 
 impl From<ReloadFault> for TermFault {
     ghost from_gives = { λ fault reported. reported ≡ reload_fault_of fault };

@@ -1,5 +1,5 @@
 use Rattle.std.proofs.lemmas.Result.{err_from_is_err_and}
-use Rattle.duk_script.proofs.PlayedScripts.{if_err, not_a_script, on_ok, stopped}
+use Rattle.duk_script.proofs.PlayedScripts.{not_a_script}
 use Rattle.duk_script.proofs.session.play_script.Goals as goal
 
 pub returns-in_err-events-clause-refused : goal.returns-in_err-events-clause-refused
