@@ -8,7 +8,7 @@ use Rattle.duk_store.specs.Cell.{CellMeaning}
 use Rattle.duk_term.specs.Load.{IsTerminalLoaded, LoadRefused, Loading, loading_of}
 use Rattle.duk_term.specs.Terminal.{TerminalOf}
 use Rattle.duk_term.specs.declared.fault.TermFault.TheVariants.{Store}
-use Rattle.duk_net.specs.Owner.{IsElsewhere, owned_by}
+use Rattle.duk_net.specs.Owner.{BecomesOwner, IsElsewhere}
 use Rattle.duk_net.specs.World.{ChangesOnly, FindsNoTerminal, HasOne, Meanings, WorldOf}
 use Rattle.duk_net.specs.declared.owner.Owner.{Owner}
 use Rattle.duk_net.specs.declared.outcome.Outcome.{Outcome}
@@ -37,12 +37,12 @@ TakesLoad meaning t asked (came.TermFaulted u why) before after =
     (u ≡ t) × LoadRefused meaning asked before after why
 TakesLoad meaning t asked _ before after = ⊥
 
--- the owners then: the terminal owns the initial key serial number where it was loaded, or where
--- its store failed, since that may have kept the image
-abbrev pub owners_after_load : Outcome → List Owner → ℕ → ℕ → List Owner
-owners_after_load (came.Loaded u loaded) owners iksn t = owned_by owners iksn t
-owners_after_load (came.TermFaulted u (Store why)) owners iksn t = owned_by owners iksn t
-owners_after_load _ owners iksn t = owners
+-- how the owners change: the terminal becomes one where it was loaded, or where its store failed,
+-- since that may have kept the image
+abbrev pub ChangesOwners : Outcome → List Owner → ℕ → ℕ → List Owner → Type 0
+ChangesOwners (came.Loaded u loaded) old iksn t new = BecomesOwner old iksn t new
+ChangesOwners (came.TermFaulted u (Store why)) old iksn t new = BecomesOwner old iksn t new
+ChangesOwners _ old iksn t new = new ≡ old
 
 -- the terminal is given what was issued for it
 pub record IsGiven
@@ -52,10 +52,8 @@ pub record IsGiven
   pub may : MayLoad old t iksn
   pub issued : IsIssuedFor old iksn asked
   pub terminal : ChangesOnly t (TakesLoad m.cell t asked outcome) old.terminals new.terminals
-  pub rest : new ≡ record old {
-    terminals = new.terminals;
-    owners = owners_after_load outcome old.owners iksn t;
-  }
+  pub owners : ChangesOwners outcome old.owners iksn t new.owners
+  pub rest : new ≡ record old { terminals = new.terminals; owners = new.owners }
 
 -- another terminal owns the initial key serial number
 pub record IsOwnedByOther

@@ -15,7 +15,7 @@ use Rattle.duk_tree.specs.Path.{IsUsable}
 use Rattle.duk_tree.specs.Serial.{Serial}
 use Rattle.duk_net.specs.InitialKey.{IsInitialKeyOf}
 use Rattle.duk_net.specs.UsedOnce.{IsUsedNumber}
-use Rattle.duk_net.specs.Owner.{owner_of}
+use Rattle.duk_net.specs.Owner.{IsOwner, Owns}
 use Rattle.duk_net.specs.World.{Frame, IsAt, Meanings}
 use Rattle.duk_net.specs.declared.owner.Owner.{Owner}
 
@@ -99,7 +99,7 @@ InEachTerminal m P terminals =
 -- sent: it is their present one, or a past one
 abbrev pub RemembersUsed : List Frame → List Owner → ℕ → RegisterSet → Type 0
 RemembersUsed requests owners t set =
-    (ksn : Serial) → IsUsedNumber requests ksn → owner_of owners ksn.iksn ≡ Some t
+    (ksn : Serial) → IsUsedNumber requests ksn → Owns owners ksn.iksn t
     → IsSpentIksn ksn.iksn set
 
 -- a terminal owns the initial key serial number of its registers, which hold the future keys of its
@@ -107,6 +107,6 @@ RemembersUsed requests owners t set =
 pub record OwnsAboveUsed
     (keys : HsmKeys) (requests : List Frame) (owners : List Owner) (t : ℕ)
     (set : RegisterSet) : Type 0 where
-  pub owned : owner_of owners set.iksn ≡ Some t
+  pub owned : IsOwner owners set.iksn t
   pub above : AreRegistersAboveUsed keys requests set
   pub remembers : RemembersUsed requests owners t set

@@ -1,23 +1,33 @@
 -- Who owns an initial key serial number: this project's own.
-use Rattle.std.specs.Prelude.{◌≡◌, ◌≢◌, ◌==◌, ◌++◌, ◌∷◌, [], ℕ, List, Option, Some, None, find}
-use Rattle.std.specs.Option.{option_map}
+use Rattle.std.specs.Prelude.{◌≡◌, ◌≢◌, ◌⊎◌, ◌++◌, ◌∷◌, [], ℕ, List, Contains}
 use Rattle.duk_net.specs.declared.owner.Owner.{Owner}
 
--- the terminal that owns an initial key serial number, if one does
-abbrev pub owner_of : List Owner → ℕ → Option ℕ
-owner_of owners iksn = option_map (λ owner. owner.t) (find (λ owner. owner.iksn == iksn) owners)
+-- a terminal owns an initial key serial number: the owners list it with that number
+abbrev pub Owns : List Owner → ℕ → ℕ → Type 0
+Owns owners iksn t = Contains owners (record { iksn = iksn; t = t })
+
+-- a terminal owns it, and no other does
+pub record IsOwner (owners : List Owner) (iksn t : ℕ) : Type 0 where
+  pub owns : Owns owners iksn t
+  pub alone : (other : ℕ) → Owns owners iksn other → other ≡ t
 
 -- a terminal other than this one owns it
 pub record IsElsewhere (owners : List Owner) (iksn t : ℕ) : Type 0 where
   pub owner : ℕ
-  pub owned : owner_of owners iksn ≡ Some owner
+  pub owns : Owns owners iksn owner
   pub other : owner ≢ t
 
--- the owners, and this terminal for an initial key serial number that was owned by none
-abbrev pub owners_with : Option ℕ → List Owner → ℕ → ℕ → List Owner
-owners_with None owners iksn t = owners ++ record { iksn = iksn; t = t } ∷ []
-owners_with (Some owner) owners iksn t = owners
+-- no terminal owned it, and this one joins the owners, after them
+pub record JoinsOwners (old : List Owner) (iksn t : ℕ) (new : List Owner) : Type 0 where
+  pub free : (owner : ℕ) → ¬ Owns old iksn owner
+  pub joins : new ≡ old ++ record { iksn = iksn; t = t } ∷ []
 
--- the owners once this terminal was loaded with an initial key serial number
-abbrev pub owned_by : List Owner → ℕ → ℕ → List Owner
-owned_by owners iksn t = owners_with (owner_of owners iksn) owners iksn t
+-- some terminal owned it, and the owners stay
+pub record KeepsOwners (old : List Owner) (iksn : ℕ) (new : List Owner) : Type 0 where
+  pub owner : ℕ
+  pub owns : Owns old iksn owner
+  pub same : new ≡ old
+
+-- how the owners change where a terminal was loaded with an initial key serial number
+abbrev pub BecomesOwner : List Owner → ℕ → ℕ → List Owner → Type 0
+BecomesOwner old iksn t new = JoinsOwners old iksn t new ⊎ KeepsOwners old iksn new

@@ -1,7 +1,7 @@
 -- Who owned the number of a request when it was sent: this project's own.
-use Rattle.std.specs.Prelude.{◌≡◌, ◌++◌, ◌∷◌, ℕ, List, Some}
+use Rattle.std.specs.Prelude.{◌≡◌, ◌++◌, ◌∷◌, ℕ, List}
 use Rattle.duk_tree.specs.Serial.{Serial}
-use Rattle.duk_net.specs.Owner.{owner_of}
+use Rattle.duk_net.specs.Owner.{IsOwner}
 use Rattle.duk_net.specs.Run.{Run}
 use Rattle.duk_net.specs.Step.{Step}
 use Rattle.duk_net.specs.World.{Meanings, WorldOf}
@@ -16,7 +16,7 @@ abbrev pub IsOwnedBefore : {C L I : Type 0} → Meanings C L I → WorldOf C L I
 IsOwnedBefore {C} {L} {I} m old earlier t k ksn =
     (events : List Event) (event : Event) (before after : WorldOf C L I)
     → Run m old events earlier before → Step m before event (outcome.Sent t k ksn) after
-    → owner_of before.owners ksn.iksn ≡ Some t
+    → IsOwner before.owners ksn.iksn t
 
 -- so it is of each request that was sent in a call
 abbrev pub SentByOwners : {C L I : Type 0} → Meanings C L I → WorldOf C L I → List Outcome → Type 0

@@ -1,11 +1,11 @@
 -- The numbers of transactions: this project's own, over the key serial numbers of ANSI X9.24-1:2009
 -- annex A.
-use Rattle.std.specs.Prelude.{◌≡◌, ℕ, List, Some, All, AllPairs, Contains}
+use Rattle.std.specs.Prelude.{◌≡◌, ℕ, List, All, AllPairs, Contains}
 use Rattle.duk_frame.specs.Request.{IsRequest}
 use Rattle.duk_frame.specs.declared.request.Request.{Request}
 use Rattle.duk_tree.specs.Path.{IsUsable}
 use Rattle.duk_tree.specs.Serial.{Serial}
-use Rattle.duk_net.specs.Owner.{owner_of}
+use Rattle.duk_net.specs.Owner.{IsOwner}
 use Rattle.duk_net.specs.World.{Frame}
 use Rattle.duk_net.specs.declared.outcome.Outcome.{Outcome}
 use Rattle.duk_net.specs.declared.outcome.Outcome.TheVariants as outcome
@@ -39,13 +39,12 @@ pub record UsedOnce (requests : List Frame) : Type 0 where
   pub usable : All HasUsableNumber requests
   pub different : AllPairs HaveDifferentNumbers requests
 
--- each used number is owned: its initial key serial number has an owner
+-- each used number is owned: its initial key serial number has one owner
 abbrev pub AreUsedOwned : List Frame → List Owner → Type 0
 AreUsedOwned requests owners =
-    (ksn : Serial) → IsUsedNumber requests ksn
-    → (t : ℕ) × (owner_of owners ksn.iksn ≡ Some t)
+    (ksn : Serial) → IsUsedNumber requests ksn → (t : ℕ) × IsOwner owners ksn.iksn t
 
 -- where a request was sent, the terminal owns the initial key serial number
 abbrev pub IsSentByOwner : List Owner → Outcome → Type 0
-IsSentByOwner owners (outcome.Sent t k ksn) = owner_of owners ksn.iksn ≡ Some t
+IsSentByOwner owners (outcome.Sent t k ksn) = IsOwner owners ksn.iksn t
 IsSentByOwner owners _ = Unit {0}

@@ -1,7 +1,7 @@
 //! The laws of worlds, each the contract of a function that does nothing: what holds of every world
 //! that was new once and then moved on by events alone, and of what came of every call.
 
-ghost use Rattle.std.specs.Prelude.{◌≡◌, ℕ, All, List, Some};
+ghost use Rattle.std.specs.Prelude.{◌≡◌, ℕ, All, List};
 ghost use Rattle.duk_hsm.specs.Commands.{IsIssued};
 ghost use Rattle.duk_hsm.specs.Keys.{HsmKeys};
 ghost use Rattle.duk_tdes.specs.Tdes.{IsTdesKey};
@@ -15,7 +15,7 @@ ghost use Rattle.duk_net.specs.declared.outcome.Outcome.{Outcome};
 ghost use Rattle.duk_net.specs.Images.{FindVersion2};
 ghost use Rattle.duk_net.specs.InitialKey.{IsInitialKeyOf};
 ghost use Rattle.duk_net.specs.UsedOnce.{AreUsedOwned, IsSentByOwner, UsedOnce};
-ghost use Rattle.duk_net.specs.Owner.{owner_of};
+ghost use Rattle.duk_net.specs.Owner.{IsOwner, Owns};
 ghost use Rattle.duk_net.specs.OwnKey.{IsOwnKeyReply, IsOwnKeyRequest, IsRefusedAsUsedOrFull};
 ghost use Rattle.duk_net.specs.Reached.{CallLeads, Reached};
 ghost use Rattle.duk_net.specs.Run.{Run};
@@ -36,7 +36,7 @@ pub fn own_initial_key()
     duk_block::laws::one_reading();
 }
 
-/// No two transactions use one number, the initial key serial number of each has an owner, and a
+/// No two transactions use one number, the initial key serial number of each has one owner, and a
 /// terminal sends none but under one that it owned just before, and owns for good.
 pub fn used_once<C: Cell, L: UsedLog, I: Issuer>()
     ensures used_once { (world : WorldOf C L I)
@@ -190,16 +190,16 @@ pub fn calm_restarts<C: Cell, L: UsedLog, I: Issuer>()
     duk_host::laws::replies();
 }
 
-/// A call leads to a world that is reached too. Who owns an initial key serial number owns it for
-/// good, and the security module keeps its keys.
+/// A call leads to a world that is reached too. Who owns an initial key serial number owns it alone
+/// and for good, and the security module keeps its keys.
 pub fn what_stays<C: Cell, L: UsedLog, I: Issuer>()
     ensures reached { let m = meanings_of C.meaning L.meaning I.decides in
         (old new : WorldOf C L I) (outcomes : List Outcome) → Reached m old
         → CallLeads m old outcomes new → Reached m new }
     ensures owners { let m = meanings_of C.meaning L.meaning I.decides in
         (old new : WorldOf C L I) (outcomes : List Outcome) → Reached m old
-        → CallLeads m old outcomes new → (iksn t : ℕ) → owner_of old.owners iksn ≡ Some t
-        → owner_of new.owners iksn ≡ Some t }
+        → CallLeads m old outcomes new → (iksn t : ℕ) → Owns old.owners iksn t
+        → IsOwner new.owners iksn t }
     ensures keys { let m = meanings_of C.meaning L.meaning I.decides in
         (old new : WorldOf C L I) (outcomes : List Outcome) → Reached m old
         → CallLeads m old outcomes new → new.host.keys ≡ old.host.keys }

@@ -4,10 +4,10 @@
 //! may find it. After every other refusal nothing was kept. An owner may ask for its number again,
 //! and its terminal refuses it while it keeps it.
 
-ghost use Rattle.std.specs.Prelude.{◌≡◌, ◌<◌, ◌↔◌, IsTrue};
+ghost use Rattle.std.specs.Prelude.{◌<◌, ◌↔◌, IsTrue};
 ghost use Rattle.std.specs.Vec.{vec_capacity, vec_len};
-ghost use Rattle.duk_net.specs.Load.{owners_after_load};
-ghost use Rattle.duk_net.specs.Owner.{IsElsewhere, owned_by, owner_of};
+ghost use Rattle.duk_net.specs.Load.{ChangesOwners};
+ghost use Rattle.duk_net.specs.Owner.{BecomesOwner, IsElsewhere};
 
 use crate::outcome::Outcome;
 use crate::places::push_within;
@@ -28,7 +28,7 @@ pub struct Owner {
 /// where it was loaded or its store failed.
 pub(crate) fn record_owner(owners: &mut Vec<Owner>, outcome: &Outcome, iksn: Iksn, t: u32)
     requires { vec_len owners.old < vec_capacity owners.old }
-    ensures { owners.new.items ≡ owners_after_load outcome.now owners.old.items iksn t }
+    ensures { ChangesOwners outcome.now owners.old.items iksn t owners.new.items }
 {
     match outcome {
         Outcome::Loaded { .. }
@@ -43,9 +43,9 @@ pub(crate) fn record_owner(owners: &mut Vec<Owner>, outcome: &Outcome, iksn: Iks
 /// Adds an owner, where there is none yet.
 fn add_owner(owners: &mut Vec<Owner>, iksn: Iksn, t: u32)
     requires { vec_len owners.old < vec_capacity owners.old }
-    ensures { owners.new.items ≡ owned_by owners.old.items iksn t }
+    ensures { BecomesOwner owners.old.items iksn t owners.new.items }
 {
-    if owner_of(owners.as_slice(), iksn).is_none() {
+    if !owners.iter().any(|owner| owner.iksn == iksn) {
         push_within(owners, Owner { iksn, t });
     }
 }
@@ -54,18 +54,7 @@ fn add_owner(owners: &mut Vec<Owner>, iksn: Iksn, t: u32)
 pub(crate) fn is_elsewhere(owners: &[Owner], iksn: Iksn, t: u32) -> bool
     ensures { IsTrue result ↔ IsElsewhere owners.now iksn t }
 {
-    match owner_of(owners, iksn) {
-        Some(owner) => owner != t,
-        None => false,
-    }
-}
-
-/// The terminal that owns an initial key serial number, if one does.
-fn owner_of(owners: &[Owner], iksn: Iksn) -> Option<u32>
-    ensures { result ≡ owner_of owners.now iksn }
-{
     owners
         .iter()
-        .find(|owner| owner.iksn == iksn)
-        .map(|owner| owner.t)
+        .any(|owner| owner.iksn == iksn && owner.t != t)
 }

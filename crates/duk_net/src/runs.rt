@@ -1,6 +1,6 @@
 //! Runs of events.
 
-ghost use Rattle.std.specs.Prelude.{◌≡◌, ◌++◌, ◌∷◌, [], ℕ, All, Some, IfOk, IfErr, OnErr};
+ghost use Rattle.std.specs.Prelude.{◌≡◌, ◌++◌, ◌∷◌, [], ℕ, All, IfOk, IfErr, OnErr};
 ghost use Rattle.duk_net.specs.AcceptedOnce.{AcceptedOnce, KeepsAccepted};
 ghost use Rattle.duk_net.specs.Calm.{FailsOnceArmed, HasSoundStores, IsCalmAt, StaysCalm, ReportsNoDamage};
 ghost use Rattle.duk_net.specs.CompletedByHost.{CompletedByHost};
@@ -8,7 +8,7 @@ ghost use Rattle.duk_net.specs.declared.event.End.{End};
 ghost use Rattle.duk_net.specs.Gained.{EachGained, GainedMeet};
 ghost use Rattle.duk_net.specs.Images.{FindVersion2};
 ghost use Rattle.duk_net.specs.UsedOnce.{AreUsedOwned, IsSentByOwner, UsedOnce};
-ghost use Rattle.duk_net.specs.Owner.{owner_of};
+ghost use Rattle.duk_net.specs.Owner.{IsOwner, Owns};
 ghost use Rattle.duk_net.specs.OwnKey.{IsOwnKeyReply, IsOwnKeyRequest, IsRefusedAsUsedOrFull};
 ghost use Rattle.duk_net.specs.Run.{IsRefusedMemory, IsRun, RunRefused};
 ghost use Rattle.duk_net.specs.inner.Run.{IsStepInto};
@@ -61,9 +61,9 @@ pub fn run<const N: usize, C: Cell, L: UsedLog, I: Issuer>(
     ensures refused { IfErr result (RunRefused
         (meanings_of C.meaning L.meaning I.decides)
         world.old events.now out.old.items out.new.items world.new) }
-    // What stays: who owns an initial key serial number, and the keys of the security module.
+    // What stays: who owns an initial key serial number, alone, and the keys of the security module.
     ensures owners_stay { (iksn t : ℕ)
-        → owner_of world.old.owners iksn ≡ Some t → owner_of world.new.owners iksn ≡ Some t }
+        → Owns world.old.owners iksn t → IsOwner world.new.owners iksn t }
     ensures keys_stay { world.new.host.keys ≡ world.old.host.keys }
     // No two transactions use one number, and each is sent by the terminal that owned its initial
     // key serial number just before, and owns it at the end.

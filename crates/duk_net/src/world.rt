@@ -56,7 +56,7 @@ impl<const N: usize, C: Cell, L: UsedLog, I: Issuer> World<N, C, L, I> {
             terminals.items }
         ensures first { result ≡ first_world host loading terminals.items }
         ensures used_once { UsedOnce result.requests }
-        ensures owned { AreUsedOwned result.requests result.owners }
+        ensures used_are_owned { AreUsedOwned result.requests result.owners }
         ensures accepted_is_kept { KeepsAccepted
             (meanings_of C.meaning L.meaning I.decides) result }
         ensures own_key_of_requests { All (IsOwnKeyRequest result.host.keys) result.requests }

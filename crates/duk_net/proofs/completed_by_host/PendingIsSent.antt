@@ -24,7 +24,7 @@ use Rattle.duk_net.specs.Down.{ReportsAnswerOf}
 use Rattle.duk_net.specs.First.{IsFirstWorld, IsNewTerminal}
 use Rattle.duk_net.specs.Load.{TakesLoad}
 use Rattle.duk_net.specs.UsedOnce.{HasNumber, IsSentByOwner, IsUsedNumber}
-use Rattle.duk_net.specs.Owner.{owner_of}
+use Rattle.duk_net.specs.Owner.{IsOwner}
 use Rattle.duk_net.specs.Reached.{CallLeads, Moves, Reached}
 use Rattle.duk_net.specs.World.{ChangesOnly, Frame, IsAt, Meanings, ChangesTerminal, WorldOf}
 use Rattle.duk_net.specs.declared.outcome.Outcome.{Outcome}
@@ -240,14 +240,14 @@ sends_number m request old (came.Sent u k sent) new t ksn reports sends =
 sends_number m request old _ new t ksn reports sends = absurd sends
 
 -- a terminal that sends owns the initial key serial number
-sends_by_owner : (owners : List Owner) (outcome : Outcome) (t : ℕ) (ksn : Serial) → IsSentByOwner owners outcome → Sends t ksn outcome → owner_of owners ksn.iksn ≡ Some t
+sends_by_owner : (owners : List Owner) (outcome : Outcome) (t : ℕ) (ksn : Serial) → IsSentByOwner owners outcome → Sends t ksn outcome → IsOwner owners ksn.iksn t
 sends_by_owner owners (came.Sent u k sent) t ksn owns sends =
-    subst (λ n. owner_of owners ksn.iksn ≡ Some n) sends.0 (subst (λ serial. owner_of owners serial.iksn ≡ Some u) sends.1 owns)
+    subst (λ n. IsOwner owners ksn.iksn n) sends.0 (subst (λ serial. IsOwner owners serial.iksn u) sends.1 owns)
 sends_by_owner owners _ t ksn owns sends = absurd sends
 
 -- each number that is pending was sent, by the terminal that owns its initial key serial number
 abbrev pub OwnPending : {C L I : Type 0} → WorldOf C L I → Type 0
-OwnPending world = (t : ℕ) (ksn : Serial) → IsPendingAt world.terminals t ksn → IsUsedNumber world.requests ksn × (owner_of world.owners ksn.iksn ≡ Some t)
+OwnPending world = (t : ℕ) (ksn : Serial) → IsPendingAt world.terminals t ksn → IsUsedNumber world.requests ksn × IsOwner world.owners ksn.iksn t
 
 -- a terminal sends none but under an initial key serial number that it owns
 abbrev pub SentByOwners : {C L I : Type 0} → Meanings C L I → Type 0
@@ -313,6 +313,6 @@ done_is_over m old t ksn code new safe reports (u, waits) =
       | inl elsewhere ↦
           let one = (safe t ksn (done_by_host m old t ksn code new reports).0).1 in
           let other = (safe u ksn elsewhere.1).1 in
-          elsewhere.0 cc
+          elsewhere.0 (one.alone u other.owns)
       | inr here ↦ done_waits reports.1 ksn code acts.before acts.after here.1.pending acts.changed here.1.is_pending
     ]

@@ -1,6 +1,6 @@
 -- What holds of the terminals of every world that is reached: what they keep is above every used
 -- number.
-use Rattle.std.proofs.Common.{◌≡◌, ◌≢◌, ◌⊎◌, ◌<◌, ◌≤◌, ◌^◌, ◌++◌, ◌∷◌, [], ℕ, List, Some, None, length, inl, inr, sym, ap, subst, ◌∙◌, arith}
+use Rattle.std.proofs.Common.{◌≡◌, ◌⊎◌, ◌<◌, ◌≤◌, ◌^◌, ◌++◌, ◌∷◌, [], ℕ, List, Some, None, length, inl, inr, sym, ap, subst, ◌∙◌, arith}
 use Rattle.std.proofs.lemmas.List.Elements.{Contains-push_cases}
 use Rattle.duk_frame.specs.Payment.{request_of}
 use Rattle.duk_frame.specs.Request.{IsRequest}
@@ -23,11 +23,10 @@ use Rattle.duk_tree.specs.Path.{IsUsable, path_of}
 use Rattle.duk_tree.specs.Serial.{Serial}
 use Rattle.duk_net.specs.InitialKey.{IsInitialKeyOf}
 use Rattle.duk_net.specs.UsedOnce.{AreUsedOwned, HasNumber, IsUsedNumber, UsedOnce}
-use Rattle.duk_net.specs.Owner.{owner_of}
+use Rattle.duk_net.specs.Owner.{IsOwner, Owns}
 use Rattle.duk_net.specs.NoUsedKey.{RemembersUsed, AreRegistersAboveUsed}
 use Rattle.duk_net.specs.World.{Frame, IsAt, Meanings, WorldOf}
 use Rattle.duk_net.specs.declared.owner.Owner.{Owner}
-use Rattle.duk_net.proofs.used_once.OwnersStay.{one_owner}
 
 -- what the rest of a world is to a terminal: the host's keys, the requests that were sent, and the
 -- owners
@@ -41,12 +40,12 @@ books_of world = record { keys = world.host.keys; requests = world.requests; own
 
 -- no request was sent under an initial key serial number that the terminal owns
 abbrev pub HasSentNothing : Books → ℕ → Type 0
-HasSentNothing books t = (ksn : Serial) → IsUsedNumber books.requests ksn → owner_of books.owners ksn.iksn ≢ Some t
+HasSentNothing books t = (ksn : Serial) → IsUsedNumber books.requests ksn → ¬ Owns books.owners ksn.iksn t
 
 -- the terminal owns the registers' initial key serial number, they stand above every used number,
 -- and they remember under which initial key serial numbers of its own requests were sent
 pub record SetSafe (books : Books) (t : ℕ) (set : RegisterSet) : Type 0 where
-  pub owned : owner_of books.owners set.iksn ≡ Some t
+  pub owned : IsOwner books.owners set.iksn t
   pub future_keys : AreRegistersAboveUsed books.keys books.requests set
   pub remembers : RemembersUsed books.requests books.owners t set
   pub set_is : IsRegisterSet set
@@ -105,12 +104,12 @@ term_follows cell old t new terminal follows safe = record {
 
 -- owners that stay, and no request more
 pub owners_follow : (old : Books) (t : ℕ) (new : Books) → new.keys ≡ old.keys → new.requests ≡ old.requests
-    → ((iksn u : ℕ) → owner_of old.owners iksn ≡ Some u → owner_of new.owners iksn ≡ Some u) → BooksOwned old → Follows old t new
+    → ((iksn u : ℕ) → IsOwner old.owners iksn u → IsOwner new.owners iksn u) → BooksOwned old → Follows old t new
 owners_follow old t new keys requests stays owned =
     -- a used number that the terminal owns now was its own before
-    let owned_when_sent : (ksn : Serial) → IsUsedNumber old.requests ksn → owner_of new.owners ksn.iksn ≡ Some t → owner_of old.owners ksn.iksn ≡ Some t = λ ksn was owner.
+    let owned_when_sent : (ksn : Serial) → IsUsedNumber old.requests ksn → Owns new.owners ksn.iksn t → Owns old.owners ksn.iksn t = λ ksn was owner.
     let had = owned ksn was in
-    had.1 ∙ ap Some (one_owner new.owners ksn.iksn had.0 t (stays ksn.iksn had.0 had.1) owner) in
+    subst (λ u. Owns old.owners ksn.iksn u) (sym ((stays ksn.iksn had.0 had.1).alone t owner)) had.1.owns in
     record {
       nothing = λ nothing ksn used owner.
           let was = subst (λ list. IsUsedNumber list ksn) requests used in
@@ -190,7 +189,7 @@ left_is_safe books t set left key requests laws safe takes used =
     let set_is = laws.set set left key takes.usable takes.taken safe.set_is in
     let future_keys = laws.future_keys safe.future_keys.initial set left key takes.usable takes.taken safe.future_keys.future_keys in
     record {
-      owned = ap (λ iksn. owner_of books.owners iksn) iksn ∙ safe.owned;
+      owned = subst (λ iksn. IsOwner books.owners iksn t) (sym iksn) safe.owned;
       future_keys = record {
         initial = safe.future_keys.initial;
         initial_is = rw iksn safe.future_keys.initial_is;

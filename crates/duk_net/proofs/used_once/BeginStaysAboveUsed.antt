@@ -1,6 +1,6 @@
 -- A terminal whose request goes out is safe, and so are the others: its number was used by none
 -- before.
-use Rattle.std.proofs.Common.{◌≡◌, ◌≢◌, ◌⊎◌, ◌++◌, ◌∷◌, [], ℕ, Some, get_or, inl, inr, refl, sym, ap, subst, ◌∙◌, arith}
+use Rattle.std.proofs.Common.{◌≡◌, ◌≢◌, ◌⊎◌, ◌++◌, ◌∷◌, [], ℕ, get_or, inl, inr, refl, sym, ap, subst, ◌∙◌, arith}
 use Rattle.std.proofs.lemmas.List.Elements.{All-push, Contains-get_or}
 use Rattle.std.proofs.lemmas.List.Quantifiers.{all_pairs_push}
 use Rattle.duk_regs.specs.Registers.{RegisterSet}
@@ -11,9 +11,8 @@ use Rattle.duk_term.specs.Terminal.{TerminalOf, serial_of}
 use Rattle.duk_term.specs.declared.purchase.Purchase.{Purchase}
 use Rattle.duk_tree.specs.Serial.{Serial}
 use Rattle.duk_net.specs.UsedOnce.{HasNumber, HasUsableNumber, HaveDifferentNumbers, IsUsedNumber, UsedOnce}
-use Rattle.duk_net.specs.Owner.{owner_of}
+use Rattle.duk_net.specs.Owner.{IsOwner, Owns}
 use Rattle.duk_net.specs.World.{Frame}
-use Rattle.duk_net.proofs.used_once.OwnersStay.{one_owner}
 use Rattle.duk_net.proofs.used_once.AboveUsed.{BooksOwned, BegunIsRequest, Books, Follows, OneRequest, SetSafe, StateSafe, TermSafe, WorldLaws, left_is_safe, one_number, used_before}
 use Rattle.duk_net.proofs.used_once.TerminalStaysAboveUsed.{safe_body, taken_from_safe}
 
@@ -57,11 +56,11 @@ begin_safe cell books t purchase frame before after laws safe begun =
     }
 
 -- another terminal stays safe
-pub begin_follows : (books : Books) (t u : ℕ) (frame : Frame) (new : Serial) → OneRequest → HasNumber frame new → owner_of books.owners new.iksn ≡ Some t → u ≢ t → Follows books u (after_begin books frame)
+pub begin_follows : (books : Books) (t u : ℕ) (frame : Frame) (new : Serial) → OneRequest → HasNumber frame new → IsOwner books.owners new.iksn t → u ≢ t → Follows books u (after_begin books frame)
 begin_follows books t u frame new reading number owned other = record {
   nothing = λ nothing ksn used owner. elim (used_then books frame new ksn reading number used) [
     | inl before ↦ nothing ksn before owner
-    | inr is ↦ other (one_owner books.owners ksn.iksn u t owner (ap (λ ksn. owner_of books.owners ksn.iksn) is ∙ owned))
+    | inr is ↦ other (owned.alone u (subst (λ ksn. Owns books.owners ksn.iksn u) is owner))
   ];
   set = λ set safe. record {
     owned = safe.owned;
@@ -72,12 +71,12 @@ begin_follows books t u frame new reading number owned other = record {
       future_keys = safe.future_keys.future_keys;
       above = λ ksn used same. elim (used_then books frame new ksn reading number used) [
         | inl before ↦ safe.future_keys.above ksn before same
-        | inr is ↦ absurd (other (one_owner books.owners set.iksn u t safe.owned (ap (owner_of books.owners) (sym same ∙ ap (λ ksn. ksn.iksn) is) ∙ owned)))
+        | inr is ↦ absurd (other (owned.alone u (subst (λ iksn. Owns books.owners iksn u) (sym same ∙ ap (λ ksn. ksn.iksn) is) safe.owned.owns)))
       ];
     };
     remembers = λ ksn used owner. elim (used_then books frame new ksn reading number used) [
       | inl before ↦ safe.remembers ksn before owner
-      | inr is ↦ absurd (other (one_owner books.owners ksn.iksn u t owner (ap (λ ksn. owner_of books.owners ksn.iksn) is ∙ owned)))
+      | inr is ↦ absurd (other (owned.alone u (subst (λ ksn. Owns books.owners ksn.iksn u) is owner)))
     ];
     set_is = safe.set_is;
     again = safe.again;
@@ -85,15 +84,15 @@ begin_follows books t u frame new reading number owned other = record {
 }
 
 -- each used number stays owned
-pub begin_owned : (books : Books) (t : ℕ) (frame : Frame) (new : Serial) → OneRequest → HasNumber frame new → owner_of books.owners new.iksn ≡ Some t → BooksOwned books → BooksOwned (after_begin books frame)
+pub begin_owned : (books : Books) (t : ℕ) (frame : Frame) (new : Serial) → OneRequest → HasNumber frame new → IsOwner books.owners new.iksn t → BooksOwned books → BooksOwned (after_begin books frame)
 begin_owned books t frame new reading number owned are ksn used = elim (used_then books frame new ksn reading number used) [
   | inl before ↦ are ksn before
-  | inr is ↦ (t, ap (λ ksn. owner_of books.owners ksn.iksn) is ∙ owned)
+  | inr is ↦ (t, subst (λ ksn. IsOwner books.owners ksn.iksn t) (sym is) owned)
 ]
 
 -- no two requests have one number
-pub begin_none_twice : (books : Books) (t : ℕ) (frame : Frame) (set : RegisterSet) → OneRequest → HasNumber frame (serial_of set) → HasUsableNumber frame → SetSafe books t set → UsedOnce books.requests → UsedOnce (books.requests ++ frame ∷ [])
-begin_none_twice books t frame set reading number usable safe none = record {
+pub begin_used_once : (books : Books) (t : ℕ) (frame : Frame) (set : RegisterSet) → OneRequest → HasNumber frame (serial_of set) → HasUsableNumber frame → SetSafe books t set → UsedOnce books.requests → UsedOnce (books.requests ++ frame ∷ [])
+begin_used_once books t frame set reading number usable safe none = record {
   usable = All-push HasUsableNumber books.requests frame none.usable usable;
   different = all_pairs_push HaveDifferentNumbers books.requests frame none.different (λ k d within ksn one other.
       let is : ksn ≡ serial_of set = one_number frame ksn (serial_of set) reading other number in

@@ -1,56 +1,88 @@
--- Who owns an initial key serial number owns it for good.
-use Rattle.std.proofs.Common.{◌≡◌, ◌≢◌, ◌==◌, ◌++◌, ◌∷◌, [], ℕ, List, Option, Some, None, refl, ap, ◌∙◌, arith}
-use Rattle.std.proofs.lemmas.List.Folds.{find-append}
-use Rattle.std.specs.List.{find}
-use Rattle.std.specs.Option.{option_map, option_or}
+-- Who owns an initial key serial number owns it alone and for good.
+use Rattle.std.proofs.Common.{◌≡◌, ◌≢◌, ◌⊎◌, ◌++◌, ◌∷◌, [], ℕ, List, inl, inr, sym, ap, subst, arith}
+use Rattle.std.proofs.lemmas.List.Elements.{Contains-append_left, Contains-push, Contains-push_cases}
 use Rattle.duk_term.specs.declared.fault.TermFault.TheVariants as fault
-use Rattle.duk_net.specs.Load.{owners_after_load}
-use Rattle.duk_net.specs.Owner.{IsElsewhere, owned_by, owner_of, owners_with}
+use Rattle.duk_net.specs.Load.{ChangesOwners}
+use Rattle.duk_net.specs.Owner.{BecomesOwner, IsElsewhere, IsOwner, JoinsOwners, Owns}
 use Rattle.duk_net.specs.declared.outcome.Outcome.{Outcome}
 use Rattle.duk_net.specs.declared.outcome.Outcome.TheVariants as came
 use Rattle.duk_net.specs.declared.owner.Owner.{Owner}
 
-or_some : (found later : Option Owner) (t : ℕ) → option_map (λ owner. owner.t) found ≡ Some t → option_map (λ owner. owner.t) (option_or found later) ≡ Some t
-or_some None later t is = cc
-or_some (Some owner) later t is = is
+-- each initial key serial number that is owned has one owner
+abbrev pub HaveOneOwner : List Owner → Type 0
+HaveOneOwner owners = (iksn t : ℕ) → Owns owners iksn t → IsOwner owners iksn t
 
--- an owner stays one where another is added
-with_more : (owners : List Owner) (more : Owner) (iksn t : ℕ) → owner_of owners iksn ≡ Some t → owner_of (owners ++ more ∷ []) iksn ≡ Some t
-with_more owners more iksn t owned =
-    rw (find-append (λ owner. owner.iksn == iksn) owners (more ∷ [])) (or_some (find (λ owner. owner.iksn == iksn) owners) (find (λ owner. owner.iksn == iksn) (more ∷ [])) t owned)
+-- an owner stays one where the owners stay
+pub same_owners : (old new : List Owner) (iksn t : ℕ) → new ≡ old → IsOwner old iksn t → IsOwner new iksn t
+same_owners old new iksn t same is = subst (λ owners. IsOwner owners iksn t) (sym same) is
 
-recorded_stays : (had : Option ℕ) (owners : List Owner) (loaded u iksn t : ℕ) → owner_of owners iksn ≡ Some t → owner_of (owners_with had owners loaded u) iksn ≡ Some t
-recorded_stays None owners loaded u iksn t owned = with_more owners (record { iksn = loaded; t = u }) iksn t owned
-recorded_stays (Some owner) owners loaded u iksn t owned = owned
+-- who owns with one more among the owners owned before, or is the new one
+owns_cases : (old : List Owner) (loaded u iksn t : ℕ) → Owns (old ++ record { iksn = loaded; t = u } ∷ []) iksn t → Owns old iksn t ⊎ ((iksn ≡ loaded) × (t ≡ u))
+owns_cases old loaded u iksn t owns = elim (Contains-push_cases old (record { iksn = loaded; t = u }) (record { iksn = iksn; t = t }) owns) [
+  | inl before ↦ inl before
+  | inr is ↦ inr (sym (ap (λ owner. owner.iksn) is), sym (ap (λ owner. owner.t) is))
+]
 
-owned_stays : (owners : List Owner) (loaded u iksn t : ℕ) → owner_of owners iksn ≡ Some t → owner_of (owned_by owners loaded u) iksn ≡ Some t
-owned_stays owners loaded u iksn t owned = recorded_stays (owner_of owners loaded) owners loaded u iksn t owned
+-- an owner stays one where another joins them
+stays_beside : (old : List Owner) (loaded u : ℕ) (new : List Owner) (iksn t : ℕ) → JoinsOwners old loaded u new → IsOwner old iksn t → IsOwner new iksn t
+stays_beside old loaded u new iksn t joins is = same_owners (old ++ record { iksn = loaded; t = u } ∷ []) new iksn t joins.joins (record {
+  owns = Contains-append_left old (record { iksn = loaded; t = u } ∷ []) (record { iksn = iksn; t = t }) is.owns;
+  alone = λ other owns. elim (owns_cases old loaded u iksn other owns) [
+    | inl before ↦ is.alone other before
+    | inr joined ↦ absurd (joins.free t (subst (λ iksn. Owns old iksn t) joined.0 is.owns))
+  ];
+})
+
+-- who joins the owners is one of them
+joined_owns : (old : List Owner) (iksn t : ℕ) (new : List Owner) → JoinsOwners old iksn t new → IsOwner new iksn t
+joined_owns old iksn t new joins = same_owners (old ++ record { iksn = iksn; t = t } ∷ []) new iksn t joins.joins (record {
+  owns = Contains-push old (record { iksn = iksn; t = t });
+  alone = λ other owns. elim (owns_cases old iksn t iksn other owns) [
+    | inl before ↦ absurd (joins.free other before)
+    | inr joined ↦ joined.1
+  ];
+})
+
+-- an owner stays one where a terminal was loaded
+pub stays_at_load : (old : List Owner) (loaded u : ℕ) (new : List Owner) (iksn t : ℕ) → BecomesOwner old loaded u new → IsOwner old iksn t → IsOwner new iksn t
+stays_at_load old loaded u new iksn t (inl joins) is = stays_beside old loaded u new iksn t joins is
+stays_at_load old loaded u new iksn t (inr keeps) is = same_owners old new iksn t keeps.same is
 
 -- an owner stays one, whatever comes of a load
-pub owner_stays : (outcome : Outcome) (owners : List Owner) (loaded u iksn t : ℕ) → owner_of owners iksn ≡ Some t → owner_of (owners_after_load outcome owners loaded u) iksn ≡ Some t
-owner_stays (came.Loaded v iksn) owners loaded u at t owned = owned_stays owners loaded u at t owned
-owner_stays (came.TermFaulted v (fault.Store why)) owners loaded u at t owned = owned_stays owners loaded u at t owned
-owner_stays (came.TermFaulted v _) owners loaded u at t owned = owned
-owner_stays _ owners loaded u at t owned = owned
+pub owner_stays : (outcome : Outcome) (old : List Owner) (loaded u : ℕ) (new : List Owner) (iksn t : ℕ) → ChangesOwners outcome old loaded u new → IsOwner old iksn t → IsOwner new iksn t
+owner_stays (came.Loaded v number) old loaded u new iksn t changes is = stays_at_load old loaded u new iksn t changes is
+owner_stays (came.TermFaulted v (fault.Store why)) old loaded u new iksn t changes is = stays_at_load old loaded u new iksn t changes is
+owner_stays (came.TermFaulted v _) old loaded u new iksn t changes is = same_owners old new iksn t changes is
+owner_stays _ old loaded u new iksn t changes is = same_owners old new iksn t changes is
 
--- one owner at most
-pub one_owner : (owners : List Owner) (iksn t u : ℕ) → owner_of owners iksn ≡ Some t → owner_of owners iksn ≡ Some u → t ≡ u
-one_owner owners iksn t u one other = cc
+-- where the owners stay, each number still has one owner
+pub one_owner_stays : (old new : List Owner) → new ≡ old → HaveOneOwner old → HaveOneOwner new
+one_owner_stays old new same one = subst HaveOneOwner (sym same) one
 
-or_none : (found : Option Owner) (iksn t : ℕ) → option_map (λ owner. owner.t) found ≡ None → option_map (λ owner. owner.t) (option_or found (find (λ owner. owner.iksn == iksn) (record { iksn = iksn; t = t } ∷ []))) ≡ Some t
-or_none None iksn t is = grind (arith)
-or_none (Some owner) iksn t is = cc
+-- and where a terminal was loaded
+one_owner_loaded : (old : List Owner) (loaded u : ℕ) (new : List Owner) → BecomesOwner old loaded u new → HaveOneOwner old → HaveOneOwner new
+one_owner_loaded old loaded u new (inl joins) one iksn t owns =
+    elim (owns_cases old loaded u iksn t (subst (λ owners. Owns owners iksn t) joins.joins owns)) [
+      | inl before ↦ stays_beside old loaded u new iksn t joins (one iksn t before)
+      | inr joined ↦ subst (λ t. IsOwner new iksn t) (sym joined.1) (subst (λ iksn. IsOwner new iksn u) (sym joined.0) (joined_owns old loaded u new joins))
+    ]
+one_owner_loaded old loaded u new (inr keeps) one iksn t owns = one_owner_stays old new keeps.same one iksn t owns
 
-same_iksn_found : (owners : List Owner) (iksn t : ℕ) → owner_of owners iksn ≡ None → owner_of (owners ++ record { iksn = iksn; t = t } ∷ []) iksn ≡ Some t
-same_iksn_found owners iksn t none =
-    rw (find-append (λ owner. owner.iksn == iksn) owners (record { iksn = iksn; t = t } ∷ [])) (or_none (find (λ owner. owner.iksn == iksn) owners) iksn t none)
+-- and whatever comes of a load
+pub one_owner_after : (outcome : Outcome) (old : List Owner) (loaded u : ℕ) (new : List Owner) → ChangesOwners outcome old loaded u new → HaveOneOwner old → HaveOneOwner new
+one_owner_after (came.Loaded v number) old loaded u new changes one = one_owner_loaded old loaded u new changes one
+one_owner_after (came.TermFaulted v (fault.Store why)) old loaded u new changes one = one_owner_loaded old loaded u new changes one
+one_owner_after (came.TermFaulted v _) old loaded u new changes one = one_owner_stays old new changes one
+one_owner_after _ old loaded u new changes one = one_owner_stays old new changes one
 
-recorded_owns : (had : Option ℕ) (owners : List Owner) (iksn t : ℕ) → owner_of owners iksn ≡ had → ¬ IsElsewhere owners iksn t → owner_of (owners_with had owners iksn t) iksn ≡ Some t
-recorded_owns None owners iksn t is free = same_iksn_found owners iksn t is
-recorded_owns (Some owner) owners iksn t is free =
-    let same : owner ≡ t = grind (arith, λ (other : owner ≢ t). free (record { owner = owner; owned = is; other = other })) in
-    is ∙ ap Some same
+-- where no other terminal owns a number, whoever owns it is this one
+owns_here : (owners : List Owner) (iksn t u : ℕ) → ¬ IsElsewhere owners iksn t → Owns owners iksn u → u ≡ t
+owns_here owners iksn t u free owns = grind (arith, λ (other : u ≢ t). free (record { owner = u; owns = owns; other = other }))
 
 -- a terminal owns what it was loaded with, where no other terminal owned it
-pub owns_loaded : (owners : List Owner) (iksn t : ℕ) → ¬ IsElsewhere owners iksn t → owner_of (owned_by owners iksn t) iksn ≡ Some t
-owns_loaded owners iksn t free = recorded_owns (owner_of owners iksn) owners iksn t refl free
+pub owns_loaded : (old : List Owner) (iksn t : ℕ) (new : List Owner) → ¬ IsElsewhere old iksn t → BecomesOwner old iksn t new → IsOwner new iksn t
+owns_loaded old iksn t new free (inl joins) = joined_owns old iksn t new joins
+owns_loaded old iksn t new free (inr keeps) = same_owners old new iksn t keeps.same (record {
+  owns = subst (λ owner. Owns old iksn owner) (owns_here old iksn t keeps.owner free keeps.owns) keeps.owns;
+  alone = λ other owns. owns_here old iksn t other free owns;
+})

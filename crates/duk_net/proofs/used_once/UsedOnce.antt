@@ -1,12 +1,13 @@
 -- Every world that is reached is safe: what its terminals keep is above every used number, and no
 -- two requests have one number.
-use Rattle.std.proofs.Common.{refl, ◌≡◌, ◌≢◌, [], ℕ, List, Some, All, Contains, inl, inr, sym, ap, subst, ◌∙◌, arith, get_or}
+use Rattle.std.proofs.Common.{refl, ◌≡◌, ◌≢◌, ◌⊎◌, [], ℕ, List, All, Contains, inl, inr, sym, ap, subst, ◌∙◌, arith, get_or}
 use Rattle.std.proofs.lemmas.List.Elements.{All-contains, All-nil, All-push}
 use Rattle.duk_term.specs.Terminal.{TerminalOf, serial_of}
 use Rattle.duk_tree.specs.Serial.{Serial}
 use Rattle.duk_net.specs.First.{IsFirstWorld, IsNewTerminal}
 use Rattle.duk_net.specs.UsedOnce.{HasUsableNumber, IsSentByOwner, IsUsedNumber, UsedOnce}
-use Rattle.duk_net.specs.Owner.{owner_of}
+use Rattle.duk_net.specs.Load.{ChangesOwners}
+use Rattle.duk_net.specs.Owner.{IsOwner, Owns}
 use Rattle.duk_net.specs.Reached.{CallLeads, Reached}
 use Rattle.duk_net.specs.Sent.{SentByOwners}
 use Rattle.duk_net.specs.World.{ChangesOnly, IsAt, Meanings, WorldOf}
@@ -14,9 +15,9 @@ use Rattle.duk_net.specs.declared.outcome.Outcome.{Outcome}
 use Rattle.duk_net.specs.declared.outcome.Outcome.TheVariants as came
 use Rattle.duk_net.specs.declared.owner.Owner.{Owner}
 use Rattle.duk_net.proofs.worlds.TerminalsAfterwards.{after_acts, at_contains, before_acts}
-use Rattle.duk_net.proofs.used_once.BeginStaysAboveUsed.{after_begin, begin_follows, begin_none_twice, begin_owned, begin_safe, begun_number, begun_safe}
+use Rattle.duk_net.proofs.used_once.BeginStaysAboveUsed.{after_begin, begin_follows, begin_used_once, begin_owned, begin_safe, begun_number, begun_safe}
 use Rattle.duk_net.proofs.used_once.LoadStaysAboveUsed.{MayBeGiven, after_load, load_follows, load_safe}
-use Rattle.duk_net.proofs.used_once.OwnersStay.{owner_stays}
+use Rattle.duk_net.proofs.used_once.OwnersStay.{HaveOneOwner, one_owner_after, one_owner_stays, owner_stays, same_owners}
 use Rattle.duk_net.proofs.worlds.ReachedByMoves.{leads_all, reached_all, reached_run}
 use Rattle.duk_net.proofs.used_once.AboveUsed.{BooksOwned, Books, Follows, KeptSafe, StateSafe, TermSafe, WorldLaws, WorldSafe, books_of, term_follows}
 use Rattle.duk_net.proofs.worlds.StepChanges.{IsQuiet, View, accept, done, host, left_touches, load, nothing, refuse, repeat, send, step_view, terminal, touched_keys}
@@ -103,11 +104,11 @@ step_is_safe m old new outcome laws safe (load t iksn given quiet) =
       own_key = λ initial wrapped. laws.own_key old.host.keys iksn old.loading _ given.issued.block initial given.issued.loading_is given.issued.issued (rw asked_is at wrapped);
       owned = safe.owned;
     } in
-    let books : books_of new ≡ after_load (books_of old) outcome iksn t = ap (λ world. books_of world) given.rest in
+    let books : books_of new ≡ after_load (books_of old) new.owners = ap (λ world. books_of world) given.rest in
     acts_safe m old new t _ given.terminal safe
-    (λ before. subst (λ books. TermSafe m.cell books t given.terminal.after) (sym books) (load_safe m.cell (books_of old) t iksn given.asked outcome given.terminal.before given.terminal.after laws.registers may before given.terminal.changed))
-    (λ u other. subst (λ books. Follows (books_of old) u books) (sym books) (load_follows (books_of old) t iksn u outcome safe.owned))
-    (subst BooksOwned (sym books) (λ ksn used. let had = safe.owned ksn used in (had.0, owner_stays outcome old.owners iksn t ksn.iksn had.0 had.1)))
+    (λ before. subst (λ books. TermSafe m.cell books t given.terminal.after) (sym books) (load_safe m.cell (books_of old) t iksn given.asked outcome new.owners given.terminal.before given.terminal.after given.owners laws.registers may before given.terminal.changed))
+    (λ u other. subst (λ books. Follows (books_of old) u books) (sym books) (load_follows (books_of old) t iksn u outcome new.owners given.owners safe.owned))
+    (subst BooksOwned (sym books) (λ ksn used. let had = safe.owned ksn used in (had.0, owner_stays outcome old.owners iksn t new.owners ksn.iksn had.0 given.owners had.1)))
     (subst UsedOnce (sym (ap (λ books. books.requests) books)) safe.used_once)
 step_is_safe m old new outcome laws safe (send t k purchase ksn is sent) =
     let acts = sent.terminal in
@@ -121,7 +122,7 @@ step_is_safe m old new outcome laws safe (send t k purchase ksn is sent) =
     (λ u other. subst (λ books. Follows (books_of old) u books) (sym books) (begin_follows (books_of old) t u frame (serial_of begun.set) laws.reading number set.owned other))
     (subst BooksOwned (sym books) (begin_owned (books_of old) t frame (serial_of begun.set) laws.reading number set.owned safe.owned))
     (subst UsedOnce (sym (ap (λ books. books.requests) books))
-    (begin_none_twice (books_of old) t frame begun.set laws.reading number (record { ksn = serial_of begun.set; number = number; usable = begun.takes.takes.usable }) set safe.used_once))
+    (begin_used_once (books_of old) t frame begun.set laws.reading number (record { ksn = serial_of begun.set; number = number; usable = begun.takes.takes.usable }) set safe.used_once))
 
 -- every world that is reached is safe
 pub reached_is_safe : {C L I : Type 0} (m : Meanings C L I) (world : WorldOf C L I) → WorldLaws m.cell → Reached m world → WorldSafe m world
@@ -140,20 +141,57 @@ quiet_by_owner owners _ quiet = tt
 by_owner_as : (owners : List Owner) (outcome other : Outcome) → outcome ≡ other → IsSentByOwner owners other → IsSentByOwner owners outcome
 by_owner_as owners outcome other is holds = subst (IsSentByOwner owners) (sym is) holds
 
+-- the owners after a step: those of before, or as a load changes them
+record OwnersAfterwards (outcome : Outcome) (old new : List Owner) : Type 0 where
+  iksn : ℕ
+  t : ℕ
+  changes : (new ≡ old) ⊎ ChangesOwners outcome old iksn t new
+
+-- a step but a load leaves the owners
+owners_left : (outcome : Outcome) (old new : List Owner) → new ≡ old → OwnersAfterwards outcome old new
+owners_left outcome old new same = record { iksn = 0; t = 0; changes = inl same }
+
+step_owners : {C L I : Type 0} (m : Meanings C L I) (old new : WorldOf C L I) (outcome : Outcome) → View m old outcome new → OwnersAfterwards outcome old.owners new.owners
+step_owners m old new outcome (nothing same quiet) = owners_left outcome old.owners new.owners (ap (λ world. world.owners) same)
+step_owners m old new outcome (host touches rest quiet) = owners_left outcome old.owners new.owners (ap (λ world. world.owners) rest)
+step_owners m old new outcome (accept k n ksn code is up) = owners_left outcome old.owners new.owners (ap (λ world. world.owners) up.answered.rest)
+step_owners m old new outcome (repeat k n ksn code is up) = owners_left outcome old.owners new.owners (ap (λ world. world.owners) up.answered.rest)
+step_owners m old new outcome (refuse k n ksn reason is up) = owners_left outcome old.owners new.owners (ap (λ world. world.owners) up.answered.rest)
+step_owners m old new outcome (terminal u change quiet) = owners_left outcome old.owners new.owners (ap (λ world. world.owners) change.rest)
+step_owners m old new outcome (done k u frame ksn code is sent change) = owners_left outcome old.owners new.owners (ap (λ world. world.owners) change.rest)
+step_owners m old new outcome (send u k purchase ksn is sent) = owners_left outcome old.owners new.owners (ap (λ world. world.owners) sent.rest)
+step_owners m old new outcome (load u loaded given quiet) = record { iksn = loaded; t = u; changes = inr given.owners }
+
 -- owners stay owners
-pub step_owners_stay : {C L I : Type 0} (m : Meanings C L I) (old new : WorldOf C L I) (outcome : Outcome) → View m old outcome new → (iksn t : ℕ) → owner_of old.owners iksn ≡ Some t → owner_of new.owners iksn ≡ Some t
-step_owners_stay m old new outcome (nothing same quiet) iksn t owned = ap (λ world. owner_of world.owners iksn) same ∙ owned
-step_owners_stay m old new outcome (host touches rest quiet) iksn t owned = ap (λ world. owner_of world.owners iksn) rest ∙ owned
-step_owners_stay m old new outcome (accept k n ksn code is up) iksn t owned = ap (λ world. owner_of world.owners iksn) up.answered.rest ∙ owned
-step_owners_stay m old new outcome (repeat k n ksn code is up) iksn t owned = ap (λ world. owner_of world.owners iksn) up.answered.rest ∙ owned
-step_owners_stay m old new outcome (refuse k n ksn reason is up) iksn t owned = ap (λ world. owner_of world.owners iksn) up.answered.rest ∙ owned
-step_owners_stay m old new outcome (terminal u change quiet) iksn t owned = ap (λ world. owner_of world.owners iksn) change.rest ∙ owned
-step_owners_stay m old new outcome (done k u frame ksn code is sent change) iksn t owned = ap (λ world. owner_of world.owners iksn) change.rest ∙ owned
-step_owners_stay m old new outcome (send u k purchase ksn is sent) iksn t owned = ap (λ world. owner_of world.owners iksn) sent.rest ∙ owned
-step_owners_stay m old new outcome (load u loaded given quiet) iksn t owned = ap (λ world. owner_of world.owners iksn) given.rest ∙ owner_stays outcome old.owners loaded u iksn t owned
+pub step_owners_stay : {C L I : Type 0} (m : Meanings C L I) (old new : WorldOf C L I) (outcome : Outcome) → View m old outcome new → (iksn t : ℕ) → IsOwner old.owners iksn t → IsOwner new.owners iksn t
+step_owners_stay m old new outcome view iksn t is =
+    let owners = step_owners m old new outcome view in
+    elim owners.changes [
+      | inl same ↦ same_owners old.owners new.owners iksn t same is
+      | inr changes ↦ owner_stays outcome old.owners owners.iksn owners.t new.owners iksn t changes is
+    ]
+
+-- each initial key serial number still has one owner
+step_one_owner : {C L I : Type 0} (m : Meanings C L I) (old new : WorldOf C L I) (outcome : Outcome) → View m old outcome new → HaveOneOwner old.owners → HaveOneOwner new.owners
+step_one_owner m old new outcome view one =
+    let owners = step_owners m old new outcome view in
+    elim owners.changes [
+      | inl same ↦ one_owner_stays old.owners new.owners same one
+      | inr changes ↦ one_owner_after outcome old.owners owners.iksn owners.t new.owners changes one
+    ]
+
+-- in every world that is reached each initial key serial number that is owned has one owner
+reached_one_owner : {C L I : Type 0} (m : Meanings C L I) (world : WorldOf C L I) → Reached m world → HaveOneOwner world.owners
+reached_one_owner m world reached =
+    reached_all m (λ world. HaveOneOwner world.owners)
+    (λ world first iksn t owns. absurd (in_none _ (subst (λ owners. Owns owners iksn t) first.no_owners owns)))
+    (λ old new reached one moves. elim moves [
+      | inl happens ↦ step_one_owner m old new happens.outcome (step_view m old happens.event happens.outcome new happens.step) one
+      | inr left ↦ one_owner_stays old.owners new.owners (ap (λ world. world.owners) left.rest) one
+    ]) world reached
 
 -- what was sent by an owner stays so
-sent_stays : (before after : List Owner) → ((iksn t : ℕ) → owner_of before iksn ≡ Some t → owner_of after iksn ≡ Some t) → (outcome : Outcome) → IsSentByOwner before outcome → IsSentByOwner after outcome
+sent_stays : (before after : List Owner) → ((iksn t : ℕ) → IsOwner before iksn t → IsOwner after iksn t) → (outcome : Outcome) → IsSentByOwner before outcome → IsSentByOwner after outcome
 sent_stays before after stays (came.Sent t k ksn) owned = stays ksn.iksn t owned
 sent_stays before after stays _ owned = tt
 
@@ -170,7 +208,7 @@ step_by_owner m old new outcome safe (load t iksn given quiet) = quiet_by_owner 
 step_by_owner m old new outcome safe (send t k purchase ksn is sent) =
     let acts = sent.terminal in
     let set = begun_safe m.cell (books_of old) t purchase sent.frame acts.before acts.after acts.changed.begun (safe.terminals t acts.before (before_acts t _ old.terminals new.terminals acts)) in
-    by_owner_as old.owners outcome (came.Sent t k ksn) is (ap (λ ksn. owner_of old.owners ksn.iksn) acts.changed.ksn_is ∙ set.owned)
+    by_owner_as old.owners outcome (came.Sent t k ksn) is (subst (λ ksn. IsOwner old.owners ksn.iksn t) (sym acts.changed.ksn_is) set.owned)
 
 -- what a call sends is sent by owners
 pub leads_by_owner : {C L I : Type 0} (m : Meanings C L I) (old new : WorldOf C L I) (outcomes : List Outcome) → WorldLaws m.cell → Reached m old → CallLeads m old outcomes new → All (IsSentByOwner new.owners) outcomes
@@ -190,14 +228,14 @@ pub sent_by_owners : {C L I : Type 0} (m : Meanings C L I) (old : WorldOf C L I)
 sent_by_owners m old outcomes laws reached earlier later t k ksn is events event before after run step =
     step_by_owner m before after (came.Sent t k ksn) (reached_is_safe m before laws (reached_run m old before events earlier reached run)) (step_view m before event (came.Sent t k ksn) after step)
 
--- a call takes no owner away
+-- a call takes no owner away, and gives no initial key serial number a second one
 pub leads_owners_stay : {C L I : Type 0} (m : Meanings C L I) (old new : WorldOf C L I) (outcomes : List Outcome) → Reached m old → CallLeads m old outcomes new
-    → (iksn t : ℕ) → owner_of old.owners iksn ≡ Some t → owner_of new.owners iksn ≡ Some t
-leads_owners_stay m old new outcomes reached leads iksn t owned =
-    leads_all m (λ outcomes world. owner_of world.owners iksn ≡ Some t)
+    → (iksn t : ℕ) → Owns old.owners iksn t → IsOwner new.owners iksn t
+leads_owners_stay m old new outcomes reached leads iksn t owns =
+    leads_all m (λ outcomes world. IsOwner world.owners iksn t)
     (λ outcomes before after event outcome reached was step. step_owners_stay m before after outcome (step_view m before event outcome after step) iksn t was)
-    (λ outcomes before after reached was left. ap (λ world. owner_of world.owners iksn) left.rest ∙ was)
-    old new outcomes reached owned leads
+    (λ outcomes before after reached was left. same_owners before.owners after.owners iksn t (ap (λ world. world.owners) left.rest) was)
+    old new outcomes reached (reached_one_owner m old reached iksn t owns) leads
 
 -- a step leaves the security module its keys
 step_keys_stay : {C L I : Type 0} (m : Meanings C L I) (old new : WorldOf C L I) (outcome : Outcome) → View m old outcome new → new.host.keys ≡ old.host.keys

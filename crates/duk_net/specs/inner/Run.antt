@@ -3,7 +3,6 @@ use Rattle.std.specs.Prelude.{◌≡◌, ◌++◌, ◌∷◌, [], List}
 use Rattle.duk_net.specs.Step.{Step}
 use Rattle.duk_net.specs.World.{Meanings, WorldOf}
 use Rattle.duk_net.specs.declared.event.Event.{Event}
-use Rattle.duk_net.specs.declared.event.Event.TheVariants as event
 use Rattle.duk_net.specs.declared.outcome.Outcome.{Outcome}
 
 -- one event is done

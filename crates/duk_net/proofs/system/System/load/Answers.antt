@@ -51,5 +51,6 @@ returns-clause-outcome g c =
         asked_is = refl;
       };
       terminal = acts_at c.args.t c.in-Some.place c.len.result _ terminals.items c.index_mut-terminal.result.now _ c.in-Some.ensures.0 c.in-Some.ensures.1 (c.len.ensures ∙ terminals.ok.0) c.index_mut-terminal.ensures.value c.load-outcome.ensures;
-      rest = rw (c.record_owner.ensures, c.reserve.ensures.items) refl;
+      owners = rw c.reserve.ensures.items at c.record_owner.ensures;
+      rest = refl;
     }))))
