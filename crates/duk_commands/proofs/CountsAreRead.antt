@@ -5,7 +5,7 @@ use Rattle.std.specs.List.{All}
 use Rattle.std.proofs.lemmas.List.{take-append-drop, take_more}
 use Rattle.std.proofs.lemmas.List.Elements.{All-push}
 use Rattle.std.proofs.lemmas.List.Sums.{fold-append}
-use Rattle.duk_commands.specs.Walk.{most_numbers, number_of_digits, IsNoCount}
+use Rattle.duk_commands.specs.Walk.{most_numbers, number_of_digits, IsCount}
 
 grows : (digits : List ℕ) (start : ℕ) → start ≤ fold (λ number digit. 10 * number + (digit - 48)) start digits
 grows [] start = omega arith
@@ -19,16 +19,8 @@ number_of_digits-front text i =
     omega arith
 
 -- a front that is too great already
-pub too_great : (text : List ℕ) (i : ℕ) → most_numbers < number_of_digits (take i text) → IsNoCount text
+pub too_great : (text : List ℕ) (i : ℕ) → most_numbers < number_of_digits (take i text) → (count : ℕ) → ¬ IsCount text count
 too_great text i great count is = absurd (omega (arith, number_of_digits-front text i, is.value, is.fits))
-
--- a byte that is no digit
-pub no_digit : (text : List ℕ) (i : ℕ) → i < length text → (IsAsciiDigit (get_or text i 0) → ⊥) → IsNoCount text
-no_digit text i inside refuted count is = absurd (refuted (is.digits i 0 inside))
-
--- no byte at all
-pub no_bytes : (text : List ℕ) → length text ≡ 0 → IsNoCount text
-no_bytes text none count is = absurd (omega (arith, is.some))
 
 -- one more digit
 pub digits_more : (text : List ℕ) (i : ℕ) → i < length text → All IsAsciiDigit (take i text) → IsAsciiDigit (get_or text i 0) → All IsAsciiDigit (take (i + 1) text)

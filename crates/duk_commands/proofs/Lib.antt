@@ -1,4 +1,5 @@
 mod CommandsEnd
 mod CountsAreRead
+mod FaultOrder
 mod PaddingIsRead
 mod WalkedText

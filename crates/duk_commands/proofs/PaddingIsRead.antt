@@ -7,14 +7,13 @@ use Rattle.std.proofs.Math.Seq.{take-append_seam}
 use Rattle.std.proofs.lemmas.List.Sums.{AllPass-from_list_all, list_all-from_AllPass}
 use Rattle.duk_block.specs.Hexadecimal.{IsHexadecimal}
 use Rattle.duk_block.specs.KeyBlock.{FitsKeyBlock}
-use Rattle.duk_commands.specs.Wrap.{IsNoPadText}
 use Rattle.hex.specs.Hex.{decode_sized, is_hex_digit}
 use Rattle.hex.specs.declared.error.FromHexError.{FromHexError}
 use Rattle.hex.proofs.HexLemmas.{decode_of-digits, decode_of-ok, decode_sized-ok, decode_sized-twice}
 
 -- an even number of characters is pairs of digits exactly where each is a digit
 pub by_digits : (text : List ℕ) (each : Bool) → length text % 2 ≡ 0 → each ≡ list_all is_hex_digit text
-    → MatchBool each ((padding : List ℕ) × IsHexadecimal text padding) (IsNoPadText text)
+    → MatchBool each ((padding : List ℕ) × IsHexadecimal text padding) ((padding : List ℕ) → ¬ IsHexadecimal text padding)
 by_digits text true even is = decode_of-digits text even (AllPass-from_list_all is_hex_digit text (sym is))
 by_digits text false even is = λ padding read. cc (is, list_all-from_AllPass is_hex_digit text (decode_of-ok text padding read).1)
 

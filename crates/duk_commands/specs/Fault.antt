@@ -1,11 +1,37 @@
--- The lines that report why a command ends with status 1 (this project's own).
-use Rattle.std.specs.Prelude.{ℕ, List, [], ◌∷◌, ◌++◌, codes}
+-- The order of the faults of the commands, and the lines that report them (this project's own).
+use Rattle.std.specs.Prelude.{ℕ, ◌+◌, List, [], ◌∷◌, ◌++◌, codes}
 use Rattle.duk_block.specs.FaultName.{block_fault_name}
+use Rattle.duk_block.specs.Faults.{rank}
 use Rattle.duk_io.specs.Known.{Known}
 use Rattle.duk_io.specs.Sink.{IsTried}
 use Rattle.duk_pin.specs.FaultName.{pin_fault_name}
+use Rattle.duk_pin.specs.declared.fault.PinFault.{PinFault}
+use Rattle.duk_pin.specs.declared.fault.PinFault.TheVariants.{PinLength, PinDigit, PanLength, PanDigit}
 use Rattle.duk_commands.specs.declared.fault.Fault.{Fault}
 use Rattle.duk_commands.specs.declared.fault.Fault.TheVariants.{BdkRefused, KsnRefused, IksnRefused, CountRefused, CounterRefused, KbpkRefused, FieldsRefused, KeyRefused, PadRefused, PinRefused, BlockRefused, OutOfMemory, WriteFailed}
+
+-- the order of the faults of a PIN and a PAN
+abbrev pub pin_rank : PinFault → ℕ
+pin_rank PinLength = 0
+pin_rank PinDigit = 1
+pin_rank PanLength = 2
+pin_rank PanDigit = 3
+
+-- the order in which each command reports the faults that it has
+abbrev pub fault_rank : Fault → ℕ
+fault_rank (PinRefused fault) = pin_rank fault
+fault_rank BdkRefused = 4
+fault_rank KsnRefused = 5
+fault_rank IksnRefused = 6
+fault_rank CountRefused = 7
+fault_rank CounterRefused = 8
+fault_rank KbpkRefused = 9
+fault_rank FieldsRefused = 10
+fault_rank KeyRefused = 11
+fault_rank PadRefused = 12
+fault_rank (BlockRefused fault) = 13 + rank fault
+fault_rank OutOfMemory = 21
+fault_rank WriteFailed = 22
 
 -- the end of a line, LF
 abbrev pub line_end : List ℕ

@@ -1,6 +1,7 @@
 -- What `pin` makes of its arguments (this project's own, over ISO 9564-1 format 0).
-use Rattle.std.specs.Prelude.{◌≡◌, ◌⊎◌, ◌<◌, ℕ, List, [], ◌++◌, length, codes, Option, Some, None, Any, ⊤}
-use Rattle.std.specs.Char.{IsNotAsciiDigit}
+use Rattle.std.specs.Prelude.{◌≡◌, ℕ, List, [], ◌++◌, codes, Option, Some, None, All, ⊤}
+use Rattle.std.specs.Char.{IsAsciiDigit}
+use Rattle.duk_io.specs.FirstFault.{IsFirst}
 use Rattle.duk_pin.specs.Pan.{HasPanLength, IsPan}
 use Rattle.duk_pin.specs.Pin.{HasPinLength, IsPin}
 use Rattle.duk_pin.specs.PinBlock.{pin_block}
@@ -8,6 +9,7 @@ use Rattle.duk_pin.specs.declared.fault.PinFault.TheVariants.{PinLength, PinDigi
 use Rattle.duk_tdes.specs.KeyText.{double_key_of_text}
 use Rattle.duk_tdes.specs.Tdes.{tdes_encrypted}
 use Rattle.duk_commands.specs.Answer.{Command, command_of}
+use Rattle.duk_commands.specs.Fault.{fault_rank}
 use Rattle.duk_commands.specs.Lines.{named_line}
 use Rattle.duk_commands.specs.declared.fault.Fault.{Fault}
 use Rattle.duk_commands.specs.declared.fault.Fault.TheVariants.{KeyRefused, PinRefused}
@@ -19,21 +21,20 @@ IsKeyArgument None (Some key) = ⊥
 IsKeyArgument (Some text) None = ⊥
 IsKeyArgument (Some text) (Some key) = double_key_of_text text ≡ Some key
 
--- a key is given and is not 32 hexadecimal digits
-abbrev pub IsKeyArgumentRefused : Option (List ℕ) → Type 0
-IsKeyArgumentRefused None = ⊥
-IsKeyArgumentRefused (Some text) = double_key_of_text text ≡ None
+-- what the arguments must meet, or else are refused with this fault
+abbrev pub MeetsPin : List ℕ → List ℕ → Option (List ℕ) → Fault → Type 0
+MeetsPin pin pan argument (PinRefused PinLength) = HasPinLength pin
+MeetsPin pin pan argument (PinRefused PinDigit) = All IsAsciiDigit pin
+MeetsPin pin pan argument (PinRefused PanLength) = HasPanLength pan
+MeetsPin pin pan argument (PinRefused PanDigit) = All IsAsciiDigit pan
+MeetsPin pin pan argument KeyRefused = (key : Option (List ℕ)) × IsKeyArgument argument key
+MeetsPin pin pan argument _ = Unit {0}
 
--- why the arguments are refused: the first that holds of these
+-- why the arguments are refused: the first of the faults, in their order, whose condition they do
+-- not meet
 abbrev pub IsPinRefused : List ℕ → List ℕ → Option (List ℕ) → Fault → Type 0
-IsPinRefused pin pan argument (PinRefused PinLength) = (length pin < 4) ⊎ (12 < length pin)
-IsPinRefused pin pan argument (PinRefused PinDigit) = HasPinLength pin × Any IsNotAsciiDigit pin
-IsPinRefused pin pan argument (PinRefused PanLength) =
-    IsPin pin × ((length pan < 12) ⊎ (19 < length pan))
-IsPinRefused pin pan argument (PinRefused PanDigit) =
-    IsPin pin × HasPanLength pan × Any IsNotAsciiDigit pan
-IsPinRefused pin pan argument KeyRefused = IsPin pin × IsPan pan × IsKeyArgumentRefused argument
-IsPinRefused pin pan argument _ = ⊥
+IsPinRefused pin pan argument =
+    IsFirst fault_rank (MeetsPin pin pan argument) (λ fault. ¬ MeetsPin pin pan argument fault)
 
 -- the second line, where a key is given: the block enciphered under it
 abbrev pub enciphered_line : Option (List ℕ) → List ℕ → List ℕ

@@ -1,29 +1,31 @@
 -- What `unwrap` makes of its arguments (this project's own, over key blocks of ANSI X9.143).
-use Rattle.std.specs.Prelude.{◌≡◌, ◌++◌, ℕ, List, codes, Some, None}
-use Rattle.duk_block.specs.Faults.{IsFirstFault}
+use Rattle.std.specs.Prelude.{◌≡◌, ◌++◌, ℕ, List, codes, Some, IsSome}
+use Rattle.duk_block.specs.Faults.{Meets}
 use Rattle.duk_block.specs.HeaderText.{fields}
 use Rattle.duk_block.specs.KeyBlock.{Wraps}
-use Rattle.duk_block.specs.declared.fault.BlockFault.{BlockFault}
 use Rattle.duk_block.specs.declared.header.Header.{Header}
+use Rattle.duk_io.specs.FirstFault.{IsFirst}
 use Rattle.duk_tdes.specs.KeyBytes.{bytes_of}
 use Rattle.duk_tdes.specs.KeyText.{tdes_key_of_text}
 use Rattle.duk_tdes.specs.declared.key.KeyBytes.{KeyBytes}
 use Rattle.duk_commands.specs.Answer.{Command, command_of}
+use Rattle.duk_commands.specs.Fault.{fault_rank}
 use Rattle.duk_commands.specs.Lines.{named_line, text_line}
 use Rattle.duk_commands.specs.declared.fault.Fault.{Fault}
 use Rattle.duk_commands.specs.declared.fault.Fault.TheVariants.{KbpkRefused, BlockRefused}
 
--- the text has this as its first fault under the protection key that the argument writes
-pub record IsBlockRefused (kbpk block : List ℕ) (fault : BlockFault) : Type 0 where
-  pub protection_key : KeyBytes
-  pub key_read : tdes_key_of_text kbpk ≡ Some protection_key
-  pub first : IsFirstFault block (bytes_of protection_key) fault
+-- what the arguments must meet, or else are refused with this fault
+abbrev pub MeetsUnwrap : List ℕ → List ℕ → Fault → Type 0
+MeetsUnwrap kbpk block KbpkRefused = IsSome (tdes_key_of_text kbpk)
+MeetsUnwrap kbpk block (BlockRefused fault) =
+    (key : KeyBytes) × (tdes_key_of_text kbpk ≡ Some key) × Meets block (bytes_of key) fault
+MeetsUnwrap kbpk block _ = Unit {0}
 
--- why the arguments are refused: the first that holds of these
+-- why the arguments are refused: the first of the faults, in their order, whose condition they do
+-- not meet
 abbrev pub IsUnwrapRefused : List ℕ → List ℕ → Fault → Type 0
-IsUnwrapRefused kbpk block KbpkRefused = tdes_key_of_text kbpk ≡ None
-IsUnwrapRefused kbpk block (BlockRefused fault) = IsBlockRefused kbpk block fault
-IsUnwrapRefused kbpk block _ = ⊥
+IsUnwrapRefused kbpk block =
+    IsFirst fault_rank (MeetsUnwrap kbpk block) (λ fault. ¬ MeetsUnwrap kbpk block fault)
 
 -- the lines: the fields of the header, and the key
 abbrev pub unwrapped_lines : Header → List ℕ → List ℕ

@@ -2,13 +2,14 @@
 use Rattle.std.specs.Prelude.{◌≡◌, ◌⊎◌, ◌+◌, ◌*◌, ◌-◌, ◌<◌, ◌≤◌, ℕ, zero, suc, Bool, List, [], ◌++◌, length, fold, codes, Option, Some, None, IsSome, if◌then◌else◌, All}
 use Rattle.std.specs.Char.{IsAsciiDigit}
 use Rattle.hex.specs.Hex.{encode_upper}
+use Rattle.duk_io.specs.FirstFault.{IsFirst}
 use Rattle.duk_tdes.specs.KeyText.{double_key_of_text}
 use Rattle.duk_tree.specs.Derivation.{initial_key_of, transaction_key_of}
 use Rattle.duk_tree.specs.Next.{spent_counter, ComesAfter}
 use Rattle.duk_tree.specs.Path.{IsUsable}
 use Rattle.duk_tree.specs.Serial.{Serial, serial_bytes, iksn_of_text}
 use Rattle.duk_commands.specs.Answer.{Command}
-use Rattle.duk_commands.specs.Fault.{line_end}
+use Rattle.duk_commands.specs.Fault.{fault_rank, line_end}
 use Rattle.duk_commands.specs.declared.fault.Fault.{Fault}
 use Rattle.duk_commands.specs.declared.fault.Fault.TheVariants.{BdkRefused, IksnRefused, CountRefused}
 
@@ -27,19 +28,10 @@ pub record IsCount (text : List ℕ) (count : ℕ) : Type 0 where
   pub value : number_of_digits text ≡ count
   pub fits : count ≤ most_numbers
 
--- a text that writes no such number
-abbrev pub IsNoCount : List ℕ → Type 0
-IsNoCount text = (count : ℕ) → IsCount text count → ⊥
-
 -- the number of an optional argument, which is zero where it is not given
 abbrev pub IsSkip : Option (List ℕ) → ℕ → Type 0
 IsSkip None skip = skip ≡ 0
 IsSkip (Some text) skip = IsCount text skip
-
--- an optional argument is given and writes no such number
-abbrev pub IsNoSkip : Option (List ℕ) → Type 0
-IsNoSkip None = ⊥
-IsNoSkip (Some text) = IsNoCount text
 
 -- the arguments, as written, and whether the key serial numbers alone are asked for
 pub record WalkArguments : Type 0 where
@@ -72,14 +64,20 @@ pub record AreWalkArguments (bdk iksn count : List ℕ) (skip : Option (List ℕ
   pub count_read : IsCount count asked.count
   pub skip_read : IsSkip skip asked.skip
 
--- why the arguments are refused: the first that holds of these three
+-- what the arguments must meet, or else are refused with this fault
+abbrev pub MeetsWalk : List ℕ → List ℕ → List ℕ → Option (List ℕ) → Fault → Type 0
+MeetsWalk bdk iksn count skip BdkRefused = IsSome (double_key_of_text bdk)
+MeetsWalk bdk iksn count skip IksnRefused = IsSome (iksn_of_text iksn)
+MeetsWalk bdk iksn count skip CountRefused =
+    (printed passed : ℕ) × IsCount count printed × IsSkip skip passed
+MeetsWalk bdk iksn count skip _ = Unit {0}
+
+-- why the arguments are refused: the first of the faults, in their order, whose condition they do
+-- not meet
 abbrev pub IsWalkRefused : List ℕ → List ℕ → List ℕ → Option (List ℕ) → Fault → Type 0
-IsWalkRefused bdk iksn count skip BdkRefused = double_key_of_text bdk ≡ None
-IsWalkRefused bdk iksn count skip IksnRefused =
-    IsSome (double_key_of_text bdk) × (iksn_of_text iksn ≡ None)
-IsWalkRefused bdk iksn count skip CountRefused =
-    IsSome (double_key_of_text bdk) × IsSome (iksn_of_text iksn) × (IsNoCount count ⊎ IsNoSkip skip)
-IsWalkRefused bdk iksn count skip _ = ⊥
+IsWalkRefused bdk iksn count skip =
+    IsFirst fault_rank (MeetsWalk bdk iksn count skip)
+    (λ fault. ¬ MeetsWalk bdk iksn count skip fault)
 
 -- the line of a number: its key serial number and, unless that alone is asked for, its key
 abbrev pub number_text : Serial → List ℕ → Bool → List ℕ

@@ -1,8 +1,8 @@
 //! COUNT and K, how many numbers to print and to skip, written in decimal.
 
-ghost use Rattle.std.specs.Prelude.{◌≡◌, IfSome, IfNone};
+ghost use Rattle.std.specs.Prelude.{◌≡◌, ℕ, IfSome, IfNone};
 ghost use Rattle.std.specs.Option.{option_copied};
-ghost use Rattle.duk_commands.specs.Walk.{IsCount, IsNoCount, IsSkip, IsNoSkip};
+ghost use Rattle.duk_commands.specs.Walk.{IsCount, IsSkip};
 
 /// The greatest number that may be asked for: one more than a terminal has.
 const MOST_NUMBERS: u32 = 1_048_576;
@@ -10,7 +10,7 @@ const MOST_NUMBERS: u32 = 1_048_576;
 /// Reads one or more decimal digits with a value of at most 1,048,576; leading zeros are allowed.
 pub fn read_count(text: &str) -> Option<u32>
     ensures found { IfSome result (IsCount text.now) }
-    ensures none { IfNone result (IsNoCount text.now) }
+    ensures none { IfNone result ((count : ℕ) → ¬ IsCount text.now count) }
 {
     if text.is_empty() {
         return None;
@@ -31,7 +31,7 @@ pub fn read_count(text: &str) -> Option<u32>
 /// Reads such a number, which is zero where it is not given.
 pub fn read_skip(text: Option<&str>) -> Option<u32>
     ensures found { IfSome result (IsSkip (option_copied text.entry)) }
-    ensures none { IfNone result (IsNoSkip (option_copied text.entry)) }
+    ensures none { IfNone result ((skip : ℕ) → ¬ IsSkip (option_copied text.entry) skip) }
 {
     match text {
         None => Some(0),

@@ -1,9 +1,9 @@
 //! The command `pin`: the PIN block of a PIN and a PAN.
 
-ghost use Rattle.std.specs.Prelude.{◌≡◌, ◌⊎◌, IfOk, IfErr, MatchResult};
+ghost use Rattle.std.specs.Prelude.{◌≡◌, ◌⊎◌, ℕ, List, Option, IfOk, IfErr, MatchResult};
 ghost use Rattle.std.specs.Option.{option_copied};
 ghost use Rattle.duk_commands.specs.Answer.{IsDone, IsNotDone, streams};
-ghost use Rattle.duk_commands.specs.Pin.{IsKeyArgument, IsKeyArgumentRefused, IsPinRefused, IsPinText, block_lines, pin_of};
+ghost use Rattle.duk_commands.specs.Pin.{IsKeyArgument, IsPinRefused, IsPinText, block_lines, pin_of};
 
 use crate::answer::finish;
 use crate::fault::Fault;
@@ -51,7 +51,8 @@ fn pin_lines(pin: &str, pan: &str, key: Option<&str>) -> Result<Lines, Fault>
 /// The key of `--key`, where it is given.
 fn read_key_argument(argument: Option<&str>) -> Result<Option<Key<16>>, Fault>
     ensures { MatchResult result (IsKeyArgument (option_copied argument.entry))
-        (λ why. (why ≡ Fault.KeyRefused) × IsKeyArgumentRefused (option_copied argument.entry)) }
+        (λ why. (why ≡ Fault.KeyRefused)
+        × ((key : Option (List ℕ)) → ¬ IsKeyArgument (option_copied argument.entry) key)) }
 {
     match argument {
         None => Ok(None),

@@ -7,8 +7,8 @@ ghost use Rattle.duk_tdes.specs.KeyBytes.{bytes_of};
 ghost use Rattle.duk_tdes.specs.Tdes.{IsTdesLength};
 ghost use Rattle.duk_commands.specs.Answer.{IsDone, IsNotDone, streams};
 ghost use Rattle.duk_commands.specs.Fault.{line_end};
-ghost use Rattle.duk_commands.specs.Wrap.{IsFieldsText, IsNoPadText, IsNotWrapped, IsWrapFault, IsWrapRefused, IsWrapText, IsWrapping, wrap_of, wrap_arguments};
-ghost use Rattle.duk_commands.specs.inner.Wrap.{wrapping};
+ghost use Rattle.duk_commands.specs.Wrap.{IsFieldsText, IsWrapRefused, IsWrapText, IsWrapping, wrap_of, wrap_arguments};
+ghost use Rattle.duk_commands.specs.inner.Wrap.{IsWrapFault, wrapping};
 
 use crate::answer::finish;
 use crate::fault::Fault;
@@ -85,7 +85,7 @@ fn read_fields(text: &[u8]) -> Option<Header>
 /// Whether the text is zero or more pairs of hexadecimal digits of either case.
 fn is_hexadecimal(text: &str) -> bool
     ensures { MatchBool result ((padding : List ℕ) × IsHexadecimal text.now padding)
-        (IsNoPadText text.now) }
+        ((padding : List ℕ) → ¬ IsHexadecimal text.now padding) }
 {
     text.len() % 2 == 0 && text.as_bytes().iter().all(u8::is_ascii_hexdigit)
 }
@@ -129,7 +129,8 @@ fn wrap_under(
 ) -> Result<BlockText, BlockFault>
     ensures block { IfOk result
         (λ text. IsWrapping (wrapping kbpk header.now key pad.now) text.items) }
-    ensures refused { IfErr result (IsNotWrapped (wrapping kbpk header.now key pad.now)) }
+    ensures refused { IfErr result
+        (IsWrapFault header.now (length (bytes_of key)) (length pad.now)) }
 {
     match kbpk {
         KeyBytes::Double(kbpk) => wrap_either(&kbpk, header, key, pad),
