@@ -11,7 +11,7 @@ Example:
 Status:
   0  Done, and nothing is on standard error
   1  A fault, and its line is on standard error
-  2  The words are refused, and standard error says why
+  2  The arguments are refused, and standard error says why
 
 The help of each command has its examples and its faults. Use test keys alone: keys and PINs on
 the command line stand in the list of processes and in the shell's history.";

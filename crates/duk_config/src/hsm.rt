@@ -95,8 +95,5 @@ fn wrap_key<const N: usize, const M: usize>(
     duk_tdes::laws::tdes_key(key);
     duk_block::laws::one_reading();
     duk_block::laws::no_fault();
-    match wrap(lmk, &key_use.header(), key, &ZERO_PADDING) {
-        Ok(block) => block,
-        Err(_) => unreachable!(),
-    }
+    wrap(lmk, &key_use.header(), key, &ZERO_PADDING).unwrap()
 }

@@ -1,7 +1,7 @@
 //! An issuer of one's own.
 
 ghost use Rattle.std.specs.Prelude.{◌≡◌};
-ghost use Rattle.duk_embedding.specs.Limits.{card_of, found_code, limit_decision};
+ghost use Rattle.duk_embedding.specs.Limits.{limited_card_of, limited_code, limit_decision};
 
 use duk_frame::Code;
 use duk_host::Issuer;
@@ -47,20 +47,20 @@ impl Issuer for LimitIssuer {
     ghost decides = { limit_decision };
 
     fn decide(&self, pan: &Pan, amount: u32, _block: [u8; 8]) -> Code {
-        code_for(card_of(self.cards.as_slice(), pan), amount)
+        code_for(limited_card_of(self.cards.as_slice(), pan), amount)
     }
 }
 
 /// The first of these cards with a PAN.
-fn card_of(cards: &[LimitedCard], pan: &Pan) -> Option<LimitedCard>
-    ensures { result ≡ card_of pan.now cards.now }
+fn limited_card_of(cards: &[LimitedCard], pan: &Pan) -> Option<LimitedCard>
+    ensures { result ≡ limited_card_of pan.now cards.now }
 {
     cards.iter().find(|card| card.pan == *pan).copied()
 }
 
 /// The code for the card that was found and an amount.
 fn code_for(card: Option<LimitedCard>, amount: u32) -> Code
-    ensures { result ≡ found_code card amount }
+    ensures { result ≡ limited_code card amount }
 {
     match card {
         None => Code::NoCard,

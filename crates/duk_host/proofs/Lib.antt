@@ -12,8 +12,8 @@ mod ServedInTurn
 mod ReadAndServed
 mod JudgedInTurn
 mod FailedAtFrame
-mod LifetimeOfRuns
-mod RunsOfServices
+mod LifetimeOfServices
+mod AnswersOfService
 mod Decided
 mod DecidedRequests
 mod SomeAnswer

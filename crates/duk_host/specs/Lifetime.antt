@@ -1,4 +1,5 @@
--- A service over its whole life, in as many runs as it takes: this project's own.
+-- Services, one after the other, each over what the one before may have left in the log: this
+-- project's own.
 use Rattle.std.specs.Prelude.{◌≡◌, ◌⊎◌, ◌++◌, ℕ, List, [], ◌∷◌, Contains}
 use Rattle.std.specs.List.{concat}
 use Rattle.duk_frame.specs.declared.code.Code.{Code}
@@ -22,17 +23,17 @@ use Rattle.duk_host.specs.declared.fault.HostFault.TheVariants as fault
 abbrev pub AcceptsNumber : Serial → List ℕ → Type 0
 AcceptsNumber ksn frame = (code : Code) × IsReplyWithCode frame ksn code
 
--- the answers of a run that accept one number are all equal: a reply that is given again cannot be
--- distinguished from the first
+-- the answers of a service that accept one number are all equal: a reply that is given again cannot
+-- be distinguished from the first
 abbrev pub AcceptsAlike : List (List ℕ) → Type 0
-AcceptsAlike run =
-    (ksn : Serial) (one other : List ℕ) → Contains run one → Contains run other
+AcceptsAlike answers =
+    (ksn : Serial) (one other : List ℕ) → Contains answers one → Contains answers other
     → AcceptsNumber ksn one → AcceptsNumber ksn other → one ≡ other
 
--- no number is accepted in two runs
-abbrev pub RunsAcceptDifferentNumbers : List (List ℕ) → List (List ℕ) → Type 0
-RunsAcceptDifferentNumbers run later =
-    (ksn : Serial) (one other : List ℕ) → Contains run one → Contains later other
+-- no number is accepted by two services
+abbrev pub ServicesAcceptDifferentNumbers : List (List ℕ) → List (List ℕ) → Type 0
+ServicesAcceptDifferentNumbers earlier later =
+    (ksn : Serial) (one other : List ℕ) → Contains earlier one → Contains later other
     → AcceptsNumber ksn one → ¬ AcceptsNumber ksn other
 
 -- an answer that accepts a number is the reply to a request of that number, under the key of that
@@ -42,8 +43,8 @@ IsUnderOwnKey keys decides frame =
     (ksn : Serial) → AcceptsNumber ksn frame
     → (request : Request) × (request.ksn ≡ ksn) × IsReplyTo keys decides request frame
 
--- a host is made for a run, with these keys and this issuer. Its log is honest, and finds nothing
--- but what the run before may have left
+-- a host is made for a service, with these keys and this issuer. Its log is honest, and finds
+-- nothing but what the service before may have left
 pub record IsMadeOver
     {L I : Type 0} (meaning : HostMeaning L I) (keys : HsmKeys) (decides : Decision)
     (left : Numbers → Type 0) (host : HostOf L I) : Type 0 where
@@ -52,7 +53,7 @@ pub record IsMadeOver
   pub honest : (meaning.log.state_of host.log).honest
   pub within : FindsWithin (meaning.log.state_of host.log) left
 
--- a run ends once some frames are answered, whatever the cause, or at a frame that the host does
+-- a service ends once some frames are answered, whatever the cause, or at a frame that the host does
 -- not answer, as where a device step of its log fails
 abbrev pub EndsAt : {L I : Type 0} → HostMeaning L I → HostOf L I → HostOf L I → Type 0
 EndsAt meaning mid last =
@@ -60,7 +61,7 @@ EndsAt meaning mid last =
     ⊎ ((frame : List ℕ) × (why : HostFault) × HandleRefused meaning frame mid last why)
 
 -- the host is restarted and answers frames in turn
-pub record IsBroughtUpRun
+pub record IsServiceBroughtUp
     {L I : Type 0} (meaning : HostMeaning L I) (made : HostOf L I) (answers : List (List ℕ))
     (last : HostOf L I) : Type 0 where
   pub up : HostOf L I
@@ -72,18 +73,18 @@ pub record IsBroughtUpRun
   pub ends : EndsAt meaning mid last
 
 -- its restart is refused, and it answers nothing
-pub record IsRefusedRun
+pub record IsServiceRefused
     {L I : Type 0} (meaning : HostMeaning L I) (made : HostOf L I) (answers : List (List ℕ))
     (last : HostOf L I) : Type 0 where
   pub why : HostFault
   pub refused : HostRestartRefused meaning.log made last why
   pub no_answers : answers ≡ []
 
--- what a run of a service answers, and how it leaves its host
-abbrev pub IsServiceRun : {L I : Type 0} → HostMeaning L I → HostOf L I → List (List ℕ)
+-- what a service answers, and how it leaves its host
+abbrev pub IsService : {L I : Type 0} → HostMeaning L I → HostOf L I → List (List ℕ)
     → HostOf L I → Type 0
-IsServiceRun meaning made answers last =
-    IsRefusedRun meaning made answers last ⊎ IsBroughtUpRun meaning made answers last
+IsService meaning made answers last =
+    IsServiceRefused meaning made answers last ⊎ IsServiceBroughtUp meaning made answers last
 
 -- a writer got all of these answers but the last whole, and a write failed in the last
 pub record IsCutInLast (old new : Known) (answers : List (List ℕ)) : Type 0 where
@@ -94,22 +95,22 @@ pub record IsCutInLast (old new : Known) (answers : List (List ℕ)) : Type 0 wh
   pub written : IsWritten old mid (concat first)
   pub cut : IsCut mid new last
 
--- what a writer got of the answers of a run that failed: each of them whole, and where a write
+-- what a writer got of the answers of a service that failed: each of them whole, and where a write
 -- failed, each but the last
 abbrev pub AreWrittenTo : Known → Known → List (List ℕ) → HostFault → Type 0
 AreWrittenTo old new answers fault.Write = IsCutInLast old new answers
 AreWrittenTo old new answers why = IsWritten old new (concat answers)
 
--- the answers of all runs, in their order
+-- the answers of all services, in their order
 abbrev pub all_answers : List (List (List ℕ)) → List (List ℕ)
 all_answers [] = []
 all_answers (answers ∷ later) = answers ++ all_answers later
 
--- the answers of runs, one after the other, each over what the one before may have left
+-- the answers of services, one after the other, each over what the one before may have left
 abbrev pub IsLifetime : {L I : Type 0} → HostMeaning L I → HsmKeys → Decision
     → (Numbers → Type 0) → List (List (List ℕ)) → Type 0
 IsLifetime meaning keys decides left [] = Unit {0}
 IsLifetime {L} {I} meaning keys decides left (answers ∷ later) =
     (made : HostOf L I) × (last : HostOf L I) × IsMadeOver meaning keys decides left made
-    × IsServiceRun meaning made answers last
+    × IsService meaning made answers last
     × IsLifetime meaning keys decides (meaning.log.state_of last.log).found later

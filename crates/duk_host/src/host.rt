@@ -185,7 +185,7 @@ impl<const N: usize, L: UsedLog, I: Issuer> Host<N, L, I> {
         ensures { IsRemembered self.old self.new last }
     {
         let Some(Running { recent, .. }) = &mut self.state else {
-            unreachable!()
+            return;
         };
         recent.push(last);
     }

@@ -94,8 +94,8 @@ fn open_authentic<const N: usize>(
     let transaction = match hsm.open(request.ksn) {
         Ok(transaction) => transaction,
         Err(HsmFault::NoKeySet) => return Err(Reason::UnknownKeySet),
-        Err(HsmFault::BadCounter) => return Err(Reason::BadCounter),
-        Err(_) => unreachable!(),
+        // The only other fault of this call is that of the counter.
+        Err(_) => return Err(Reason::BadCounter),
     };
     match transaction.verify(text, request.mac) {
         Ok(()) => Ok(transaction),

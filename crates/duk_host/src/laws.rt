@@ -9,7 +9,7 @@ ghost use Rattle.duk_frame.specs.Stream.{BeginsTooLong, IsPart};
 ghost use Rattle.duk_frame.specs.declared.request.Request.{Request};
 ghost use Rattle.duk_io.specs.Sink.{IsWritten};
 ghost use Rattle.duk_host.specs.Host.{HostOf, host_meaning_of};
-ghost use Rattle.duk_host.specs.Lifetime.{RunsAcceptDifferentNumbers, AcceptsAlike, AreWrittenTo, IsLifetime, IsServiceRun, IsUnderOwnKey, all_answers};
+ghost use Rattle.duk_host.specs.Lifetime.{ServicesAcceptDifferentNumbers, AcceptsAlike, AreWrittenTo, IsLifetime, IsService, IsUnderOwnKey, all_answers};
 ghost use Rattle.duk_host.specs.Recent.{Exchange, exchange, most_exchanges, reply_given, with_exchange};
 ghost use Rattle.duk_host.specs.Restart.{IsHostRestarted};
 ghost use Rattle.duk_host.specs.Serve.{FailsAtFrame, IsReadToEnd, IsServed, Serves, Service, ServiceFailed, Supply};
@@ -150,25 +150,25 @@ pub fn served_streams<L: UsedLog, I: Issuer>()
     duk_pin::laws::one_pin();
 }
 
-/// All that a service accepts over its whole life, in as many runs as it takes. In one run all
-/// accepted replies to a number are equal, since a reply may be given again; no number is accepted
-/// in two runs; and each accepted reply is made under the key of its number.
+/// All that services over one log accept, one after the other. In one service all accepted replies
+/// to a number are equal, since a reply may be given again; no number is accepted by two services;
+/// and each accepted reply is made under the key of its number.
 pub fn lifetimes<L: UsedLog, I: Issuer>()
     ensures once { (keys : HsmKeys) (decides : Decision) (first : L)
-        → (runs : List (List (List ℕ)))
+        → (services : List (List (List ℕ)))
         → IsLifetime (host_meaning_of L.meaning I.decides) keys decides
-        (L.meaning.state_of first).found runs
-        → All AcceptsAlike runs }
+        (L.meaning.state_of first).found services
+        → All AcceptsAlike services }
     ensures apart { (keys : HsmKeys) (decides : Decision) (first : L)
-        → (runs : List (List (List ℕ)))
+        → (services : List (List (List ℕ)))
         → IsLifetime (host_meaning_of L.meaning I.decides) keys decides
-        (L.meaning.state_of first).found runs
-        → AllPairs RunsAcceptDifferentNumbers runs }
+        (L.meaning.state_of first).found services
+        → AllPairs ServicesAcceptDifferentNumbers services }
     ensures own_key { (keys : HsmKeys) (decides : Decision) (first : L)
-        → (runs : List (List (List ℕ)))
+        → (services : List (List (List ℕ)))
         → IsLifetime (host_meaning_of L.meaning I.decides) keys decides
-        (L.meaning.state_of first).found runs
-        → All (IsUnderOwnKey keys decides) (all_answers runs) }
+        (L.meaning.state_of first).found services
+        → All (IsUnderOwnKey keys decides) (all_answers services) }
 {
     duk_frame::laws::one_reading();
     exchanges();
@@ -177,21 +177,21 @@ pub fn lifetimes<L: UsedLog, I: Issuer>()
     services::<L, I>();
 }
 
-/// What `serve` does after a restart is a run of a service, however it ends: at the end of its
-/// input, or with any fault. The answers of that run are those which the writer got, the last of
-/// them cut where a write failed.
-pub fn service_runs<L: UsedLog, I: Issuer>()
+/// What `serve` does after a restart is a service, however it ends: at the end of its input, or
+/// with any fault. The answers of that service are those which the writer got, the last of them cut
+/// where a write failed.
+pub fn each_service<L: UsedLog, I: Issuer>()
     ensures ended { let m = host_meaning_of L.meaning I.decides in
         (made : HostOf L I) (old new : Service L I) (input left : Supply)
         → (rest : List ℕ) (found count : ℕ) → IsHostRestarted L.meaning made old.host found
         → IsReadToEnd m old new input left rest count → (answers : List (List ℕ))
-        × IsServiceRun m made answers new.host × IsWritten old.writer new.writer (concat answers)
+        × IsService m made answers new.host × IsWritten old.writer new.writer (concat answers)
         × (length answers ≡ count) }
     ensures failed { let m = host_meaning_of L.meaning I.decides in
         (made : HostOf L I) (old new : Service L I) (input left : Supply)
         → (found : ℕ) (why : HostFault) → IsHostRestarted L.meaning made old.host found
         → ServiceFailed m old new input left why → (answers : List (List ℕ))
-        × IsServiceRun m made answers new.host × AreWrittenTo old.writer new.writer answers why }
+        × IsService m made answers new.host × AreWrittenTo old.writer new.writer answers why }
 {}
 
 /// Nothing is hidden beside what contracts see, but for the allocator and the spare room: hosts,

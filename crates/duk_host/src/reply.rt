@@ -9,7 +9,7 @@ ghost use Rattle.duk_host.specs.Recent.{IsReplyWithCode};
 use crate::issuer::Issuer;
 use crate::payment::Payment;
 use duk_frame::{Code, Frame, reply_text};
-use duk_hsm::{HsmFault, Transaction};
+use duk_hsm::Transaction;
 use duk_tree::Ksn;
 
 /// The code for a request: what the issuer says of its PIN block under the zone key. Where the
@@ -25,8 +25,8 @@ pub(crate) fn code_for<I: Issuer>(payment: &Payment, issuer: &I) -> Code
     let request = &payment.request;
     match payment.transaction.translate(request.block, &request.pan) {
         Ok(block) => issuer.decide(&request.pan, request.amount, block),
-        Err(HsmFault::BadPinBlock) => Code::Unreadable,
-        Err(_) => unreachable!(),
+        // Where a zone key is held, the only fault of this call is that of the PIN block.
+        Err(_) => Code::Unreadable,
     }
 }
 

@@ -12,8 +12,8 @@ ghost use Rattle.duk_store.specs.StoreState.{IsNew, KeepsNothing, StaysButCalm};
 use crate::cell::{Body, Cell};
 use crate::disk::Disk;
 use crate::fault::StoreFault;
+use crate::put_steps::replace;
 use crate::recovery::recover;
-use crate::replacement::replace;
 use crate::slot_format::{Place, SlotState};
 use std::marker::Model;
 

@@ -7,7 +7,7 @@ use Rattle.duk_host.specs.Host.{host_meaning_of}
 use Rattle.duk_host.specs.Judgement.{JudgementBasis, IsRefusalFor, no_serial, reason_number}
 use Rattle.duk_host.specs.Lifetime.{AcceptsNumber}
 use Rattle.duk_tree.specs.Serial.{Serial}
-use Rattle.duk_host.proofs.LifetimeOfRuns.{AnswerLaws, ServiceLaws, lifetime_sound}
+use Rattle.duk_host.proofs.LifetimeOfServices.{AnswerLaws, ServiceLaws, lifetime_sound}
 use Rattle.duk_host.proofs.laws.lifetimes.Goals as goal
 use Rattle.duk_host.proofs.laws.lifetimes.Goals.{After-services}
 

@@ -1,10 +1,10 @@
--- What a service does after a restart is a run.
+-- What a service does after a restart is a service.
 use Rattle.std.proofs.Common.{◌≡◌, inl, inr, ℕ, List, [], ◌∷◌, ◌++◌, length, refl, sym, subst, ◌∙◌}
 use Rattle.std.specs.List.{concat}
 use Rattle.duk_io.specs.Sink.{IsWritten}
 use Rattle.duk_host.specs.Handle.{Answers, HandleRefused}
 use Rattle.duk_host.specs.Host.{HostMeaning, HostOf}
-use Rattle.duk_host.specs.Lifetime.{AreWrittenTo, IsServiceRun}
+use Rattle.duk_host.specs.Lifetime.{AreWrittenTo, IsService}
 use Rattle.duk_host.specs.Restart.{IsHostRestarted}
 use Rattle.duk_host.specs.Serve.{AnswerFailed, BytesFailed, IsReadToEnd, IsServed, Serves, Service, ServiceFailed, Supply}
 use Rattle.duk_host.specs.declared.fault.HostFault.{HostFault}
@@ -20,12 +20,12 @@ serves_one meaning old mid new (first ∷ frames) [] frame answer is answered = 
 serves_one meaning old mid new (first ∷ frames) (second ∷ answers) frame answer (next, here, rest) answered = (next, here, serves_one meaning next mid new frames answers frame answer rest answered)
 
 module _ {L I : Type 0} (meaning : HostMeaning L I) (made : HostOf L I) (old : Service L I) (found : ℕ) (restarted : IsHostRestarted meaning.log made old.host found) where
-  -- a run whose answers the writer got
+  -- a service whose answers the writer got
   abbrev pub Run : Service L I → HostFault → Type 0
-  Run new why = (answers : List (List ℕ)) × IsServiceRun meaning made answers new.host × AreWrittenTo old.writer new.writer answers why
+  Run new why = (answers : List (List ℕ)) × IsService meaning made answers new.host × AreWrittenTo old.writer new.writer answers why
 
   abbrev pub WholeRun : Service L I → ℕ → Type 0
-  WholeRun new count = (answers : List (List ℕ)) × IsServiceRun meaning made answers new.host × IsWritten old.writer new.writer (concat answers) × (length answers ≡ count)
+  WholeRun new count = (answers : List (List ℕ)) × IsService meaning made answers new.host × IsWritten old.writer new.writer (concat answers) × (length answers ≡ count)
 
   ended : (new : Service L I) (bytes rest : List ℕ) (count : ℕ) → IsServed meaning old new bytes rest count → WholeRun new count
   ended new bytes rest count served = (
@@ -37,7 +37,7 @@ module _ {L I : Type 0} (meaning : HostMeaning L I) (made : HostOf L I) (old : S
 
   unanswered :
       (mid new : Service L I) (bytes rest frame : List ℕ) (count : ℕ) (why : HostFault) → IsServed meaning old mid bytes rest count → HandleRefused meaning frame mid.host new.host why
-      → new.writer ≡ mid.writer → (answers : List (List ℕ)) × IsServiceRun meaning made answers new.host × IsWritten old.writer new.writer (concat answers)
+      → new.writer ≡ mid.writer → (answers : List (List ℕ)) × IsService meaning made answers new.host × IsWritten old.writer new.writer (concat answers)
   unanswered mid new bytes rest frame count why served refused unwritten = (
     served.answers,
     inr (record {

@@ -3,7 +3,7 @@ use Rattle.std.specs.Option.{option_map}
 use Rattle.std.specs.Str.{bytes_eq}
 use Rattle.std.proofs.lemmas.Iterator.{YieldsList-from_slice}
 use Rattle.std.proofs.lemmas.Iterator.Search.{find_from_yields_List}
-use Rattle.duk_embedding.proofs.limits.card_of.Goals as goal
+use Rattle.duk_embedding.proofs.limits.limited_card_of.Goals as goal
 
 pub returns : goal.returns
 returns c =

@@ -1,6 +1,6 @@
 use Rattle.std.proofs.lemmas.Result.{IfErr-weaker, err_from_is_err_and, on_ok_weaker}
 use Rattle.duk_store.proofs.BodyReplaced.{empty_failed, fill_failed, replaced}
-use Rattle.duk_store.proofs.replacement.replace.Goals as goal
+use Rattle.duk_store.proofs.put_steps.replace.Goals as goal
 
 pub returns-in_err-fill-clause-failed : goal.returns-in_err-fill-clause-failed
 returns-in_err-fill-clause-failed g c =

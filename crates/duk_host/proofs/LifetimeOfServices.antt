@@ -1,4 +1,4 @@
--- What the runs of a service accept, all together.
+-- What the services of a service accept, all together.
 use Rattle.std.proofs.Common.{◌≡◌, ◌-◌, ◌<◌, ◌⊎◌, inl, inr, ℕ, zero, suc, List, [], ◌∷◌, ◌++◌, Contains, Some, length, get_or, refl, sym, ◌∙◌, ap, subst, arith, append_assoc}
 use Rattle.std.specs.List.{All, AllPairs}
 use Rattle.std.proofs.lemmas.List.{append-nil}
@@ -16,7 +16,7 @@ use Rattle.duk_tree.specs.Serial.{Serial}
 use Rattle.duk_host.specs.Handle.{HandleRefused}
 use Rattle.duk_host.specs.Host.{HostMeaning, HostOf}
 use Rattle.duk_host.specs.Judgement.{Decision, IsAccepted, IsRefusalFor, IsRepeated, IsReplyTo, JudgementBasis, basis_with}
-use Rattle.duk_host.specs.Lifetime.{RunsAcceptDifferentNumbers, AcceptsAlike, AcceptsNumber, EndsAt, IsBroughtUpRun, IsLifetime, IsMadeOver, IsServiceRun, IsUnderOwnKey, all_answers}
+use Rattle.duk_host.specs.Lifetime.{ServicesAcceptDifferentNumbers, AcceptsAlike, AcceptsNumber, EndsAt, IsServiceBroughtUp, IsLifetime, IsMadeOver, IsService, IsUnderOwnKey, all_answers}
 use Rattle.duk_host.specs.Recent.{Exchange, exchange, reply_given, with_exchange}
 use Rattle.duk_host.specs.Restart.{HostRestartRefused, IsHostRestarted}
 use Rattle.duk_host.specs.Serve.{Serves}
@@ -56,31 +56,31 @@ member_at [] k d within = absurd (omega (arith, within))
 member_at (thing ∷ things) zero d within = (0, omega arith, refl)
 member_at (thing ∷ things) (suc k) d within = let rest = member_at things k d (omega (arith, within)) in (suc rest.0, omega (arith, rest.1), rest.2)
 
--- ---- the answers of one run
+-- ---- the answers of one service
 
 -- all that these answers accept is among these numbers
 abbrev AreAmong : List (List ℕ) → Numbers → Type 0
 AreAmong answers used = (answer : List ℕ) → Contains answers answer → (ksn : Serial) → AcceptsNumber ksn answer → IsUsed used ksn
 
--- what a run answers after the answers of earlier runs: those that accept one number are equal,
+-- what a service answers after the answers of earlier services: those that accept one number are equal,
 -- none of them accepts a number that was accepted before, and each is made under its own key
-pub record IsSoundRun (keys : HsmKeys) (decides : Decision) (before here : List (List ℕ)) : Type 0 where
+pub record IsSoundService (keys : HsmKeys) (decides : Decision) (before here : List (List ℕ)) : Type 0 where
   pub alike : AcceptsAlike here
-  pub apart : RunsAcceptDifferentNumbers before here
+  pub apart : ServicesAcceptDifferentNumbers before here
   pub own : (answer : List ℕ) → Contains here answer → IsUnderOwnKey keys decides answer
 
--- what is known while a run goes on: its answers are sound, and all numbers that were accepted are
+-- what is known while a service goes on: its answers are sound, and all numbers that were accepted are
 -- used
 record AreSound (keys : HsmKeys) (decides : Decision) (before here : List (List ℕ)) (used : Numbers) : Type 0 where
-  run : IsSoundRun keys decides before here
+  run : IsSoundService keys decides before here
   earlier : AreAmong before used
   among : AreAmong here used
 
--- the replies of the latest exchanges are answers of this run
+-- the replies of the latest exchanges are answers of this service
 abbrev AreGiven : List Exchange → List (List ℕ) → Type 0
 AreGiven recent here = (given : Exchange) → Contains recent given → Contains here given.reply
 
-sound_start : (keys : HsmKeys) (decides : Decision) (before : List (List ℕ)) → IsSoundRun keys decides before []
+sound_start : (keys : HsmKeys) (decides : Decision) (before : List (List ℕ)) → IsSoundService keys decides before []
 sound_start keys decides before = record {
   alike = λ ksn one other in_one. absurd (none_in one in_one);
   apart = λ ksn one other in_one in_other. absurd (none_in other in_other);
@@ -153,7 +153,7 @@ module _ (laws : AnswerLaws) (keys : HsmKeys) (decides : Decision) (before : Lis
       (λ ksn used. Contains-append_left basis.used (request.ksn ∷ []) ksn used)
       (λ ksn b. subst (λ ksn. IsUsed (basis.used ++ request.ksn ∷ []) ksn) (sym (is_number ksn b)) (Contains-push basis.used request.ksn))
 
-  -- a reply that is given again is an earlier answer of the run
+  -- a reply that is given again is an earlier answer of the service
   repeated_on : (basis : JudgementBasis) (here : List (List ℕ)) (frame answer : List ℕ) → AreSound keys decides before here basis.used → AreGiven basis.recent here → IsRepeated basis frame answer
       → AreSound keys decides before (here ++ answer ∷ []) basis.used
   repeated_on basis here frame answer sound given repeated =
@@ -222,7 +222,7 @@ module _ {L I : Type 0} (meaning : HostMeaning L I) where
   left_by_append answers mid last ksn store.Worn h leaves failed numbers found = absurd failed
   left_by_append answers mid last ksn store.NoMemory h leaves failed numbers found = absurd failed
 
-  -- what a run that failed at a frame leaves
+  -- what a service that failed at a frame leaves
   left_at_frame : (answers : List (List ℕ)) (mid last : HostOf L I) (frame : List ℕ) (why : HostFault) → (meaning.log.state_of mid.log).honest → LeavesAll answers (found_of mid) → HandleRefused meaning frame mid last why → LeavesAll answers (found_of last)
   left_at_frame answers mid last frame fault.Stopped h leaves refused = subst (λ host. LeavesAll answers (found_of host)) (sym refused.1) leaves
   left_at_frame answers mid last frame fault.NoMemory h leaves refused = subst (λ host. LeavesAll answers (found_of host)) (sym refused.not_kept) leaves
@@ -260,9 +260,9 @@ module _ {L I : Type 0} (meaning : HostMeaning L I) where
         → JudgesBy meaning new (basis_with new.keys restarted.numbers [] (meaning.log.capacity new.log - meaning.log.count new.log) (meaning.decides new.issuer))
 
   module _ (answer_laws : AnswerLaws) (laws : ServiceLaws) (keys : HsmKeys) (decides : Decision) where
-    -- what a run answers, and what it leaves
+    -- what a service answers, and what it leaves
     abbrev Sound : List (List ℕ) → List (List ℕ) → HostOf L I → Type 0
-    Sound before answers last = IsSoundRun keys decides before answers × LeavesAll (before ++ answers) (found_of last)
+    Sound before answers last = IsSoundService keys decides before answers × LeavesAll (before ++ answers) (found_of last)
 
     both_among : (before answers : List (List ℕ)) (used : Numbers) → AreAmong before used → AreAmong answers used → AreAmong (before ++ answers) used
     both_among before answers used first second answer is_in ksn accepts = elim (Contains-append_cases before answers answer is_in) [
@@ -270,8 +270,8 @@ module _ {L I : Type 0} (meaning : HostMeaning L I) where
       | inr here ↦ second answer here ksn accepts
     ]
 
-    -- one run that was brought up
-    run_up : (before : List (List ℕ)) (left : Numbers → Type 0) (made last : HostOf L I) (answers : List (List ℕ)) → LeavesAll before left → IsMadeOver meaning keys decides left made → IsBroughtUpRun meaning made answers last → Sound before answers last
+    -- one service that was brought up
+    run_up : (before : List (List ℕ)) (left : Numbers → Type 0) (made last : HostOf L I) (answers : List (List ℕ)) → LeavesAll before left → IsMadeOver meaning keys decides left made → IsServiceBroughtUp meaning made answers last → Sound before answers last
     run_up before left made last answers leaves is_made run =
         let h = is_made.honest in
         let numbers = run.restarted.numbers in
@@ -286,26 +286,26 @@ module _ {L I : Type 0} (meaning : HostMeaning L I) where
         let left_by_last = leaves_only (before ++ answers) service.0.used run.mid (service.2.finds honest) (both_among before answers service.0.used all.earlier all.among) in
         (all.run, left_at_end (before ++ answers) run.mid last honest left_by_last run.ends)
 
-    run_of : (before : List (List ℕ)) (left : Numbers → Type 0) (made last : HostOf L I) (answers : List (List ℕ)) → LeavesAll before left → IsMadeOver meaning keys decides left made → IsServiceRun meaning made answers last → Sound before answers last
+    run_of : (before : List (List ℕ)) (left : Numbers → Type 0) (made last : HostOf L I) (answers : List (List ℕ)) → LeavesAll before left → IsMadeOver meaning keys decides left made → IsService meaning made answers last → Sound before answers last
     run_of before left made last answers leaves is_made (inl refused) =
         let none : before ≡ before ++ answers = sym (ap (λ (l : List (List ℕ)). before ++ l) refused.no_answers ∙ append-nil before) in (
-          subst (λ answers. IsSoundRun keys decides before answers) (sym refused.no_answers) (sound_start keys decides before),
+          subst (λ answers. IsSoundService keys decides before answers) (sym refused.no_answers) (sound_start keys decides before),
           subst (λ all. LeavesAll all (found_of last)) none (left_by_refusal before made last refused.why is_made.honest (λ numbers found. leaves numbers (is_made.within numbers found)) refused.refused),
         )
     run_of before left made last answers leaves is_made (inr up) = run_up before left made last answers leaves is_made up
 
-    -- what is known of runs after earlier ones
-    pub record AreSoundRuns (before : List (List ℕ)) (runs : List (List (List ℕ))) : Type 0 where
+    -- what is known of services after earlier ones
+    pub record AreSoundServices (before : List (List ℕ)) (runs : List (List (List ℕ))) : Type 0 where
       pub alike : All AcceptsAlike runs
-      pub following : All (λ run. RunsAcceptDifferentNumbers before run) runs
-      pub apart : AllPairs RunsAcceptDifferentNumbers runs
+      pub following : All (λ run. ServicesAcceptDifferentNumbers before run) runs
+      pub apart : AllPairs ServicesAcceptDifferentNumbers runs
       pub own : All (IsUnderOwnKey keys decides) (all_answers runs)
 
     -- all of them
-    runs_of : (before : List (List ℕ)) (left : Numbers → Type 0) (runs : List (List (List ℕ))) → LeavesAll before left → IsLifetime meaning keys decides left runs → AreSoundRuns before runs
+    runs_of : (before : List (List ℕ)) (left : Numbers → Type 0) (runs : List (List (List ℕ))) → LeavesAll before left → IsLifetime meaning keys decides left runs → AreSoundServices before runs
     runs_of before left [] leaves life = record {
       alike = All-nil AcceptsAlike;
-      following = All-nil (λ run. RunsAcceptDifferentNumbers before run);
+      following = All-nil (λ run. ServicesAcceptDifferentNumbers before run);
       apart = λ i j d before less. absurd (omega (arith, less));
       own = All-nil (IsUnderOwnKey keys decides);
     }
@@ -315,13 +315,13 @@ module _ {L I : Type 0} (meaning : HostMeaning L I) where
         record {
           alike = All-cons AcceptsAlike answers later here.0.alike more.alike;
           following =
-              All-cons (λ run. RunsAcceptDifferentNumbers before run) answers later here.0.apart
+              All-cons (λ run. ServicesAcceptDifferentNumbers before run) answers later here.0.apart
               (λ k d less ksn one other is_in. more.following k d less ksn one other (Contains-append_left before answers one is_in));
           apart =
-              AllPairs-cons RunsAcceptDifferentNumbers answers later
+              AllPairs-cons ServicesAcceptDifferentNumbers answers later
               (λ k d less ksn one other is_in. more.following k d less ksn one other (Contains-append_right before answers one is_in)) more.apart;
           own = All-append (IsUnderOwnKey keys decides) answers (all_answers later) (λ k d less. here.0.own (get_or answers k d) (member_at answers k d less)) more.own;
         }
 
-    pub lifetime_sound : (left : Numbers → Type 0) (runs : List (List (List ℕ))) → IsLifetime meaning keys decides left runs → AreSoundRuns [] runs
+    pub lifetime_sound : (left : Numbers → Type 0) (runs : List (List (List ℕ))) → IsLifetime meaning keys decides left runs → AreSoundServices [] runs
     lifetime_sound left runs life = runs_of [] left runs (λ numbers found answer is_in. absurd (none_in answer is_in)) life

@@ -1,5 +1,5 @@
-use Rattle.duk_host.proofs.RunsOfServices.{failed_service, read_up}
-use Rattle.duk_host.proofs.laws.service_runs.Goals as goal
+use Rattle.duk_host.proofs.AnswersOfService.{failed_service, read_up}
+use Rattle.duk_host.proofs.laws.each_service.Goals as goal
 
 pub returns-clause-ended : goal.returns-clause-ended
 returns-clause-ended g c made old new input left rest found count restarted read = read_up _ made old found restarted new input left rest count read
