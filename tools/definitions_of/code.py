@@ -12,8 +12,8 @@ SPACE = re.compile(r"\s+")
 ATTRIBUTE = re.compile(r"#!?\[")
 VISIBLE = re.compile(r"pub\b(\s*\()?")
 HEAD = re.compile(
-    r"(?:(?:const|unsafe|async)\s+)*(fn)\s+(\w+)|(const|static|type|struct|enum|trait|mod)\s+(\w+)"
-    r"|(impl|use|macro_rules!)|(ghost)\s+(use\b|\w+)")
+    r"(?:(?:const|unsafe|async|extern)\s+)*(fn)\s+(\w+)"
+    r"|(const|static|type|struct|enum|trait|mod)\s+(\w+)|(impl|use|macro_rules!)|(ghost)\s+(use\b|\w+)")
 GHOST_USE = re.compile(r"ghost use (\S+?)(?:\.\{(.*?)\}| as (\S+))?;", re.S)
 CLAUSE = re.compile(r"\s*(requires|ensures)\b\s*(\w*)\s*")
 # How a clause without a name is called.

@@ -62,7 +62,7 @@ def named_in(path: Path) -> list[Named]:
     crates: list[str] = []
     for number, line in enumerate(path.read_text(encoding="utf-8").splitlines(), 1):
         if line.startswith("#"):
-            crates = re.findall(r"`(duk_\w+|dukpt)`", line)
+            crates = re.findall(r"`(duk_\w+|dukpt\w*)`", line)
         found += named_in_line(number, line, crates)
     return found
 

@@ -1,3 +1,4 @@
 pub mod Chain
+pub mod CheckValue
 pub mod Cmac
 pub mod Retail

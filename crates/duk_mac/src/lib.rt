@@ -5,9 +5,11 @@
 #![tactic(auto)]
 
 mod block;
+mod check_values;
 mod cipher_mac;
 pub mod laws;
 mod retail_mac;
 
+pub use check_values::{check_value, cmac_check_value};
 pub use cipher_mac::{cmac, cmac_under};
 pub use retail_mac::retail;

@@ -1,13 +1,14 @@
 //! Which keys the registers hold.
 
-ghost use Rattle.std.specs.Prelude.{◌≡◌, ◌↔◌, ◌<◌, ◌≤◌, ◌+◌, ◌^◌, ℕ, length, IsTrue};
+ghost use Rattle.std.specs.Prelude.{◌≡◌, ◌↔◌, ◌<◌, ◌≤◌, ◌+◌, ◌^◌, ℕ, length, IfSome, IsNone, IsTrue};
 ghost use Rattle.duk_tree.specs.Serial.{IsIksn, low_bytes};
 ghost use Rattle.duk_tree.specs.Path.{IsUsable, path_of};
-ghost use Rattle.duk_tree.specs.Derivation.{step_of};
+ghost use Rattle.duk_tree.specs.Derivation.{step_of, transaction_key_of};
+ghost use Rattle.duk_tree.specs.Frontier.{IsInFrontier};
 ghost use Rattle.duk_regs.specs.Registers.{IsEmptyAt, LeavesEmpty, lowest_place, empty_register, register_at};
 
 use duk_tdes::Key;
-use duk_tree::{Iksn, MOST_ONES, Parent, usable};
+use duk_tree::{Iksn, Ksn, MOST_ONES, Parent, transaction_key, usable};
 
 /// The bit places of a counter, each with a register.
 pub(crate) const PLACES: usize = 21;
@@ -36,6 +37,39 @@ pub(crate) fn first_registers(initial: &Key<16>, iksn: Iksn) -> [Key<16>; PLACES
         registers[place] = root.child(iksn.with_counter(1 << place));
     }
     registers
+}
+
+/// The keys of the frontier at a number's counter, each in the register of its lowest one bit.
+pub(crate) fn registers_at(initial: &Key<16>, ksn: Ksn) -> [Key<16>; PLACES]
+    requires { IsUsable ksn.counter }
+    ensures are_21 { length result ≡ 21 }
+    ensures holds { (node : ℕ) → IsInFrontier ksn.counter node
+        → register_at result (lowest_place node)
+        ≡ transaction_key_of initial.now ksn.iksn node }
+    ensures leaves_empty { LeavesEmpty ksn.counter result }
+{
+    duk_tree::laws::bits();
+    let mut registers = [no_key(); PLACES];
+    for place in 0..PLACES {
+        registers[place] = frontier_key(initial, ksn, place as u32);
+    }
+    registers
+}
+
+/// The key of the frontier's node whose lowest one bit is at this place; no key where there is none.
+fn frontier_key(initial: &Key<16>, ksn: Ksn, place: u32) -> Key<16>
+    requires usable { IsUsable ksn.counter }
+    requires place { place < 21 }
+    ensures holds { (node : ℕ) → IsInFrontier ksn.counter node → lowest_place node ≡ place
+        → result ≡ transaction_key_of initial.now ksn.iksn node }
+    ensures empty { IsEmptyAt ksn.counter place → result ≡ empty_register }
+{
+    duk_tree::laws::bits();
+    duk_tree::laws::frontier();
+    match node_at(ksn.counter(), place) {
+        Some(node) => transaction_key(initial, ksn.with_counter(node)),
+        None => no_key(),
+    }
 }
 
 /// Where the counter has fewer than ten one bits, gives each register below its lowest one bit the
@@ -68,24 +102,32 @@ pub(crate) fn leaves_empty(counter: u32, registers: &[Key<16>; PLACES]) -> bool
     ensures { IsTrue result ↔ LeavesEmpty counter registers.now }
 {
     for (place, register) in registers.iter().enumerate() {
-        if is_empty_at(counter, place as u32) && register.bytes() != [0; 16] {
+        if node_at(counter, place as u32).is_none() && register.bytes() != [0; 16] {
             return false;
         }
     }
     true
 }
 
-/// Whether the frontier at this counter has no node whose lowest one bit is at this place. It could
-/// only have the one whose parent is the greatest multiple of the next power of two below the
-/// counter.
-fn is_empty_at(counter: u32, place: u32) -> bool
+/// The node of the frontier at this counter whose lowest one bit is at this place, if there is one.
+/// It could only be the one whose parent is the greatest multiple of the next power of two below
+/// the counter.
+fn node_at(counter: u32, place: u32) -> Option<u32>
     requires some { 1 ≤ counter }
     requires fits { counter ≤ 2 ^ 21 }
     requires place { place < 21 }
-    ensures { IsTrue result ↔ IsEmptyAt counter place }
+    ensures none { IsNone result ↔ IsEmptyAt counter place }
+    ensures found { IfSome result (λ node.
+        IsInFrontier counter node × (lowest_place node ≡ place)) }
+    ensures fits { IfSome result (λ node. node < 2 ^ 21) }
 {
+    duk_tree::laws::bits();
     duk_tree::laws::candidates();
     let parent = (counter - 1) >> (place + 1) << (place + 1);
     let node = parent + (1 << place);
-    node < counter || !usable(node)
+    if node >= counter && usable(node) {
+        Some(node)
+    } else {
+        None
+    }
 }

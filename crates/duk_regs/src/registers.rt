@@ -10,12 +10,12 @@ ghost use Rattle.duk_regs.specs.Reload.{IsReloaded};
 ghost use Rattle.duk_regs.specs.Image.{IsImage, image_bytes, image_bytes_of_version_1, set_in};
 
 use crate::fault::ReloadFault;
-use crate::frontier::{PLACES, SPENT, fill_below, first_registers, no_key};
+use crate::frontier::{PLACES, SPENT, fill_below, first_registers, no_key, registers_at};
 use crate::image::{IMAGE_LENGTH, read_image, write_image};
 use crate::laws;
 use crate::past::Past;
 use duk_tdes::Key;
-use duk_tree::{Iksn, Ksn, next_usable};
+use duk_tree::{Iksn, Ksn, next_usable, usable};
 use std::marker::Model;
 
 /// What a terminal keeps: its initial key serial number, the counter that it uses next, twenty-one
@@ -61,6 +61,28 @@ impl Registers {
         ensures set { IsRegisterSet result }
     {
         Registers::before_first(&initial, iksn, Past::none())
+    }
+
+    /// The registers of a terminal whose next number is this one, where this initial key was loaded
+    /// under its initial key serial number: what `load` leaves once each number before it is taken.
+    /// No other initial key serial number is past. None: the counter numbers no transaction.
+    pub fn at(initial: &Key<16>, ksn: Ksn) -> Option<Registers>
+        ensures usable { IsSome result ↔ IsUsable ksn.counter }
+        ensures iksn { IfSome result (λ registers. registers.iksn ≡ ksn.iksn) }
+        ensures counter { IfSome result (λ registers. registers.counter ≡ ksn.counter) }
+        ensures past { IfSome result (λ registers. registers.past ≡ []) }
+        ensures future_keys { IfSome result (AreFutureKeysOf initial.now) }
+        ensures set { IfSome result IsRegisterSet }
+    {
+        if !usable(ksn.counter()) {
+            return None;
+        }
+        Some(Registers {
+            iksn: ksn.iksn(),
+            counter: ksn.counter(),
+            registers: registers_at(initial, ksn),
+            past: Past::none(),
+        })
     }
 
     /// Whether the terminal had this initial key serial number before the one that it has.

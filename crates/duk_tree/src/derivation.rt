@@ -41,8 +41,9 @@ pub fn derive(bdk: &Key<16>, ksn: Ksn) -> Key<16>
     transaction_key(&initial_key(bdk, ksn.iksn()), ksn)
 }
 
-/// The key of the counter's node in the key tree below an initial key.
-fn transaction_key(initial: &Key<16>, ksn: Ksn) -> Key<16>
+/// The transaction key of a key serial number, under the initial key of its terminal; counter zero
+/// gives that key itself.
+pub fn transaction_key(initial: &Key<16>, ksn: Ksn) -> Key<16>
     ensures { result ≡ transaction_key_of initial.now ksn.iksn ksn.counter }
 {
     let mut key = *initial;

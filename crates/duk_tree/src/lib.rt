@@ -15,7 +15,7 @@ mod serial;
 mod variants;
 
 pub use counter::usable;
-pub use derivation::{derive, initial_key, step};
+pub use derivation::{derive, initial_key, step, transaction_key};
 pub use next::{MOST_ONES, next_usable};
 pub use parent::Parent;
 pub use serial::{Iksn, Ksn, PREFIX_LENGTH};

@@ -1,0 +1,6 @@
+use Rattle.duk_frame.specs.declared.answer.AnswerFrame.TheVariants as answer
+use Rattle.duk_calls.proofs.replies.refusal_in.Goals as goal
+
+pub returns-in_default : goal.returns-in_default
+returns-in_default c ksn reason refusal =
+    let found = c.in_default.ensures.every (answer.Refusal ksn reason) refusal in cc

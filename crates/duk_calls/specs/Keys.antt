@@ -1,0 +1,49 @@
+-- What the calls over keys answer (ANSI X9.24-1:2009 annex A). The faults are this project's own.
+use Rattle.std.specs.Prelude.{◌≡◌, ℕ, List, [], ◌∷◌}
+use Rattle.duk_tree.specs.Derivation.{derived_key_of, initial_key_of, transaction_key_of}
+use Rattle.duk_tree.specs.Serial.{serial_of_bytes}
+use Rattle.duk_calls.specs.Answer.{Answer, Ends, EndsIfFit, HaveLengths}
+use Rattle.duk_calls.specs.declared.fault.Fault.{Fault}
+use Rattle.duk_calls.specs.declared.fault.Fault.TheVariants.{Length, NotInitial}
+
+-- the ten bytes are those of an initial key serial number: the counter in them is zero
+abbrev pub IsInitial : List ℕ → Type 0
+IsInitial iksn = (serial_of_bytes iksn).counter ≡ 0
+
+-- the initial key serial number in ten bytes
+abbrev pub iksn_of : List ℕ → ℕ
+iksn_of bytes = (serial_of_bytes bytes).iksn
+
+-- a slice of 16 bytes, one of 10, and one of 16
+abbrev pub FitDerivation : List ℕ → List ℕ → List ℕ → Type 0
+FitDerivation key ksn out = HaveLengths (key ∷ ksn ∷ out ∷ []) (16 ∷ 10 ∷ 16 ∷ [])
+
+abbrev pub IsInitialKeyRefused : Type 0 → List ℕ → Fault → Type 0
+IsInitialKeyRefused Fit iksn Length = ¬ Fit
+IsInitialKeyRefused Fit iksn NotInitial = Fit × ¬ IsInitial iksn
+IsInitialKeyRefused Fit iksn _ = ⊥
+
+abbrev pub InitialKeyAnswers : List ℕ → List ℕ → List ℕ → List ℕ → Answer → Type 0
+InitialKeyAnswers bdk iksn old new =
+    let Fit = FitDerivation bdk iksn old in
+    Ends (Fit × IsInitial iksn × (new ≡ initial_key_of bdk (iksn_of iksn)))
+    (IsInitialKeyRefused Fit iksn) (new ≡ old)
+
+abbrev pub DeriveAnswers : List ℕ → List ℕ → List ℕ → List ℕ → Answer → Type 0
+DeriveAnswers bdk ksn old new =
+    EndsIfFit (FitDerivation bdk ksn old) (new ≡ derived_key_of bdk (serial_of_bytes ksn))
+    (new ≡ old)
+
+-- the transaction key of ten bytes, under the initial key of their terminal
+abbrev pub key_under : List ℕ → List ℕ → List ℕ
+key_under initial ksn =
+    let serial = serial_of_bytes ksn in transaction_key_of initial serial.iksn serial.counter
+
+abbrev pub DeriveFromInitialAnswers : List ℕ → List ℕ → List ℕ → List ℕ → Answer → Type 0
+DeriveFromInitialAnswers initial ksn old new =
+    EndsIfFit (FitDerivation initial ksn old) (new ≡ key_under initial ksn) (new ≡ old)
+
+-- a variant of a transaction key
+abbrev pub VariantAnswers : (List ℕ → List ℕ) → List ℕ → List ℕ → List ℕ → Answer → Type 0
+VariantAnswers variant_of key old new =
+    EndsIfFit (HaveLengths (key ∷ old ∷ []) (16 ∷ 16 ∷ [])) (new ≡ variant_of key) (new ≡ old)

@@ -1,0 +1,12 @@
+pub mod Fault
+pub mod Answer
+pub mod Keys
+pub mod Numbers
+pub mod Ciphers
+pub mod Macs
+pub mod Pins
+pub mod Registers
+pub mod Blocks
+pub mod Frames
+pub mod Requests
+pub mod Replies
