@@ -7,7 +7,7 @@
 #include <stdlib.h>
 #include <string.h>
 
-static const uint8_t key[KEY] = {
+static const uint8_t repeated_key[KEY] = {
     0x4C, 0xF1, 0x51, 0x34, 0xA2, 0x85, 0x0D, 0xD5, 0x8A, 0x3D, 0x10, 0xBA, 0x80, 0x57, 0x0D, 0x38,
 };
 
@@ -33,7 +33,8 @@ static void double_block(uint8_t block[BLOCK])
 }
 
 /* CMAC of a message that is not empty; `scratch` has its length. */
-static void cmac(const uint8_t *message, long length, uint8_t *scratch, uint8_t mac[BLOCK])
+void cmac(const uint8_t key[KEY], const uint8_t *message, long length, uint8_t *scratch,
+          uint8_t mac[BLOCK])
 {
     struct schedules made = schedules_of(key);
     uint8_t subkey[BLOCK] = {0}, chain[BLOCK] = {0}, last[BLOCK] = {0};
@@ -52,13 +53,22 @@ static void cmac(const uint8_t *message, long length, uint8_t *scratch, uint8_t 
 }
 
 /* The retail MAC of ANSI X9.19. */
-static void retail(const uint8_t *message, long length, uint8_t mac[BLOCK])
+void retail(const uint8_t key[KEY], const uint8_t *message, long length, uint8_t mac[BLOCK])
 {
     struct schedules made = schedules_of(key);
     DES_cblock zero = {0}, chain;
     DES_cbc_cksum(message, &chain, length, &made.first, &zero);
     DES_ecb_encrypt(&chain, &chain, &made.second, DES_DECRYPT);
     DES_ecb_encrypt(&chain, (DES_cblock *)mac, &made.first, DES_ENCRYPT);
+}
+
+void cbc_decrypt(const uint8_t key[KEY], const uint8_t iv[BLOCK], const uint8_t *in, uint8_t *out,
+                 long length)
+{
+    struct schedules made = schedules_of(key);
+    DES_cblock chain;
+    memcpy(&chain, iv, BLOCK);
+    DES_ede2_cbc_encrypt(in, out, length, &made.first, &made.second, &chain, DES_DECRYPT);
 }
 
 /* Bytes that count from 0 up. */
@@ -77,7 +87,7 @@ void repeat_cmac(long length, long count)
 {
     uint8_t *message = new_message(length), *scratch = new_message(length);
     while (count-- > 0)
-        cmac(message, length, scratch, message);
+        cmac(repeated_key, message, length, scratch, message);
     fwrite(message, 1, (size_t)length, stdout);
     free(scratch);
     free(message);
@@ -87,7 +97,7 @@ void repeat_retail(long length, long count)
 {
     uint8_t *message = new_message(length);
     while (count-- > 0)
-        retail(message, length, message);
+        retail(repeated_key, message, length, message);
     fwrite(message, 1, (size_t)length, stdout);
     free(message);
 }
@@ -97,7 +107,7 @@ static void repeat_cbc(long length, long count, int direction)
 {
     uint8_t *message = new_message(length);
     while (count-- > 0) {
-        struct schedules made = schedules_of(key);
+        struct schedules made = schedules_of(repeated_key);
         DES_cblock chain = {0};
         DES_ede2_cbc_encrypt(message, message, length, &made.first, &made.second, &chain,
                              direction);

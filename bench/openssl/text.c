@@ -13,19 +13,23 @@ static int digit_value(char digit)
     return -1;
 }
 
-/* Whether the text is the hexadecimal of so many bytes, which it gives. */
-int read_hex(const char *text, uint8_t *bytes, int length)
+/* Whether digits are the hexadecimal of so many bytes, which it gives. */
+int read_digits(const char *digits, uint8_t *bytes, size_t length)
 {
-    if (strlen(text) != 2 * (size_t)length)
-        return 0;
-    for (int i = 0; i < length; i++) {
-        int high = digit_value(text[2 * i]);
-        int low = digit_value(text[2 * i + 1]);
+    for (size_t i = 0; i < length; i++) {
+        int high = digit_value(digits[2 * i]);
+        int low = digit_value(digits[2 * i + 1]);
         if (high < 0 || low < 0)
             return 0;
         bytes[i] = (uint8_t)(high << 4 | low);
     }
     return 1;
+}
+
+/* Whether the whole text is that. */
+int read_hex(const char *text, uint8_t *bytes, size_t length)
+{
+    return strlen(text) == 2 * length && read_digits(text, bytes, length);
 }
 
 void print_hex(const uint8_t *bytes, int length, char end)

@@ -3,10 +3,9 @@
 #include "work.h"
 
 #include <openssl/des.h>
-#include <stdio.h>
 #include <string.h>
 
-enum { COUNTER_BITS = 21, LAST_COUNTER = 0x1FFFFF, MOST_ONES = 10 };
+enum { COUNTER_BITS = 21, MOST_ONES = 10 };
 
 static const uint8_t mask[KEY] = {
     0xC0, 0xC0, 0xC0, 0xC0, 0, 0, 0, 0, 0xC0, 0xC0, 0xC0, 0xC0, 0, 0, 0, 0,
@@ -18,7 +17,7 @@ static void masked(const uint8_t key[KEY], uint8_t out[KEY])
         out[i] = key[i] ^ mask[i];
 }
 
-static void tdes_encrypt(const uint8_t key[KEY], const uint8_t in[BLOCK], uint8_t out[BLOCK])
+void tdes_encrypt(const uint8_t key[KEY], const uint8_t in[BLOCK], uint8_t out[BLOCK])
 {
     DES_key_schedule first, second;
     DES_set_key_unchecked((const_DES_cblock *)key, &first);
@@ -57,7 +56,7 @@ static void step(const uint8_t key[KEY], const uint8_t number[BLOCK], uint8_t ou
 }
 
 /* The key serial number of a counter. */
-static void with_counter(const uint8_t iksn[SERIAL], uint32_t counter, uint8_t out[SERIAL])
+void with_counter(const uint8_t iksn[SERIAL], uint32_t counter, uint8_t out[SERIAL])
 {
     memcpy(out, iksn, SERIAL);
     out[7] |= (uint8_t)(counter >> 16);
@@ -66,8 +65,8 @@ static void with_counter(const uint8_t iksn[SERIAL], uint32_t counter, uint8_t o
 }
 
 /* The keys of a number's children, each in the register of its last place. */
-static void fill_below(uint8_t registers[COUNTER_BITS][KEY], int places, const uint8_t key[KEY],
-                       const uint8_t iksn[SERIAL], uint32_t counter)
+void fill_below(uint8_t registers[][KEY], int places, const uint8_t key[KEY],
+                const uint8_t iksn[SERIAL], uint32_t counter)
 {
     uint8_t ksn[SERIAL];
     for (int place = 0; place < places; place++) {
@@ -98,52 +97,21 @@ void walk(const uint8_t bdk[KEY], const uint8_t iksn[SERIAL], long count)
 }
 
 /* One step for each one bit of the counter, from the highest down. */
-static void derive(const uint8_t bdk[KEY], const uint8_t iksn[SERIAL], uint32_t counter,
-                   uint8_t key[KEY])
+void derive(const uint8_t bdk[KEY], const uint8_t ksn[SERIAL], uint8_t key[KEY])
 {
-    uint8_t ksn[SERIAL], child[KEY];
+    uint8_t iksn[SERIAL], number[SERIAL], child[KEY];
+    uint32_t counter = (uint32_t)(ksn[7] & 0x1F) << 16 | (uint32_t)ksn[8] << 8 | ksn[9];
     uint32_t reached = 0;
+    memcpy(iksn, ksn, SERIAL);
+    iksn[7] &= 0xE0;
+    iksn[8] = iksn[9] = 0;
     initial_key(bdk, iksn, key);
     for (int place = COUNTER_BITS - 1; place >= 0; place--) {
         if ((counter >> place & 1) == 0)
             continue;
         reached |= 1u << place;
-        with_counter(iksn, reached, ksn);
-        step(key, ksn + 2, child);
+        with_counter(iksn, reached, number);
+        step(key, number + 2, child);
         memcpy(key, child, KEY);
-    }
-}
-
-/* Marsaglia's generator xorshift64: the numbers need only differ, and be the same in both programs. */
-static uint64_t next_random(uint64_t *state)
-{
-    *state ^= *state << 13;
-    *state ^= *state >> 7;
-    *state ^= *state << 17;
-    return *state;
-}
-
-/* The low bits of a number as a counter. Where they have more than ten ones, the others are at most
-   ten. */
-static uint32_t counter_of(uint64_t number)
-{
-    uint32_t counter = number & LAST_COUNTER;
-    int ones = __builtin_popcount(counter);
-    return 1 <= ones && ones <= MOST_ONES ? counter : LAST_COUNTER - counter;
-}
-
-void derive_at_random(long count)
-{
-    uint8_t bdk[KEY], iksn[SERIAL] = {0xFF, 0xFF}, key[KEY];
-    uint64_t state = 88172645463325252u;
-    read_hex("0123456789ABCDEFFEDCBA9876543210", bdk, KEY);
-    while (count-- > 0) {
-        uint64_t number = next_random(&state);
-        for (int i = 0; i < BLOCK; i++)
-            iksn[2 + i] = (uint8_t)(number >> (56 - 8 * i));
-        iksn[7] &= 0xE0;
-        iksn[8] = iksn[9] = 0;
-        derive(bdk, iksn, counter_of(number), key);
-        fwrite(key, 1, KEY, stdout);
     }
 }

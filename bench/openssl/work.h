@@ -1,24 +1,49 @@
-/* What the program does, one function for each of its commands. Each works as a plain program over
-   libcrypto's DES would, and prints what duk_bench or dukpt prints for the same words. */
+/* What the programs do, one function for each of their commands, and the calls of bench/calls. Each
+   works as a plain program over libcrypto's DES would. */
 #ifndef WORK_H
 #define WORK_H
 
+#include <stddef.h>
 #include <stdint.h>
 
-enum { BLOCK = 8, KEY = 16, SERIAL = 10 };
+enum { BLOCK = 8, KEY = 16, SERIAL = 10, IMAGE = 431, FIELDS = 7 };
 
 /* tree.c: keys of the key tree. */
 void walk(const uint8_t bdk[KEY], const uint8_t iksn[SERIAL], long count);
-void derive_at_random(long count);
+void derive(const uint8_t bdk[KEY], const uint8_t ksn[SERIAL], uint8_t key[KEY]);
+void tdes_encrypt(const uint8_t key[KEY], const uint8_t in[BLOCK], uint8_t out[BLOCK]);
+void with_counter(const uint8_t iksn[SERIAL], uint32_t counter, uint8_t out[SERIAL]);
+void fill_below(uint8_t registers[][KEY], int places, const uint8_t key[KEY],
+                const uint8_t iksn[SERIAL], uint32_t counter);
 
-/* messages.c: MACs and enciphered bytes, each message made of the answer before it. */
+/* registers.c: a terminal, from image to image. */
+void load(const uint8_t initial[KEY], const uint8_t iksn[SERIAL], uint8_t image[IMAGE]);
+void take(const uint8_t image[IMAGE], uint8_t next_image[IMAGE], uint8_t key[KEY],
+          uint8_t ksn[SERIAL]);
+
+/* messages.c: MACs and enciphered bytes. What is repeated takes each message of the answer before. */
 void repeat_cmac(long length, long count);
 void repeat_retail(long length, long count);
 void repeat_cbc_encrypt(long length, long count);
 void repeat_cbc_decrypt(long length, long count);
+void retail(const uint8_t key[KEY], const uint8_t *message, long length, uint8_t mac[BLOCK]);
+void cmac(const uint8_t key[KEY], const uint8_t *message, long length, uint8_t *scratch,
+          uint8_t mac[BLOCK]);
+void cbc_decrypt(const uint8_t key[KEY], const uint8_t iv[BLOCK], const uint8_t *in, uint8_t *out,
+                 long length);
 
-/* text.c: lines of hexadecimal, and the words that are hexadecimal. */
-int read_hex(const char *text, uint8_t *bytes, int length);
+/* pins.c: the PIN block of a PIN and a PAN, enciphered under the PIN key of a transaction key. */
+void encipher_pin(const uint8_t key[KEY], const char *pin, const char *pan, uint8_t block[BLOCK]);
+
+/* blocks.c: fields and key of a key block whose key has 16 bytes. Another text ends the program. */
+void unwrap(const uint8_t kbpk[KEY], const char *text, uint8_t fields[FIELDS], uint8_t key[KEY]);
+
+/* random.c: transaction keys of key serial numbers at random, the same ones in each run. */
+void derive_at_random(long count);
+
+/* text.c: hexadecimal in and out. */
+int read_hex(const char *text, uint8_t *bytes, size_t length);
+int read_digits(const char *digits, uint8_t *bytes, size_t length);
 void print_hex(const uint8_t *bytes, int length, char end);
 
 #endif
