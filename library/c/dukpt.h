@@ -1,0 +1,624 @@
+/* libdukpt: TDES DUKPT (ANSI X9.24-1:2009 annex A), PIN blocks, MACs, key blocks and frames.
+ *
+ * Slices. A slice of bytes is a pointer and then its length in bytes, whose name ends with `_size`.
+ * Beside each slice below stands the length that it has to have. No pointer is null, not even where
+ * the length is 0. What a call writes overlaps none of its other arguments; what it only reads may
+ * overlap.
+ *
+ * Room. Where a call writes as many bytes as it finds, the slice has room for the most that there
+ * may be. The bytes stand in its front, those after them stay as they were, and a number says how
+ * many were written.
+ *
+ * Statuses. Each call but dukpt_version answers a number of `enum dukpt_status`: DUKPT_OK, or the
+ * first fault in the order that stands beside the call. On a fault nothing is written.
+ *
+ * Threads. No call has state of its own, takes memory, or calls the operating system. Calls may run
+ * at once in any number of threads, as long as none writes what another one uses.
+ *
+ * Keys. Parity bits are neither checked nor adjusted. It is not promised that the time of a call
+ * tells nothing of a key, or that no key stays in memory after it.
+ *
+ * Bits are numbered from the most significant. Numbers in bytes are big-endian.
+ *
+ * Example: the key of a key serial number, and its check value.
+ *
+ *     #include <dukpt.h>
+ *     #include <stdio.h>
+ *
+ *     int main(void)
+ *     {
+ *         static const uint8_t bdk[DUKPT_KEY_BYTES] = {
+ *             0x01, 0x23, 0x45, 0x67, 0x89, 0xAB, 0xCD, 0xEF,
+ *             0xFE, 0xDC, 0xBA, 0x98, 0x76, 0x54, 0x32, 0x10,
+ *         };
+ *         static const uint8_t ksn[DUKPT_KSN_BYTES] = {
+ *             0xFF, 0xFF, 0x98, 0x76, 0x54, 0x32, 0x10, 0xE0, 0x00, 0x01,
+ *         };
+ *         uint8_t key[DUKPT_KEY_BYTES], value[DUKPT_CHECK_VALUE_BYTES];
+ *         if (dukpt_derive(bdk, sizeof bdk, ksn, sizeof ksn, key, sizeof key) != DUKPT_OK)
+ *             return 1;
+ *         if (dukpt_check_value(key, sizeof key, value, sizeof value) != DUKPT_OK)
+ *             return 1;
+ *         for (size_t i = 0; i < sizeof key; i++)
+ *             printf("%02X", (unsigned)key[i]);
+ *         printf(" %02X%02X%02X\n", (unsigned)value[0], (unsigned)value[1], (unsigned)value[2]);
+ *         return 0;
+ *     }
+ *
+ * It prints:
+ *
+ *     042666B49184CFA368DE9628D0397BC9 646E6C
+ */
+#ifndef DUKPT_H
+#define DUKPT_H
+
+#include <stddef.h>
+#include <stdint.h>
+
+/* The version of this header. DUKPT_VERSION is what dukpt_version gives for it. */
+#define DUKPT_VERSION_MAJOR 0
+#define DUKPT_VERSION_MINOR 1
+#define DUKPT_VERSION_PATCH 0
+#define DUKPT_VERSION_TEXT "0.1.0"
+#define DUKPT_VERSION \
+    (DUKPT_VERSION_MAJOR * 0x10000 + DUKPT_VERSION_MINOR * 0x100 + DUKPT_VERSION_PATCH)
+
+/* Lengths in bytes. A ROOM is the most that a call writes or reads. */
+#define DUKPT_KEY_BYTES 16             /* a key of the key tree, a TDES key of two DES keys */
+#define DUKPT_TRIPLE_KEY_BYTES 24      /* a TDES key of three DES keys */
+#define DUKPT_KSN_BYTES 10             /* a key serial number */
+#define DUKPT_BLOCK_BYTES 8            /* a block of TDES, a PIN block, an initial vector */
+#define DUKPT_MAC_BYTES 8              /* a CMAC, a retail MAC */
+#define DUKPT_CHECK_VALUE_BYTES 3      /* a check value */
+#define DUKPT_CMAC_CHECK_VALUE_BYTES 5 /* a check value by CMAC */
+#define DUKPT_IMAGE_BYTES 431          /* the image of a terminal, version 2 */
+#define DUKPT_IMAGE_1_BYTES 350        /* an image of version 1, which is read and not written */
+#define DUKPT_PIN_LEAST 4              /* the digits of a PIN, from .. */
+#define DUKPT_PIN_ROOM 12              /* .. to */
+#define DUKPT_PAN_LEAST 12             /* the digits of a PAN, from .. */
+#define DUKPT_PAN_ROOM 19              /* .. to */
+#define DUKPT_HEADER_BYTES 7           /* the fields of a key block's header */
+#define DUKPT_KEY_BLOCK_LEAST 80       /* the characters of a key block, from .. */
+#define DUKPT_KEY_BLOCK_ROOM 512       /* .. to */
+#define DUKPT_CODE_BYTES 2             /* the code of a reply */
+#define DUKPT_FRAME_ROOM 64            /* a frame with the two bytes of its length */
+
+/* What a call answers. A number does not change any more. */
+enum dukpt_status {
+    DUKPT_OK = 0,                          /* the call is done */
+    DUKPT_FAULT_LENGTH = 1,                /* a slice has another length than the call takes */
+    DUKPT_FAULT_NOT_INITIAL = 2,           /* the counter of an initial key serial number is
+                                              not zero */
+    DUKPT_FAULT_NOT_USABLE = 3,            /* the counter numbers no transaction: it is zero
+                                              or has more than ten one bits */
+    DUKPT_FAULT_SPENT = 4,                 /* no number is left */
+    DUKPT_FAULT_NOT_AN_IMAGE = 5,          /* the bytes are no image of a terminal */
+    DUKPT_FAULT_IKSN_SPENT = 6,            /* the initial key serial number is the terminal's
+                                              own, or one that it had before */
+    DUKPT_FAULT_LOADS_SPENT = 7,           /* the terminal had eight initial key serial
+                                              numbers before its own */
+    DUKPT_FAULT_PIN_LENGTH = 8,            /* a PIN has fewer than 4 or more than 12 bytes */
+    DUKPT_FAULT_PIN_DIGIT = 9,             /* a byte of a PIN is no ASCII digit */
+    DUKPT_FAULT_PAN_LENGTH = 10,           /* a PAN has fewer than 12 or more than 19 bytes */
+    DUKPT_FAULT_PAN_DIGIT = 11,            /* a byte of a PAN is no ASCII digit */
+    DUKPT_FAULT_NOT_A_PIN_BLOCK = 12,      /* the block is no PIN block of this PAN */
+    DUKPT_FAULT_BLOCK_LENGTH = 13,         /* a key block has fewer than 80 or more than 512
+                                              characters or no multiple of 8, or says another
+                                              length */
+    DUKPT_FAULT_BLOCK_VERSION = 14,        /* the first character of a key block is not B */
+    DUKPT_FAULT_BLOCK_HEADER_FIELD = 15,   /* a field of a key block's header cannot be printed, or
+                                              the number of optional blocks is not two digits */
+    DUKPT_FAULT_BLOCK_OPTIONAL_BLOCK = 16, /* an optional block does not fit, or what is left after
+                                              them is no ciphertext and MAC */
+    DUKPT_FAULT_BLOCK_HEX = 17,            /* a character after the optional blocks is no
+                                              hexadecimal digit */
+    DUKPT_FAULT_BLOCK_MAC = 18,            /* the MAC is not that of the key block */
+    DUKPT_FAULT_BLOCK_PAYLOAD = 19,        /* the key's length in a key block is neither 128 nor 192
+                                              bits, or the payload is too short for it */
+    DUKPT_FAULT_BLOCK_PAD_LENGTH = 20,     /* the payload would not be made of whole blocks, or the
+                                              key block have more than 512 characters */
+    DUKPT_FAULT_NOT_A_REQUEST = 21,        /* the bytes are no request's frame */
+    DUKPT_FAULT_NOT_A_REPLY = 22,          /* the bytes are no accepted reply's frame */
+    DUKPT_FAULT_NOT_A_REFUSAL = 23,        /* the bytes are no refusal's frame */
+    DUKPT_FAULT_NOT_A_CODE = 24,           /* the two bytes are none of 00, 14, 30, 51 and 55 */
+    DUKPT_FAULT_NOT_A_REASON = 25,         /* the reason of a refusal is none of 1 to 6 */
+    DUKPT_FAULT_NOT_MINE = 26,             /* the reply is to another key serial number */
+    DUKPT_FAULT_BAD_MAC = 27,              /* the MAC is not that of the frame */
+    DUKPT_FAULT_PART_OF_FRAME = 28,        /* fewer than the two bytes of a frame's length
+                                              are there */
+    DUKPT_FAULT_TOO_LONG = 29              /* a length above 62 stands where a frame would
+                                              begin */
+};
+
+#ifdef __cplusplus
+extern "C" {
+#endif
+
+/* Gives the version of the library: major, minor and patch, a byte each, from the third byte down.
+ * It has no faults. */
+uint32_t dukpt_version(void);
+
+/* Keys of the key tree (ANSI X9.24-1:2009 annex A). */
+
+/* Writes the initial key (IPEK) of an initial key serial number.
+ *
+ *   bdk    in   16  base derivation key
+ *   iksn   in   10  initial key serial number: its counter, the last 21 bits, is zero
+ *   key    out  16  initial key
+ *
+ * Answers, in this order: DUKPT_FAULT_LENGTH; DUKPT_FAULT_NOT_INITIAL; DUKPT_OK. */
+uint32_t dukpt_initial_key(const uint8_t *bdk, size_t bdk_size,
+                           const uint8_t *iksn, size_t iksn_size,
+                           uint8_t *key, size_t key_size);
+
+/* Writes the transaction key of a key serial number under the base derivation key. The counter may
+ * be any: zero gives the initial key. dukpt_check_usable tells whether it numbers a transaction.
+ *
+ *   bdk    in   16  base derivation key
+ *   ksn    in   10  key serial number
+ *   key    out  16  transaction key
+ *
+ * Answers, in this order: DUKPT_FAULT_LENGTH; DUKPT_OK. */
+uint32_t dukpt_derive(const uint8_t *bdk, size_t bdk_size,
+                      const uint8_t *ksn, size_t ksn_size,
+                      uint8_t *key, size_t key_size);
+
+/* Writes the transaction key of a key serial number under the initial key of its terminal. The
+ * counter may be any: zero gives the initial key.
+ *
+ *   initial   in   16  initial key
+ *   ksn       in   10  key serial number
+ *   key       out  16  transaction key
+ *
+ * Answers, in this order: DUKPT_FAULT_LENGTH; DUKPT_OK. */
+uint32_t dukpt_derive_from_initial(const uint8_t *initial, size_t initial_size,
+                                   const uint8_t *ksn, size_t ksn_size,
+                                   uint8_t *key, size_t key_size);
+
+/* Writes the variant of a transaction key that enciphers PIN blocks.
+ *
+ *   key       in   16  transaction key
+ *   variant   out  16  the key, both halves xored with 00000000000000FF
+ *
+ * Answers, in this order: DUKPT_FAULT_LENGTH; DUKPT_OK. */
+uint32_t dukpt_pin_key(const uint8_t *key, size_t key_size,
+                       uint8_t *variant, size_t variant_size);
+
+/* Writes the variant of a transaction key that makes the MACs of requests.
+ *
+ *   key       in   16  transaction key
+ *   variant   out  16  the key, both halves xored with 000000000000FF00
+ *
+ * Answers, in this order: DUKPT_FAULT_LENGTH; DUKPT_OK. */
+uint32_t dukpt_request_key(const uint8_t *key, size_t key_size,
+                           uint8_t *variant, size_t variant_size);
+
+/* Writes the variant of a transaction key that makes the MACs of replies.
+ *
+ *   key       in   16  transaction key
+ *   variant   out  16  the key, both halves xored with 00000000FF000000
+ *
+ * Answers, in this order: DUKPT_FAULT_LENGTH; DUKPT_OK. */
+uint32_t dukpt_response_key(const uint8_t *key, size_t key_size,
+                            uint8_t *variant, size_t variant_size);
+
+/* Key serial numbers, in the order in which a terminal uses them (ANSI X9.24-1:2009 annex A). */
+
+/* Tells whether a key serial number numbers a transaction: its counter has one to ten one bits. It
+ * writes nothing.
+ *
+ *   ksn   in   10  key serial number
+ *
+ * Answers, in this order: DUKPT_FAULT_LENGTH; DUKPT_FAULT_NOT_USABLE; DUKPT_OK. */
+uint32_t dukpt_check_usable(const uint8_t *ksn, size_t ksn_size);
+
+/* Writes the key serial number that a terminal uses after this one: that with the least usable
+ * counter above its own. The counter may be any.
+ *
+ *   ksn    in   10  key serial number
+ *   next   out  10  the next one
+ *
+ * Answers, in this order: DUKPT_FAULT_LENGTH; DUKPT_FAULT_SPENT; DUKPT_OK. */
+uint32_t dukpt_next_number(const uint8_t *ksn, size_t ksn_size,
+                           uint8_t *next, size_t next_size);
+
+/* Check values of keys (ANSI X9.24-1:2017 annex A). */
+
+/* Writes the check value (KCV) of a key: the first bytes of a block of zeros, enciphered.
+ *
+ *   key     in   16 or 24  TDES key
+ *   value   out  3         check value
+ *
+ * Answers, in this order: DUKPT_FAULT_LENGTH; DUKPT_OK. */
+uint32_t dukpt_check_value(const uint8_t *key, size_t key_size,
+                           uint8_t *value, size_t value_size);
+
+/* Writes the check value by CMAC of a key: the first bytes of the CMAC of a block of zeros.
+ *
+ *   key     in   16 or 24  TDES key
+ *   value   out  5         check value
+ *
+ * Answers, in this order: DUKPT_FAULT_LENGTH; DUKPT_OK. */
+uint32_t dukpt_cmac_check_value(const uint8_t *key, size_t key_size,
+                                uint8_t *value, size_t value_size);
+
+/* The registers of a terminal, each call from image to image (ANSI X9.24-1:2009 annex A). An image
+ * is a format of this project: version 2 has 431 bytes. Version 1, of 350 bytes, is read too, and
+ * not written. */
+
+/* Writes the image of a terminal that has used no number yet.
+ *
+ *   initial   in   16   initial key
+ *   iksn      in   10   initial key serial number: its counter, the last 21 bits, is zero
+ *   image     out  431  image
+ *
+ * Answers, in this order: DUKPT_FAULT_LENGTH; DUKPT_FAULT_NOT_INITIAL; DUKPT_OK. */
+uint32_t dukpt_load(const uint8_t *initial, size_t initial_size,
+                    const uint8_t *iksn, size_t iksn_size,
+                    uint8_t *image, size_t image_size);
+
+/* Writes the image of a terminal whose next key serial number is this one: what dukpt_load and then
+ * dukpt_take for each number before it leave.
+ *
+ *   initial   in   16   initial key
+ *   ksn       in   10   the next key serial number
+ *   image     out  431  image
+ *
+ * Answers, in this order: DUKPT_FAULT_LENGTH; DUKPT_FAULT_NOT_USABLE; DUKPT_OK. */
+uint32_t dukpt_registers_at(const uint8_t *initial, size_t initial_size,
+                            const uint8_t *ksn, size_t ksn_size,
+                            uint8_t *image, size_t image_size);
+
+/* Writes the key serial number that a terminal with this image uses next.
+ *
+ *   image   in   431 or 350  image; another length is DUKPT_FAULT_NOT_AN_IMAGE
+ *   ksn     out  10          the next key serial number
+ *
+ * Answers, in this order: DUKPT_FAULT_LENGTH; DUKPT_FAULT_NOT_AN_IMAGE; DUKPT_FAULT_SPENT;
+ * DUKPT_OK. */
+uint32_t dukpt_number(const uint8_t *image, size_t image_size,
+                      uint8_t *ksn, size_t ksn_size);
+
+/* Uses the next number of a terminal. The next image is to be stored before the key is used, so
+ * that no stop brings the key back. The next image does not overlap the image: copy it afterwards.
+ *
+ *   image        in   431 or 350  image; another length is DUKPT_FAULT_NOT_AN_IMAGE
+ *   next_image   out  431         the image afterwards
+ *   key          out  16          transaction key
+ *   ksn          out  10          its key serial number
+ *
+ * Answers, in this order: DUKPT_FAULT_LENGTH; DUKPT_FAULT_NOT_AN_IMAGE; DUKPT_FAULT_SPENT;
+ * DUKPT_OK. */
+uint32_t dukpt_take(const uint8_t *image, size_t image_size,
+                    uint8_t *next_image, size_t next_image_size,
+                    uint8_t *key, size_t key_size,
+                    uint8_t *ksn, size_t ksn_size);
+
+/* Gives a terminal another initial key under another initial key serial number. The image keeps up
+ * to eight earlier ones, and none of them comes again.
+ *
+ *   image        in   431 or 350  image; another length is DUKPT_FAULT_NOT_AN_IMAGE
+ *   initial      in   16          initial key
+ *   iksn         in   10          initial key serial number: its counter, the last 21 bits, is zero
+ *   next_image   out  431         the image afterwards
+ *
+ * Answers, in this order: DUKPT_FAULT_LENGTH; DUKPT_FAULT_NOT_INITIAL; DUKPT_FAULT_NOT_AN_IMAGE;
+ * DUKPT_FAULT_IKSN_SPENT; DUKPT_FAULT_LOADS_SPENT; DUKPT_OK. */
+uint32_t dukpt_reload(const uint8_t *image, size_t image_size,
+                      const uint8_t *initial, size_t initial_size,
+                      const uint8_t *iksn, size_t iksn_size,
+                      uint8_t *next_image, size_t next_image_size);
+
+/* TDES, on a block (NIST SP 800-67 section 3) and in cipher block chaining (NIST SP 800-38A section
+ * 6.2). */
+
+/* Enciphers a block in place.
+ *
+ *   key     in      16 or 24  TDES key
+ *   block   in out  8         block
+ *
+ * Answers, in this order: DUKPT_FAULT_LENGTH; DUKPT_OK. */
+uint32_t dukpt_tdes_encrypt(const uint8_t *key, size_t key_size,
+                            uint8_t *block, size_t block_size);
+
+/* Deciphers a block in place.
+ *
+ *   key     in      16 or 24  TDES key
+ *   block   in out  8         block
+ *
+ * Answers, in this order: DUKPT_FAULT_LENGTH; DUKPT_OK. */
+uint32_t dukpt_tdes_decrypt(const uint8_t *key, size_t key_size,
+                            uint8_t *block, size_t block_size);
+
+/* Enciphers whole blocks in place by CBC.
+ *
+ *   key     in      16 or 24          TDES key
+ *   iv      in      8                 initial vector
+ *   bytes   in out  a multiple of 8   blocks, perhaps none
+ *
+ * Answers, in this order: DUKPT_FAULT_LENGTH; DUKPT_OK. */
+uint32_t dukpt_cbc_encrypt(const uint8_t *key, size_t key_size,
+                           const uint8_t *iv, size_t iv_size,
+                           uint8_t *bytes, size_t bytes_size);
+
+/* Deciphers whole blocks in place by CBC.
+ *
+ *   key     in      16 or 24          TDES key
+ *   iv      in      8                 initial vector
+ *   bytes   in out  a multiple of 8   blocks, perhaps none
+ *
+ * Answers, in this order: DUKPT_FAULT_LENGTH; DUKPT_OK. */
+uint32_t dukpt_cbc_decrypt(const uint8_t *key, size_t key_size,
+                           const uint8_t *iv, size_t iv_size,
+                           uint8_t *bytes, size_t bytes_size);
+
+/* MACs: CMAC (NIST SP 800-38B) and the retail MAC (ANSI X9.19). */
+
+/* Writes the CMAC of a message.
+ *
+ *   key       in   16 or 24  TDES key
+ *   message   in   any       message, perhaps empty
+ *   mac       out  8         CMAC
+ *
+ * Answers, in this order: DUKPT_FAULT_LENGTH; DUKPT_OK. */
+uint32_t dukpt_cmac(const uint8_t *key, size_t key_size,
+                    const uint8_t *message, size_t message_size,
+                    uint8_t *mac, size_t mac_size);
+
+/* Writes the retail MAC of a message, which is filled with zero bytes to whole blocks.
+ *
+ *   key       in   16         TDES key
+ *   message   in   1 or more  message
+ *   mac       out  8          retail MAC
+ *
+ * Answers, in this order: DUKPT_FAULT_LENGTH; DUKPT_OK. */
+uint32_t dukpt_retail_mac(const uint8_t *key, size_t key_size,
+                          const uint8_t *message, size_t message_size,
+                          uint8_t *mac, size_t mac_size);
+
+/* PIN blocks (ISO 9564-1 format 0). PIN and PAN are ASCII digits, without a zero byte at their end.
+ * The check digit of a PAN is not verified. */
+
+/* Writes the PIN block of a PIN and a PAN, in clear.
+ *
+ *   pin     in   4 to 12   PIN; another length is DUKPT_FAULT_PIN_LENGTH
+ *   pan     in   12 to 19  PAN; another length is DUKPT_FAULT_PAN_LENGTH
+ *   block   out  8         PIN block
+ *
+ * Answers, in this order: DUKPT_FAULT_LENGTH; DUKPT_FAULT_PIN_LENGTH; DUKPT_FAULT_PIN_DIGIT;
+ * DUKPT_FAULT_PAN_LENGTH; DUKPT_FAULT_PAN_DIGIT; DUKPT_OK. */
+uint32_t dukpt_pin_block(const uint8_t *pin, size_t pin_size,
+                         const uint8_t *pan, size_t pan_size,
+                         uint8_t *block, size_t block_size);
+
+/* Writes the PIN of a PIN block in clear, under a PAN.
+ *
+ *   block        in   8         PIN block
+ *   pan          in   12 to 19  PAN; another length is DUKPT_FAULT_PAN_LENGTH
+ *   pin          out  12        room for a PIN
+ *   pin_length   out            how many digits the PIN has, 4 to 12
+ *
+ * Answers, in this order: DUKPT_FAULT_LENGTH; DUKPT_FAULT_PAN_LENGTH; DUKPT_FAULT_PAN_DIGIT;
+ * DUKPT_FAULT_NOT_A_PIN_BLOCK; DUKPT_OK. */
+uint32_t dukpt_pin_of_block(const uint8_t *block, size_t block_size,
+                            const uint8_t *pan, size_t pan_size,
+                            uint8_t *pin, size_t pin_size, uint32_t *pin_length);
+
+/* Key blocks (ANSI X9.143, version B). */
+
+/* Writes the key block of a key, without optional blocks. The text does not end with a zero byte.
+ *
+ *   kbpk          in   16 or 24  key block protection key
+ *   header        in   7         characters: usage (2), algorithm, mode of use, key version (2),
+ *                                exportability
+ *   key           in   16 or 24  TDES key
+ *   padding       in   any       what stands after the key: 6 bytes and a multiple of 8 fit
+ *   text          out  512       room for a key block
+ *   text_length   out            how many characters it has
+ *
+ * Answers, in this order: DUKPT_FAULT_LENGTH; DUKPT_FAULT_BLOCK_HEADER_FIELD;
+ * DUKPT_FAULT_BLOCK_PAD_LENGTH; DUKPT_OK. */
+uint32_t dukpt_wrap(const uint8_t *kbpk, size_t kbpk_size,
+                    const uint8_t *header, size_t header_size,
+                    const uint8_t *key, size_t key_size,
+                    const uint8_t *padding, size_t padding_size,
+                    uint8_t *text, size_t text_size, uint32_t *text_length);
+
+/* Writes the header and the key of a key block. Optional blocks are passed over.
+ *
+ *   kbpk         in   16 or 24  key block protection key
+ *   text         in   any       key block; a length that none has is DUKPT_FAULT_BLOCK_LENGTH
+ *   header       out  7         characters: usage (2), algorithm, mode of use, key version (2),
+ *                               exportability
+ *   key          out  24        room for a key
+ *   key_length   out            how many bytes it has, 16 or 24
+ *
+ * Answers, in this order: DUKPT_FAULT_LENGTH; DUKPT_FAULT_BLOCK_LENGTH;
+ * DUKPT_FAULT_BLOCK_VERSION; DUKPT_FAULT_BLOCK_HEADER_FIELD; DUKPT_FAULT_BLOCK_OPTIONAL_BLOCK;
+ * DUKPT_FAULT_BLOCK_HEX; DUKPT_FAULT_BLOCK_MAC; DUKPT_FAULT_BLOCK_PAYLOAD; DUKPT_OK. */
+uint32_t dukpt_unwrap(const uint8_t *kbpk, size_t kbpk_size,
+                      const uint8_t *text, size_t text_size,
+                      uint8_t *header, size_t header_size,
+                      uint8_t *key, size_t key_size, uint32_t *key_length);
+
+/* Requests: frames of this project's own, over ISO 9564-1 and ANSI X9.19. A frame is two bytes of
+ * length and the contents.
+ *
+ * Example: a terminal makes a request, and the host reads its PIN.
+ *
+ *     #include <dukpt.h>
+ *     #include <stdio.h>
+ *
+ *     int main(void)
+ *     {
+ *         static const uint8_t key[DUKPT_KEY_BYTES] = {
+ *             0x04, 0x26, 0x66, 0xB4, 0x91, 0x84, 0xCF, 0xA3,
+ *             0x68, 0xDE, 0x96, 0x28, 0xD0, 0x39, 0x7B, 0xC9,
+ *         };
+ *         static const uint8_t ksn[DUKPT_KSN_BYTES] = {
+ *             0xFF, 0xFF, 0x98, 0x76, 0x54, 0x32, 0x10, 0xE0, 0x00, 0x01,
+ *         };
+ *         static const uint8_t pan[] = {
+ *             '4', '0', '1', '2', '3', '4', '5', '6', '7', '8', '9', '0', '9',
+ *         };
+ *         static const uint8_t pin[] = {'1', '2', '3', '4'};
+ *         uint8_t frame[DUKPT_FRAME_ROOM], found[DUKPT_PIN_ROOM];
+ *         uint32_t length, digits, status;
+ *         status = dukpt_payment_request(key, sizeof key, ksn, sizeof ksn, pan, sizeof pan,
+ *                                        pin, sizeof pin, 1, frame, sizeof frame, &length);
+ *         if (status != DUKPT_OK)
+ *             return 1;
+ *         if (dukpt_check_request(key, sizeof key, frame, length) != DUKPT_OK)
+ *             return 1;
+ *         if (dukpt_request_pin(key, sizeof key, frame, length, found, sizeof found, &digits)
+ *             != DUKPT_OK)
+ *             return 1;
+ *         printf("%u bytes, PIN %.*s\n", (unsigned)length, (int)digits, (const char *)found);
+ *         frame[31] ^= 1;
+ *         status = dukpt_check_request(key, sizeof key, frame, length);
+ *         printf("%d\n", status == DUKPT_FAULT_BAD_MAC);
+ *         return 0;
+ *     }
+ *
+ * It prints:
+ *
+ *     48 bytes, PIN 1234
+ *     1
+ */
+
+/* Writes the request of a payment.
+ *
+ *   key            in   16        transaction key
+ *   ksn            in   10        key serial number
+ *   pan            in   12 to 19  PAN; another length is DUKPT_FAULT_PAN_LENGTH
+ *   pin            in   4 to 12   PIN; another length is DUKPT_FAULT_PIN_LENGTH
+ *   amount         in             in the smallest unit of the currency
+ *   frame          out  64        room for a frame
+ *   frame_length   out            how many bytes the request has
+ *
+ * Answers, in this order: DUKPT_FAULT_LENGTH; DUKPT_FAULT_PAN_LENGTH; DUKPT_FAULT_PAN_DIGIT;
+ * DUKPT_FAULT_PIN_LENGTH; DUKPT_FAULT_PIN_DIGIT; DUKPT_OK. */
+uint32_t dukpt_payment_request(const uint8_t *key, size_t key_size,
+                               const uint8_t *ksn, size_t ksn_size,
+                               const uint8_t *pan, size_t pan_size,
+                               const uint8_t *pin, size_t pin_size, uint32_t amount,
+                               uint8_t *frame, size_t frame_size, uint32_t *frame_length);
+
+/* Writes the fields of a request. The MAC is not compared: dukpt_check_request does that.
+ *
+ *   frame        in   any  request; what is none is DUKPT_FAULT_NOT_A_REQUEST
+ *   ksn          out  10   key serial number
+ *   pan          out  19   room for a PAN
+ *   pan_length   out       how many digits it has, 12 to 19
+ *   amount       out       in the smallest unit of the currency
+ *   block        out  8    enciphered PIN block
+ *   mac          out  8    MAC
+ *
+ * Answers, in this order: DUKPT_FAULT_LENGTH; DUKPT_FAULT_NOT_A_REQUEST; DUKPT_OK. */
+uint32_t dukpt_read_request(const uint8_t *frame, size_t frame_size,
+                            uint8_t *ksn, size_t ksn_size,
+                            uint8_t *pan, size_t pan_size, uint32_t *pan_length,
+                            uint32_t *amount,
+                            uint8_t *block, size_t block_size,
+                            uint8_t *mac, size_t mac_size);
+
+/* Tells whether a request has its MAC under the transaction key. It writes nothing.
+ *
+ *   key     in   16   transaction key
+ *   frame   in   any  request; what is none is DUKPT_FAULT_NOT_A_REQUEST
+ *
+ * Answers, in this order: DUKPT_FAULT_LENGTH; DUKPT_FAULT_NOT_A_REQUEST; DUKPT_FAULT_BAD_MAC;
+ * DUKPT_OK. */
+uint32_t dukpt_check_request(const uint8_t *key, size_t key_size,
+                             const uint8_t *frame, size_t frame_size);
+
+/* Writes the PIN of a request under the transaction key. The MAC is not compared:
+ * dukpt_check_request does that.
+ *
+ *   key          in   16   transaction key
+ *   frame        in   any  request; what is none is DUKPT_FAULT_NOT_A_REQUEST
+ *   pin          out  12   room for a PIN
+ *   pin_length   out       how many digits the PIN has, 4 to 12
+ *
+ * Answers, in this order: DUKPT_FAULT_LENGTH; DUKPT_FAULT_NOT_A_REQUEST;
+ * DUKPT_FAULT_NOT_A_PIN_BLOCK; DUKPT_OK. */
+uint32_t dukpt_request_pin(const uint8_t *key, size_t key_size,
+                           const uint8_t *frame, size_t frame_size,
+                           uint8_t *pin, size_t pin_size, uint32_t *pin_length);
+
+/* Accepted replies and refusals: frames of this project's own, over ANSI X9.19. */
+
+/* Writes the accepted reply to a request.
+ *
+ *   key            in   16  transaction key
+ *   ksn            in   10  the request's key serial number
+ *   code           in   2   ASCII digits: 00, 14, 30, 51 or 55
+ *   frame          out  64  room for a frame
+ *   frame_length   out      how many bytes the reply has
+ *
+ * Answers, in this order: DUKPT_FAULT_LENGTH; DUKPT_FAULT_NOT_A_CODE; DUKPT_OK. */
+uint32_t dukpt_reply(const uint8_t *key, size_t key_size,
+                     const uint8_t *ksn, size_t ksn_size,
+                     const uint8_t *code, size_t code_size,
+                     uint8_t *frame, size_t frame_size, uint32_t *frame_length);
+
+/* Writes the refusal of a request. It has no MAC.
+ *
+ *   ksn            in   10  the request's key serial number; zeros where the bytes were no request
+ *   reason         in       1 to 6
+ *   frame          out  64  room for a frame
+ *   frame_length   out      how many bytes the refusal has
+ *
+ * Answers, in this order: DUKPT_FAULT_LENGTH; DUKPT_FAULT_NOT_A_REASON; DUKPT_OK. */
+uint32_t dukpt_refusal(const uint8_t *ksn, size_t ksn_size, uint32_t reason,
+                       uint8_t *frame, size_t frame_size, uint32_t *frame_length);
+
+/* Writes the fields of an accepted reply. The MAC is not compared: dukpt_check_reply does that.
+ *
+ *   frame   in   any  reply; what is none is DUKPT_FAULT_NOT_A_REPLY
+ *   ksn     out  10   key serial number
+ *   code    out  2    ASCII digits: 00, 14, 30, 51 or 55
+ *
+ * Answers, in this order: DUKPT_FAULT_LENGTH; DUKPT_FAULT_NOT_A_REPLY; DUKPT_OK. */
+uint32_t dukpt_read_reply(const uint8_t *frame, size_t frame_size,
+                          uint8_t *ksn, size_t ksn_size,
+                          uint8_t *code, size_t code_size);
+
+/* Writes the fields of a refusal.
+ *
+ *   frame    in   any  refusal; what is none is DUKPT_FAULT_NOT_A_REFUSAL
+ *   ksn      out  10   key serial number
+ *   reason   out       1 to 6
+ *
+ * Answers, in this order: DUKPT_FAULT_LENGTH; DUKPT_FAULT_NOT_A_REFUSAL; DUKPT_OK. */
+uint32_t dukpt_read_refusal(const uint8_t *frame, size_t frame_size,
+                            uint8_t *ksn, size_t ksn_size, uint32_t *reason);
+
+/* Tells whether a frame is the accepted reply of the payment with this transaction key and key
+ * serial number. It writes nothing.
+ *
+ *   key     in   16   transaction key
+ *   ksn     in   10   the request's key serial number
+ *   frame   in   any  reply; what is none is DUKPT_FAULT_NOT_A_REPLY
+ *
+ * Answers, in this order: DUKPT_FAULT_LENGTH; DUKPT_FAULT_NOT_A_REPLY; DUKPT_FAULT_NOT_MINE;
+ * DUKPT_FAULT_BAD_MAC; DUKPT_OK. */
+uint32_t dukpt_check_reply(const uint8_t *key, size_t key_size,
+                           const uint8_t *ksn, size_t ksn_size,
+                           const uint8_t *frame, size_t frame_size);
+
+/* Streams of frames. */
+
+/* Writes how many bytes the frame has with which these begin, the two of its length counted.
+ *
+ *   bytes   in   2 or more  what came of a stream; fewer are DUKPT_FAULT_PART_OF_FRAME
+ *   count   out             2 to 64
+ *
+ * Answers, in this order: DUKPT_FAULT_PART_OF_FRAME; DUKPT_FAULT_TOO_LONG; DUKPT_OK. */
+uint32_t dukpt_frame_length(const uint8_t *bytes, size_t bytes_size, uint32_t *count);
+
+#ifdef __cplusplus
+}
+#endif
+
+#endif

@@ -1,0 +1,64 @@
+/* The calls of the library, with the sizes of their slices, and the statuses that they answer. */
+#ifndef CALLS_H
+#define CALLS_H
+
+#include "chance.h"
+
+#include <stddef.h>
+#include <stdint.h>
+
+enum { MOST_ARGUMENTS = 7, MOST_BYTES = 1200 };
+
+/* What an argument is: bytes that are read, bytes that are written, a number that is written, a
+   number that is read. */
+enum kind { NONE, BYTES, BUFFER, COUNT, NUMBER };
+
+/* Which sizes a slice may have. */
+enum sizes {
+    ANY_SIZE,
+    EXACTLY,          /* `most` */
+    DOUBLE_OR_TRIPLE, /* 16 or 24 */
+    FROM_TO,          /* `least` to `most` */
+    AT_LEAST,         /* `least`, or more: up to `most` are drawn */
+    WHOLE_BLOCKS,     /* a multiple of 8 */
+    AS_DRAWN,         /* that of the drawn case alone */
+    FILLING_BLOCKS,   /* padding: with the length of the key and the key it makes whole blocks */
+};
+
+struct parameter {
+    enum kind kind;
+    enum sizes sizes;
+    size_t least, most;
+    /* What the call answers where only this slice has another size. */
+    uint32_t fault;
+};
+
+/* An argument: a slice, or a number. */
+struct argument {
+    uint8_t *bytes;
+    size_t size;
+    uint32_t number;
+};
+
+struct call {
+    const char *name;
+    /* The library's function, and the same by the peer, over the same arguments. */
+    uint32_t (*library)(const struct argument *);
+    uint32_t (*peer)(struct argument *);
+    /* Draws arguments anew, most of which the call takes; those of the parameters are there. */
+    void (*draw)(struct chance *, struct argument *);
+    /* A one at the place of each status that the call can answer. */
+    uint32_t statuses;
+    struct parameter parameters[MOST_ARGUMENTS];
+};
+
+extern const struct call calls[];
+extern const size_t call_count;
+
+/* How many arguments a call has. */
+size_t argument_count(const struct call *call);
+
+/* Whether an argument is a slice. */
+int is_slice(const struct parameter *parameter);
+
+#endif

@@ -1,0 +1,42 @@
+/* Draws the arguments of a call: in most cases the call is done, the others have a fault. */
+#ifndef DRAW_H
+#define DRAW_H
+
+#include "calls.h"
+
+/* draw.c: arguments by the sizes of their parameters, with random bytes. */
+void draw_arguments(struct chance *chance, const struct call *call, struct argument *given);
+/* Gives a slice another size: bytes that are new in it are random. */
+void resize(struct chance *chance, struct argument *slice, size_t size);
+
+/* draw_numbers.c */
+uint32_t draw_counter(struct chance *chance);
+void draw_number(struct chance *chance, struct argument *given);
+void draw_initial_number(struct chance *chance, struct argument *given);
+void draw_only_number(struct chance *chance, struct argument *given);
+
+/* draw_images.c */
+void draw_image(struct chance *chance, struct argument *given);
+void draw_reload(struct chance *chance, struct argument *given);
+
+/* draw_pins.c */
+void draw_digits(struct chance *chance, uint8_t *digits, size_t count);
+void draw_pin_and_pan(struct chance *chance, struct argument *given);
+void draw_pin_block(struct chance *chance, struct argument *given);
+void draw_payment(struct chance *chance, struct argument *given);
+
+/* draw_blocks.c */
+void draw_wrapping(struct chance *chance, struct argument *given);
+void draw_key_block(struct chance *chance, struct argument *given);
+
+/* draw_frames.c */
+void draw_request(struct chance *chance, struct argument *given);
+void draw_request_of_key(struct chance *chance, struct argument *given);
+void draw_code(struct chance *chance, struct argument *given);
+void draw_reason(struct chance *chance, struct argument *given);
+void draw_reply(struct chance *chance, struct argument *given);
+void draw_refusal(struct chance *chance, struct argument *given);
+void draw_reply_of_key(struct chance *chance, struct argument *given);
+void draw_stream(struct chance *chance, struct argument *given);
+
+#endif

@@ -1,0 +1,129 @@
+/* Frames, and what they are made of. */
+#include "draw.h"
+#include "peer_parts.h"
+
+#include <string.h>
+
+/* Makes a frame another one: of another length, or with another byte in it. */
+static void spoil_frame(struct chance *chance, struct argument *frame)
+{
+    if (one_in(chance, 4))
+        resize(chance, frame, below(chance, 2 * FRAME_BYTES));
+    else if (one_in(chance, 2))
+        draw_bytes(chance, frame->bytes + below(chance, 16), 1);
+    else
+        frame->bytes[below(chance, (uint32_t)frame->size)] ^= (uint8_t)(1u << below(chance, 8));
+}
+
+static const uint8_t *draw_code_of_five(struct chance *chance)
+{
+    static const uint8_t codes[][2] = {{'0', '0'}, {'1', '4'}, {'3', '0'}, {'5', '1'}, {'5', '5'}};
+    return codes[below(chance, 5)];
+}
+
+/* A request under a key, mostly with the PIN block of a PIN. */
+static void put_request(struct chance *chance, const uint8_t *key, struct argument *frame)
+{
+    struct request request;
+    uint8_t pin[12];
+    request.pan_digits = 12 + below(chance, 8);
+    draw_digits(chance, request.pan, request.pan_digits);
+    draw_digits(chance, pin, sizeof pin);
+    draw_bytes(chance, request.ksn, KSN_BYTES);
+    draw_bytes(chance, (uint8_t *)&request.amount, sizeof request.amount);
+    block_of_pin(pin, 4 + below(chance, 9), request.pan, request.pan_digits, request.block);
+    if (one_in(chance, 6))
+        request.block[below(chance, BLOCK_BYTES)] ^= (uint8_t)(1u << below(chance, 8));
+    frame->size = write_request(key, &request, frame->bytes);
+}
+
+static void put_reply(struct chance *chance, const uint8_t *key, const uint8_t *ksn,
+                      struct argument *frame)
+{
+    frame->size = write_reply(key, ksn, draw_code_of_five(chance), frame->bytes);
+}
+
+/* A frame of any kind, of which this one comes most. */
+static void draw_frame(struct chance *chance, uint32_t kind, struct argument *frame)
+{
+    uint8_t key[KEY_BYTES], ksn[KSN_BYTES];
+    draw_bytes(chance, key, sizeof key);
+    draw_bytes(chance, ksn, sizeof ksn);
+    switch (one_in(chance, 12) ? below(chance, 3) : kind) {
+    case 0:
+        put_request(chance, key, frame);
+        break;
+    case 1:
+        put_reply(chance, key, ksn, frame);
+        break;
+    default:
+        frame->size = write_refusal(ksn, 1 + below(chance, 6), frame->bytes);
+    }
+    if (one_in(chance, 4))
+        spoil_frame(chance, frame);
+}
+
+void draw_request(struct chance *chance, struct argument *given)
+{
+    draw_frame(chance, 0, &given[0]);
+}
+
+void draw_reply(struct chance *chance, struct argument *given)
+{
+    draw_frame(chance, 1, &given[0]);
+}
+
+void draw_refusal(struct chance *chance, struct argument *given)
+{
+    draw_frame(chance, 2, &given[0]);
+}
+
+void draw_request_of_key(struct chance *chance, struct argument *given)
+{
+    if (one_in(chance, 12)) {
+        draw_frame(chance, 0, &given[1]);
+        return;
+    }
+    put_request(chance, given[0].bytes, &given[1]);
+    if (one_in(chance, 4))
+        spoil_frame(chance, &given[1]);
+}
+
+void draw_reply_of_key(struct chance *chance, struct argument *given)
+{
+    if (one_in(chance, 12)) {
+        draw_frame(chance, 1, &given[2]);
+        return;
+    }
+    put_reply(chance, given[0].bytes, given[1].bytes, &given[2]);
+    if (one_in(chance, 4))
+        spoil_frame(chance, &given[2]);
+    if (one_in(chance, 16))
+        given[1].bytes[below(chance, KSN_BYTES)] ^= (uint8_t)(1u << below(chance, 8));
+}
+
+void draw_code(struct chance *chance, struct argument *given)
+{
+    memcpy(given[2].bytes, draw_code_of_five(chance), 2);
+    if (one_in(chance, 4))
+        draw_digits(chance, given[2].bytes, 2);
+    if (one_in(chance, 16))
+        draw_bytes(chance, given[2].bytes, 2);
+}
+
+/* Some reasons are such that their low byte alone would be right. */
+void draw_reason(struct chance *chance, struct argument *given)
+{
+    if (!one_in(chance, 16))
+        given[1].number = below(chance, 9) + (one_in(chance, 8) ? 256 * below(chance, 300) : 0);
+}
+
+void draw_stream(struct chance *chance, struct argument *given)
+{
+    if (!one_in(chance, 8))
+        given[0].bytes[0] = 0;
+    if (!one_in(chance, 8))
+        given[0].bytes[1] = (uint8_t)below(chance, 70);
+    if (one_in(chance, 8))
+        given[0].size = below(chance, 4);
+}

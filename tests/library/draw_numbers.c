@@ -1,0 +1,37 @@
+/* Key serial numbers: in argument 1, or in the first where there is no key. */
+#include "draw.h"
+#include "peer_parts.h"
+
+/* Counters with few one bits and with many, small ones, great ones and zero. */
+uint32_t draw_counter(struct chance *chance)
+{
+    uint32_t counter = below(chance, SPENT_COUNTER);
+    switch (below(chance, 8)) {
+    case 0:
+        return 0;
+    case 1:
+        return counter;
+    case 2:
+        return counter % 64;
+    case 3:
+        return SPENT_COUNTER - 1 - counter % 0x1000;
+    default:
+        return counter & below(chance, SPENT_COUNTER);
+    }
+}
+
+void draw_only_number(struct chance *chance, struct argument *given)
+{
+    number_with(given[0].bytes, draw_counter(chance), given[0].bytes);
+}
+
+void draw_number(struct chance *chance, struct argument *given)
+{
+    draw_only_number(chance, given + 1);
+}
+
+void draw_initial_number(struct chance *chance, struct argument *given)
+{
+    uint32_t counter = one_in(chance, 8) ? draw_counter(chance) : 0;
+    number_with(given[1].bytes, counter, given[1].bytes);
+}

@@ -1,0 +1,1 @@
+"""The library for other languages: built, and its parts compared with each other."""
