@@ -1,0 +1,43 @@
+//! A key block (TR-31): a facility wraps a terminal's initial key, and the terminal unwraps it.
+
+use dukpt::Key;
+use std::error::Error;
+use std::fs::File;
+use std::io::{self, Read};
+
+const LOADING: Key = *b"\x4C\xF1\x51\x34\xA2\x85\x0D\xD5\x8A\x3D\x10\xBA\x80\x57\x0D\x38";
+const INITIAL: Key = *b"\x6A\xC2\x92\xFA\xA1\x31\x5B\x4D\x85\x8A\xB3\xA3\xD7\xD5\x93\x3A";
+// An initial key for TDES, from which others are derived, and which is not exported.
+const HEADER: &[u8; 7] = b"B1TX00N";
+
+/// Bytes at random. The library has no source of random numbers.
+fn random_bytes() -> io::Result<[u8; 6]> {
+    let mut bytes = [0; 6];
+    File::open("/dev/urandom")?.read_exact(&mut bytes)?;
+    Ok(bytes)
+}
+
+fn main() -> Result<(), Box<dyn Error>> {
+    // Two bytes of length, the key and six bytes of padding are whole blocks of 8.
+    let text = dukpt::wrap(&LOADING, HEADER, &INITIAL, &random_bytes()?)?;
+    println!("block {}", String::from_utf8_lossy(&text));
+
+    let block = dukpt::unwrap(&LOADING, &text)?;
+    println!("fields {}", String::from_utf8_lossy(&block.header));
+    let digits: String = block
+        .key
+        .iter()
+        .map(|byte| format!("{:02X}", byte))
+        .collect();
+    println!("key {}", digits);
+
+    // Of a block that another one made, the MAC is wrong.
+    let mut forged = text.to_vec();
+    if let Some(last) = forged.last_mut() {
+        *last = if *last == b'0' { b'1' } else { b'0' };
+    }
+    if let Err(fault) = dukpt::unwrap(&LOADING, &forged) {
+        println!("forged {:?}", fault);
+    }
+    Ok(())
+}

@@ -1,0 +1,41 @@
+"""Keys, registers, ciphers, MACs, PIN blocks, key blocks and frames of TDES DUKPT (ANSI X9.24-1).
+
+Each function calls the proved library `libdukpt`. Values are bytes: 16 for a key, 10 for a key
+serial number, ASCII for PINs, PANs and key blocks. A call that is refused raises the class of its
+fault in `dukpt.faults`, all of which are a `DukptError`.
+
+>>> import dukpt
+>>> bdk = bytes.fromhex("0123456789ABCDEFFEDCBA9876543210")
+>>> dukpt.derive(bdk, bytes.fromhex("FFFF9876543210E00001")).hex().upper()
+'042666B49184CFA368DE9628D0397BC9'
+"""
+from __future__ import annotations
+
+from . import faults
+from ._blocks import KeyBlock, unwrap, wrap
+from ._ciphers import cbc_decrypt, cbc_encrypt, tdes_decrypt, tdes_encrypt
+from ._frames import frame_length
+from ._keys import derive, derive_from_initial, initial_key, pin_key, request_key, response_key
+from ._macs import check_value, cmac, cmac_check_value, retail_mac
+from ._numbers import check_usable, next_number
+from ._pins import pin_block, pin_of_block
+from ._registers import Taken, load, number, registers_at, reload, take
+from ._replies import (
+    Refusal, Reply, check_reply, read_refusal, read_reply, refusal, reply)
+from ._requests import (
+    Request, check_request, payment_request, read_request, request_pin)
+from ._terminal import Terminal, Transaction
+from ._version import __version__, demand_one_version, version
+from .faults import DukptError
+
+__all__ = [
+    "DukptError", "KeyBlock", "Refusal", "Reply", "Request", "Taken", "Terminal", "Transaction",
+    "__version__", "cbc_decrypt", "cbc_encrypt", "check_reply", "check_request", "check_usable",
+    "check_value", "cmac", "cmac_check_value", "derive", "derive_from_initial", "faults",
+    "frame_length", "initial_key", "load", "next_number", "number", "payment_request", "pin_block",
+    "pin_key", "pin_of_block", "read_refusal", "read_reply", "read_request", "refusal",
+    "registers_at", "reload", "reply", "request_key", "request_pin", "response_key", "retail_mac",
+    "take", "tdes_decrypt", "tdes_encrypt", "unwrap", "version", "wrap",
+]
+
+demand_one_version()

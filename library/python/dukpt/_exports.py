@@ -1,0 +1,72 @@
+"""The exports of libdukpt, as library/c/dukpt.h declares them.
+
+Each has its arguments in their order, by name and kind:
+
+| kind | what the call takes |
+|---|---|
+| `bytes` | `const uint8_t *` and `size_t`: bytes that it reads, and how many they are |
+| `buffer` | `uint8_t *` and `size_t`: bytes that it writes, and how many there are |
+| `count` | `uint32_t *`: a number that it writes |
+| `number` | `uint32_t`: a number that it reads |
+
+Each answers a `uint32_t`: a status, and `dukpt_version` the version.
+"""
+from __future__ import annotations
+
+from typing import Final, Literal, Mapping
+
+Kind = Literal["bytes", "buffer", "count", "number"]
+
+EXPORTS: Final[Mapping[str, Mapping[str, Kind]]] = {
+    "dukpt_version": {},
+    "dukpt_initial_key": {"bdk": "bytes", "iksn": "bytes", "key": "buffer"},
+    "dukpt_derive": {"bdk": "bytes", "ksn": "bytes", "key": "buffer"},
+    "dukpt_derive_from_initial": {"initial": "bytes", "ksn": "bytes", "key": "buffer"},
+    "dukpt_pin_key": {"key": "bytes", "variant": "buffer"},
+    "dukpt_request_key": {"key": "bytes", "variant": "buffer"},
+    "dukpt_response_key": {"key": "bytes", "variant": "buffer"},
+    "dukpt_check_usable": {"ksn": "bytes"},
+    "dukpt_next_number": {"ksn": "bytes", "next": "buffer"},
+    "dukpt_check_value": {"key": "bytes", "value": "buffer"},
+    "dukpt_cmac_check_value": {"key": "bytes", "value": "buffer"},
+    "dukpt_load": {"initial": "bytes", "iksn": "bytes", "image": "buffer"},
+    "dukpt_registers_at": {"initial": "bytes", "ksn": "bytes", "image": "buffer"},
+    "dukpt_number": {"image": "bytes", "ksn": "buffer"},
+    "dukpt_take": {
+        "image": "bytes", "next_image": "buffer", "key": "buffer", "ksn": "buffer"},
+    "dukpt_reload": {
+        "image": "bytes", "initial": "bytes", "iksn": "bytes", "next_image": "buffer"},
+    "dukpt_tdes_encrypt": {"key": "bytes", "block": "buffer"},
+    "dukpt_tdes_decrypt": {"key": "bytes", "block": "buffer"},
+    "dukpt_cbc_encrypt": {"key": "bytes", "iv": "bytes", "bytes": "buffer"},
+    "dukpt_cbc_decrypt": {"key": "bytes", "iv": "bytes", "bytes": "buffer"},
+    "dukpt_cmac": {"key": "bytes", "message": "bytes", "mac": "buffer"},
+    "dukpt_retail_mac": {"key": "bytes", "message": "bytes", "mac": "buffer"},
+    "dukpt_pin_block": {"pin": "bytes", "pan": "bytes", "block": "buffer"},
+    "dukpt_pin_of_block": {
+        "block": "bytes", "pan": "bytes", "pin": "buffer", "pin_length": "count"},
+    "dukpt_wrap": {
+        "kbpk": "bytes", "header": "bytes", "key": "bytes", "padding": "bytes",
+        "text": "buffer", "text_length": "count"},
+    "dukpt_unwrap": {
+        "kbpk": "bytes", "text": "bytes", "header": "buffer", "key": "buffer",
+        "key_length": "count"},
+    "dukpt_payment_request": {
+        "key": "bytes", "ksn": "bytes", "pan": "bytes", "pin": "bytes", "amount": "number",
+        "frame": "buffer", "frame_length": "count"},
+    "dukpt_read_request": {
+        "frame": "bytes", "ksn": "buffer", "pan": "buffer", "pan_length": "count",
+        "amount": "count", "block": "buffer", "mac": "buffer"},
+    "dukpt_check_request": {"key": "bytes", "frame": "bytes"},
+    "dukpt_request_pin": {
+        "key": "bytes", "frame": "bytes", "pin": "buffer", "pin_length": "count"},
+    "dukpt_reply": {
+        "key": "bytes", "ksn": "bytes", "code": "bytes", "frame": "buffer",
+        "frame_length": "count"},
+    "dukpt_refusal": {
+        "ksn": "bytes", "reason": "number", "frame": "buffer", "frame_length": "count"},
+    "dukpt_read_reply": {"frame": "bytes", "ksn": "buffer", "code": "buffer"},
+    "dukpt_read_refusal": {"frame": "bytes", "ksn": "buffer", "reason": "count"},
+    "dukpt_check_reply": {"key": "bytes", "ksn": "bytes", "frame": "bytes"},
+    "dukpt_frame_length": {"bytes": "bytes", "count": "count"},
+}

@@ -1,0 +1,88 @@
+"""The keys of the key tree (ANSI X9.24-1:2009 annex A)."""
+from __future__ import annotations
+
+from ._library import Data, call, room
+
+
+def initial_key(bdk: Data, iksn: Data) -> bytes:
+    """The initial key (16 bytes) of an initial key serial number (10) under the base derivation key
+    (16).
+
+    Raises `Length`, then `NotInitial`.
+
+    >>> bdk = bytes.fromhex("0123456789ABCDEFFEDCBA9876543210")
+    >>> initial_key(bdk, bytes.fromhex("FFFF9876543210E00000")).hex().upper()
+    '6AC292FAA1315B4D858AB3A3D7D5933A'
+    """
+    key = room(16)
+    call("dukpt_initial_key", bdk=bdk, iksn=iksn, key=key)
+    return key.raw
+
+
+def derive(bdk: Data, ksn: Data) -> bytes:
+    """The transaction key (16 bytes) of a key serial number (10) under the base derivation key
+    (16). The counter may be any: zero gives the initial key.
+
+    Raises `Length`.
+
+    >>> bdk = bytes.fromhex("0123456789ABCDEFFEDCBA9876543210")
+    >>> derive(bdk, bytes.fromhex("FFFF9876543210E00001")).hex().upper()
+    '042666B49184CFA368DE9628D0397BC9'
+    """
+    key = room(16)
+    call("dukpt_derive", bdk=bdk, ksn=ksn, key=key)
+    return key.raw
+
+
+def derive_from_initial(initial: Data, ksn: Data) -> bytes:
+    """The transaction key (16 bytes) of a key serial number (10) under the initial key (16) of its
+    terminal. The counter may be any: zero gives the initial key.
+
+    Raises `Length`.
+
+    >>> initial = bytes.fromhex("6AC292FAA1315B4D858AB3A3D7D5933A")
+    >>> derive_from_initial(initial, bytes.fromhex("FFFF9876543210E00001")).hex().upper()
+    '042666B49184CFA368DE9628D0397BC9'
+    """
+    key = room(16)
+    call("dukpt_derive_from_initial", initial=initial, ksn=ksn, key=key)
+    return key.raw
+
+
+def pin_key(key: Data) -> bytes:
+    """The variant of a transaction key that enciphers PINs; each has 16 bytes.
+
+    Raises `Length`.
+
+    >>> pin_key(bytes.fromhex("042666B49184CFA368DE9628D0397BC9")).hex().upper()
+    '042666B49184CF5C68DE9628D0397B36'
+    """
+    variant = room(16)
+    call("dukpt_pin_key", key=key, variant=variant)
+    return variant.raw
+
+
+def request_key(key: Data) -> bytes:
+    """The variant of a transaction key that makes the MACs of requests; each has 16 bytes.
+
+    Raises `Length`.
+
+    >>> request_key(bytes.fromhex("042666B49184CFA368DE9628D0397BC9")).hex().upper()
+    '042666B4918430A368DE9628D03984C9'
+    """
+    variant = room(16)
+    call("dukpt_request_key", key=key, variant=variant)
+    return variant.raw
+
+
+def response_key(key: Data) -> bytes:
+    """The variant of a transaction key that makes the MACs of replies; each has 16 bytes.
+
+    Raises `Length`.
+
+    >>> response_key(bytes.fromhex("042666B49184CFA368DE9628D0397BC9")).hex().upper()
+    '042666B46E84CFA368DE96282F397BC9'
+    """
+    variant = room(16)
+    call("dukpt_response_key", key=key, variant=variant)
+    return variant.raw

@@ -1,0 +1,139 @@
+"""The library: found, loaded, and called by the table of its exports."""
+from __future__ import annotations
+
+import ctypes
+import os
+from pathlib import Path
+from typing import Final, Iterator, Union
+
+from ._exports import EXPORTS, Kind
+from .faults import FAULTS
+
+NAME: Final = "libdukpt.so.0"
+VARIABLE: Final = "DUKPT_LIBRARY"
+HERE: Final = Path(__file__).resolve().parent
+LARGEST_NUMBER: Final = (1 << 32) - 1
+
+# Whatever has bytes is copied before a call, so that nothing changes them meanwhile.
+Data = Union[bytes, bytearray, memoryview]
+Buffer = ctypes.Array[ctypes.c_char]
+Given = Union[Data, Buffer, ctypes.c_uint32, int]
+
+TYPES: Final[dict[Kind, list[type]]] = {
+    "bytes": [ctypes.c_char_p, ctypes.c_size_t],
+    "buffer": [ctypes.POINTER(ctypes.c_char), ctypes.c_size_t],
+    "count": [ctypes.POINTER(ctypes.c_uint32)],
+    "number": [ctypes.c_uint32],
+}
+
+
+def places() -> Iterator[str]:
+    """Where the library may be, in the order in which it is looked for."""
+    named = os.environ.get(VARIABLE)
+    if named:
+        yield named
+        return
+    yield from map(str, filter(Path.exists, files_nearby()))
+    yield NAME
+
+
+def files_nearby() -> Iterator[Path]:
+    yield HERE / NAME
+    # In a repository the package stands in library/python.
+    if HERE.parts[-3:-1] == ("library", "python"):
+        yield HERE.parents[2] / "out" / "library" / NAME
+
+
+def loaded() -> ctypes.CDLL:
+    """The first library that is there. It raises ImportError where none is."""
+    faults = []
+    for place in places():
+        try:
+            return ctypes.CDLL(place)
+        except OSError as why:
+            faults.append(str(why))
+    raise ImportError(
+        f"{NAME} cannot be loaded ({'; '.join(faults)}): in a repository tools/library builds it, "
+        f"and {VARIABLE} may name its file")
+
+
+def typed(library: ctypes.CDLL) -> ctypes.CDLL:
+    """The library with the types of its exports."""
+    for name, arguments in EXPORTS.items():
+        try:
+            export = getattr(library, name)
+        except AttributeError as why:
+            raise ImportError(f"{library._name} has no {name}: it is not {NAME}") from why
+        export.argtypes = [it for kind in arguments.values() for it in TYPES[kind]]
+        export.restype = ctypes.c_uint32
+    return library
+
+
+LIBRARY: Final = typed(loaded())
+
+
+def room(size: int) -> Buffer:
+    """A buffer of so many bytes, for what a call writes."""
+    return (ctypes.c_char * size)()
+
+
+def room_with(name: str, value: Data) -> Buffer:
+    """A buffer with these bytes, which a call replaces."""
+    held = as_bytes(name, value)
+    return (ctypes.c_char * len(held)).from_buffer_copy(held)
+
+
+def as_bytes(name: str, value: object) -> bytes:
+    """The bytes of an argument, as they are at this time."""
+    if type(value) is bytes:
+        return value
+    try:
+        return memoryview(value).tobytes()  # type: ignore[arg-type]
+    except TypeError:
+        raise TypeError(f"{name} is to be bytes, and not {type(value).__name__}") from None
+
+
+def as_number(name: str, value: object) -> int:
+    """A number of 32 bits. A number that has more of them would lose some in the call."""
+    if not isinstance(value, int) or isinstance(value, bool):
+        raise TypeError(f"{name} is to be an int, and not {type(value).__name__}")
+    if not 0 <= value <= LARGEST_NUMBER:
+        raise ValueError(f"{name} is to be from 0 to {LARGEST_NUMBER}")
+    return value
+
+
+def spread(kind: Kind, name: str, value: object) -> tuple[object, ...]:
+    """An argument as the words of the call."""
+    if kind == "bytes":
+        held = as_bytes(name, value)
+        return held, len(held)
+    if kind == "buffer":
+        assert isinstance(value, ctypes.Array)
+        return value, len(value)
+    if kind == "count":
+        assert isinstance(value, ctypes.c_uint32)
+        return (ctypes.byref(value),)
+    return (as_number(name, value),)
+
+
+def call(name: str, **given: Given) -> None:
+    """Calls an export with its arguments, by name. It raises the fault with which the call is
+    refused."""
+    words: list[object] = []
+    for argument, kind in EXPORTS[name].items():
+        words += spread(kind, argument, given[argument])
+    status = getattr(LIBRARY, name)(*words)
+    if status:
+        raise FAULTS[status](lengths(name, given)) if status == 1 else FAULTS[status]()
+
+
+def lengths(name: str, given: dict[str, Given]) -> str:
+    """How many bytes each argument has that is bytes."""
+    return ", ".join(
+        f"{argument} has {spread(kind, argument, given[argument])[1]}"
+        for argument, kind in EXPORTS[name].items() if kind in ("bytes", "buffer"))
+
+
+def filled(buffer: Buffer, count: ctypes.c_uint32) -> bytes:
+    """What a call wrote in the front of a buffer."""
+    return buffer.raw[: count.value]

@@ -1,0 +1,86 @@
+"""Request frames (docs/FORMATS.md)."""
+from __future__ import annotations
+
+from ctypes import c_uint32
+from typing import NamedTuple
+
+from ._library import Data, call, filled, room
+
+
+class Request(NamedTuple):
+    """The fields of a request: key serial number (10 bytes), PAN (12 to 19 ASCII digits), amount in
+    the smallest unit of the currency, enciphered PIN block (8 bytes) and MAC (8 bytes). Its `repr`
+    leaves the PAN out."""
+
+    ksn: bytes
+    pan: bytes
+    amount: int
+    block: bytes
+    mac: bytes
+
+    def __repr__(self) -> str:
+        return f"Request(ksn={self.ksn!r}, pan=.., amount={self.amount})"
+
+
+def payment_request(key: Data, ksn: Data, pan: Data, pin: Data, amount: int) -> bytes:
+    """The request of a payment, 47 to 54 bytes, under the transaction key (16) of its key serial
+    number (10). The PAN has 12 to 19 ASCII digits, the PIN 4 to 12; the amount is in the smallest
+    unit of the currency, from 0 to 4294967295.
+
+    Raises `Length`, then `PanLength` or `PanDigit`, then `PinLength` or `PinDigit`.
+
+    >>> key = bytes.fromhex("042666B49184CFA368DE9628D0397BC9")
+    >>> ksn = bytes.fromhex("FFFF9876543210E00001")
+    >>> payment_request(key, ksn, b"4012345678909", b"1234", 1).hex().upper()[-32:]
+    '1B9C1845EB993A7AA05619896B683F13'
+    """
+    frame, count = room(64), c_uint32()
+    call("dukpt_payment_request", key=key, ksn=ksn, pan=pan, pin=pin, amount=amount, frame=frame,
+         frame_length=count)
+    return filled(frame, count)
+
+
+def read_request(frame: Data) -> Request:
+    """The fields of a request's frame. The MAC is not compared: `check_request` does that.
+
+    Raises `NotARequest`.
+
+    >>> frame = bytes.fromhex("002E0101FFFF9876543210E000010D34303132333435363738393039"
+    ...                       "000000011B9C1845EB993A7AA05619896B683F13")
+    >>> request = read_request(frame)
+    >>> request.ksn.hex().upper(), request.amount, request.mac.hex().upper()
+    ('FFFF9876543210E00001', 1, 'A05619896B683F13')
+    """
+    ksn, pan, block, mac = room(10), room(19), room(8), room(8)
+    count, amount = c_uint32(), c_uint32()
+    call("dukpt_read_request", frame=frame, ksn=ksn, pan=pan, pan_length=count, amount=amount,
+         block=block, mac=mac)
+    return Request(ksn.raw, filled(pan, count), amount.value, block.raw, mac.raw)
+
+
+def check_request(key: Data, frame: Data) -> None:
+    """Tests that a request's frame has the MAC of its bytes under the transaction key (16 bytes).
+
+    Raises `Length`, then `NotARequest`, then `BadMac`.
+
+    >>> frame = bytes.fromhex("002E0101FFFF9876543210E000010D34303132333435363738393039"
+    ...                       "000000011B9C1845EB993A7AA05619896B683F13")
+    >>> check_request(bytes.fromhex("042666B49184CFA368DE9628D0397BC9"), frame)
+    """
+    call("dukpt_check_request", key=key, frame=frame)
+
+
+def request_pin(key: Data, frame: Data) -> bytes:
+    """The PIN, 4 to 12 ASCII digits, of a request's frame under the transaction key (16 bytes). The
+    MAC is not compared: `check_request` does that.
+
+    Raises `Length`, then `NotARequest`, then `NotAPinBlock`.
+
+    >>> frame = bytes.fromhex("002E0101FFFF9876543210E000010D34303132333435363738393039"
+    ...                       "000000011B9C1845EB993A7AA05619896B683F13")
+    >>> request_pin(bytes.fromhex("042666B49184CFA368DE9628D0397BC9"), frame)
+    b'1234'
+    """
+    pin, count = room(12), c_uint32()
+    call("dukpt_request_pin", key=key, frame=frame, pin=pin, pin_length=count)
+    return filled(pin, count)

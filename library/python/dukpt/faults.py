@@ -1,0 +1,143 @@
+"""Why a call is refused: an exception for each fault, with its number and its name.
+
+The numbers and the names are those of the library, and do not change any more. A call that is
+refused gives nothing, and has changed nothing.
+"""
+from __future__ import annotations
+
+from typing import ClassVar, Final, Mapping
+
+
+class DukptError(Exception):
+    """A call is refused."""
+
+    number: ClassVar[int]
+    name: ClassVar[str]
+
+    def __init_subclass__(cls, number: int) -> None:
+        cls.number, cls.name = number, cls.__name__
+
+    def __str__(self) -> str:
+        # Python drops docstrings under `-OO`.
+        return ": ".join(filter(None, (f"{self.name} ({self.number})", self.__doc__, *self.args)))
+
+
+class Length(DukptError, number=1):
+    """a value has another length than the call takes"""
+
+
+class NotInitial(DukptError, number=2):
+    """the counter of an initial key serial number is not zero"""
+
+
+class NotUsable(DukptError, number=3):
+    """the counter numbers no transaction: it is zero or has more than ten one bits"""
+
+
+class Spent(DukptError, number=4):
+    """no number is left"""
+
+
+class NotAnImage(DukptError, number=5):
+    """the bytes are no image of a terminal"""
+
+
+class IksnSpent(DukptError, number=6):
+    """the initial key serial number is the terminal's own, or one that it had before"""
+
+
+class LoadsSpent(DukptError, number=7):
+    """the terminal had eight initial key serial numbers before its own"""
+
+
+class PinLength(DukptError, number=8):
+    """the PIN has fewer than 4 or more than 12 bytes"""
+
+
+class PinDigit(DukptError, number=9):
+    """a byte of the PIN is no ASCII digit"""
+
+
+class PanLength(DukptError, number=10):
+    """the PAN has fewer than 12 or more than 19 bytes"""
+
+
+class PanDigit(DukptError, number=11):
+    """a byte of the PAN is no ASCII digit"""
+
+
+class NotAPinBlock(DukptError, number=12):
+    """the block is no PIN block of this PAN"""
+
+
+class BlockLength(DukptError, number=13):
+    """a key block has no such length, or its length field is not its length"""
+
+
+class BlockVersion(DukptError, number=14):
+    """the first character of a key block is not B"""
+
+
+class BlockHeaderField(DukptError, number=15):
+    """a header field cannot be printed, or the optional blocks' number is not two digits"""
+
+
+class BlockOptionalBlock(DukptError, number=16):
+    """an optional block does not fit, or what follows them is no ciphertext and MAC"""
+
+
+class BlockHex(DukptError, number=17):
+    """a character after the optional blocks is no hexadecimal digit"""
+
+
+class BlockMac(DukptError, number=18):
+    """the MAC is not that of the key block"""
+
+
+class BlockPayload(DukptError, number=19):
+    """the key's length is neither 128 nor 192 bits, or the payload is too short for it"""
+
+
+class BlockPadLength(DukptError, number=20):
+    """the payload would be no whole blocks, or the text longer than 512 characters"""
+
+
+class NotARequest(DukptError, number=21):
+    """the bytes are no request's frame"""
+
+
+class NotAReply(DukptError, number=22):
+    """the bytes are no accepted reply's frame"""
+
+
+class NotARefusal(DukptError, number=23):
+    """the bytes are no refusal's frame"""
+
+
+class NotACode(DukptError, number=24):
+    """the two bytes are no code of a reply: 00, 14, 30, 51 or 55"""
+
+
+class NotAReason(DukptError, number=25):
+    """the reason of a refusal is none of 1 to 6"""
+
+
+class NotMine(DukptError, number=26):
+    """the reply is to another key serial number"""
+
+
+class BadMac(DukptError, number=27):
+    """the MAC is not that of the frame"""
+
+
+class PartOfFrame(DukptError, number=28):
+    """fewer than the two bytes of a frame's length are there"""
+
+
+class TooLong(DukptError, number=29):
+    """a length above 62 stands where a frame would begin"""
+
+
+# Each fault by its number.
+FAULTS: Final[Mapping[int, type[DukptError]]] = {
+    fault.number: fault for fault in DukptError.__subclasses__()}

@@ -1,0 +1,65 @@
+//! Keys, registers, ciphers, MACs, PIN blocks, key blocks and frames of TDES DUKPT (ANSI X9.24-1).
+//!
+//! Each function calls the proved library `libdukpt`. Lengths that are fixed are in the types, so
+//! that a call is refused only where its bytes are wrong; [`Fault`] says why. Nothing here takes
+//! memory, and nothing wipes it.
+//!
+//! ```
+//! let bdk = *b"\x01\x23\x45\x67\x89\xAB\xCD\xEF\xFE\xDC\xBA\x98\x76\x54\x32\x10";
+//! let ksn = *b"\xFF\xFF\x98\x76\x54\x32\x10\xE0\x00\x01";
+//! let key = dukpt::derive(&bdk, &ksn);
+//! assert_eq!(key, *b"\x04\x26\x66\xB4\x91\x84\xCF\xA3\x68\xDE\x96\x28\xD0\x39\x7B\xC9");
+//! ```
+#![no_std]
+#![deny(unsafe_code, missing_docs)]
+
+#[cfg(feature = "std")]
+extern crate std;
+
+mod blocks;
+mod bytes;
+mod calls;
+mod ciphers;
+mod exports;
+mod fault;
+mod frames;
+mod keys;
+mod macs;
+mod numbers;
+mod pins;
+mod registers;
+mod replies;
+mod requests;
+mod tdes_key;
+mod terminal;
+
+pub use blocks::{unwrap, wrap, BlockText, KeyBlock, KeyBytes};
+pub use bytes::Bytes;
+pub use ciphers::{cbc_decrypt, cbc_encrypt, tdes_decrypt, tdes_encrypt};
+pub use fault::Fault;
+pub use frames::{frame_length, Frame};
+pub use keys::{derive, derive_from_initial, initial_key, pin_key, request_key, response_key};
+pub use macs::{check_value, cmac, cmac_check_value, retail_mac};
+pub use numbers::{check_usable, next_number};
+pub use pins::{pin_block, pin_of_block, Pan, Pin};
+pub use registers::{load, number, registers_at, reload, take, Image, Taken};
+pub use replies::{check_reply, read_refusal, read_reply, refusal, reply, Refusal, Reply};
+pub use requests::{check_request, payment_request, read_request, request_pin, Request};
+pub use tdes_key::TdesKey;
+pub use terminal::{Terminal, TerminalFault, Transaction};
+
+/// A transaction key, an initial key, a base derivation key or a variant.
+pub type Key = [u8; 16];
+
+/// A key serial number.
+pub type Ksn = [u8; 10];
+
+/// The version of the library: major, minor and patch.
+///
+/// ```
+/// assert_eq!(dukpt::version(), (0, 1, 0));
+/// ```
+pub fn version() -> (u8, u8, u8) {
+    let [_, major, minor, patch] = calls::version().to_be_bytes();
+    (major, minor, patch)
+}

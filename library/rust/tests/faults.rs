@@ -1,0 +1,136 @@
+//! Each fault comes, under its number and name.
+
+use dukpt::*;
+
+const KEY: Key = *b"\x04\x26\x66\xB4\x91\x84\xCF\xA3\x68\xDE\x96\x28\xD0\x39\x7B\xC9";
+const IKSN: Ksn = *b"\xFF\xFF\x98\x76\x54\x32\x10\xE0\x00\x00";
+const KSN: Ksn = *b"\xFF\xFF\x98\x76\x54\x32\x10\xE0\x00\x01";
+/// The last number that a terminal has: ten one bits, and then zeros.
+const LAST: Ksn = *b"\xFF\xFF\x98\x76\x54\x32\x10\xFF\xF8\x00";
+const PAN: &[u8] = b"4012345678909";
+
+/// The name and the number of each fault, as docs/LIBRARY.md has them.
+const NAMES: [&str; 29] = [
+    "Length",
+    "NotInitial",
+    "NotUsable",
+    "Spent",
+    "NotAnImage",
+    "IksnSpent",
+    "LoadsSpent",
+    "PinLength",
+    "PinDigit",
+    "PanLength",
+    "PanDigit",
+    "NotAPinBlock",
+    "BlockLength",
+    "BlockVersion",
+    "BlockHeaderField",
+    "BlockOptionalBlock",
+    "BlockHex",
+    "BlockMac",
+    "BlockPayload",
+    "BlockPadLength",
+    "NotARequest",
+    "NotAReply",
+    "NotARefusal",
+    "NotACode",
+    "NotAReason",
+    "NotMine",
+    "BadMac",
+    "PartOfFrame",
+    "TooLong",
+];
+
+/// That a call is refused with the fault of a number.
+fn refused<T>(answer: Result<T, Fault>, number: u32) {
+    let fault = answer.err().expect("a fault");
+    assert_eq!(
+        (fault.number(), format!("{:?}", fault)),
+        (number, NAMES[number as usize - 1].into())
+    );
+}
+
+#[test]
+fn numbers() {
+    for (fault, (name, number)) in Fault::ALL.into_iter().zip(NAMES.into_iter().zip(1..)) {
+        refused::<()>(Err(fault), number);
+        assert_eq!(Fault::from_number(number), Some(fault));
+        assert!(fault.to_string().starts_with(&format!("{} ({}): ", name, number)));
+    }
+    assert_eq!((Fault::from_number(0), Fault::from_number(30)), (None, None));
+}
+
+#[test]
+fn of_registers() {
+    refused(retail_mac(&KEY, b""), 1);
+    refused(TdesKey::try_from(&KEY[1..]), 1);
+    refused(initial_key(&KEY, &KSN), 2);
+    refused(Terminal::load(&KEY, &KSN), 2);
+    refused(check_usable(&IKSN), 3);
+    refused(next_number(&LAST), 4);
+    refused(number(&[2; 431]), 5);
+    refused(Terminal::from_image(&[]), 5);
+    let image = load(&KEY, &IKSN).unwrap();
+    refused(reload(&image, &KEY, &IKSN), 6);
+}
+
+#[test]
+fn of_the_tenth_life() {
+    let mut image = load(&KEY, &IKSN).unwrap();
+    let iksns = (1..=9).map(|life| [0, 0, 0, 0, life, 0, 0, 0, 0, 0]);
+    for iksn in iksns.clone().take(8) {
+        image = reload(&image, &KEY, &iksn).unwrap();
+    }
+    refused(reload(&image, &KEY, &iksns.last().unwrap()), 7);
+}
+
+#[test]
+fn of_texts() {
+    refused(pin_block(b"123", PAN), 8);
+    refused(pin_block(b"123x", PAN), 9);
+    refused(pin_block(b"1234", b"40123456789"), 10);
+    refused(pin_block(b"1234", b"40123456789x"), 11);
+    refused(pin_of_block(&[0; 8], PAN), 12);
+    refused(wrap(&KEY, b"P0TE\n0E", &KEY, &[0; 6]), 15);
+    refused(wrap(&KEY, b"P0TE00E", &KEY, &[0; 5]), 20);
+}
+
+#[test]
+fn of_key_blocks() {
+    let good = wrap(&KEY, b"P0TE00E", &KEY, &[0; 6]).unwrap();
+    let changed = |at: usize, with: u8| {
+        let mut text = good.to_vec();
+        text[at] = with;
+        unwrap(&KEY, &text)
+    };
+    refused(unwrap(&KEY, &good[1..]), 13);
+    refused(changed(0, b'A'), 14);
+    refused(changed(5, b'\n'), 15);
+    refused(changed(13, b'1'), 16);
+    refused(changed(20, b'x'), 17);
+    refused(changed(7, b'D'), 18);
+}
+
+#[test]
+fn of_a_payload() {
+    // The payload says that its key has 8 bytes. The block was made by tests/support/key_blocks.py.
+    let text = b"B0080P0TE00E00009F214D6E852C0EB1F4DC684083D90D791502E65FB225F0C3DE32E4C5108F78E4";
+    refused(unwrap(&KEY, text), 19);
+}
+
+#[test]
+fn of_frames() {
+    let request = payment_request(&KEY, &KSN, PAN, b"1234", 1).unwrap();
+    let reply = reply(&KEY, &KSN, b"00").unwrap();
+    refused(read_request(&reply), 21);
+    refused(read_reply(&request), 22);
+    refused(read_refusal(&reply), 23);
+    refused(dukpt::reply(&KEY, &KSN, b"01"), 24);
+    refused(refusal(&KSN, 7), 25);
+    refused(check_reply(&KEY, &IKSN, &reply), 26);
+    refused(check_reply(&pin_key(&KEY), &KSN, &reply), 27);
+    refused(check_request(&pin_key(&KEY), &request), 27);
+    refused(frame_length(&reply[..1]), 28);
+    refused(frame_length(b"\x00\x3F"), 29);
+}

@@ -1,0 +1,238 @@
+"""The cases of `call_cases` for ciphers, MACs, PIN blocks, key blocks and frames."""
+from __future__ import annotations
+
+from typing import Callable, Iterator, Sequence
+
+from . import many
+from .call_cases import BLOCK_ROOM, CALLS, FRAME_ROOM, Argument, Chance, Drawn, drawn
+from .frames import CODES, LONGEST_BODY, REASONS, bytes_of, write_refusal
+from .key_blocks import header
+from .library_calls import STATUS
+from .pin_blocks import pin_block, pin_in
+
+Ciphers = Callable[[many.Lines, many.Lines], list[bytes]]
+Chains = Callable[[many.Lines, many.Lines, many.Lines], list[bytes]]
+
+
+# Ciphers and MACs
+
+
+def block_drawn(name: str, cipher: Ciphers) -> None:
+    @drawn(name, "bo")
+    def draw(chance: Chance, count: int) -> Iterator[Drawn]:
+        keys, blocks = chance.tdes_keys(count), chance.bytes(count, 8)
+        for key, block, made in zip(keys, blocks, cipher(keys, blocks)):
+            yield [key, block], 0, [made]
+
+
+def chain_drawn(name: str, chain: Chains) -> None:
+    @drawn(name, "bbo")
+    def draw(chance: Chance, count: int) -> Iterator[Drawn]:
+        keys, befores = chance.tdes_keys(count), chance.bytes(count, 8)
+        texts = chance.bytes(count, *range(0, 48, 8))
+        for key, before, text, made in zip(keys, befores, texts, chain(keys, befores, texts)):
+            yield [key, before, text], 0, [made]
+
+
+block_drawn("tdes_encrypt", many.encrypted)
+block_drawn("tdes_decrypt", many.decrypted)
+chain_drawn("cbc_encrypt", many.chained)
+chain_drawn("cbc_decrypt", many.unchained)
+
+
+def mac_drawn(name: str, made: Ciphers, sizes: Sequence[int], lengths: range) -> None:
+    @drawn(name, "bbo")
+    def draw(chance: Chance, count: int) -> Iterator[Drawn]:
+        keys, messages = chance.bytes(count, *sizes), chance.bytes(count, *lengths)
+        olds = chance.bytes(count, 8)
+        for key, message, old, mac in zip(keys, messages, olds, made(keys, messages)):
+            yield [key, message, old], 0, [mac]
+
+
+mac_drawn("cmac", many.cmacs, (16, 24), range(40))
+mac_drawn("retail_mac", many.retail_macs, (16,), range(1, 40))
+
+
+# PIN blocks
+
+
+@drawn("pin_block", "bbo")
+def of_pin(chance: Chance, count: int) -> Iterator[Drawn]:
+    for pin, pan, old in zip(chance.pins(count), chance.pans(count), chance.bytes(count, 8)):
+        yield [pin.encode(), pan.encode(), old], 0, [pin_block(pin, pan).to_bytes(8, "big")]
+
+
+@drawn("pin_of_block", "bboc")
+def pin_of(chance: Chance, count: int) -> Iterator[Drawn]:
+    """One in four is the block of another PAN, of a PIN that is too short, or is any."""
+    olds = zip(chance.bytes(count, 12), chance.numbers(count))
+    pins, pans, others = chance.pins(count), chance.pans(count), chance.pans(count)
+    for pin, pan, other, old in zip(pins, pans, others, olds):
+        way = chance.chance.randrange(12)
+        shown = pin[:3] if way == 0 else pin
+        block = pin_block(shown, other if way == 1 else pan)
+        block = chance.chance.getrandbits(64) if way == 2 else block
+        found = pin_in(block, pan)
+        status = STATUS["NotAPinBlock"] if found is None else 0
+        written = (found or "").encode()
+        yield [block.to_bytes(8, "big"), pan.encode(), *old], status, [written, len(written)]
+
+
+# Key blocks
+
+
+def pads(chance: Chance, count: int) -> list[bytes]:
+    """Padding that fills whole blocks, behind two bytes and a key of 16 or 24."""
+    return chance.bytes(count, 6, 6, 6, 14, 30)
+
+
+@drawn("wrap", "bbbboc")
+def wrap(chance: Chance, count: int) -> Iterator[Drawn]:
+    protections, keys = chance.tdes_keys(count), chance.tdes_keys(count)
+    fields, fills = chance.fields(count), pads(chance, count)
+    made = many.wraps(protections, fields, keys, fills)
+    olds = zip(chance.bytes(count, BLOCK_ROOM), chance.numbers(count))
+    for protection, field, key, pad, old, text in zip(protections, fields, keys, fills, olds, made):
+        way = chance.chance.random()
+        if way < 0.03:
+            # Two faults: the fields are looked at before the padding.
+            given: list[Argument] = [protection, b"\x7f" + field[1:], key, pad[1:], *old]
+            yield given, STATUS["BlockHeaderField"], []
+        elif way < 0.06:
+            yield [protection, field, key, pad[1:], *old], STATUS["BlockPadLength"], []
+        else:
+            yield [protection, field, key, pad, *old], 0, [text, len(text)]
+
+
+def optional_blocks(chance: Chance) -> tuple[int, bytes]:
+    """No optional block mostly, or up to three, which leave the whole a multiple of 8."""
+    count, text = chance.chance.choice((0, 0, 0, 1, 2, 3)), b""
+    for at in range(count):
+        length = chance.chance.randrange(4, 24)
+        if at == count - 1:
+            length += -(len(text) + length) % 8
+        text += b"%b%02X" % (chance.fields(1)[0][:2], length)
+        text += bytes(chance.chance.choices(range(0x20, 0x7F), k=length - 4))
+    return count, text
+
+
+@drawn("unwrap", "bbooc")
+def unwrap(chance: Chance, count: int) -> Iterator[Drawn]:
+    protections, keys = chance.tdes_keys(count), chance.tdes_keys(count)
+    fields, fronts = chance.fields(count), []
+    payloads = many.payloads_of(keys, pads(chance, count))
+    for field, payload in zip(fields, payloads):
+        blocks, optional = optional_blocks(chance)
+        length = 32 + len(optional) + 2 * len(payload)
+        fronts.append(header(field, length, blocks, chance.fields(1)[0][:2]) + optional)
+    texts = many.sealed(protections, fronts, payloads)
+    olds = zip(chance.bytes(count, 7), chance.bytes(count, 24), chance.numbers(count))
+    for protection, text, old, field, key in zip(protections, texts, olds, fields, keys):
+        yield [protection, text, *old], 0, [field, key, len(key)]
+
+
+# Frames
+
+
+def requests(chance: Chance, count: int) -> Iterator[list[Argument]]:
+    """Key, number, PAN, PIN, amount, and the request of them."""
+    keys, serials = chance.keys(count), chance.serials(count)
+    pans, pins, amounts = chance.pans(count), chance.pins(count), chance.numbers(count)
+    made = many.requests(keys, serials, pans, pins, amounts)
+    for key, serial, pan, pin, *rest in zip(keys, serials, pans, pins, amounts, made):
+        yield [key, bytes_of(serial), pan.encode(), pin.encode(), *rest]
+
+
+@drawn("payment_request", "bbbbnoc")
+def payment_request(chance: Chance, count: int) -> Iterator[Drawn]:
+    olds = zip(chance.bytes(count, FRAME_ROOM), chance.numbers(count))
+    for (*given, frame), old in zip(requests(chance, count), olds):
+        yield [*given, *old], 0, [frame, len(frame)]
+
+
+@drawn("read_request", "booccoo")
+def of_request(chance: Chance, count: int) -> Iterator[Drawn]:
+    olds = zip(chance.bytes(count, 10), chance.bytes(count, 19), chance.numbers(count),
+               chance.numbers(count), chance.bytes(count, 8), chance.bytes(count, 8))
+    for (_, serial, pan, _, amount, frame), old in zip(requests(chance, count), olds):
+        yield [frame, *old], 0, [serial, pan, len(pan), amount, frame[-16:-8], frame[-8:]]
+
+
+@drawn("check_request", "bb")
+def check_request(chance: Chance, count: int) -> Iterator[Drawn]:
+    for key, *_, frame in requests(chance, count):
+        yield [key, frame], 0, []
+
+
+@drawn("request_pin", "bboc")
+def request_pin(chance: Chance, count: int) -> Iterator[Drawn]:
+    olds = zip(chance.bytes(count, 12), chance.numbers(count))
+    for (key, _, _, pin, _, frame), old in zip(requests(chance, count), olds):
+        yield [key, frame, *old], 0, [pin, len(pin)]
+
+
+@drawn("reply", "bbboc")
+def reply(chance: Chance, count: int) -> Iterator[Drawn]:
+    keys, serials = chance.keys(count), chance.serials(count)
+    codes = [chance.chance.choice((*CODES, *CODES, "05")) for _ in range(count)]
+    made = many.replies(keys, serials, codes)
+    olds = zip(chance.bytes(count, FRAME_ROOM), chance.numbers(count))
+    for key, serial, code, old, frame in zip(keys, serials, codes, olds, made):
+        status = 0 if code in CODES else STATUS["NotACode"]
+        yield [key, bytes_of(serial), code.encode(), *old], status, [frame, len(frame)]
+
+
+@drawn("refusal", "bnoc")
+def refusal(chance: Chance, count: int) -> Iterator[Drawn]:
+    olds = zip(chance.bytes(count, FRAME_ROOM), chance.numbers(count))
+    for serial, old in zip(chance.serials(count), olds):
+        reason = chance.chance.randrange(8)
+        if reason in REASONS:
+            frame = write_refusal(serial, reason)
+            yield [bytes_of(serial), reason, *old], 0, [frame, len(frame)]
+        else:
+            yield [bytes_of(serial), reason, *old], STATUS["NotAReason"], []
+
+
+def replies(chance: Chance, count: int) -> Iterator[tuple[bytes, int, str, bytes]]:
+    """Key, number, code, and the reply of them."""
+    keys, serials = chance.keys(count), chance.serials(count)
+    codes = [chance.chance.choice(CODES) for _ in range(count)]
+    return zip(keys, serials, codes, many.replies(keys, serials, codes))
+
+
+@drawn("read_reply", "boo")
+def of_reply(chance: Chance, count: int) -> Iterator[Drawn]:
+    olds = zip(chance.bytes(count, 10), chance.bytes(count, 2))
+    for (_, serial, code, frame), old in zip(replies(chance, count), olds):
+        yield [frame, *old], 0, [bytes_of(serial), code.encode()]
+
+
+@drawn("read_refusal", "boc")
+def of_refusal(chance: Chance, count: int) -> Iterator[Drawn]:
+    olds = zip(chance.bytes(count, 10), chance.numbers(count))
+    for serial, old in zip(chance.serials(count), olds):
+        reason = chance.chance.choice(REASONS)
+        yield [write_refusal(serial, reason), *old], 0, [bytes_of(serial), reason]
+
+
+@drawn("check_reply", "bbb")
+def check_reply(chance: Chance, count: int) -> Iterator[Drawn]:
+    for key, serial, _, frame in replies(chance, count):
+        mine = chance.chance.random() < 0.9
+        asked = serial if mine else serial ^ 1 << chance.chance.randrange(80)
+        yield [key, bytes_of(asked), frame], 0 if mine else STATUS["NotMine"], []
+
+
+@drawn("frame_length", "bc")
+def frame_length(chance: Chance, count: int) -> Iterator[Drawn]:
+    for old, tail in zip(chance.numbers(count), chance.bytes(count, *range(6))):
+        data = b"\x00" + bytes([chance.chance.randrange(70)]) + tail
+        data = tail if chance.chance.random() < 0.2 else data
+        length = int.from_bytes(data[:2], "big")
+        fault = "PartOfFrame" if len(data) < 2 else "TooLong" if length > LONGEST_BODY else "Ok"
+        yield [data, old], STATUS[fault], [length + 2]
+
+
+# The calls of `call_cases` and those of this module, which joined them.
+ALL_CALLS = CALLS

@@ -1,0 +1,151 @@
+"""How the Python package is installed, finds its library, and refuses a wrong one."""
+from __future__ import annotations
+
+import os
+import re
+import shutil
+import subprocess
+import sys
+from pathlib import Path
+
+from .support.case import Case
+from .support.library import LibraryMissing, built_library, demand
+from .support.library_calls import CALLS
+from .support.python_library import PACKAGE, SHARED, VARIABLE
+
+FIRST = """import dukpt
+bdk = bytes.fromhex("0123456789ABCDEFFEDCBA9876543210")
+print(dukpt.derive(bdk, bytes.fromhex("FFFF9876543210E00001")).hex().upper())
+print(dukpt._library.LIBRARY._name)
+"""
+KEY = "042666B49184CFA368DE9628D0397BC9"
+SECONDS = 300
+
+
+class PackageCase(Case):
+    def setUp(self) -> None:
+        super().setUp()
+        self.home = self.folder()
+        self.library = built_library() / SHARED
+
+    def run_python(
+        self, where: Path, code: str = FIRST, *words: str, **variables: str
+    ) -> subprocess.CompletedProcess[str]:
+        """A Python of its own, with the package in a folder and these variables alone."""
+        kept = {name: value for name, value in os.environ.items()
+                if name not in (VARIABLE, "LD_LIBRARY_PATH", "PYTHONPATH")}
+        return subprocess.run(
+            [sys.executable, *words, "-c", code], cwd=self.home, capture_output=True, text=True,
+            env={**kept, "PYTHONPATH": str(where), **variables}, timeout=SECONDS, check=False)
+
+    def assert_loads(self, where: Path, library: str, **variables: str) -> None:
+        done = self.run_python(where, **variables)
+        self.assertEqual(done.stdout.splitlines(), [KEY, library], done.stderr)
+
+    def assert_refused(self, pattern: str, where: Path = PACKAGE, **variables: str) -> None:
+        done = self.run_python(where, **variables)
+        self.assertEqual((done.returncode, done.stdout), (1, ""))
+        self.assertRegex(done.stderr.splitlines()[-1], f"^ImportError: {pattern}")
+
+    def copied(self, *parts: str) -> Path:
+        """The folder of a copy of the package."""
+        folder = self.home.joinpath(*parts)
+        shutil.copytree(PACKAGE / "dukpt", folder / "dukpt",
+                        ignore=shutil.ignore_patterns("__pycache__", SHARED))
+        return folder
+
+    def place(self, *parts: str) -> str:
+        """The path of a copy of the library."""
+        path = self.home.joinpath(*parts)
+        path.parent.mkdir(parents=True, exist_ok=True)
+        shutil.copy(self.library, path)
+        return str(path)
+
+
+class TestFinding(PackageCase):
+    def test_the_order(self) -> None:
+        """Each place is taken before the next one."""
+        where = self.copied("library", "python")
+        system = self.place("system", SHARED)
+        self.assert_loads(where, SHARED, LD_LIBRARY_PATH=str(Path(system).parent))
+        built = self.place("out", "library", SHARED)
+        self.assert_loads(where, built, LD_LIBRARY_PATH=str(Path(system).parent))
+        beside = self.place("library", "python", "dukpt", SHARED)
+        self.assert_loads(where, beside)
+        named = self.place("named", "any-name.so")
+        self.assert_loads(where, named, **{VARIABLE: named})
+
+    def test_a_missing_file_that_is_named(self) -> None:
+        """No other one is taken in its place."""
+        where = self.copied("library", "python")
+        self.place("out", "library", SHARED)
+        missing = str(self.home / "missing.so")
+        self.assert_refused(rf"{SHARED} cannot be loaded \({missing}: .*tools/library builds it",
+                            where, **{VARIABLE: missing})
+
+    def test_no_repository(self) -> None:
+        """Beyond a repository out/library means nothing."""
+        where = self.copied("a", "site")
+        self.place("out", "library", SHARED)
+        system = self.place("system", SHARED)
+        self.assert_loads(where, SHARED, LD_LIBRARY_PATH=str(Path(system).parent))
+
+
+class TestWrongLibraries(PackageCase):
+    """Stand-ins that are no library of this version."""
+
+    def stand_in(self, version: int, without: str = "") -> str:
+        demand("gcc")
+        names = [name for name in CALLS if name not in ("dukpt_version", without)]
+        code = f"unsigned dukpt_version(void) {{ return {version}; }}\n"
+        code += "".join(f"unsigned {name}(void) {{ return 1; }}\n" for name in names)
+        source, made = self.home / "stand_in.c", self.home / "stand_in.so"
+        source.write_text(code)
+        subprocess.run(["gcc", "-shared", "-fPIC", "-o", made, source], check=True)
+        return str(made)
+
+    def test_another_version(self) -> None:
+        for version, text in ((0x000101, "0.1.1"), (0x000200, "0.2.0"), (0x010100, "1.1.0")):
+            made = self.stand_in(version)
+            self.assert_refused(
+                rf"dukpt is 0\.1\.0, and its library {made} is {re.escape(text)}: install both",
+                **{VARIABLE: made})
+
+    def test_a_call_that_is_missing(self) -> None:
+        made = self.stand_in(0x000100, "dukpt_wrap")
+        self.assert_refused(rf"{made} has no dukpt_wrap", **{VARIABLE: made})
+
+    def test_no_library(self) -> None:
+        text = self.home / "text.so"
+        text.write_text("no library")
+        self.assert_refused(rf"{SHARED} cannot be loaded", **{VARIABLE: str(text)})
+
+
+class TestInstalling(PackageCase):
+    def test_pip(self) -> None:
+        """pip installs the folder without a network, and the library with it where it is built."""
+        pip = [sys.executable, "-m", "pip"]
+        if subprocess.run([*pip, "--version"], capture_output=True, check=False).returncode:
+            raise LibraryMissing("pip is not installed: apt-get install python3-pip")
+        where = self.copied("library", "python")
+        shutil.copy(PACKAGE / "pyproject.toml", where)
+        shutil.copytree(PACKAGE / "backend", where / "backend",
+                        ignore=shutil.ignore_patterns("__pycache__"))
+        self.place("out", "library", SHARED)
+        target = self.home / "installed"
+        done = subprocess.run(
+            [*pip, "install", "--quiet", "--no-index", "--target", target, where],
+            cwd=self.home, capture_output=True, text=True, timeout=SECONDS, check=False)
+        self.assertEqual(done.returncode, 0, done.stderr)
+        shutil.rmtree(where)
+        self.assert_loads(target, str(target / "dukpt" / SHARED))
+        has = {it.name for it in (target / "dukpt").iterdir()} - {"__pycache__", SHARED}
+        should = {it.name for it in (PACKAGE / "dukpt").iterdir()} - {"__pycache__", SHARED}
+        self.assertEqual(has, should)
+        self.assertIn("py.typed", has)
+
+    def test_without_docstrings(self) -> None:
+        """Under -OO a fault still has its name and its number."""
+        code = "import dukpt\ntry: dukpt.number(b'')\nexcept dukpt.DukptError as why: print(why)"
+        done = self.run_python(PACKAGE, code, "-OO", **{VARIABLE: str(self.library)})
+        self.assertEqual((done.stdout, done.stderr), ("NotAnImage (5)\n", ""))
