@@ -1,0 +1,186 @@
+"""The packages, each with its files: what a user of Debian expects, where Debian has it."""
+from __future__ import annotations
+
+import gzip
+import re
+import tomllib
+from dataclasses import dataclass
+from pathlib import Path
+from typing import Iterator, Sequence
+
+from .archive import plain, scripts
+from .binaries import ARCHITECTURE, PROGRAM, SHARED, STATIC, TRIPLET, needed, stripped
+from .control import Package
+from .items import EXECUTABLE, Item, Refused, read
+
+LIBRARIES = f"usr/lib/{TRIPLET}"
+MODULES = "usr/lib/python3/dist-packages"
+SHARED_NAME = "libdukpt.so.0"
+# What whoever runs the program reads, and who calls the library. The others are for those who change
+# them.
+OF_PROGRAM = ("COMMANDS", "DECISIONS", "DEPLOYMENT", "FORMATS", "GLOSSARY", "OPERATION", "PROVED",
+              "RECIPES", "SECURITY", "TESTED")
+OF_LIBRARY = ("FORMATS", "GLOSSARY", "LIBRARY")
+MADE_BY_LIBRARY = "tools/library builds it, or --library names its folder"
+
+
+@dataclass(frozen=True)
+class Sources:
+    """What packages are made of: the repository, the built program, the folder of the library."""
+
+    root: Path
+    program: Path
+    library: Path
+    version: str
+
+    def share(self, *path: str) -> bytes:
+        return read(self.root.joinpath("share", *path))
+
+
+def packages(sources: Sources) -> list[Package]:
+    return [program(sources), runtime(sources), development(sources), python(sources)]
+
+
+# The program
+
+
+def program(sources: Sources) -> Package:
+    return Package(
+        "dukpt", ARCHITECTURE, "utils",
+        "payment host, HSM and PIN terminals keyed by TDES DUKPT",
+        """\
+A set of tools to compare other implementations of ANSI X9.24-1:2009 annex A
+with: keys, PIN blocks, key blocks, a simulator of terminals, network and
+host, and a service that answers request frames and accepts each key serial
+number at most once.
+
+Use test keys alone: it is no certified payment host and no certified HSM.""",
+        [*program_files(sources), *service_files(sources), *examples(sources),
+         *documents(sources, "dukpt", OF_PROGRAM),
+         Item("usr/share/doc/dukpt/README.md", read(sources.root / "README.md"))],
+        scripts(sources.root / "share/debian", "dukpt"),
+        [*needed(sources.program), "python3:any (>= 3.9)",
+         "systemd | systemd-standalone-sysusers | systemd-sysusers",
+         "systemd | systemd-standalone-tmpfiles | systemd-tmpfiles"],
+        {"Suggests": "haproxy, socat"})
+
+
+def program_files(sources: Sources) -> Iterator[Item]:
+    yield Item("usr/bin/dukpt", stripped(sources.program, PROGRAM), EXECUTABLE)
+    completions = (("dukpt.bash", "bash-completion/completions/dukpt"),
+                   ("_dukpt", "zsh/vendor-completions/_dukpt"),
+                   ("dukpt.fish", "fish/vendor_completions.d/dukpt.fish"))
+    for name, place in completions:
+        yield Item(f"usr/share/{place}", sources.share("completions", name))
+
+
+def service_files(sources: Sources) -> Iterator[Item]:
+    for name in ("dukpt-serve", "dukpt-copy-log"):
+        yield Item(f"usr/bin/{name}", sources.share("deploy", name), EXECUTABLE)
+    for name in ("dukpt", "dukpt-serve", "dukpt-copy-log"):
+        yield Item(f"usr/share/man/man1/{name}.1.gz",
+                   compressed(sources.share("man", f"{name}.1")))
+    for name in ("dukpt.socket", "dukpt@.service"):
+        yield Item(f"usr/lib/systemd/system/{name}", sources.share("deploy", name))
+    for kind in ("sysusers", "tmpfiles"):
+        yield Item(f"usr/lib/{kind}.d/dukpt.conf", sources.share("debian", f"dukpt.{kind}"))
+
+
+def examples(sources: Sources) -> Iterator[Item]:
+    folder = "usr/share/doc/dukpt/examples"
+    yield Item(f"{folder}/haproxy.cfg", sources.share("deploy", "haproxy.cfg"))
+    for path in sorted((sources.root / "examples").iterdir()):
+        yield Item(f"{folder}/{path.name}", read(path))
+
+
+def documents(sources: Sources, package: str, names: Sequence[str]) -> Iterator[Item]:
+    """Documents, which stand as in the repository, so that their links lead to one another."""
+    for name in names:
+        path = Path("docs") / f"{name}.md"
+        yield Item(f"usr/share/doc/{package}/{path}", read(sources.root / path))
+
+
+# The library
+
+
+def runtime(sources: Sources) -> Package:
+    path = sources.library / SHARED_NAME
+    return Package(
+        "libdukpt0", ARCHITECTURE, "libs",
+        "proved library of TDES DUKPT",
+        """\
+Keys, registers, ciphers, MACs, PIN blocks, key blocks and frames of TDES
+DUKPT (ANSI X9.24-1:2009 annex A). Each call is proved against its contract.
+
+This package has the shared library.""",
+        [Item(f"{LIBRARIES}/{SHARED_NAME}", stripped(path, SHARED))],
+        [plain("shlibs", f"libdukpt 0 libdukpt0 (>= {sources.version})\n"),
+         plain("triggers", "activate-noawait ldconfig\n")],
+        needed(path), {"Multi-Arch": "same"})
+
+
+def development(sources: Sources) -> Package:
+    archive = stripped(sources.library / "libdukpt.a", STATIC)
+    return Package(
+        "libdukpt-dev", ARCHITECTURE, "libdevel",
+        "proved library of TDES DUKPT: files to compile with",
+        """\
+Keys, registers, ciphers, MACs, PIN blocks, key blocks and frames of TDES
+DUKPT (ANSI X9.24-1:2009 annex A). Each call is proved against its contract.
+
+This package has the header, the static library, and what pkg-config reads.""",
+        [Item("usr/include/dukpt.h", read(sources.library / "dukpt.h", MADE_BY_LIBRARY)),
+         Item(f"{LIBRARIES}/libdukpt.a", archive),
+         Item(f"{LIBRARIES}/libdukpt.so", target=SHARED_NAME),
+         Item(f"{LIBRARIES}/pkgconfig/dukpt.pc", module_file(sources)),
+         *documents(sources, "libdukpt-dev", OF_LIBRARY),
+         *library_examples(sources, "libdukpt-dev", (".c", ".h"))],
+        depends=[f"libdukpt0 (= {sources.version})"],
+        fields={"Suggests": "pkg-config", "Multi-Arch": "same"})
+
+
+def module_file(sources: Sources) -> bytes:
+    """What pkg-config reads, with the folders of Debian."""
+    path = sources.library / "dukpt.pc"
+    text = read(path, MADE_BY_LIBRARY).decode()
+    for name, value in (("prefix", "/usr"), ("libdir", f"${{prefix}}/lib/{TRIPLET}"),
+                        ("includedir", "${prefix}/include")):
+        text, count = re.subn(rf"^{name}=.*$", f"{name}={value}", text, flags=re.M)
+        if count != 1:
+            raise Refused(f"{path}: it has {count} lines {name}=, and not one")
+    return text.encode()
+
+
+def library_examples(sources: Sources, package: str, suffixes: Sequence[str]) -> Iterator[Item]:
+    """The whole examples of one language."""
+    for path in sorted((sources.root / "library/examples").iterdir()):
+        if path.suffix in suffixes:
+            yield Item(f"usr/share/doc/{package}/examples/{path.name}", read(path))
+
+
+def python(sources: Sources) -> Package:
+    folder = sources.root / "library/python"
+    project = tomllib.loads(read(folder / "pyproject.toml").decode())["project"]
+    about = (f"Metadata-Version: 2.1\nName: dukpt\nVersion: {sources.version}\n"
+             f"Summary: {project['description']}\nRequires-Python: {project['requires-python']}\n")
+    oldest = project["requires-python"].removeprefix(">=")
+    modules = [it for it in sorted((folder / "dukpt").iterdir())
+               if it.suffix == ".py" or it.name == "py.typed"]
+    return Package(
+        "python3-dukpt", "all", "python",
+        "proved library of TDES DUKPT: Python package",
+        """\
+Keys, registers, ciphers, MACs, PIN blocks, key blocks and frames of TDES
+DUKPT (ANSI X9.24-1:2009 annex A). Each call is proved against its contract.
+
+This package has the Python package dukpt, which calls the shared library.""",
+        [*(Item(f"{MODULES}/dukpt/{it.name}", read(it)) for it in modules),
+         plain(f"{MODULES}/dukpt-{sources.version}.dist-info/METADATA", about),
+         *documents(sources, "python3-dukpt", OF_LIBRARY),
+         *library_examples(sources, "python3-dukpt", (".py",))],
+        scripts(sources.root / "share/debian", "python3-dukpt"),
+        [f"libdukpt0 (>= {sources.version})", f"python3:any (>= {oldest})"])
+
+
+def compressed(data: bytes) -> bytes:
+    return gzip.compress(data, 9, mtime=0)
