@@ -1,0 +1,87 @@
+// The parts of a key block's text, and where a fault points to (docs/FORMATS.md, "Key block").
+import { STATUS } from "./faults.js";
+import { WORDS } from "./block_words.js";
+
+const VERSIONS = {
+  A: "version A: variant binding, TDES", B: "version B: derivation binding, TDES",
+  C: "version C: variant binding, TDES", D: "version D: derivation binding, AES",
+};
+const HEADER = [
+  ["version", 0, 1, (text) => VERSIONS[text] ?? "no version of the standard"],
+  ["length", 1, 4, (text) => `the block says that it has ${text} characters`],
+  ["usage", 5, 2, WORDS.usage],
+  ["algorithm", 7, 1, WORDS.algorithm],
+  ["mode", 8, 1, WORDS.mode],
+  ["key-version", 9, 2, WORDS["key-version"]],
+  ["exportability", 11, 1, WORDS.exportability],
+  ["count", 12, 2, (text) => (text === "00" ? "no optional blocks" : `${text} optional blocks`)],
+  ["reserved", 14, 2, () => "reserved"],
+];
+const LEAST_REST = 64;
+const MAC = 16;
+
+/** The optional blocks as far as they are right, and where they end or the wrong one begins. */
+function optionalParts(text) {
+  const count = /^\d\d$/.test(text.slice(12, 14)) ? Number(text.slice(12, 14)) : 0;
+  const parts = [];
+  let at = 16;
+  for (let number = 1; number <= count; number += 1) {
+    const digits = text.slice(at + 2, at + 4);
+    const length = /^[0-9A-Fa-f]{2}$/.test(digits) ? parseInt(digits, 16) : 0;
+    if (length < 4 || at + length > text.length) return { parts, at, isWrong: true };
+    const meaning = WORDS.optional(text.slice(at, at + 2));
+    parts.push({ name: `optional-${number}`, at, length, meaning });
+    at += length;
+  }
+  const rest = text.length - at;
+  return { parts, at, isWrong: rest < LEAST_REST || rest % 16 !== 0 };
+}
+
+/** The parts that a text has: name, first character, length, meaning. */
+export function partsOf(text) {
+  const parts = [];
+  for (const [name, at, length, words] of HEADER) {
+    const part = text.slice(at, at + length);
+    if (part.length === length) parts.push({ name, at, length, meaning: words(part) });
+  }
+  const optional = optionalParts(text);
+  parts.push(...optional.parts);
+  const rest = text.length - optional.at;
+  if (rest <= 0) return parts;
+  const isWhole = !optional.isWrong;
+  const length = isWhole ? rest - MAC : rest;
+  const meaning = isWhole ? `the enciphered payload, ${length / 2} bytes` : "what follows the header";
+  parts.push({ name: "ciphertext", at: optional.at, length, meaning });
+  if (isWhole) parts.push({ name: "mac", at: text.length - MAC, length: MAC, meaning: "the MAC" });
+  return parts;
+}
+
+/** The first and the last character that a fault of unwrapping points to. */
+export function placeOfFault(text, number) {
+  const last = Math.max(text.length - 1, 0);
+  const optional = optionalParts(text);
+  switch (number) {
+    case STATUS.BLOCK_LENGTH: {
+      const isSize = text.length >= 80 && text.length <= 512 && text.length % 8 === 0;
+      return isSize ? [1, 4] : [0, last];
+    }
+    case STATUS.BLOCK_VERSION:
+      return [0, 0];
+    case STATUS.BLOCK_HEADER_FIELD: {
+      const at = text.slice(5, 12).search(/[^ -~]/);
+      return at < 0 ? [12, 13] : [5 + at, 5 + at];
+    }
+    case STATUS.BLOCK_HEX: {
+      const at = optional.at + text.slice(optional.at).search(/[^0-9A-Fa-f]/);
+      return [at, at];
+    }
+    case STATUS.BLOCK_OPTIONAL_BLOCK:
+      return [Math.min(optional.at, last), last];
+    case STATUS.BLOCK_MAC:
+      return [text.length - MAC, last];
+    case STATUS.BLOCK_PAYLOAD:
+      return [optional.at, last - MAC];
+    default:
+      return [0, last];
+  }
+}

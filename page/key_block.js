@@ -1,0 +1,93 @@
+// The panel "Key block": unwrap and wrap (ANSI X9.143, version B).
+import { partsOf, placeOfFault } from "./block_parts.js";
+import { WORDS } from "./block_words.js";
+import * as calls from "./calls.js";
+import { Fault, STATUS } from "./faults.js";
+import { attempt, element, follow, made, read, renew, setFault, show } from "./fields.js";
+import { ascii, bytesOf, characters, hex, joined, tdesKey, utf8 } from "./hexadecimal.js";
+
+const HEADER = [["usage", 2], ["algorithm", 1], ["mode", 1], ["version", 2], ["exportability", 1]];
+
+function partRow(text, { name, at, length, meaning }, range) {
+  const last = at + length - 1;
+  const isWrong = range && at <= range[1] && last >= range[0];
+  const row = made("tr", "", { "data-part": name, ...(isWrong ? { class: "wrong" } : {}) });
+  const places = length === 1 ? `${at}` : `${at} to ${last}`;
+  row.append(made("td", places, { class: "characters" }));
+  row.append(made("td", text.slice(at, last + 1), { class: "text" }));
+  row.append(made("td", isWrong ? `${meaning}: here is the fault` : meaning, { class: "meaning" }));
+  return row;
+}
+
+function showParts(text, range) {
+  const rows = partsOf(text).map((it) => partRow(text, it, range));
+  element("unwrap-parts").replaceChildren(...rows);
+}
+
+/** Spaces around a pasted block, and line feeds in it, are no part of it. */
+const blockText = (text) => text.trim().replace(/[\r\n]/g, "");
+
+function unwrap() {
+  renew(element("block-unwrap"));
+  const text = read("unwrap-text", blockText);
+  const kbpk = read("unwrap-kbpk", tdesKey);
+  showParts(text);
+  if (!kbpk) return;
+  try {
+    const { key } = calls.unwrap(kbpk, utf8(text));
+    show("unwrap-key", hex(key));
+    show("unwrap-kcv", hex(calls.checkValue(key)));
+    show("unwrap-cmac", hex(calls.cmacCheckValue(key)));
+    show("unwrap-mac", text.slice(-16).toUpperCase());
+  } catch (fault) {
+    if (!(fault instanceof Fault)) throw fault;
+    const range = placeOfFault(text, fault.number);
+    const [from, to] = range;
+    const place = from === to ? `Character ${from}` : `Characters ${from} to ${to}`;
+    setFault("unwrap-text", `${fault.name}: ${fault.message}. ${place} of ${text.length}.`, range);
+    showParts(text, range);
+  }
+}
+
+/** Shows the header fields of the key block to be made in words. */
+function showWords() {
+  for (const [name] of HEADER) {
+    const words = WORDS[name === "version" ? "key-version" : name];
+    const text = element(`wrap-${name}`).value;
+    element(`wrap-${name}-words`).textContent = text ? words(text) : "";
+  }
+}
+
+function wrap() {
+  renew(element("block-wrap"));
+  showWords();
+  const kbpk = read("wrap-kbpk", tdesKey);
+  const fields = HEADER.map(([name, count]) => read(`wrap-${name}`, characters(count)));
+  const key = read("wrap-key", tdesKey);
+  const padding = read("wrap-padding", bytesOf);
+  if ([kbpk, ...fields, key, padding].includes(undefined)) return;
+  attempt(
+    (fault) => (fault.number === STATUS.BLOCK_PAD_LENGTH ? "wrap-padding" : wrongField()),
+    () => show("wrap-text", ascii(calls.wrap(kbpk, joined(...fields), key, padding))),
+  );
+}
+
+/** The first header field with a character that cannot be printed. */
+function wrongField() {
+  const [name] = HEADER.find(([it]) => /[^ -~]/.test(element(`wrap-${it}`).value)) ?? ["usage"];
+  return `wrap-${name}`;
+}
+
+/** Puts random padding in its field: as much as fills the last block, and hides a key's length. */
+function pad() {
+  const key = read("wrap-key", tdesKey);
+  const bytes = new Uint8Array(key?.length === 24 ? 6 : 14);
+  element("wrap-padding").value = hex(crypto.getRandomValues(bytes));
+  wrap();
+}
+
+export function startBlock() {
+  follow(element("block-unwrap"), unwrap);
+  follow(element("block-wrap"), wrap);
+  element("wrap-random").addEventListener("click", pad);
+}

@@ -1,0 +1,305 @@
+"""The page in use: by the keyboard alone, with labels, readable in both schemes, on narrow screens,
+and at once."""
+from __future__ import annotations
+
+import math
+import os
+import statistics
+from pathlib import Path
+from typing import Callable
+
+from .support.browser import END, HOME, LEFT, RIGHT, TAB, page_address
+from .support.call_cases import Chance
+from .support.dukpt import serial_text
+from .support.page_case import PANELS, READY, PageCase
+from .support.page_values import BASE, IKSN, upper
+
+# Where screenshots go; without it none is made.
+SHOTS = "DUKPT_PAGE_SHOTS"
+WIDTHS = (360, 1280)
+LEAST_CONTRAST = 4.5
+# A frame of a screen with 60 of them a second.
+FRAME_MILLISECONDS = 16
+ROUNDS = 3
+# The most processor time of a change, its painting included, on a machine that is too busy to tell.
+BUSY_MILLISECONDS = 2 * FRAME_MILLISECONDS
+SCHEMES = ("light", "dark")
+
+# What of a panel can take the focus: of radio buttons of one name the chosen one does.
+FOCUSED = """
+const shown = (it) => it.checkVisibility({ visibilityProperty: true }) && !it.disabled
+  && !(it.type === "radio" && !it.checked);
+return [...document.querySelectorAll(
+  `#panel-${arguments[0]} :is(input, select, textarea, button), #panel-${arguments[0]} summary`)]
+  .filter(shown).map((it) => it.id || it.dataset.copies);"""
+# Fields and buttons without a name that a screen reader says.
+NAMELESS = """
+const text = (it) => it.textContent.trim();
+const named = (it) => it.getAttribute("aria-label") || (it.tagName === "BUTTON" ? text(it)
+  : [...(it.labels || [])].some((label) => text(label)));
+return [...document.querySelectorAll("input, select, textarea, button, svg[role=img]")]
+  .filter((it) => !named(it)).map((it) => it.id || it.outerHTML);"""
+# Puts a wrong value into each field of a panel.
+SPOIL = """
+for (const it of document.querySelectorAll(`#panel-${arguments[0]} :is(
+    input:not([type=radio], [type=range], [type=file]), textarea)`)) {
+  it.value = "wrong";
+  it.dispatchEvent(new Event("input", { bubbles: true }));
+}"""
+# Each text that is seen, with its contrast to what is behind it, where that is too small.
+FAINT = """
+const parse = (text) => {
+  const found = text.match(/^rgba?\\(([\\d.]+), ([\\d.]+), ([\\d.]+)(?:, ([\\d.]+))?\\)$/);
+  if (!found) throw new Error("this colour is not understood: " + text);
+  return [Number(found[1]), Number(found[2]), Number(found[3]), Number(found[4] ?? 1)];
+};
+const over = (top, below) => {
+  const part = top[3];
+  return [0, 1, 2].map((at) => top[at] * part + below[at] * (1 - part)).concat(1);
+};
+const light = (color) => {
+  const [red, green, blue] = color.map((it) => {
+    const part = it / 255;
+    return part <= 0.04045 ? part / 12.92 : ((part + 0.055) / 1.055) ** 2.4;
+  });
+  return 0.2126 * red + 0.7152 * green + 0.0722 * blue;
+};
+const contrast = (one, other) => {
+  const [low, high] = [light(one), light(other)].sort((a, b) => a - b);
+  return (high + 0.05) / (low + 0.05);
+};
+const isDark = matchMedia("(prefers-color-scheme: dark)").matches;
+const canvas = isDark ? [18, 18, 18, 1] : [255, 255, 255, 1];
+const ground = (element) => {
+  const layers = [];
+  for (let it = element; it; it = it.parentElement) {
+    layers.push(parse(getComputedStyle(it).backgroundColor));
+  }
+  return layers.reverse().reduce((below, top) => over(top, below), canvas);
+};
+const opacity = (element) => {
+  let whole = 1;
+  for (let it = element; it; it = it.parentElement) whole *= Number(getComputedStyle(it).opacity);
+  return whole;
+};
+const found = [];
+let count = 0;
+const look = (element, text) => {
+  if (!element.checkVisibility({ visibilityProperty: true })) return;
+  if (element.disabled || !text.trim()) return;
+  if (element.closest("script, style, title, noscript, option")) return;
+  const style = getComputedStyle(element);
+  const behind = ground(element);
+  const ink = parse(element.ownerSVGElement ? style.fill : style.color);
+  ink[3] *= opacity(element);
+  const has = contrast(over(ink, behind), behind);
+  count += 1;
+  if (has < arguments[0]) found.push([element.id || element.className.baseVal || element.className
+    || element.tagName, text.trim().slice(0, 40), Math.round(has * 100) / 100]);
+};
+const walker = document.createTreeWalker(document.body, NodeFilter.SHOW_TEXT);
+while (walker.nextNode()) look(walker.currentNode.parentElement, walker.currentNode.data);
+for (const field of document.querySelectorAll("input, textarea, select")) look(field, field.value);
+return [count, found];"""
+# How long changes take, each from its event to the laid out page.
+TIMED_TYPING = """
+const [field, texts, result] = arguments;
+const element = document.getElementById(field);
+const times = texts.map((text) => {
+  const began = performance.now();
+  element.value = text;
+  element.dispatchEvent(new Event("input", { bubbles: true }));
+  document.body.getBoundingClientRect();
+  const took = performance.now() - began;
+  if (!document.getElementById(result).textContent) throw new Error("no result of " + text);
+  return took;
+});
+return times;"""
+TIMED_SLIDING = """
+const [places] = arguments;
+const slider = document.getElementById("tree-slider");
+const times = [];
+for (const place of places) {
+  await new Promise((done) => {
+    let began;
+    // Of one frame the first and the last job; between them is the page's.
+    requestAnimationFrame(() => { began = performance.now(); });
+    slider.value = place;
+    const event = performance.now();
+    slider.dispatchEvent(new Event("input", { bubbles: true }));
+    const direct = performance.now() - event;
+    requestAnimationFrame(() => {
+      document.body.getBoundingClientRect();
+      times.push(direct + performance.now() - began);
+      done();
+    });
+  });
+}
+return times;"""
+
+
+class TestKeyboard(PageCase):
+    def focused(self) -> str:
+        return self.browser.run(
+            "const it = document.activeElement; return it.id || it.dataset.copies || it.tagName;")
+
+    def test_tabs(self) -> None:
+        """Arrows, Home and End move among the tabs, and show their panels."""
+        self.browser.element("#tab-derive").click()
+        for keys, panel in (((RIGHT,), "tree"), ((RIGHT, RIGHT), "block"), ((LEFT,), "pin"),
+                            ((END,), "frame"), ((RIGHT,), "derive"), ((LEFT,), "frame"),
+                            ((HOME,), "derive")):
+            self.browser.press(*keys)
+            self.assertEqual(self.focused(), f"tab-{panel}")
+            self.assertEqual(self.browser.run(
+                "return [...document.querySelectorAll('[role=tabpanel]')].filter("
+                "(it) => it.checkVisibility()).map((it) => it.id);"), [f"panel-{panel}"])
+            self.assertEqual(self.browser.run(
+                "return [...document.querySelectorAll('[role=tab]')].filter((it) =>"
+                " it.tabIndex === 0 && it.getAttribute('aria-selected') === 'true').map("
+                "(it) => it.id);"), [f"tab-{panel}"])
+
+    def test_fields(self) -> None:
+        """The Tab key reaches each field and button of each panel, in their order on the page."""
+        for at, panel in enumerate(PANELS):
+            self.browser.run("document.getElementById(arguments[0]).focus();", f"tab-{PANELS[0]}")
+            self.browser.press(HOME, *[RIGHT] * at)
+            wanted = self.browser.run(FOCUSED, panel)
+            reached: list[str] = []
+            while len(reached) < 4 * len(wanted) + 20:
+                self.browser.press(TAB)
+                name = self.focused()
+                if name == "BODY" or name in reached:
+                    break
+                reached.append(name)
+            self.assertEqual([it for it in reached if it in wanted], wanted, panel)
+
+    def test_seen_focus(self) -> None:
+        """What has the focus by the keyboard is marked by an outline."""
+        self.browser.element("#tab-derive").click()
+        for _ in range(5):
+            self.browser.press(TAB)
+            width = self.browser.run(
+                "return parseFloat(getComputedStyle(document.activeElement).outlineWidth);")
+            self.assertGreaterEqual(width, 2, self.focused())
+
+
+class TestLooks(PageCase):
+    def test_labels(self) -> None:
+        self.assertEqual(self.browser.run(NAMELESS), [])
+        self.assertEqual(self.browser.run(
+            "return [document.documentElement.lang, document.title !== '', "
+            "document.querySelectorAll('h1').length];"), ["en", True, 1])
+
+    def test_contrast(self) -> None:
+        """In both schemes, of each panel, with and without faults."""
+        for scheme in SCHEMES:
+            self.browser.prefer(prefers_color_scheme=scheme)
+            self.open()
+            for is_faulty in (False, True):
+                for panel in PANELS:
+                    self.show(panel)
+                    if is_faulty:
+                        self.browser.run(SPOIL, panel)
+                    count, faint = self.browser.run(FAINT, LEAST_CONTRAST)
+                    self.assertEqual(faint, [], f"{scheme} {panel}")
+                    self.assertGreater(count, 15)
+
+    def test_widths(self) -> None:
+        """No panel is wider than a narrow screen; a picture of each, where they are asked for."""
+        for width in WIDTHS:
+            self.browser.resize(width, 800)
+            self.open()
+            for panel in PANELS:
+                self.show(panel)
+                wide = self.browser.run("return document.scrollingElement.scrollWidth;")
+                self.assertLessEqual(wide, width, panel)
+                self.picture(panel, width)
+
+    def picture(self, panel: str, width: int) -> None:
+        folder = os.environ.get(SHOTS)
+        if not folder:
+            return
+        Path(folder).mkdir(parents=True, exist_ok=True)
+        for scheme in SCHEMES:
+            self.browser.prefer(prefers_color_scheme=scheme)
+            self.browser.screenshot(Path(folder) / f"{panel}-{width}-{scheme}.png")
+        self.browser.prefer()
+
+
+class TestSpeed(PageCase):
+    """Each change is shown within a frame, in one of some rounds by the clock. Where the machine is
+    too busy for that, the processor time of the page's thread counts, which has painting in it."""
+
+    def setUp(self) -> None:
+        super().setUp()
+        self.browser.command("Performance.enable")
+        self.addCleanup(self.browser.command, "Performance.disable")
+
+    def thread_milliseconds(self) -> float:
+        """The processor time of the page's thread until now."""
+        metrics = self.browser.command("Performance.getMetrics")["metrics"]
+        return 1000 * next(it["value"] for it in metrics if it["name"] == "ThreadTime")
+
+    def assert_at_once(self, what: str, measured: Callable[[], list[float]]) -> None:
+        """That of 200 changes half are shown within a frame."""
+        medians: list[float] = []
+        began = self.thread_milliseconds()
+        while len(medians) < ROUNDS and min(medians, default=math.inf) > FRAME_MILLISECONDS:
+            times = measured()
+            self.assertEqual(len(times), 200)
+            medians.append(statistics.median(times))
+        spent = (self.thread_milliseconds() - began) / (200 * len(medians))
+        clock = " ".join(f"{it:.1f}" for it in medians)
+        self.tells(f"{what}: median {clock} ms by the clock, {spent:.1f} ms of processor time")
+        self.assertGreater(spent, 0)
+        if min(medians) > FRAME_MILLISECONDS:
+            self.assertLessEqual(spent, BUSY_MILLISECONDS, f"{what}: {clock} ms by the clock")
+
+    def test_derivation(self) -> None:
+        """Changes of the number and of the key."""
+        chance = Chance(self.chance)
+        self.set(derive_bdk=BASE, derive_ksn=serial_text(IKSN + 1))
+
+        def measured() -> list[float]:
+            numbers = list(map(serial_text, chance.usables(100)))
+            keys = list(map(upper, chance.keys(100)))
+            return (self.browser.run(TIMED_TYPING, "derive-ksn", numbers, "derive-pin-key")
+                    + self.browser.run(TIMED_TYPING, "derive-bdk", keys, "derive-pin-key"))
+
+        self.assert_at_once("derivation", measured)
+
+    def test_slider(self) -> None:
+        self.show("tree")
+        self.set(tree_bdk=BASE, tree_ksn=serial_text(IKSN + 1))
+
+        def measured() -> list[float]:
+            places = [self.chance.randrange(1, 1 << 20) for _ in range(200)]
+            return self.browser.run_async(TIMED_SLIDING, places)
+
+        self.assert_at_once("slider", measured)
+
+
+class TestOldBrowser(PageCase):
+    """Where a browser has no 64-bit memory, a sentence stands in the place of the panels."""
+
+    def test_without_module(self) -> None:
+        for script in ("delete window.WebAssembly;", "WebAssembly.validate = () => false;"):
+            name = self.browser.command(
+                "Page.addScriptToEvaluateOnNewDocument", source=script)["identifier"]
+            try:
+                self.check_sentence()
+            finally:
+                self.browser.command("Page.removeScriptToEvaluateOnNewDocument", identifier=name)
+
+    def check_sentence(self) -> None:
+        self.browser.open("about:blank")
+        self.browser.open(page_address(self.path))
+        self.browser.wait_until("return document.documentElement.dataset.state !== 'loading';")
+        self.assertFalse(self.browser.run(READY))
+        said = self.browser.element("#unsupported")
+        self.assertIn("64-bit", said.text)
+        self.assertEqual(said.attribute("role"), "alert")
+        self.assertFalse(self.browser.run(
+            "return document.getElementById('work').checkVisibility();"))
+        self.assert_quiet()

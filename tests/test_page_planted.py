@@ -1,0 +1,110 @@
+"""Faults that are put into copies of the page: the tests of the page find each of them."""
+from __future__ import annotations
+
+import base64
+import hashlib
+import re
+import unittest
+from dataclasses import dataclass
+from pathlib import Path
+from typing import Sequence
+
+from . import test_page_faults, test_page_frames, test_page_manners, test_page_panels
+from . import test_page_policy, test_page_registers
+from .support.case import Case
+from .support.page_case import PageCase
+
+# A text of the page's, and what stands in its place.
+Change = tuple[str, str]
+# What the policy names by its bytes.
+NAMED = re.compile(r'<(style)>(.*?)</style>|<(script) type="module">(.*?)</script>', re.S)
+
+
+@dataclass(frozen=True)
+class Plant:
+    """A fault by what it does, its changes, and the test that has to fail."""
+
+    what: str
+    changes: Sequence[Change]
+    case: type[PageCase]
+    test: str
+
+
+PLANTS = (
+    Plant("the response key stands as the request key",
+          [('"request", calls.requestKey(key)', '"request", calls.responseKey(key)')],
+          test_page_panels.TestDerive, "test_random"),
+    Plant("the two check values are swapped",
+          [("show(`derive-${kind}-kcv`, hex(calls.checkValue(key)))",
+            "show(`derive-${kind}-kcv`, hex(calls.cmacCheckValue(key)))")],
+          test_page_panels.TestDerive, "test_standard"),
+    Plant("the bytes of a counter are swapped",
+          [("counter >> 8 & 255, counter & 255]", "counter & 255, counter >> 8 & 255]")],
+          test_page_panels.TestDerive, "test_steps"),
+    Plant("a length is read from its other end",
+          [("getUint32(at, true)", "getUint32(at, false)")],
+          test_page_panels.TestPins, "test_vectors"),
+    Plant("an amount is read from its other end",
+          [("bytes.reduce((sum", "bytes.reduceRight((sum")],
+          test_page_frames.TestFrames, "test_random"),
+    Plant("a key is shown a register too low",
+          [("FIRST_KEY + 16 * place", "FIRST_KEY + 16 * ((place + 1) % BITS)")],
+          test_page_registers.TestTakes, "test_from_the_first"),
+    Plant("a register has the number of the next one",
+          [("const front = [BITS - place,", "const front = [BITS - place - 1,")],
+          test_page_registers.TestPlaces, "test_slider"),
+    Plant("a result stays behind a fault",
+          [('for (const output of part.querySelectorAll("output")) show(output.id, "");', "")],
+          test_page_faults.TestFields, "test_each"),
+    Plant("a MAC is said to be right without a look",
+          [("{ job(); return ", "{ return ")], test_page_frames.TestFrames, "test_random"),
+    Plant("the address has a key",
+          [('<input id="derive-bdk"', '<input id="derive-bdk" data-link="ksn"'),
+           ("[0-9A-Fa-f]{20}$/, amount", "[0-9A-Fa-f]{20,32}$/, amount")],
+          test_page_policy.TestAddress, "test_fragment"),
+    Plant("a text is faint", [("--soft: #525b66", "--soft: #8f98a3")],
+          test_page_manners.TestLooks, "test_contrast"),
+    Plant("a field has no label",
+          [('<label for="derive-ksn">Key serial number (KSN)</label>', "Key serial number (KSN)")],
+          test_page_manners.TestLooks, "test_labels"),
+)
+
+
+class TestPlanted(Case):
+    weight = 10
+
+    def test_each(self) -> None:
+        page = PageCase.path.read_text(encoding="utf-8")
+        home = self.folder()
+        for plant in PLANTS:
+            with self.subTest(plant.what):
+                copy = home / "dukpt.html"
+                copy.write_text(self.planted(page, plant), encoding="utf-8")
+                self.check_found(plant, copy)
+        self.tells(f"{len(PLANTS)} faults")
+
+    def planted(self, page: str, plant: Plant) -> str:
+        """The page with a fault, and with a policy that knows its bytes."""
+        for old, new in plant.changes:
+            self.assertEqual(page.count(old), 1, f"{plant.what}: the page has not once {old}")
+            page = page.replace(old, new)
+        made = page
+        for it in NAMED.finditer(page):
+            kind, text = it[1] or it[3], it[2] or it[4] or ""
+            made = re.sub(rf"{kind}-src 'sha256-[^']*'", f"{kind}-src '{name_of(text)}'", made, 1)
+        return made
+
+    def check_found(self, plant: Plant, page: Path) -> None:
+        case = plant.case(plant.test)
+        case.path = page
+        result = unittest.TestResult()
+        case.run(result)
+        said = [text for _, text in result.failures + result.errors]
+        name = f"{plant.case.__name__}.{plant.test}"
+        self.assertEqual(len(said), 1, f"{name} does not find: {plant.what}")
+        self.assertNotIn("BrowserFault", said[0], plant.what)
+        self.assertEqual(result.errors, [], plant.what)
+
+
+def name_of(text: str) -> str:
+    return f"sha256-{base64.b64encode(hashlib.sha256(text.encode()).digest()).decode()}"
