@@ -15,4 +15,9 @@
 | `cut_disk`, `user_files`, `cut_file` | a log on a file system in user space, whose power can be lost |
 | `lives`, `stand_in` | lives of a service on such a log, and their judge; what shows that it judges |
 | `driver`, `driver_keys` | the program `duk_driver`, and what it is asked |
+| `binding_cases`, `python_library`, `rust_library` | the packages over the library, and cases for them |
+| `packages`, `system_root` | Debian's packages; a copy of this system, in which they are installed |
+| `browser`, `sink` | Chromium over WebDriver; a listener that notes who connects to it |
+| `page_case`, `page_module`, `page_values` | the page in a browser, its module, and what it shows |
+| `many`, `call_cases`, `call_cases_of_texts` | the standards, and calls of the library, by thousands |
 """
