@@ -10,6 +10,10 @@ export const hex = (bytes) => Array.from(bytes, (it) => PAIRS[it]).join("");
 /** A counter as six hexadecimal digits. */
 export const hexCounter = (counter) => counter.toString(16).toUpperCase().padStart(6, "0");
 
+const GROUPED = new Intl.NumberFormat("en");
+/** A count in decimal, its thousands apart by commas. */
+export const counted = (number) => GROUPED.format(number);
+
 export const ascii = (bytes) => String.fromCharCode(...bytes);
 export const utf8 = (text) => new TextEncoder().encode(text);
 export const packed = (text) => text.replace(/\s/g, "");

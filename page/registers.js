@@ -2,7 +2,7 @@
 import * as calls from "./calls.js";
 import { BITS, countBelow, heldIn, withCounter } from "./counters.js";
 import { made } from "./fields.js";
-import { hex } from "./hexadecimal.js";
+import { counted, hex } from "./hexadecimal.js";
 
 const FIRST_KEY = 14;
 
@@ -26,16 +26,20 @@ const CELLS = ["register", "place", "change", "number", "key", "kcv", "below"];
 
 function emptyRow(place) {
   const row = made("tr", "", { "data-place": place });
-  row.append(...CELLS.map((name) => made("td", "", { class: name })));
+  for (const name of CELLS) {
+    const cell = made("td", "", { class: name });
+    cell.append("");
+    row.append(cell);
+  }
   return row;
 }
 
 /** The texts of a register's row; `change` is "used", "filled" or nothing. */
 function textsOf(iksn, { place, counter, key }, change) {
   const said = change === "used" ? "used, emptied" : change ?? "";
-  const front = [BITS - place, place, said];
+  const front = [BITS - place, place, said].map(String);
   if (!key) return [...front, "", "empty", "", ""];
-  const below = countBelow(counter).toLocaleString("en");
+  const below = counted(countBelow(counter));
   return [...front, hex(withCounter(iksn, counter)), hex(key), hex(calls.checkValue(key)), below];
 }
 
@@ -52,7 +56,9 @@ export function fillRegisters(body, image, changes = []) {
     if (change) row.dataset.change = change;
     else delete row.dataset.change;
     for (const [cell, text] of textsOf(iksn, register, change).entries()) {
-      row.cells[cell].textContent = text;
+      const shown = row.cells[cell].firstChild;
+      // A text that stays is not written, so that its place is not laid out again.
+      if (shown.data !== text) shown.data = text;
     }
   }
 }

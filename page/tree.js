@@ -5,14 +5,12 @@ import {
 } from "./counters.js";
 import { initialKeyOf } from "./derive.js";
 import { attempt, element, read, renew, setFault, show } from "./fields.js";
-import { hex, hexCounter, serialNumber, whole } from "./hexadecimal.js";
+import { counted, hex, hexCounter, serialNumber, whole } from "./hexadecimal.js";
 import { draw } from "./picture.js";
 import { changesOf, fillRegisters, nextCounter, registerName, registersOf } from "./registers.js";
 
 // The image of the terminal that is shown, or undefined while a field has a fault.
 let image;
-
-const counted = (number) => number.toLocaleString("en");
 
 /** Makes the terminal anew from the fields. */
 function renewed() {

@@ -91,4 +91,5 @@ class Recipes(ProgramCase):
         self.run_recipe(3)
 
     def test_there_are_no_others(self) -> None:
-        self.assertEqual(len(recipes()), 4)
+        """The last one is of the page, and has no command."""
+        self.assertEqual([bool(commands) for _, commands in recipes()], [True] * 4 + [False])

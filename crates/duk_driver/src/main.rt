@@ -41,10 +41,15 @@ fn main(rt: HostRuntime) -> io::Result<ExitCode> {
     }
 }
 
-/// Takes each step, and writes what came of it.
+/// Takes each step of a text, and writes what came of it.
 fn take_steps(rt: &(impl Print + AllocGlobal), steps: &[u8]) -> Result<(), Trouble> {
     let mut driver = Driver::new(rt.alloc());
-    for line in str::from_utf8(steps)?.lines() {
+    take_lines(rt, &mut driver, str::from_utf8(steps)?)
+}
+
+/// Takes the step of each line, and writes what came of it.
+fn take_lines(rt: &impl Print, driver: &mut Driver, steps: &str) -> Result<(), Trouble> {
+    for line in steps.lines() {
         match driver.take_step(line) {
             Ok(came) => println!(rt; "{came}")?,
             Err(trouble) => {
