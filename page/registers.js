@@ -58,7 +58,7 @@ export function fillRegisters(body, image, changes = []) {
     for (const [cell, text] of textsOf(iksn, register, change).entries()) {
       const shown = row.cells[cell].firstChild;
       // A text that stays is not written, so that its place is not laid out again.
-      if (shown.data !== text) shown.data = text;
+      if (shown.nodeValue !== text) shown.nodeValue = text;
     }
   }
 }
