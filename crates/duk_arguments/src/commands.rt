@@ -68,7 +68,7 @@ fn with_command<'a>(
     program.subcommand(arguments?)
 }
 
-/// The program, before it has commands. Where no arguments are given, it answers with its help.
+/// The program, before it has commands. Where no arguments are given, it prints its help.
 fn bare_program<'a>(alloc: Global) -> Command<'a>
     ensures { app_of result ≡ record { top = program_shape; subs = [] } }
 {

@@ -1,7 +1,7 @@
 //! What this project offers to programs in other languages: keys, registers, ciphers, MACs, PIN
 //! blocks, key blocks and frames, each call over slices of bytes.
 //!
-//! A call is total: it tests each length, answers with its first fault, and then has written
+//! A call is total: it tests each length, gives its first fault, and then has written
 //! nothing. What it writes goes into slices that the caller lends. None of them overlaps another.
 //! Nothing here takes memory.
 #![tactic(auto)]

@@ -1,4 +1,4 @@
-//! How a command answers, once its lines or its fault are known.
+//! How a command ends, once its lines or its fault are known.
 
 ghost use Rattle.std.specs.Prelude.{◌≡◌, ◌⊎◌, MatchResult, IsOkAnd};
 ghost use Rattle.duk_commands.specs.Answer.{HasWriteFailed, HasReported, HasWritten, streams};

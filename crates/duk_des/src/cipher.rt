@@ -75,7 +75,7 @@ impl Des {
     }
 }
 
-/// Enciphers two blocks of 8 bytes, each under a key of its own. It answers what `encrypt` does, in
+/// Enciphers two blocks of 8 bytes, each under a key of its own. It gives what `encrypt` does, in
 /// less time than two calls take.
 pub fn encrypt_both(
     first: &Des,
@@ -90,7 +90,7 @@ pub fn encrypt_both(
 }
 
 /// Enciphers a block of 8 bytes under the first key, deciphers it under the second and enciphers it
-/// under the third: the forward cipher operation of TDES (NIST SP 800-67 section 3). It answers
+/// under the third: the forward cipher operation of TDES (NIST SP 800-67 section 3). It gives
 /// what the three calls do, in less time.
 pub fn triple_encrypt(first: &Des, second: &Des, third: &Des, block: [u8; 8]) -> [u8; 8]
     ensures { result

@@ -1,5 +1,5 @@
 //! Calls to which memory is refused at one growth, one call and one growth a run: whether each
-//! answers that it is out of memory, and what it leaves.
+//! reports that it is out of memory, and what it leaves.
 
 mod files;
 mod hosts;

@@ -56,7 +56,7 @@ impl Feeder {
     }
 
     /// Takes bytes of a piece up to the end of the first whole frame, and hands that out; or takes
-    /// them all, where no frame is whole yet. It answers how many bytes it took.
+    /// them all, where no frame is whole yet. It gives how many bytes it took.
     ///
     /// Refused with `TooLong` where a length above 62 stands where a frame would begin, and ever
     /// after. What is held then stays.

@@ -73,7 +73,7 @@ impl<const N: usize, L: UsedLog, I: Issuer> Host<N, L, I> {
         }
     }
 
-    /// Brings log and host up, reads the used numbers from the log, and answers how many there are.
+    /// Brings log and host up, reads the used numbers from the log, and gives how many there are.
     /// No request is known as accepted before.
     ///
     /// Refused with `Store`: of the log's fault, or with `Damaged` where a number that it keeps
@@ -120,7 +120,7 @@ impl<const N: usize, L: UsedLog, I: Issuer> Host<N, L, I> {
         Ok(self.answer(bytes)?.frame)
     }
 
-    /// Does with the bytes of a request what `handle` does, and answers beside the frame what it
+    /// Does with the bytes of a request what `handle` does, and gives beside the frame what it
     /// says: that the request is accepted, that it was accepted before, or that it is refused.
     pub fn answer(&mut self, bytes: &[u8]) -> Result<Answered, HostFault>
         ensures reported { IfOk result (λ answered. IsVerdictOn answered.frame.items answered.says) }

@@ -20,7 +20,7 @@ const READS: usize = 1_000_000;
 /// How many bytes are read at a time, at most.
 const PIECE: usize = 4096;
 
-/// Handles each frame of the input, writes its answer, and answers how many frames there were
+/// Handles each frame of the input, writes its answer, and gives how many frames there were
 /// when the input has ended.
 ///
 /// Refused with the first of these: `Read`, where a read failed or 1,000,000 were made, none of
@@ -71,7 +71,7 @@ fn at_end(feeder: &Feeder, frames: u64) -> Result<u64, HostFault>
     Ok(frames)
 }
 
-/// Serves the frames that end in a piece, and answers how many these are.
+/// Serves the frames that end in a piece, and gives how many these are.
 fn serve_piece<const N: usize, L: UsedLog, I: Issuer, W: Sink>(
     host: &mut Host<N, L, I>,
     feeder: &mut Feeder,
@@ -99,7 +99,7 @@ fn serve_piece<const N: usize, L: UsedLog, I: Issuer, W: Sink>(
     Ok(frames)
 }
 
-/// Serves the first frame that ends in a piece, and answers how many bytes of the piece that took;
+/// Serves the first frame that ends in a piece, and gives how many bytes of the piece that took;
 /// or none, where no frame ends in it, and it was taken whole.
 fn serve_frame<const N: usize, L: UsedLog, I: Issuer, W: Sink>(
     host: &mut Host<N, L, I>,

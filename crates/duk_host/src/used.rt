@@ -48,7 +48,7 @@ impl UsedNumbers {
         self.numbers.contains(&number(ksn))
     }
 
-    /// Adds a key serial number, and answers whether it was not used before.
+    /// Adds a key serial number, and reports whether it was not used before.
     pub(crate) fn insert(&mut self, ksn: Ksn) -> Result<bool, AllocError>
         ensures added { IfOk result (λ _. IsOneMore self.old ksn self.new) }
         ensures fresh { IfOk result

@@ -20,7 +20,7 @@ pub trait Sink {
     /// known.
     ghost known: { Self → Known };
 
-    /// One write, of some bytes. It answers how many were taken; to take none is a failure.
+    /// One write, of some bytes. It gives how many were taken; to take none is a failure.
     fn put(&mut self, bytes: &[u8]) -> io::Result<usize>
         requires { 0 < length bytes.now }
         ensures bound { WritesAtMost result bytes.now }

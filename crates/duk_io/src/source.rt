@@ -21,7 +21,7 @@ pub trait Source {
     /// How many reads were made, those that failed among them, where the reader makes that known.
     ghost reads: { Self → Option ℕ };
 
-    /// One read, into the front of `buffer`. It answers how many bytes it gave: none only at the
+    /// One read, into the front of `buffer`. It says how many bytes it gave: none only at the
     /// end.
     fn get(&mut self, buffer: &mut [u8]) -> io::Result<usize>
         requires { 0 < length buffer.old }

@@ -1,7 +1,7 @@
 //! The calls of `duk_calls` for C, and for each language that calls C. Built for WebAssembly with
 //! memory of 64-bit addresses, it is the module of the page.
 //!
-//! A slice is a pointer and then a length. Each export but `dukpt_version` answers a status: 0, or
+//! A slice is a pointer and then a length. Each export but `dukpt_version` gives a status: 0, or
 //! the number of a fault, and then nothing was written. No slice overlaps another.
 #![tactic(auto)]
 
