@@ -14,8 +14,8 @@ from .support.log_file import log_image
 from .support.program import ROOT, Program
 from .support.service_case import ServiceCase
 from .support.stand_in import Way, write_table
-from .test_failing_logs import CutShort, FailedCalls, FailedReads
-from .test_log_calls import Calls
+from .test_service_failing_logs import CutShort, FailedCalls, FailedReads
+from .test_service_log_calls import Calls
 
 SCRIPT = """#!{python} -ISB
 import sys
