@@ -177,7 +177,7 @@ class Serving(Case):
                     client.sendall(b"some")
                     self.assertEqual(script.stdout.read(4), b"some")
                     tell(script.pid, way)
-                    # On a busy machine a signal was lost once in some hundreds; the next one serves.
+                    # One that comes just before bash blocks in its read may be seen only with the next.
                     ended = end_of(script, None, lambda: tell(script.pid, way))
                     self.assertEqual(ended, Ended(status, b"", says), way)
                 self.assertEqual(self.state.read_text(), left, way)
