@@ -1,7 +1,15 @@
+mod Entered
 mod Failures
 mod FoundRows
+mod InFours
+mod KeysFound
 mod OneRequest
 pub mod PlainArguments
+mod ReadBlocks
+mod ReadFiles
+mod ReadFrames
+mod ReadKcv
+mod ReadKeys
 pub mod TopLevel
 pub mod WithoutACommand
 pub mod WrittenRequests

@@ -1,18 +1,21 @@
 -- The command that is entered, and what its own arguments leave to show.
-use Rattle.std.proofs.Common.{◌≡◌, ◌∷◌, ◌∙◌, [], Bool, List, Option, Some, ap, false, find, fold, is_some, map, refl, subst, sym, true, codes}
+use Rattle.std.proofs.Common.{◌≡◌, ◌∷◌, ◌∙◌, ◌++◌, [], ℕ, Bool, List, None, Option, Some, ap, ap₂, arith, codes, false, find, fold, if◌then◌else◌, inl, inr, is_some, map, refl, subst, sym, true}
+use Rattle.std.proofs.lemmas.List.{map-append}
 use Rattle.std.specs.Prelude.{option_map}
+use Rattle.std.specs.List.{flat_map}
 use Rattle.std.specs.Option.{option_map_or}
 use Rattle.clap.specs.Faults.{check_fault, defaults_fault, entered_fault, fault_of, level_fault, settle_fault, turn_fault, walk_fault}
 use Rattle.clap.specs.Kinds.{Kinds, or_else}
 use Rattle.clap.specs.Simple.{App, Shape, built, entered, label_of, names_of, rows_at, subcommand_of}
-use Rattle.clap.specs.Walk.{Held, Names, Row, Text, Walk, answers_to, finished, nothing_held, settled, walk, walk_from, walked}
+use Rattle.clap.specs.Walk.{Held, Names, Row, Text, Walk, all_of, answers_to, finished, first_of, nothing_held, one_of, settled, walk, walk_from, walked}
 use Rattle.clap.proofs.FaultLemmas.{stopped_fault}
 use Rattle.clap.proofs.WalkLemmas.{walk_stopped}
-use Rattle.duk_arguments.specs.Asked.{Asks, AsksFor, AsksAfter}
+use Rattle.duk_arguments.specs.Asked.{Asks, AsksFor, AsksAfter, IsFlag, IsFound}
 use Rattle.duk_arguments.specs.CommandLine.{command_line}
+use Rattle.duk_arguments.specs.Given.{Each, Given, flag, given_of, name_of, needed, several, valued}
 use Rattle.duk_arguments.specs.declared.request.Request.{Request}
-use Rattle.duk_arguments.specs.Written.{arguments_of}
-use Rattle.duk_arguments.proofs.OneRequest.{HasFlag, one_request}
+use Rattle.duk_arguments.specs.Written.{arguments_of, option_named, words_of}
+use Rattle.duk_arguments.proofs.OneRequest.{HasFlag, key_of, one_request}
 use Rattle.duk_arguments.proofs.PlainArguments.{Goes, Marked, after, all_faults, all_walked, faults_after}
 
 abbrev pub top : App
@@ -88,13 +91,65 @@ top_end : end_fault top.top true nothing_held ≡ []
 unfolding defaults_fault
 top_end = refl
 
+-- what is given was found, and a flag as one that is there or not
+abbrev pub IsShown : List Row → Given → Type 0
+IsShown rows (needed name text) = first_of name rows ≡ Some text
+IsShown rows (valued name text) = first_of name rows ≡ text
+IsShown rows (flag name there) =
+    one_of name rows ≡ Some (if there then codes "true" else codes "false")
+IsShown rows (several name texts) = all_of name rows ≡ Some texts
+
+abbrev first_byte : Option Text → ℕ
+first_byte (Some (x ∷ rest)) = x
+first_byte _ = 0
+
+is_flag : (rows : List Row) (name : Text) (there : Bool)
+    → one_of name rows ≡ Some (if there then codes "true" else codes "false")
+    → IsFlag rows name there
+is_flag rows name false is = (
+  λ none. refl,
+  λ other.
+      let same : ◌≡◌ {A = Option Text} (Some (codes "false")) (Some (codes "true")) = sym is ∙ other in
+      let bad : 102 ≡ 116 = ap first_byte same in absurd (omega arith),
+  λ same. refl,
+)
+is_flag rows name true is = (
+  λ none.
+      let same : ◌≡◌ {A = Option Text} (Some (codes "true")) (None) = sym is ∙ none in
+      let bad : 116 ≡ 0 = ap first_byte same in absurd (omega arith),
+  λ same. refl,
+  λ other.
+      let same : ◌≡◌ {A = Option Text} (Some (codes "true")) (Some (codes "false")) = sym is ∙ other in
+      let bad : 116 ≡ 102 = ap first_byte same in absurd (omega arith),
+)
+
+all_found : (rows : List Row) (given : List Given) → Each (IsShown rows) given
+    → Each (IsFound rows) given
+all_found rows [] shown = tt
+all_found rows (needed name text ∷ rest) shown = (shown.0, all_found rows rest shown.1)
+all_found rows (valued name text ∷ rest) shown = (shown.0, all_found rows rest shown.1)
+all_found rows (flag name there ∷ rest) shown =
+    (is_flag rows name there shown.0, all_found rows rest shown.1)
+all_found rows (several name texts ∷ rest) shown = (shown.0, all_found rows rest shown.1)
+
+all_flagged : (rows : List Row) (given : List Given) → Each (IsShown rows) given
+    → Each (HasFlag rows) (map key_of given)
+all_flagged rows [] shown = tt
+all_flagged rows (needed name text ∷ rest) shown = (tt, all_flagged rows rest shown.1)
+all_flagged rows (valued name text ∷ rest) shown = (tt, all_flagged rows rest shown.1)
+all_flagged rows (flag name true ∷ rest) shown =
+    (inr (inl shown.0), all_flagged rows rest shown.1)
+all_flagged rows (flag name false ∷ rest) shown =
+    (inr (inr shown.0), all_flagged rows rest shown.1)
+all_flagged rows (several name texts ∷ rest) shown = (tt, all_flagged rows rest shown.1)
+
 -- after their command the arguments are read without a fault, and as those of the request
 pub record IsRead (leaf : Shape) (arguments : List Marked) (request : Request) : Type 0 where
   pub goes : Goes leaf.rules start arguments
   pub quiet : faults_after leaf start arguments ≡ []
   pub ends : end_fault leaf false (end_of leaf arguments) ≡ []
-  pub asks : AsksFor leaf.name (finished leaf.rules (end_of leaf arguments)) request
-  pub flagged : HasFlag (finished leaf.rules (end_of leaf arguments)) (codes "ksn")
+  pub named : leaf.name ≡ name_of request
+  pub shown : Each (IsShown (finished leaf.rules (end_of leaf arguments))) (given_of request)
 
 are_taken : (program name : Text) (leaf : Shape) → Enters name leaf → (arguments : List Marked)
     → (request : Request) → IsRead leaf arguments request
@@ -129,17 +184,55 @@ pub record Make (arguments : List Text) (request : Request) : Type 0 where
   pub asks : Asks arguments request
   pub only : (other : Request) → Asks arguments other → arguments_of other ≡ arguments_of request
 
-pub make : (program name : Text) (leaf : Shape) → Enters name leaf → (arguments : List Marked)
+made : (program name : Text) (leaf : Shape) → Enters name leaf → (arguments : List Marked)
     → (request : Request) → IsRead leaf arguments request
     → Make (program ∷ name ∷ texts_in arguments) request
-make program name leaf enters arguments request is =
+made program name leaf enters arguments request is =
+    let rows = finished leaf.rules (end_of leaf arguments) in
     let used = used_is program name leaf enters arguments is.goes in
+    let asked : AsksFor leaf.name rows request =
+    (is.named, all_found rows (given_of request) is.shown) in
     record {
       taken = are_taken program name leaf enters arguments request is;
-      asks = subst (λ (found : Option (Text × List Row)). AsksAfter found request) (sym used)
-          is.asks;
-      only = λ other asked. one_request leaf.name (finished leaf.rules (end_of leaf arguments))
-          other request is.flagged
-          (subst (λ (found : Option (Text × List Row)). AsksAfter found other) used asked)
-          is.asks;
+      asks = subst (λ (found : Option (Text × List Row)). AsksAfter found request) (sym used) asked;
+      only = λ other also. one_request leaf.name rows other request
+          (all_flagged rows (given_of request) is.shown)
+          (subst (λ (found : Option (Text × List Row)). AsksAfter found other) used also) asked;
     }
+
+-- what is given as it is written, and whether a text is known alone to be plain
+abbrev pub marked_of : Given → List Marked
+marked_of (needed name text) = (true, text) ∷ []
+marked_of (valued name None) = []
+marked_of (valued name (Some text)) = (false, option_named name) ∷ (true, text) ∷ []
+marked_of (flag name there) = if there then (false, option_named name) ∷ [] else []
+marked_of (several name texts) = map (λ text. (true, text)) texts
+
+abbrev pub all_marked : Request → List Marked
+all_marked request = flat_map marked_of (given_of request)
+
+unmarked : (texts : List Text) → texts_in (map (λ text. (true, text)) texts) ≡ texts
+unmarked [] = refl
+unmarked (text ∷ rest) = ap (λ (texts : List Text). text ∷ texts) (unmarked rest)
+
+texts_of_given : (given : Given) → texts_in (marked_of given) ≡ words_of given
+texts_of_given (needed name text) = refl
+texts_of_given (valued name None) = refl
+texts_of_given (valued name (Some text)) = refl
+texts_of_given (flag name true) = refl
+texts_of_given (flag name false) = refl
+texts_of_given (several name texts) = unmarked texts
+
+texts_are : (given : List Given) → texts_in (flat_map marked_of given) ≡ flat_map words_of given
+texts_are [] = refl
+texts_are (first ∷ rest) =
+    map-append (λ (m : Marked). m.1) (marked_of first) (flat_map marked_of rest)
+    ∙ ap₂ (λ (xs ys : List Text). xs ++ ys) (texts_of_given first) (texts_are rest)
+
+-- a request that is read as itself is made by its arguments
+pub make : (program : Text) (leaf : Shape) (request : Request) → Enters (name_of request) leaf
+    → IsRead leaf (all_marked request) request → Make (program ∷ arguments_of request) request
+make program leaf request enters is =
+    subst (λ (texts : List Text). Make (program ∷ name_of request ∷ texts) request)
+    (texts_are (given_of request))
+    (made program (name_of request) leaf enters (all_marked request) request is)

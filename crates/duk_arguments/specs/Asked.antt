@@ -3,15 +3,14 @@
 use Rattle.std.specs.Prelude.{◌≡◌, ◌⊎◌, ⊤, List, Bool, Option, Some, None, IsSomeAnd, [], map}
 use Rattle.std.specs.Prelude.{true, false, not, codes, String, string_bytes}
 use Rattle.std.specs.List.{list_any}
-use Rattle.std.specs.Option.{option_map}
-use Rattle.clap.specs.Words.{Row, Text, fault_of, first_of, one_of, subcommand_of}
+use Rattle.clap.specs.Words.{Row, Text, all_of, fault_of, first_of, one_of, subcommand_of}
 use Rattle.clap.specs.declared.error.kind.ErrorKind.{ErrorKind}
 use Rattle.clap.specs.declared.error.kind.ErrorKind.TheVariants.{DisplayHelp, DisplayVersion}
 use Rattle.duk_arguments.specs.CommandLine.{command_line}
+use Rattle.duk_arguments.specs.Given.{Each, Given, flag, given_of, name_of, needed, several, valued}
 use Rattle.duk_arguments.specs.declared.request.NoRequest.{NoRequest}
 use Rattle.duk_arguments.specs.declared.request.NoRequest.TheVariants as answer
 use Rattle.duk_arguments.specs.declared.request.Request.{Request}
-use Rattle.duk_arguments.specs.declared.request.Request.TheVariants as request
 
 -- the bytes of each argument
 abbrev pub texts_of : {A : Type 0} → List (String A) → List Text
@@ -24,35 +23,16 @@ IsFlag rows name there =
     × (one_of name rows ≡ Some (codes "true") → there ≡ true)
     × (one_of name rows ≡ Some (codes "false") → there ≡ false)
 
--- after the command of this name the arguments of the request were found, each under its own name
+-- what is given was found, under its own name
+abbrev pub IsFound : List Row → Given → Type 0
+IsFound rows (needed name text) = first_of name rows ≡ Some text
+IsFound rows (valued name text) = first_of name rows ≡ text
+IsFound rows (flag name there) = IsFlag rows name there
+IsFound rows (several name texts) = all_of name rows ≡ Some texts
+
+-- this is the command of the request, and all that the request gives was found after it
 abbrev pub AsksFor : Text → List Row → Request → Type 0
-AsksFor command rows (request.Derive bdk ksn) =
-    (command ≡ codes "derive") × (first_of (codes "BDK") rows ≡ Some bdk.now)
-    × (first_of (codes "KSN") rows ≡ Some ksn.now)
-AsksFor command rows (request.Walk bdk iksn count skip alone) =
-    (command ≡ codes "walk") × (first_of (codes "BDK") rows ≡ Some bdk.now)
-    × (first_of (codes "IKSN") rows ≡ Some iksn.now)
-    × (first_of (codes "COUNT") rows ≡ Some count.now)
-    × (first_of (codes "skip") rows ≡ option_map (λ argument. argument.now) skip)
-    × IsFlag rows (codes "ksn") alone
-AsksFor command rows (request.Pin pin pan key) =
-    (command ≡ codes "pin") × (first_of (codes "PIN") rows ≡ Some pin.now)
-    × (first_of (codes "PAN") rows ≡ Some pan.now)
-    × (first_of (codes "key") rows ≡ option_map (λ argument. argument.now) key)
-AsksFor command rows (request.Wrap kbpk fields key pad) =
-    (command ≡ codes "wrap") × (first_of (codes "KBPK") rows ≡ Some kbpk.now)
-    × (first_of (codes "FIELDS") rows ≡ Some fields.now)
-    × (first_of (codes "KEY") rows ≡ Some key.now)
-    × (first_of (codes "PAD") rows ≡ Some pad.now)
-AsksFor command rows (request.Unwrap kbpk block) =
-    (command ≡ codes "unwrap") × (first_of (codes "KBPK") rows ≡ Some kbpk.now)
-    × (first_of (codes "BLOCK") rows ≡ Some block.now)
-AsksFor command rows (request.Run config script) =
-    (command ≡ codes "run") × (first_of (codes "CONFIG") rows ≡ Some config.now)
-    × (first_of (codes "SCRIPT") rows ≡ Some script.now)
-AsksFor command rows (request.Serve config log) =
-    (command ≡ codes "serve") × (first_of (codes "CONFIG") rows ≡ Some config.now)
-    × (first_of (codes "log") rows ≡ option_map (λ argument. argument.now) log)
+AsksFor command rows request = (command ≡ name_of request) × Each (IsFound rows) (given_of request)
 
 -- a command was used, and what was found after it asks for this
 abbrev pub AsksAfter : Option (Text × List Row) → Request → Type 0

@@ -1,5 +1,5 @@
 -- The program's command line: this project's own, as a command of the crate `clap`.
-use Rattle.std.specs.Prelude.{◌∷◌, [], List, Some, false, true, codes}
+use Rattle.std.specs.Prelude.{◌∷◌, ◌++◌, [], List, Some, false, true, codes}
 use Rattle.clap.specs.Words.{App, Rule, Shape, Text, new_rule}
 use Rattle.clap.specs.Simple.{new_shape}
 use Rattle.clap.specs.declared.builder.action.ArgAction.TheVariants.{SetTrue}
@@ -7,6 +7,13 @@ use Rattle.clap.specs.declared.builder.action.ArgAction.TheVariants.{SetTrue}
 -- NAME: an argument that has to be there
 abbrev pub argument_rule : Text → Rule
 argument_rule name = record (new_rule name) { required = true }
+
+-- NAME..: an argument that has to be there, from once to 16 times
+abbrev pub several_rule : Text → Rule
+several_rule name = record (new_rule name) {
+  range = Some (record { start_inclusive = 1; end_inclusive = 16 });
+  required = true;
+}
 
 -- [--name VALUE]: an option that has a value
 abbrev pub option_rule : Text → Rule
@@ -20,37 +27,90 @@ flag_rule name = record (new_rule name) { long = Some name; action = Some SetTru
 abbrev pub command : Text → List Rule → Shape
 command name rules = record (new_shape name) { rules = rules }
 
--- derive BDK KSN
+-- derive BDK KSN [--initial] [--trace] [--all]
 abbrev pub derive_command : Shape
-derive_command = command (codes "derive") (argument_rule (codes "BDK") ∷ argument_rule (codes "KSN") ∷ [])
+derive_command = command (codes "derive")
+    (argument_rule (codes "BDK") ∷ argument_rule (codes "KSN") ∷ flag_rule (codes "initial")
+    ∷ flag_rule (codes "trace") ∷ flag_rule (codes "all") ∷ [])
 
--- walk BDK IKSN COUNT [--skip K] [--ksn]
+-- walk BDK IKSN COUNT [--skip K] [--ksn] [--initial]
 abbrev pub walk_command : Shape
-walk_command = command (codes "walk") (argument_rule (codes "BDK") ∷ argument_rule (codes "IKSN")
-    ∷ argument_rule (codes "COUNT") ∷ option_rule (codes "skip") ∷ flag_rule (codes "ksn") ∷ [])
+walk_command = command (codes "walk")
+    (argument_rule (codes "BDK") ∷ argument_rule (codes "IKSN") ∷ argument_rule (codes "COUNT")
+    ∷ option_rule (codes "skip") ∷ flag_rule (codes "ksn") ∷ flag_rule (codes "initial") ∷ [])
+
+-- initial BDK IKSN
+abbrev pub initial_command : Shape
+initial_command = command (codes "initial")
+    (argument_rule (codes "BDK") ∷ argument_rule (codes "IKSN") ∷ [])
+
+-- registers BDK KSN [--initial]
+abbrev pub registers_command : Shape
+registers_command = command (codes "registers")
+    (argument_rule (codes "BDK") ∷ argument_rule (codes "KSN") ∷ flag_rule (codes "initial") ∷ [])
+
+-- kcv KEY.. [--components] [--show]
+abbrev pub kcv_command : Shape
+kcv_command = command (codes "kcv")
+    (several_rule (codes "KEY") ∷ flag_rule (codes "components") ∷ flag_rule (codes "show") ∷ [])
+
+-- mac KEY TEXT [--cmac] [--hex]
+abbrev pub mac_command : Shape
+mac_command = command (codes "mac")
+    (argument_rule (codes "KEY") ∷ argument_rule (codes "TEXT") ∷ flag_rule (codes "cmac")
+    ∷ flag_rule (codes "hex") ∷ [])
 
 -- pin PIN PAN [--key KEY]
 abbrev pub pin_command : Shape
 pin_command = command (codes "pin")
     (argument_rule (codes "PIN") ∷ argument_rule (codes "PAN") ∷ option_rule (codes "key") ∷ [])
 
+-- unpin BLOCK PAN [--key KEY] [--show]
+abbrev pub unpin_command : Shape
+unpin_command = command (codes "unpin")
+    (argument_rule (codes "BLOCK") ∷ argument_rule (codes "PAN") ∷ option_rule (codes "key")
+    ∷ flag_rule (codes "show") ∷ [])
+
+-- translate BLOCK PAN BDK KSN ZONE [--initial]
+abbrev pub translate_command : Shape
+translate_command = command (codes "translate")
+    (argument_rule (codes "BLOCK") ∷ argument_rule (codes "PAN") ∷ argument_rule (codes "BDK")
+    ∷ argument_rule (codes "KSN") ∷ argument_rule (codes "ZONE") ∷ flag_rule (codes "initial")
+    ∷ [])
+
 -- wrap KBPK FIELDS KEY PAD
 abbrev pub wrap_command : Shape
-wrap_command = command (codes "wrap") (argument_rule (codes "KBPK") ∷ argument_rule (codes "FIELDS")
-    ∷ argument_rule (codes "KEY") ∷ argument_rule (codes "PAD") ∷ [])
+wrap_command = command (codes "wrap")
+    (argument_rule (codes "KBPK") ∷ argument_rule (codes "FIELDS") ∷ argument_rule (codes "KEY")
+    ∷ argument_rule (codes "PAD") ∷ [])
 
 -- unwrap KBPK BLOCK
 abbrev pub unwrap_command : Shape
 unwrap_command = command (codes "unwrap")
     (argument_rule (codes "KBPK") ∷ argument_rule (codes "BLOCK") ∷ [])
 
+-- request BDK KSN PAN PIN AMOUNT [--initial]
+abbrev pub request_command : Shape
+request_command = command (codes "request")
+    (argument_rule (codes "BDK") ∷ argument_rule (codes "KSN") ∷ argument_rule (codes "PAN")
+    ∷ argument_rule (codes "PIN") ∷ argument_rule (codes "AMOUNT") ∷ flag_rule (codes "initial")
+    ∷ [])
+
+-- reply BDK REQUEST ANSWER [--initial]
+abbrev pub reply_command : Shape
+reply_command = command (codes "reply")
+    (argument_rule (codes "BDK") ∷ argument_rule (codes "REQUEST")
+    ∷ argument_rule (codes "ANSWER") ∷ flag_rule (codes "initial") ∷ [])
+
 -- run CONFIG SCRIPT
 abbrev pub run_command : Shape
-run_command = command (codes "run") (argument_rule (codes "CONFIG") ∷ argument_rule (codes "SCRIPT") ∷ [])
+run_command = command (codes "run")
+    (argument_rule (codes "CONFIG") ∷ argument_rule (codes "SCRIPT") ∷ [])
 
 -- serve CONFIG [--log FILE]
 abbrev pub serve_command : Shape
-serve_command = command (codes "serve") (argument_rule (codes "CONFIG") ∷ option_rule (codes "log") ∷ [])
+serve_command = command (codes "serve")
+    (argument_rule (codes "CONFIG") ∷ option_rule (codes "log") ∷ [])
 
 -- dukpt: it has a version, wants a command, and answers with its help where no arguments are given
 abbrev pub program_shape : Shape
@@ -60,14 +120,30 @@ program_shape = record (new_shape (codes "dukpt")) {
   subcommand_required = true;
 }
 
--- the program, that some of these commands have been given
+-- the program, that these commands have been given
 abbrev pub program_of : List Shape → App
 program_of commands = record {
   top = record program_shape { is_leaf = false };
   subs = commands;
 }
 
--- dukpt, and one of its seven commands
+-- the commands over keys
+abbrev pub key_commands : List Shape
+key_commands = derive_command ∷ walk_command ∷ initial_command ∷ registers_command ∷ kcv_command ∷ []
+
+-- the commands over MACs, PIN blocks and key blocks
+abbrev pub block_commands : List Shape
+block_commands = mac_command ∷ pin_command ∷ unpin_command ∷ translate_command ∷ wrap_command
+    ∷ unwrap_command ∷ []
+
+-- the commands over frames
+abbrev pub frame_commands : List Shape
+frame_commands = request_command ∷ reply_command ∷ []
+
+-- the commands over files
+abbrev pub file_commands : List Shape
+file_commands = run_command ∷ serve_command ∷ []
+
+-- dukpt, and one of its commands
 abbrev pub command_line : App
-command_line = program_of (derive_command ∷ walk_command ∷ pin_command ∷ wrap_command
-    ∷ unwrap_command ∷ run_command ∷ serve_command ∷ [])
+command_line = program_of (key_commands ++ (block_commands ++ (frame_commands ++ file_commands)))

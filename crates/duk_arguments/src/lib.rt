@@ -2,8 +2,13 @@
 #![tactic(auto)]
 
 mod commands;
+mod found;
 mod help;
+mod keys;
 pub mod laws;
+mod reading;
 mod request;
 
-pub use request::{NoRequest, Request, read_request};
+pub use keys::Keys;
+pub use reading::read_request;
+pub use request::{NoRequest, Request};

@@ -5,7 +5,7 @@ use Rattle.std.specs.List.{All}
 use Rattle.std.proofs.lemmas.List.{take-append-drop, take_more}
 use Rattle.std.proofs.lemmas.List.Elements.{All-push}
 use Rattle.std.proofs.lemmas.List.Sums.{fold-append}
-use Rattle.duk_commands.specs.Walk.{most_numbers, number_of_digits, IsCount}
+use Rattle.duk_commands.specs.Decimal.{IsDecimal, number_of_digits}
 
 grows : (digits : List ℕ) (start : ℕ) → start ≤ fold (λ number digit. 10 * number + (digit - 48)) start digits
 grows [] start = omega arith
@@ -19,8 +19,8 @@ number_of_digits-front text i =
     omega arith
 
 -- a front that is too great already
-pub too_great : (text : List ℕ) (i : ℕ) → most_numbers < number_of_digits (take i text) → (count : ℕ) → ¬ IsCount text count
-too_great text i great count is = absurd (omega (arith, number_of_digits-front text i, is.value, is.fits))
+pub too_great : (most : ℕ) (text : List ℕ) (i : ℕ) → most < number_of_digits (take i text) → (number : ℕ) → ¬ IsDecimal most text number
+too_great most text i great number is = absurd (omega (arith, number_of_digits-front text i, is.value, is.fits))
 
 -- one more digit
 pub digits_more : (text : List ℕ) (i : ℕ) → i < length text → All IsAsciiDigit (take i text) → IsAsciiDigit (get_or text i 0) → All IsAsciiDigit (take (i + 1) text)

@@ -1,6 +1,8 @@
 pub mod Fault
 pub mod Answer
 pub mod Lines
+pub mod Decimal
+pub mod KeyArgument
 pub mod Derive
 pub mod Pin
 pub mod Unwrap

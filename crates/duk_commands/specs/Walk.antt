@@ -1,32 +1,26 @@
 -- What `walk` makes of its arguments (this project's own, over the standard's keys).
-use Rattle.std.specs.Prelude.{◌≡◌, ◌⊎◌, ◌+◌, ◌*◌, ◌-◌, ◌<◌, ◌≤◌, ℕ, zero, suc, Bool, List, [], ◌++◌, length, fold, codes, Option, Some, None, IsSome, if◌then◌else◌, All}
-use Rattle.std.specs.Char.{IsAsciiDigit}
+use Rattle.std.specs.Prelude.{◌≡◌, ◌⊎◌, ◌≤◌, ℕ, zero, suc, Bool, List, [], ◌++◌, codes, Option, Some, None, IsSome, if◌then◌else◌}
 use Rattle.hex.specs.Hex.{encode_upper}
 use Rattle.duk_io.specs.FirstFault.{IsFirst}
-use Rattle.duk_tdes.specs.KeyText.{double_key_of_text}
-use Rattle.duk_tree.specs.Derivation.{initial_key_of, transaction_key_of}
+use Rattle.duk_tree.specs.Derivation.{transaction_key_of}
 use Rattle.duk_tree.specs.Next.{spent_counter, ComesAfter}
 use Rattle.duk_tree.specs.Path.{IsUsable}
 use Rattle.duk_tree.specs.Serial.{Serial, serial_bytes, iksn_of_text}
 use Rattle.duk_commands.specs.Answer.{Command}
+use Rattle.duk_commands.specs.Decimal.{IsDecimal}
 use Rattle.duk_commands.specs.Fault.{fault_rank, line_end}
+use Rattle.duk_commands.specs.KeyArgument.{MeetsKey, initial_from, key_in}
 use Rattle.duk_commands.specs.declared.fault.Fault.{Fault}
-use Rattle.duk_commands.specs.declared.fault.Fault.TheVariants.{BdkRefused, IksnRefused, CountRefused}
+use Rattle.duk_commands.specs.declared.fault.Fault.TheVariants.{IksnRefused, CountRefused}
+use Rattle.duk_commands.specs.declared.key_argument.KeyArgument.{KeyArgument}
 
 -- the greatest number of numbers that may be asked for: one more than a terminal has
 abbrev pub most_numbers : ℕ
 most_numbers = 1048576
 
--- the number that decimal digits write
-abbrev pub number_of_digits : List ℕ → ℕ
-number_of_digits text = fold (λ number digit. 10 * number + (digit - 48)) 0 text
-
--- a text of one or more decimal digits with this value, which is not too great
-pub record IsCount (text : List ℕ) (count : ℕ) : Type 0 where
-  pub some : 0 < length text
-  pub digits : All IsAsciiDigit text
-  pub value : number_of_digits text ≡ count
-  pub fits : count ≤ most_numbers
+-- how many numbers are asked for
+abbrev pub IsCount : List ℕ → ℕ → Type 0
+IsCount = IsDecimal most_numbers
 
 -- the number of an optional argument, which is zero where it is not given
 abbrev pub IsSkip : Option (List ℕ) → ℕ → Type 0
@@ -35,16 +29,16 @@ IsSkip (Some text) skip = IsCount text skip
 
 -- the arguments, as written, and whether the key serial numbers alone are asked for
 pub record WalkArguments : Type 0 where
-  pub bdk : List ℕ
+  pub key : KeyArgument
   pub iksn : List ℕ
   pub count : List ℕ
   pub skip : Option (List ℕ)
   pub alone : Bool
 
 -- those arguments
-abbrev pub walk_arguments : List ℕ → List ℕ → List ℕ → Option (List ℕ) → Bool → WalkArguments
-walk_arguments bdk iksn count skip alone =
-    record { bdk = bdk; iksn = iksn; count = count; skip = skip; alone = alone }
+abbrev pub walk_arguments : KeyArgument → List ℕ → List ℕ → Option (List ℕ) → Bool → WalkArguments
+walk_arguments key iksn count skip alone =
+    record { key = key; iksn = iksn; count = count; skip = skip; alone = alone }
 
 -- what the arguments ask for: the terminal's initial key and number, and how many numbers it passes
 -- and prints
@@ -55,29 +49,28 @@ pub record Asked : Type 0 where
   pub count : ℕ
 
 -- the arguments are read
-pub record AreWalkArguments (bdk iksn count : List ℕ) (skip : Option (List ℕ)) (asked : Asked)
-    : Type 0 where
+pub record AreWalkArguments (given : KeyArgument) (iksn count : List ℕ) (skip : Option (List ℕ))
+    (asked : Asked) : Type 0 where
   pub key : List ℕ
-  pub key_read : double_key_of_text bdk ≡ Some key
+  pub key_read : key_in given ≡ Some key
   pub iksn_read : iksn_of_text iksn ≡ Some asked.iksn
-  pub initial : asked.initial ≡ initial_key_of key asked.iksn
+  pub initial : asked.initial ≡ initial_from given key asked.iksn
   pub count_read : IsCount count asked.count
   pub skip_read : IsSkip skip asked.skip
 
 -- what the arguments must meet, or else are refused with this fault
-abbrev pub MeetsWalk : List ℕ → List ℕ → List ℕ → Option (List ℕ) → Fault → Type 0
-MeetsWalk bdk iksn count skip BdkRefused = IsSome (double_key_of_text bdk)
-MeetsWalk bdk iksn count skip IksnRefused = IsSome (iksn_of_text iksn)
-MeetsWalk bdk iksn count skip CountRefused =
+abbrev pub MeetsWalk : KeyArgument → List ℕ → List ℕ → Option (List ℕ) → Fault → Type 0
+MeetsWalk given iksn count skip IksnRefused = IsSome (iksn_of_text iksn)
+MeetsWalk given iksn count skip CountRefused =
     (printed passed : ℕ) × IsCount count printed × IsSkip skip passed
-MeetsWalk bdk iksn count skip _ = Unit {0}
+MeetsWalk given iksn count skip fault = MeetsKey given fault
 
 -- why the arguments are refused: the first of the faults, in their order, whose condition they do
 -- not meet
-abbrev pub IsWalkRefused : List ℕ → List ℕ → List ℕ → Option (List ℕ) → Fault → Type 0
-IsWalkRefused bdk iksn count skip =
-    IsFirst fault_rank (MeetsWalk bdk iksn count skip)
-    (λ fault. ¬ MeetsWalk bdk iksn count skip fault)
+abbrev pub IsWalkRefused : KeyArgument → List ℕ → List ℕ → Option (List ℕ) → Fault → Type 0
+IsWalkRefused given iksn count skip =
+    IsFirst fault_rank (MeetsWalk given iksn count skip)
+    (λ fault. ¬ MeetsWalk given iksn count skip fault)
 
 -- the line of a number: its key serial number and, unless that alone is asked for, its key
 abbrev pub number_text : Serial → List ℕ → Bool → List ℕ
@@ -115,7 +108,7 @@ IsPassed line counter (suc skip) count text =
 -- the arguments are read, and this is the text of the lines that they ask for
 pub record IsWalkText (arguments : WalkArguments) (text : List ℕ) : Type 0 where
   pub asked : Asked
-  pub read : AreWalkArguments arguments.bdk arguments.iksn arguments.count arguments.skip asked
+  pub read : AreWalkArguments arguments.key arguments.iksn arguments.count arguments.skip asked
   pub lines : IsPassed (number_line asked.initial asked.iksn arguments.alone) 1 asked.skip asked.count
       text
 
@@ -124,7 +117,7 @@ pub record IsWalkText (arguments : WalkArguments) (text : List ℕ) : Type 0 whe
 pub record IsWalkStart (arguments : WalkArguments) (text : List ℕ) : Type 0 where
   pub asked : Asked
   pub reached : ℕ
-  pub read : AreWalkArguments arguments.bdk arguments.iksn arguments.count arguments.skip asked
+  pub read : AreWalkArguments arguments.key arguments.iksn arguments.count arguments.skip asked
   pub not_more : reached ≤ asked.count
   pub lines : IsPassed (number_line asked.initial asked.iksn arguments.alone) 1 asked.skip reached text
 
@@ -133,5 +126,5 @@ abbrev pub walk_of : WalkArguments → Command
 walk_of arguments = record {
   writes = IsWalkText arguments;
   begins = IsWalkStart arguments;
-  refuses = IsWalkRefused arguments.bdk arguments.iksn arguments.count arguments.skip;
+  refuses = IsWalkRefused arguments.key arguments.iksn arguments.count arguments.skip;
 }

@@ -14,6 +14,8 @@ use duk_pin::PinFault;
 pub enum Fault {
     /// The base derivation key is not 32 hexadecimal digits.
     BdkRefused,
+    /// The initial key is not 32 hexadecimal digits.
+    InitialRefused,
     /// The key serial number is not 20 hexadecimal digits.
     KsnRefused,
     /// The initial key serial number is not 20 hexadecimal digits with a counter of zero.
@@ -30,10 +32,28 @@ pub enum Fault {
     KeyRefused,
     /// The padding is not zero or more pairs of hexadecimal digits.
     PadRefused,
+    /// The PIN block is not 16 hexadecimal digits.
+    PinBlockRefused,
+    /// The zone key is neither 32 nor 48 hexadecimal digits.
+    ZoneRefused,
+    /// The text of a MAC is not pairs of hexadecimal digits, or is empty.
+    TextRefused,
+    /// The amount is not one or more decimal digits, or is too great.
+    AmountRefused,
+    /// The bytes are no request's frame, or its counter numbers no transaction.
+    RequestRefused,
+    /// The bytes are no answer's frame.
+    AnswerRefused,
     /// The PIN or the PAN is refused.
     PinRefused(PinFault),
     /// The key block is refused, or the key cannot be wrapped.
     BlockRefused(BlockFault),
+    /// The block is that of no PIN under the PAN and the key.
+    NotAPinBlock,
+    /// The answer is to another key serial number.
+    NotMine,
+    /// The MAC of the answer is wrong.
+    BadMac,
     /// Memory was refused.
     OutOfMemory,
     /// What had to be written could not be.
@@ -48,6 +68,7 @@ impl Fault {
     {
         match self {
             Fault::BdkRefused => "BDK refused",
+            Fault::InitialRefused => "initial refused",
             Fault::KsnRefused => "KSN refused",
             Fault::IksnRefused => "IKSN refused",
             Fault::CountRefused => "count refused",
@@ -56,8 +77,17 @@ impl Fault {
             Fault::FieldsRefused => "fields refused",
             Fault::KeyRefused => "key refused",
             Fault::PadRefused => "pad refused",
+            Fault::PinBlockRefused => "block refused",
+            Fault::ZoneRefused => "zone refused",
+            Fault::TextRefused => "text refused",
+            Fault::AmountRefused => "amount refused",
+            Fault::RequestRefused => "request refused",
+            Fault::AnswerRefused => "answer refused",
             Fault::PinRefused(fault) => fault.name(),
             Fault::BlockRefused(fault) => fault.name(),
+            Fault::NotAPinBlock => "NotAPinBlock",
+            Fault::NotMine => "NotMine",
+            Fault::BadMac => "BadMac",
             Fault::OutOfMemory => "out of memory",
             Fault::WriteFailed => "write failed",
         }

@@ -9,8 +9,8 @@ ghost use Rattle.duk_commands.specs.Lines.{named_line, text_line};
 use arrayvec::ArrayVec;
 use duk_io::append_hex;
 
-/// How many bytes the lines of a command may have: those of a key block, and its line's end.
-pub const LINES_ROOM: usize = 513;
+/// How many bytes the lines of a command may have, where they are known before any is written.
+pub const LINES_ROOM: usize = 4096;
 
 /// The lines of a command.
 pub type Lines = ArrayVec<u8, LINES_ROOM>;

@@ -10,12 +10,13 @@ ghost use Rattle.duk_commands.specs.inner.Walk.{HasPrinted, HasPrintedInPart, Ha
 
 use crate::count::{read_count, read_skip};
 use crate::fault::{Fault, report};
+use crate::key_argument::KeyArgument;
 use duk_io::{
     BUFFER_ROOM, Buffer, Sink, WriteFailed, append_hex, make_room, write_out, write_text,
 };
 use duk_regs::Registers;
 use duk_tdes::Key;
-use duk_tree::{Iksn, Ksn, initial_key};
+use duk_tree::{Iksn, Ksn};
 
 /// The bytes of the longest line: 20 digits, a space, 32 digits and LF.
 const LONGEST_LINE: usize = 54;
@@ -33,11 +34,11 @@ struct Walk {
 /// `take` gave. The line `spent` comes where a number is to be taken and none is left. Gives the
 /// status: 0, or 1 with a line on `fault`.
 ///
-/// `bdk` is to be 32 hexadecimal digits of either case, `iksn` 20 with a counter of zero, `count`
+/// `key` is to be 32 hexadecimal digits of either case, `iksn` 20 with a counter of zero, `count`
 /// and `skip` decimal digits with a value of at most 1,048,576. The faults, in this order: `BDK
-/// refused`, `IKSN refused`, `count refused` (of either number); then `write failed`.
+/// refused`, or `initial refused` of an initial key; `IKSN refused`, `count refused` (of either number); then `write failed`.
 pub fn walk_command<W: Sink, F: Sink>(
-    bdk: &str,
+    key: KeyArgument<'_>,
     iksn: &str,
     count: &str,
     skip: Option<&str>,
@@ -47,17 +48,17 @@ pub fn walk_command<W: Sink, F: Sink>(
 ) -> u8
     ensures status { (result ≡ 0) ⊎ (result ≡ 1) }
     ensures done { result ≡ 0
-        → IsDone (walk_of (walk_arguments bdk.now iksn.now count.now (option_copied skip.entry) alone))
+        → IsDone (walk_of (walk_arguments key.entry iksn.now count.now (option_copied skip.entry) alone))
         (streams (W.known output.old) (W.known output.new)
         (F.known fault.old) (F.known fault.new)) }
     ensures not_done { result ≡ 1
         → IsNotDone (walk_of
-        (walk_arguments bdk.now iksn.now count.now (option_copied skip.entry) alone))
+        (walk_arguments key.entry iksn.now count.now (option_copied skip.entry) alone))
         (streams (W.known output.old) (W.known output.new)
         (F.known fault.old) (F.known fault.new)) }
 {
     duk_io::laws::writes();
-    let walk = match read_walk(bdk, iksn, count, skip) {
+    let walk = match read_walk(key, iksn, count, skip) {
         Ok(walk) => walk,
         Err(why) => return report(fault, why),
     };
@@ -68,18 +69,23 @@ pub fn walk_command<W: Sink, F: Sink>(
 }
 
 /// What the arguments ask for, or their first fault.
-fn read_walk(bdk: &str, iksn: &str, count: &str, skip: Option<&str>) -> Result<Walk, Fault>
+fn read_walk(
+    given: KeyArgument<'_>,
+    iksn: &str,
+    count: &str,
+    skip: Option<&str>,
+) -> Result<Walk, Fault>
     ensures loaded { IfOk result (λ walk. (asked : Asked)
-        × AreWalkArguments bdk.now iksn.now count.now (option_copied skip.entry) asked
+        × AreWalkArguments given.entry iksn.now count.now (option_copied skip.entry) asked
         × IsLoaded asked walk.registers walk.skip walk.count) }
     ensures refused { IfErr result
-        (IsWalkRefused bdk.now iksn.now count.now (option_copied skip.entry)) }
+        (IsWalkRefused given.entry iksn.now count.now (option_copied skip.entry)) }
 {
-    let bdk = Key::<16>::parse(bdk).ok_or(Fault::BdkRefused)?;
+    let key = given.read()?;
     let iksn = Iksn::parse(iksn).ok_or(Fault::IksnRefused)?;
     let count = read_count(count).ok_or(Fault::CountRefused)?;
     let skip = read_skip(skip).ok_or(Fault::CountRefused)?;
-    let registers = Registers::load(initial_key(&bdk, iksn), iksn);
+    let registers = Registers::load(given.initial_key(&key, iksn), iksn);
     Ok(Walk {
         registers,
         skip,

@@ -43,13 +43,9 @@ answered_still arguments output written output' fault reported fault' (inr shown
 -- what a command does is what the program does
 request_done : {D : Type 0} (meaning : DiskMeaning D) (s : Scene D) (asked : Request) → IsDone (command_for asked) (writers_of s)
     → IsRequestDone meaning s asked
-request_done meaning s (request.Derive bdk ksn) done = done
-request_done meaning s (request.Walk bdk iksn count skip alone) done = done
-request_done meaning s (request.Pin pin pan key) done = done
-request_done meaning s (request.Wrap kbpk fields key pad) done = done
-request_done meaning s (request.Unwrap kbpk block) done = done
 request_done meaning s (request.Run config script) done = absurd done.asked
 request_done meaning s (request.Serve config log) done = absurd done.asked
+request_done meaning s asked done = done
 
 pub program_done : {D : Type 0} (meaning : DiskMeaning D) (arguments : List (List ℕ)) (s : Scene D) → IsCommandLineDone arguments (writers_of s)
     → IsProgramDone meaning arguments s
@@ -63,15 +59,11 @@ program_done meaning arguments s (inr shown) = inr shown
 -- so is what it does not
 request_not_done : {D : Type 0} (meaning : DiskMeaning D) (s : Scene D) (asked : Request) → IsNotDone (command_for asked) (writers_of s)
     → IsRequestNotDone meaning s asked
-request_not_done meaning s (request.Derive bdk ksn) not_done = not_done
-request_not_done meaning s (request.Walk bdk iksn count skip alone) not_done = not_done
-request_not_done meaning s (request.Pin pin pan key) not_done = not_done
-request_not_done meaning s (request.Wrap kbpk fields key pad) not_done = not_done
-request_not_done meaning s (request.Unwrap kbpk block) not_done = not_done
 request_not_done meaning s (request.Run config script) (inl refused) = absurd refused.cause
 request_not_done meaning s (request.Run config script) (inr short) = absurd short.asked
 request_not_done meaning s (request.Serve config log) (inl refused) = absurd refused.cause
 request_not_done meaning s (request.Serve config log) (inr short) = absurd short.asked
+request_not_done meaning s asked not_done = not_done
 
 pub program_not_done : {D : Type 0} (meaning : DiskMeaning D) (arguments : List (List ℕ)) (s : Scene D) → IsCommandLineFailed arguments (writers_of s)
     → IsProgramNotDone meaning arguments s

@@ -2,3 +2,4 @@ mod Answered
 mod FaultIsReported
 mod Results
 mod WrittenStaysWritten
+mod Endings

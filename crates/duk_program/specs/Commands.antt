@@ -1,18 +1,27 @@
 -- Which command answers which arguments, and how (this project's own, over what each command makes
 -- of its arguments).
-use Rattle.std.specs.Prelude.{◌⊎◌, ℕ, List}
+use Rattle.std.specs.Prelude.{◌⊎◌, ℕ, Bool, false, List}
+use Rattle.std.specs.Borrow.{Bor}
 use Rattle.std.specs.Option.{option_copied}
 use Rattle.duk_commands.specs.Answer.{Command, HasWriteFailed, HasReported, HasWritten, IsDone, IsNotDone, Streams, command_of, streams}
 use Rattle.duk_commands.specs.Derive.{derive_of}
 use Rattle.duk_commands.specs.Fault.{report_line}
+use Rattle.duk_commands.specs.KeyArgument.{key_argument}
 use Rattle.duk_commands.specs.Pin.{pin_of}
 use Rattle.duk_commands.specs.Unwrap.{unwrap_of}
 use Rattle.duk_commands.specs.Walk.{walk_of, walk_arguments}
 use Rattle.duk_commands.specs.Wrap.{wrap_of, wrap_arguments}
 use Rattle.duk_commands.specs.declared.fault.Fault.TheVariants.{OutOfMemory, WriteFailed}
+use Rattle.duk_tools.specs.CheckValues.{values_of}
+use Rattle.duk_tools.specs.Frames.{reply_arguments, reply_of, request_arguments, request_of}
+use Rattle.duk_tools.specs.Keys.{derived_of, initial_of}
+use Rattle.duk_tools.specs.Mac.{mac_arguments, mac_of}
+use Rattle.duk_tools.specs.PinBlocks.{translate_arguments, translate_of, unpin_arguments, unpin_of}
+use Rattle.duk_tools.specs.Registers.{registers_of}
 use Rattle.duk_io.specs.Known.{Known}
 use Rattle.duk_io.specs.Sink.{IsTried}
 use Rattle.duk_program.specs.HandedOn.{IsFlushLost}
+use Rattle.duk_arguments.specs.Keys.{texts_of_keys}
 use Rattle.duk_arguments.specs.Asked.{AskForHelp, Asks}
 use Rattle.duk_arguments.specs.declared.request.Request.{Request}
 use Rattle.duk_arguments.specs.declared.request.Request.TheVariants as request
@@ -21,17 +30,36 @@ use Rattle.duk_arguments.specs.declared.request.Request.TheVariants as request
 abbrev pub no_command : Command
 no_command = command_of (λ text. ⊥) (λ why. ⊥)
 
+-- `derive`, with or without options
+abbrev pub derive_for : Bor (List ℕ) → List ℕ → Bool → Bool → Bool → Command
+derive_for bdk ksn false false false = derive_of bdk.now ksn
+derive_for bdk ksn initial trace all = derived_of (key_argument bdk initial) ksn trace all
+
 -- the command of a request, over the arguments of that request; what is asked of files is none
 abbrev pub command_for : Request → Command
-command_for (request.Derive bdk ksn) = derive_of bdk.now ksn.now
-command_for (request.Walk bdk iksn count skip alone) =
-    walk_of (walk_arguments bdk.now iksn.now count.now (option_copied skip) alone)
+command_for (request.Derive bdk ksn initial trace all) = derive_for bdk ksn.now initial trace all
+command_for (request.Walk bdk iksn count skip alone initial) =
+    walk_of (walk_arguments (key_argument bdk initial) iksn.now count.now (option_copied skip) alone)
 command_for (request.Pin pin pan key) = pin_of pin.now pan.now (option_copied key)
 command_for (request.Wrap kbpk fields key pad) =
     wrap_of (wrap_arguments kbpk.now fields.now key.now pad.now)
 command_for (request.Unwrap kbpk block) = unwrap_of kbpk.now block.now
 command_for (request.Run config script) = no_command
 command_for (request.Serve config log) = no_command
+command_for (request.Initial bdk iksn) = initial_of bdk.now iksn.now
+command_for (request.Registers bdk ksn initial) = registers_of (key_argument bdk initial) ksn.now
+command_for (request.Kcv keys components show) = values_of (texts_of_keys keys) components show
+command_for (request.Mac key text cmac hex) = mac_of (mac_arguments key.now text.now cmac hex)
+command_for (request.Unpin block pan key show) =
+    unpin_of (unpin_arguments block.now pan.now (option_copied key) show)
+command_for (request.Translate block pan bdk ksn zone initial) =
+    translate_of
+    (translate_arguments block.now pan.now (key_argument bdk initial) ksn.now zone.now)
+command_for (request.MakeRequest bdk ksn pan pin amount initial) =
+    request_of
+    (request_arguments (key_argument bdk initial) ksn.now pan.now pin.now amount.now)
+command_for (request.CheckReply bdk asked answer initial) =
+    reply_of (reply_arguments (key_argument bdk initial) asked.now answer.now)
 
 -- the arguments ask for a request whose command is done
 pub record HasCommandDone (arguments : List (List ℕ)) (s : Streams) : Type 0 where

@@ -1,4 +1,4 @@
-//! Finds the command that the arguments ask for, and does it unless it needs files.
+//! Finds what the arguments ask for, and does it unless it needs files.
 
 ghost use Rattle.std.specs.Prelude.{◌≡◌, ℕ, List};
 ghost use Rattle.std.specs.Io.KnownBytes.{Keeps};
@@ -10,11 +10,10 @@ ghost use Rattle.duk_program.specs.Status.{EndsWith, IsLeftToDo, IsStatus, IsToR
 ghost use Rattle.duk_program.specs.inner.Status.{RunsRequest};
 ghost use Rattle.duk_arguments.specs.Asked.{AreRefused, IsNoRequestOf, texts_of};
 
+use crate::commands::do_command;
 use crate::ending::hand_on;
 use duk_arguments::{NoRequest, Request, read_request};
-use duk_commands::{
-    Fault, derive_command, pin_command, report, unwrap_command, walk_command, wrap_command,
-};
+use duk_commands::{Fault, report};
 use duk_io::{Sink, write_text};
 use std::alloc::Global;
 
@@ -100,13 +99,18 @@ fn dispatch_arguments<'a, W: Sink, F: Sink>(
     ensures silent { IsToRun result → F.known fault.new ≡ F.known fault.old }
 {
     match read_request(alloc, arguments) {
-        Ok(request) => do_request(request, output, fault),
+        Ok(request) => do_request(alloc, request, output, fault),
         Err(answer) => Todo::Exit(show(&answer, output, fault)),
     }
 }
 
 /// Does the command of a request, where that needs no file, and reports what is left to do.
-fn do_request<'a, W: Sink, F: Sink>(request: Request<'a>, output: &mut W, fault: &mut F) -> Todo<'a>
+fn do_request<'a, W: Sink, F: Sink>(
+    alloc: Global,
+    request: Request<'a>,
+    output: &mut W,
+    fault: &mut F,
+) -> Todo<'a>
     ensures status { IsLeftToDo result }
     ensures no_fault { EndsWith result 0 → IsUntouched (F.known fault.old) (F.known fault.new) }
     ensures fault { EndsWith result 1 → IsFaultReported (F.known fault.old) (F.known fault.new) }
@@ -122,24 +126,9 @@ fn do_request<'a, W: Sink, F: Sink>(request: Request<'a>, output: &mut W, fault:
     ensures silent { IsToRun result → F.known fault.new ≡ F.known fault.old }
 {
     match request {
-        Request::Derive { bdk, ksn } => Todo::Exit(derive_command(bdk, ksn, output, fault)),
-        Request::Walk {
-            bdk,
-            iksn,
-            count,
-            skip,
-            alone,
-        } => Todo::Exit(walk_command(bdk, iksn, count, skip, alone, output, fault)),
-        Request::Pin { pin, pan, key } => Todo::Exit(pin_command(pin, pan, key, output, fault)),
-        Request::Wrap {
-            kbpk,
-            fields,
-            key,
-            pad,
-        } => Todo::Exit(wrap_command(kbpk, fields, key, pad, output, fault)),
-        Request::Unwrap { kbpk, block } => Todo::Exit(unwrap_command(kbpk, block, output, fault)),
         Request::Run { config, script } => Todo::Run { config, script },
         Request::Serve { config, log } => Todo::Serve { config, log },
+        request => Todo::Exit(do_command(alloc, request, output, fault)),
     }
 }
 

@@ -1,6 +1,7 @@
 //! What the program `dukpt` does: one command a run, over the arguments that it is started with.
 #![tactic(auto)]
 
+mod commands;
 mod configuration;
 mod dispatch;
 mod ending;

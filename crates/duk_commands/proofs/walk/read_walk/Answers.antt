@@ -7,7 +7,7 @@ returns-clause-loaded c =
     let asked : Asked = record { initial = c.initial_key.result; iksn = c.in_ok-iksn.iksn; skip = c.in_ok-skip.skip; count = c.in_ok-count.count } in (
       asked,
       record {
-        key = c.in_ok-bdk.bdk;
+        key = c.in_ok-key.key;
         key_read = search rules;
         iksn_read = search rules;
         initial = c.initial_key.ensures;

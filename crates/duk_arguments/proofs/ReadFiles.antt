@@ -1,0 +1,42 @@
+-- The arguments of the commands over files are read as those of their requests.
+use Rattle.std.proofs.Common.{None, Option, Some, codes, refl}
+use Rattle.std.specs.Borrow.{Bor}
+use Rattle.clap.specs.Walk.{Text}
+use Rattle.clap.proofs.OnLiterals.{clap_on_literals}
+use Rattle.duk_arguments.specs.Written.{IsPlainRequest}
+use Rattle.duk_arguments.specs.declared.request.Request.TheVariants as request
+use Rattle.duk_arguments.proofs.Entered.{leaf_of}
+use Rattle.duk_arguments.proofs.TopLevel.{IsRead, all_marked}
+
+pub reads_run : (config script : Bor Text)
+    → IsPlainRequest (request.Run config script)
+    → IsRead (leaf_of (codes "run")) (all_marked (request.Run config script))
+    (request.Run config script)
+unfolding clap_on_literals
+reads_run config script plain = record {
+  goes = (plain.0, refl, refl, (plain.1.0, refl, refl, tt));
+  quiet = refl;
+  ends = refl;
+  named = refl;
+  shown = (refl, (refl, tt));
+}
+
+pub reads_serve : (config : Bor Text) (log : Option (Bor Text))
+    → IsPlainRequest (request.Serve config log)
+    → IsRead (leaf_of (codes "serve")) (all_marked (request.Serve config log))
+    (request.Serve config log)
+unfolding clap_on_literals
+reads_serve config None plain = record {
+  goes = (plain.0, refl, refl, tt);
+  quiet = refl;
+  ends = refl;
+  named = refl;
+  shown = (refl, (refl, tt));
+}
+reads_serve config (Some log) plain = record {
+  goes = (plain.0, refl, refl, (plain.1.0, refl, refl, tt));
+  quiet = refl;
+  ends = refl;
+  named = refl;
+  shown = (refl, (refl, tt));
+}

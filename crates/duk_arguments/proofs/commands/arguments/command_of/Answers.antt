@@ -1,0 +1,28 @@
+use Rattle.std.proofs.Common.{◌∷◌, ◌∙◌, ◌++◌, ◌+◌, ◌<◌, ◌||◌, [], ℕ, Bool, List, ap, ap₂, get_or, length, map, sym, take}
+use Rattle.std.proofs.lemmas.List.{map-append, take_more}
+use Rattle.clap.specs.Words.{AddsArg, App, Rule, Shape, Text}
+use Rattle.clap.specs.declared.builder.arg.Arg.{Arg}
+use Rattle.clap.specs.declared.builder.command.Command.{Command}
+use Rattle.duk_arguments.specs.CommandLine.{command}
+use Rattle.duk_arguments.specs.inner.CommandLine.{IsArgument, IsCommand, rule_of_argument}
+use Rattle.duk_arguments.specs.declared.commands.arguments.Argument.{Argument}
+use Rattle.duk_arguments.proofs.commands.arguments.command_of.Goals as goal
+
+-- the command with one argument more
+one_more : (old new : Command) (clap_argument : Arg) (name : Text) (arguments : List Argument) (i : ℕ) (d : Argument)
+    → i < length arguments → IsCommand (command name (map rule_of_argument (take i arguments))) old
+    → IsArgument (rule_of_argument (get_or arguments i d)) clap_argument → AddsArg old clap_argument new
+    → IsCommand (command name (map rule_of_argument (take (i + 1) arguments))) new
+one_more old new clap_argument name arguments i d within was is adds = (
+  ap (λ (app : App). app.top) (adds.shape is.1)
+      ∙ ap₂ (λ (shape : Shape) (rule : Rule). record shape { rules = shape.rules ++ rule ∷ [] }) was.0 is.0
+      ∙ ap (command name) (sym (ap (map rule_of_argument) (take_more arguments i d within)
+      ∙ map-append rule_of_argument (take i arguments) (get_or arguments i d ∷ []))),
+  adds.globals ∙ ap₂ (λ (a b : Bool). a || b) was.1 is.1,
+)
+
+pub loop-argument-preserved : goal.loop-argument-preserved
+loop-argument-preserved c =
+    one_more c.loop-argument.command c.in_ok-command.command c.clap_argument.result c.args.name.now c.args.arguments.now
+    c.loop-argument.argument-index _ c.loop-argument-test.true c.loop-argument.invariant c.clap_argument.ensures
+    c.in_ok-command.ensures

@@ -1,0 +1,86 @@
+-- What a request gives on the command line: this project's own.
+use Rattle.std.specs.Prelude.{◌∷◌, [], ⊤, Bool, List, Option, codes}
+use Rattle.std.specs.Option.{option_map}
+use Rattle.clap.specs.Words.{Text}
+use Rattle.duk_arguments.specs.Keys.{texts_of_keys}
+use Rattle.duk_arguments.specs.declared.request.Request.{Request}
+use Rattle.duk_arguments.specs.declared.request.Request.TheVariants as request
+
+-- what stands after a command under a name: an argument that has to be there, an option with its
+-- value, an option that is there or not, and an argument that may be written more than once
+pub data Given : Type 0 where
+  needed : Text → Text → Given
+  valued : Text → Option Text → Given
+  flag : Text → Bool → Given
+  several : Text → List Text → Given
+
+-- the command of a request
+abbrev pub name_of : Request → Text
+name_of (request.Derive bdk ksn initial trace all) = codes "derive"
+name_of (request.Walk bdk iksn count skip alone initial) = codes "walk"
+name_of (request.Pin pin pan key) = codes "pin"
+name_of (request.Wrap kbpk fields key pad) = codes "wrap"
+name_of (request.Unwrap kbpk block) = codes "unwrap"
+name_of (request.Run config script) = codes "run"
+name_of (request.Serve config log) = codes "serve"
+name_of (request.Initial bdk iksn) = codes "initial"
+name_of (request.Registers bdk ksn initial) = codes "registers"
+name_of (request.Kcv keys components show) = codes "kcv"
+name_of (request.Mac key text cmac hex) = codes "mac"
+name_of (request.Unpin block pan key show) = codes "unpin"
+name_of (request.Translate block pan bdk ksn zone initial) = codes "translate"
+name_of (request.MakeRequest bdk ksn pan pin amount initial) = codes "request"
+name_of (request.CheckReply bdk asked answer initial) = codes "reply"
+
+-- what a request gives after its command
+abbrev pub given_of : Request → List Given
+given_of (request.Derive bdk ksn initial trace all) =
+    needed (codes "BDK") bdk.now ∷ needed (codes "KSN") ksn.now
+    ∷ flag (codes "initial") initial ∷ flag (codes "trace") trace ∷ flag (codes "all") all ∷ []
+given_of (request.Walk bdk iksn count skip alone initial) =
+    needed (codes "BDK") bdk.now ∷ needed (codes "IKSN") iksn.now
+    ∷ needed (codes "COUNT") count.now ∷ valued (codes "skip") (option_map (λ text. text.now) skip)
+    ∷ flag (codes "ksn") alone ∷ flag (codes "initial") initial ∷ []
+given_of (request.Pin pin pan key) =
+    needed (codes "PIN") pin.now ∷ needed (codes "PAN") pan.now
+    ∷ valued (codes "key") (option_map (λ text. text.now) key) ∷ []
+given_of (request.Wrap kbpk fields key pad) =
+    needed (codes "KBPK") kbpk.now ∷ needed (codes "FIELDS") fields.now
+    ∷ needed (codes "KEY") key.now ∷ needed (codes "PAD") pad.now ∷ []
+given_of (request.Unwrap kbpk block) =
+    needed (codes "KBPK") kbpk.now ∷ needed (codes "BLOCK") block.now ∷ []
+given_of (request.Run config script) =
+    needed (codes "CONFIG") config.now ∷ needed (codes "SCRIPT") script.now ∷ []
+given_of (request.Serve config log) =
+    needed (codes "CONFIG") config.now ∷ valued (codes "log") (option_map (λ text. text.now) log)
+    ∷ []
+given_of (request.Initial bdk iksn) =
+    needed (codes "BDK") bdk.now ∷ needed (codes "IKSN") iksn.now ∷ []
+given_of (request.Registers bdk ksn initial) =
+    needed (codes "BDK") bdk.now ∷ needed (codes "KSN") ksn.now ∷ flag (codes "initial") initial
+    ∷ []
+given_of (request.Kcv keys components show) =
+    several (codes "KEY") (texts_of_keys keys) ∷ flag (codes "components") components
+    ∷ flag (codes "show") show ∷ []
+given_of (request.Mac key text cmac hex) =
+    needed (codes "KEY") key.now ∷ needed (codes "TEXT") text.now ∷ flag (codes "cmac") cmac
+    ∷ flag (codes "hex") hex ∷ []
+given_of (request.Unpin block pan key show) =
+    needed (codes "BLOCK") block.now ∷ needed (codes "PAN") pan.now
+    ∷ valued (codes "key") (option_map (λ text. text.now) key) ∷ flag (codes "show") show ∷ []
+given_of (request.Translate block pan bdk ksn zone initial) =
+    needed (codes "BLOCK") block.now ∷ needed (codes "PAN") pan.now ∷ needed (codes "BDK") bdk.now
+    ∷ needed (codes "KSN") ksn.now ∷ needed (codes "ZONE") zone.now
+    ∷ flag (codes "initial") initial ∷ []
+given_of (request.MakeRequest bdk ksn pan pin amount initial) =
+    needed (codes "BDK") bdk.now ∷ needed (codes "KSN") ksn.now ∷ needed (codes "PAN") pan.now
+    ∷ needed (codes "PIN") pin.now ∷ needed (codes "AMOUNT") amount.now
+    ∷ flag (codes "initial") initial ∷ []
+given_of (request.CheckReply bdk asked answer initial) =
+    needed (codes "BDK") bdk.now ∷ needed (codes "REQUEST") asked.now
+    ∷ needed (codes "ANSWER") answer.now ∷ flag (codes "initial") initial ∷ []
+
+-- P holds of each of them
+abbrev pub Each : {A : Type 0} → (A → Type 0) → List A → Type 0
+Each P [] = ⊤
+Each P (first ∷ rest) = P first × Each P rest

@@ -1,0 +1,118 @@
+//! The text at the end of the help of the commands over MACs, PIN blocks and key blocks.
+
+/// At the end of the help of `mac`.
+pub(crate) const MAC: &str = "\
+The retail MAC is of ANSI X9.19, the CMAC of NIST SP 800-38B. With --hex TEXT stands for the bytes
+of its pairs of digits.
+
+Examples:
+  $ dukpt mac 042666B4918430A368DE9628D03984C9 4012345678909
+  mac 38842EFB38B0AA13
+  $ dukpt mac 042666B4918430A368DE9628D03984C9 34303132333435363738393039 --cmac --hex
+  mac DBACB76230ADE923
+
+Faults, on standard error with status 1, the first alone:
+  key refused    KEY is not 32 hexadecimal digits, or with --cmac not 32 or 48
+  text refused   With --hex TEXT is not pairs of digits; without --cmac it is empty
+  write failed   Standard output takes no more
+  out of memory  Memory was refused";
+
+/// At the end of the help of `pin`.
+pub(crate) const PIN: &str = "\
+The PIN block is of ISO 9564-1 format 0. The check digit of PAN is not verified. KEY is a PIN key,
+as `derive` prints it.
+
+Example:
+  $ dukpt pin 1234 4012345678909 --key 042666B49184CF5C68DE9628D0397B36
+  block 041274EDCBA9876F
+  enciphered 1B9C1845EB993A7A
+
+Faults, on standard error with status 1, the first alone:
+  PinLength      PIN is not 4 to 12 characters
+  PinDigit       PIN has a character that is no digit
+  PanLength      PAN is not 12 to 19 characters
+  PanDigit       PAN has a character that is no digit
+  key refused    KEY is not 32 hexadecimal digits
+  write failed   Standard output takes no more
+  out of memory  Memory was refused";
+
+/// At the end of the help of `unpin`.
+pub(crate) const UNPIN: &str = "\
+The PIN block is of ISO 9564-1 format 0. KEY is a PIN key, as `derive` prints it. Without --show the
+PIN is not printed.
+
+Examples:
+  $ dukpt unpin 1B9C1845EB993A7A 4012345678909 --key 042666B49184CF5C68DE9628D0397B36
+  block valid
+  $ dukpt unpin 041274EDCBA9876F 4012345678909 --show
+  pin 1234
+
+Faults, on standard error with status 1, the first alone:
+  block refused  BLOCK is not 16 hexadecimal digits
+  PanLength      PAN is not 12 to 19 characters
+  PanDigit       PAN has a character that is no digit
+  key refused    KEY is not 32 hexadecimal digits
+  NotAPinBlock   The block holds no PIN of this PAN, or was enciphered under another key
+  write failed   Standard output takes no more
+  out of memory  Memory was refused";
+
+/// At the end of the help of `translate`.
+pub(crate) const TRANSLATE: &str = "\
+BLOCK is enciphered under the PIN key of KSN. The PIN blocks are of ISO 9564-1 format 0.
+
+Example:
+  $ dukpt translate 1B9C1845EB993A7A 4012345678909 0123456789ABCDEFFEDCBA9876543210 FFFF9876543210E00001 89E88CF7931444F334BD7547FC3F380C
+  translated 8856DB66D89E9EFF
+
+Faults, on standard error with status 1, the first alone:
+  block refused    BLOCK is not 16 hexadecimal digits
+  PanLength        PAN is not 12 to 19 characters
+  PanDigit         PAN has a character that is no digit
+  BDK refused      BDK is not 32 hexadecimal digits
+  initial refused  The same, with --initial
+  KSN refused      KSN is not 20 hexadecimal digits
+  counter refused  The counter of KSN is zero or has more than ten one bits
+  zone refused     ZONE is not 32 or 48 hexadecimal digits
+  NotAPinBlock     The block holds no PIN of this PAN, or was enciphered under another key
+  write failed     Standard output takes no more
+  out of memory    Memory was refused";
+
+/// At the end of the help of `wrap`.
+pub(crate) const WRAP: &str = "\
+The key block is of ANSI X9.143, version B, without optional blocks. PAD is 6 bytes, and 8 more for
+each block that is to hide the key's length.
+
+Example:
+  $ dukpt wrap DD7515F2BFC17F85CE48F3CA25CB21F6 P0TE00E 3F419E1CB7079442AA37474C2EFBF8B8 A5A5A5A5A5A5
+  B0080P0TE00E0000E7EA8C782E7641E7CE775995E04329A4A0870CA20BF8F6E92E580F2E81EC0BA5
+
+Faults, on standard error with status 1, the first alone:
+  KBPK refused    KBPK is not 32 or 48 hexadecimal digits
+  fields refused  FIELDS is not 7 bytes
+  key refused     KEY is not 32 or 48 hexadecimal digits
+  pad refused     PAD is not pairs of hexadecimal digits
+  HeaderField     FIELDS has a character that is not printable
+  PadLength       Length, key and padding fill no whole blocks, or the key block is too long
+  write failed    Standard output takes no more
+  out of memory   Memory was refused";
+
+/// At the end of the help of `unwrap`.
+pub(crate) const UNWRAP: &str = "\
+The key block is of ANSI X9.143, version B. What its optional blocks hold is not examined.
+
+Example:
+  $ dukpt unwrap DD7515F2BFC17F85CE48F3CA25CB21F6 B0080P0TE00E000094B420079CC80BA3461F86FE26EFC4A3B8E4FA4C5F5341176EED7B727B8A248E
+  fields P0TE00E
+  key 3F419E1CB7079442AA37474C2EFBF8B8
+
+Faults, on standard error with status 1, the first alone:
+  KBPK refused   KBPK is not 32 or 48 hexadecimal digits
+  Length         The length of BLOCK is not allowed, or is not the one that it names
+  Version        BLOCK does not begin with B
+  HeaderField    The header has a character that does not belong there
+  OptionalBlock  The optional blocks are not as the header says
+  Hex            What follows them is not hexadecimal
+  Mac            BLOCK was changed, or KBPK is another key
+  Payload        BLOCK has no key of 16 or 24 bytes
+  write failed   Standard output takes no more
+  out of memory  Memory was refused";

@@ -1,0 +1,44 @@
+//! The text at the end of the help of the commands over files.
+
+/// At the end of the help of `run`.
+pub(crate) const RUN: &str = "\
+A frame is delivered only where SCRIPT says so. What a terminal or the host refuses is a line, and no
+fault.
+
+Example:
+  $ dukpt run examples/bank.toml examples/payment.script
+  t1 loaded FFFF9876543210E00000
+  t1 sent 1 FFFF9876543210E00001
+  answer 1 accepted FFFF9876543210E00001 00
+  t1 done FFFF9876543210E00001 00
+  t1 sent 2 FFFF9876543210E00002
+  answer 2 accepted FFFF9876543210E00002 51
+  t1 done FFFF9876543210E00002 51
+
+Faults, on standard error with status 1, the first alone:
+  config: ..             The configuration: cannot read, too long, not TOML, unknown KEY, bad KEY
+  script: cannot read    SCRIPT cannot be opened or read
+  script: too long       SCRIPT has more than 1048576 bytes
+  line I: not an event   The first line of SCRIPT that is none
+  script: write failed   Standard output takes no more
+  out of memory          Memory was refused";
+
+/// At the end of the help of `serve`.
+pub(crate) const SERVE: &str = "\
+An answer is written for each frame, in their order. FILE is zeros at first, 16 bytes for each number
+that it has room for. It is opened and never made. Without it the used numbers are lost at the end:
+that is for trials.
+
+Example:
+  $ dd if=/dev/zero of=used.log bs=16 count=1000 conv=excl,fsync status=none
+  $ dukpt serve examples/bank.toml --log used.log <requests >answers
+
+Faults, on standard error with status 1, the first alone:
+  config: ..                    The configuration, as of `run`
+  log: cannot open              FILE is missing, cannot be opened, or is in use by another service
+  log: failed                   FILE is damaged, or a device step failed
+  serve: read failed            Standard input cannot be read, or took 1000000 reads
+  serve: input ends in a frame  Standard input ended inside a frame
+  serve: frame too long         A length above 62 where a frame begins
+  serve: write failed           Standard output takes no more
+  out of memory                 Memory was refused";

@@ -1,0 +1,41 @@
+//! The text at the end of the help of the commands over frames.
+
+/// At the end of the help of `request`.
+pub(crate) const REQUEST: &str = "\
+The frame has the PIN block under the PIN key of KSN, and a MAC under its key for requests.
+
+Example:
+  $ dukpt request 0123456789ABCDEFFEDCBA9876543210 FFFF9876543210E00001 4012345678909 1234 1000
+  request 002E0101FFFF9876543210E000010D34303132333435363738393039000003E81B9C1845EB993A7A25ECC2EEB37FB551
+
+Faults, on standard error with status 1, the first alone:
+  BDK refused      BDK is not 32 hexadecimal digits
+  initial refused  The same, with --initial
+  KSN refused      KSN is not 20 hexadecimal digits
+  counter refused  The counter of KSN is zero or has more than ten one bits
+  PanLength        PAN is not 12 to 19 characters
+  PanDigit         PAN has a character that is no digit
+  PinLength        PIN is not 4 to 12 characters
+  PinDigit         PIN has a character that is no digit
+  amount refused   AMOUNT is no number, or is above 4294967295
+  write failed     Standard output takes no more
+  out of memory    Memory was refused";
+
+/// At the end of the help of `reply`.
+pub(crate) const REPLY: &str = "\
+`accepted` is printed of a reply with a right MAC, with its code; `refused` of a refusal, which has
+no MAC, with its reason. A refusal of no number has a key serial number of zeros.
+
+Example:
+  $ dukpt reply 0123456789ABCDEFFEDCBA9876543210 002E0101FFFF9876543210E000010D34303132333435363738393039000003E81B9C1845EB993A7A25ECC2EEB37FB551 00160102FFFF9876543210E000013030591B50E0CA98FE70
+  accepted FFFF9876543210E00001 00
+
+Faults, on standard error with status 1, the first alone:
+  BDK refused      BDK is not 32 hexadecimal digits
+  initial refused  The same, with --initial
+  request refused  REQUEST is no request frame, or its counter is not usable
+  answer refused   ANSWER is no answer frame
+  NotMine          ANSWER is to another number
+  BadMac           ANSWER was changed, or BDK is another key
+  write failed     Standard output takes no more
+  out of memory    Memory was refused";

@@ -1,0 +1,108 @@
+//! The text at the end of the help of the commands over keys.
+
+/// At the end of the help of `derive`.
+pub(crate) const DERIVE: &str = "\
+The initial key is the same at every number of a terminal. A KSN of 16 digits is refused: write FFFF
+before it. --trace prints a key for each one bit of the counter, from the most significant on.
+
+Examples:
+  $ dukpt derive 0123456789ABCDEFFEDCBA9876543210 FFFF9876543210E00001
+  initial 6AC292FAA1315B4D858AB3A3D7D5933A
+  key 042666B49184CFA368DE9628D0397BC9
+  pin 042666B49184CF5C68DE9628D0397B36
+  $ dukpt derive 6AC292FAA1315B4D858AB3A3D7D5933A FFFF9876543210E00003 --initial --trace --all
+  step FFFF9876543210E00002 C46551CEF9FD24B0AA9AD834130D3BC7
+  step FFFF9876543210E00003 0DF3D9422ACA56E547676D07AD6BADFA
+  initial 6AC292FAA1315B4D858AB3A3D7D5933A
+  key 0DF3D9422ACA56E547676D07AD6BADFA
+  pin 0DF3D9422ACA561A47676D07AD6BAD05
+  mac-request 0DF3D9422ACAA9E547676D07AD6B52FA
+  mac-response 0DF3D942D5CA56E547676D07526BADFA
+
+Faults, on standard error with status 1, the first alone:
+  BDK refused      BDK is not 32 hexadecimal digits
+  initial refused  The same, with --initial
+  KSN refused      KSN is not 20 hexadecimal digits
+  counter refused  The counter of KSN is zero or has more than ten one bits
+  write failed     Standard output takes no more
+  out of memory    Memory was refused";
+
+/// At the end of the help of `walk`.
+pub(crate) const WALK: &str = "\
+The terminal is loaded with the initial key of IKSN, or with BDK itself under --initial, and skips K
+numbers. Then it takes up to COUNT numbers. `spent` is printed where a number is to be taken and
+none is left. An IKSN of 16 digits is refused: write FFFF before it.
+
+Examples:
+  $ dukpt walk 0123456789ABCDEFFEDCBA9876543210 FFFF9876543210E00000 1
+  FFFF9876543210E00001 042666B49184CFA368DE9628D0397BC9
+  $ dukpt walk 0123456789ABCDEFFEDCBA9876543210 FFFF9876543210E00000 2 --skip 1048574 --ksn
+  FFFF9876543210FFF800
+  spent
+
+Faults, on standard error with status 1, the first alone:
+  BDK refused      BDK is not 32 hexadecimal digits
+  initial refused  The same, with --initial
+  IKSN refused     IKSN is not 20 hexadecimal digits with a counter of zero
+  count refused    COUNT or K is no number, or is above 1048576
+  write failed     Standard output takes no more
+  out of memory    Memory was refused";
+
+/// At the end of the help of `initial`.
+pub(crate) const INITIAL: &str = "\
+Other tools call this key IPEK or IK. Its check value is the first three bytes of zeros enciphered
+under it.
+
+Example:
+  $ dukpt initial 0123456789ABCDEFFEDCBA9876543210 FFFF9876543210E00000
+  initial 6AC292FAA1315B4D858AB3A3D7D5933A
+  kcv AF8C07
+
+Faults, on standard error with status 1, the first alone:
+  BDK refused    BDK is not 32 hexadecimal digits
+  IKSN refused   IKSN is not 20 hexadecimal digits with a counter of zero
+  write failed   Standard output takes no more
+  out of memory  Memory was refused";
+
+/// At the end of the help of `registers`.
+pub(crate) const REGISTERS: &str = "\
+KSN is the number that the terminal takes next. Each of the 21 lines has a place of the counter,
+from the least significant bit on, the number of its Future Key Register, and the key serial number
+and key that the register holds, or `empty`.
+
+Example:
+  $ dukpt registers 0123456789ABCDEFFEDCBA9876543210 FFFF9876543210E00002 | sed -n 1,3p
+  register 0 21 empty
+  register 1 20 FFFF9876543210E00002 C46551CEF9FD24B0AA9AD834130D3BC7
+  register 2 19 FFFF9876543210E00004 279C0F6AEED0BE652B2C733E1383AE91
+
+Faults, on standard error with status 1, the first alone:
+  BDK refused      BDK is not 32 hexadecimal digits
+  initial refused  The same, with --initial
+  KSN refused      KSN is not 20 hexadecimal digits
+  counter refused  The counter of KSN is zero or has more than ten one bits
+  write failed     Standard output takes no more
+  out of memory    Memory was refused";
+
+/// At the end of the help of `kcv`.
+pub(crate) const KCV: &str = "\
+`kcv` is the first three bytes of zeros enciphered under a key, `cmac` the first five of the CMAC of
+zeros. With --components the keys are combined by exclusive or, and the values of the components
+come first. --show prints a key with --components alone.
+
+Examples:
+  $ dukpt kcv 0123456789ABCDEFFEDCBA9876543210
+  kcv 08D7B4
+  cmac 0A82458664
+  $ dukpt kcv 67E092EFE36BCE10A2F1D9F1B6DA6B2C 66C3D7886AC003FF5C2D6369C08E593C --components
+  component-kcv 0AAAEB
+  component-cmac C984D8CF44
+  component-kcv 7B7B4B
+  component-cmac 50AE824742
+  kcv 08D7B4
+  cmac 0A82458664
+
+Faults, on standard error with status 1, the first alone:
+  key refused    A KEY is not 32 or 48 hexadecimal digits, or components differ in length
+  write failed   Standard output takes no more
+  out of memory  Memory was refused";

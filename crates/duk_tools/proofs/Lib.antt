@@ -1,0 +1,6 @@
+pub mod SmallNumbers
+mod KeysAreRead
+mod FaultOrder
+mod StepsOnTheWay
+mod RequestOrder
+mod ReplyOrder

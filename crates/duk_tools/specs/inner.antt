@@ -1,0 +1,3 @@
+pub mod CheckValues
+pub mod Frames
+pub mod Mac

@@ -1,0 +1,83 @@
+//! The commands over keys: `derive` with its options, and `initial`.
+
+ghost use Rattle.std.specs.Prelude.{◌≡◌, ◌+◌, ◌≤◌, ◌++◌, true, IfErr, IfOk};
+ghost use Rattle.arrayvec.specs.ArrayVec.{array_vec_len};
+ghost use Rattle.duk_tools.specs.Keys.{IsDerivedText, IsInitialRefused, IsInitialText, initial_lines, mac_lines, three_lines};
+ghost use Rattle.duk_tools.specs.Start.{IsStartRefused};
+
+use crate::start::read_start;
+use crate::steps::push_steps;
+use duk_commands::{Fault, KeyArgument, LINES_ROOM, Lines, push_line};
+use duk_mac::check_value;
+use duk_tdes::Key;
+use duk_tree::{Iksn, initial_key, pin_key, request_key, response_key};
+
+/// The lines of a number's keys: the initial key, the transaction key and its PIN variant; before
+/// them, with `trace`, the key of each node on the way to the number, and the number's; after them,
+/// with `all`, the variants of the two MACs (ANSI X9.24-1:2009 annex A).
+///
+/// The faults, in this order: `BDK refused`, or `initial refused` of an initial key; `KSN refused`;
+/// `counter refused` (zero, or more than ten one bits).
+pub fn derived_lines(
+    given: KeyArgument<'_>,
+    ksn: &str,
+    trace: bool,
+    all: bool,
+) -> Result<Lines, Fault>
+    ensures lines { IfOk result (λ lines. IsDerivedText given.entry ksn.now trace all lines.items) }
+    ensures refused { IfErr result (IsStartRefused given.entry ksn.now) }
+{
+    let start = read_start(given, ksn)?;
+    let key = start.key();
+    let mut lines = Lines::new();
+    if trace {
+        push_steps(&mut lines, &start.initial, start.ksn);
+    }
+    push_three(&mut lines, &start.initial, &key);
+    if all {
+        push_macs(&mut lines, &key);
+    }
+    Ok(lines)
+}
+
+/// Appends the lines of the initial key, the transaction key and its PIN variant.
+fn push_three(lines: &mut Lines, initial: &Key<16>, key: &Key<16>)
+    requires { array_vec_len lines.old + 115 ≤ LINES_ROOM }
+    ensures lines { lines.new.items ≡ lines.old.items ++ three_lines initial.now key.now }
+    ensures len { array_vec_len lines.new ≡ array_vec_len lines.old + 115 }
+{
+    push_line(lines, b"initial", &initial.bytes());
+    push_line(lines, b"key", &key.bytes());
+    push_line(lines, b"pin", &pin_key(key).bytes());
+}
+
+/// Appends the lines of the variants for the MACs of a request and of a response.
+fn push_macs(lines: &mut Lines, key: &Key<16>)
+    requires { array_vec_len lines.old + 91 ≤ LINES_ROOM }
+    ensures { lines.new.items ≡ lines.old.items ++ mac_lines true key.now }
+{
+    push_line(lines, b"mac-request", &request_key(key).bytes());
+    push_line(lines, b"mac-response", &response_key(key).bytes());
+}
+
+/// The lines of a terminal's initial key and of its check value.
+///
+/// The faults, in this order: `BDK refused`, `IKSN refused` (not 20 digits with a counter of zero).
+pub fn initial_lines(bdk: &str, iksn: &str) -> Result<Lines, Fault>
+    ensures lines { IfOk result (λ lines. IsInitialText bdk.now iksn.now lines.items) }
+    ensures refused { IfErr result (IsInitialRefused bdk.now iksn.now) }
+{
+    let bdk = Key::<16>::parse(bdk).ok_or(Fault::BdkRefused)?;
+    let iksn = Iksn::parse(iksn).ok_or(Fault::IksnRefused)?;
+    Ok(lines_of_initial(&initial_key(&bdk, iksn)))
+}
+
+/// The two lines of an initial key.
+fn lines_of_initial(key: &Key<16>) -> Lines
+    ensures { result.items ≡ initial_lines key.now }
+{
+    let mut lines = Lines::new();
+    push_line(&mut lines, b"initial", &key.bytes());
+    push_line(&mut lines, b"kcv", &check_value(key));
+    lines
+}

@@ -1,0 +1,21 @@
+//! The everyday commands over keys, PIN blocks, MACs and frames, each as the lines that it makes of
+//! its arguments, or the fault for which it refuses them.
+#![tactic(auto)]
+
+mod check_values;
+mod frames;
+mod hexadecimal;
+mod keys;
+mod mac;
+mod pin_blocks;
+mod registers;
+mod small_number;
+mod start;
+mod steps;
+
+pub use check_values::{MOST_KEYS, values_lines};
+pub use frames::{reply_lines, request_lines};
+pub use keys::{derived_lines, initial_lines};
+pub use mac::mac_lines;
+pub use pin_blocks::{translate_lines, unpin_lines};
+pub use registers::registers_lines;
