@@ -8,6 +8,7 @@ import os
 import signal
 import socket
 import subprocess
+import time
 from pathlib import Path
 from typing import Callable, Iterator, Optional, Sequence, Union
 
@@ -177,11 +178,32 @@ class Serving(Case):
                     client.sendall(b"some")
                     self.assertEqual(script.stdout.read(4), b"some")
                     tell(script.pid, way)
-                    # One that comes just before bash blocks in its read may be seen only with the next.
-                    ended = end_of(script, None, lambda: tell(script.pid, way))
-                    self.assertEqual(ended, Ended(status, b"", says), way)
+                    self.assertEqual(end_of(script, None), Ended(status, b"", says), way)
                 self.assertEqual(self.state.read_text(), left, way)
                 self.state.unlink()
+
+    def test_told_at_any_moment(self) -> None:
+        """Each signal is seen, whatever the script does at that time. Nothing is in the way of the
+        next start."""
+        for _ in range(20 * self.times):
+            way, tell = self.chance.choice([*self.ways_to_tell()])
+            client, connection = socket.socketpair()
+            with client, connection:
+                script = self.start(b"", 0, given=connection)
+                self.wait_for(script, self.chance.choice((self.state, self.home / "words")))
+                time.sleep(self.chance.uniform(0, 0.01))
+                tell(script.pid, way)
+                ended = end_of(script, None)
+            # With 1 it was told before there was a service.
+            self.assertIn((ended.status, ended.output), ((0, b""), (1, b"")), way)
+            self.assertEqual(self.state.read_bytes(), b"", f"{way}: {ended}")
+            self.state.unlink()
+            (self.home / "words").unlink(missing_ok=True)
+
+    @staticmethod
+    def wait_for(script: subprocess.Popen, path: Path) -> None:
+        while not path.exists() and script.poll() is None:
+            time.sleep(0.001)
 
     @staticmethod
     def ways_to_tell() -> Iterator[tuple[int, Callable[[int, int], None]]]:
@@ -423,18 +445,7 @@ def copied(old: Path, new: Path, limits: Limits = NO_LIMITS) -> Ended:
     return Ended(done.returncode, done.stdout, done.stderr)
 
 
-def end_of(
-    script: subprocess.Popen,
-    given: Optional[bytes] = b"",
-    again: Optional[Callable[[], None]] = None,
-) -> Ended:
-    """Gives a script the end of its input, and waits for its own; where it does not come, it is told
-    `again` once."""
-    try:
-        output, faults = script.communicate(given, timeout=SECONDS / 4 if again else SECONDS)
-    except subprocess.TimeoutExpired:
-        if again is None:
-            raise
-        again()
-        output, faults = script.communicate(timeout=SECONDS)
+def end_of(script: subprocess.Popen, given: Optional[bytes] = b"") -> Ended:
+    """Gives a script the end of its input, and waits for its own."""
+    output, faults = script.communicate(given, timeout=SECONDS)
     return Ended(script.returncode, output, faults)
