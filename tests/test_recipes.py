@@ -81,15 +81,21 @@ class Recipes(ProgramCase):
     def test_a_loading_block(self) -> None:
         self.run_recipe(0)
 
-    def test_a_translated_pin_block(self) -> None:
+    def test_components(self) -> None:
         self.run_recipe(1)
 
-    def test_a_walk(self) -> None:
+    def test_a_trace(self) -> None:
         self.run_recipe(2)
 
-    def test_a_file_of_frames(self) -> None:
+    def test_a_translated_pin_block(self) -> None:
         self.run_recipe(3)
+
+    def test_a_walk(self) -> None:
+        self.run_recipe(4)
+
+    def test_a_file_of_frames(self) -> None:
+        self.run_recipe(5)
 
     def test_there_are_no_others(self) -> None:
         """The last one is of the page, and has no command."""
-        self.assertEqual([bool(commands) for _, commands in recipes()], [True] * 4 + [False])
+        self.assertEqual([bool(commands) for _, commands in recipes()], [True] * 6 + [False])

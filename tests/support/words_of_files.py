@@ -112,7 +112,8 @@ def words_of_heading(text: str) -> tuple[str, list[str], Options]:
     found = re.findall(r"\[(--[\w-]+)(?: (\w+))?\]", rest)
     options = {name: value or None for name, value in found}
     values = re.sub(r"\[--[^]]*\]", "", rest).split()
-    return command, [value.strip("[]") for value in values], options
+    # `KEY..` stands for one or more.
+    return command, [value.strip("[].") for value in values], options
 
 
 def with_help(command: str, options: Options) -> Options:
@@ -131,8 +132,8 @@ def words_of_manual() -> Words:
             words.add(command, values, with_help(command, options))
         elif command == PROGRAM and macro == ".BR" and rest.startswith("-"):
             words.options[PROGRAM].update(dict.fromkeys(re.findall(r"-[\w-]+", rest)))
-        elif command and macro in (".I", ".BI", ".B") and re.match(r"--|[A-Z]+$", rest):
-            described.setdefault(command, []).append(rest.replace('"', ""))
+        elif command and macro in (".I", ".BI", ".B") and re.match(r"--|[A-Z]+(\.\.)?$", rest):
+            described.setdefault(command, []).append(rest.replace('"', "").rstrip("."))
     demand_described(words, described)
     return words
 
@@ -169,7 +170,7 @@ def words_of_bash() -> Words:
     words, text = Words(), text_of("share", "completions", "dukpt.bash")
     for command, rest in re.findall(r'^    \[(\w+)\]="(.*)"$', text, re.M):
         options = [it.partition("=") for it in rest.split() if it.startswith("-")]
-        words.add(command, [it for it in rest.split() if not it.startswith("-")],
+        words.add(command, [it.rstrip(".") for it in rest.split() if not it.startswith("-")],
                   {name: value or None for name, _, value in options})
     options = re.search(r'^_dukpt_options="(.*)"$', text, re.M)
     if not options:
@@ -180,12 +181,13 @@ def words_of_bash() -> Words:
 
 def words_of_zsh() -> Words:
     words, text = Words(), text_of("share", "completions", "_dukpt")
-    shared = "".join(re.findall(r"local -a help=\((.*)\)$", text, re.M))
+    shared = dict(re.findall(r"local -a (\w+)=\((.*)\)$", text, re.M))
     first = "".join(re.findall(r"_arguments -C (.*?)&&", text, re.S))
     words.options[PROGRAM] = options_of_zsh(first, shared)
     for command, rest in re.findall(r"^        (\w+)\) _arguments (.*?) ;;$", text, re.M | re.S):
-        values = re.findall(r"'(\d+):(\w+):", rest)
-        if [int(place) for place, _ in values] != list(range(1, len(values) + 1)):
+        values = re.findall(r"'(\d+|\*):(\w+):", rest)
+        places = [str(place) for place in range(1, len(values) + 1)]
+        if [place for place, _ in values] not in (places, [*places[:-1], "*"]):
             raise Unreadable(f"{command}: its words are not numbered one after the other")
         words.add(command, [name for _, name in values], options_of_zsh(rest, shared))
     named = re.findall(r"^        '([a-z]+):", text, re.M)
@@ -194,8 +196,9 @@ def words_of_zsh() -> Words:
     return words
 
 
-def options_of_zsh(text: str, shared: str) -> Options:
-    text = text.replace("$help", shared)
+def options_of_zsh(text: str, shared: dict[str, str]) -> Options:
+    for name, options in shared.items():
+        text = text.replace(f"${name}", options)
     found: Options = {name: value or None for name, value in re.findall(
         r"'(--[\w-]+)=?\[[^]]*\](?::(\w+):)?", text)}
     for names in re.findall(r"\{(-[^}]*)\}", text):
@@ -211,7 +214,7 @@ OPTION_OF_FISH = (
 def words_of_fish() -> Words:
     words, text = Words(), text_of("share", "completions", "dukpt.fish")
     for command, values in re.findall(OFFER_OF_FISH, text, re.M):
-        words.add(command, values.split(), {})
+        words.add(command, [it.rstrip(".") for it in values.split()], {})
     for command, rest in re.findall(OPTION_OF_FISH, text, re.M):
         value = re.search(r"-[xr] .*-d '(\w+):", rest)
         for dash, name in re.findall(r"-(s|l) (\w+)", rest.partition(" -d ")[0]):

@@ -1,0 +1,236 @@
+"""Arguments of the commands of every day at random, right ones and wrong ones. `everyday_words`
+says how each case has to end."""
+from __future__ import annotations
+
+import random
+from typing import Callable, Optional, Sequence
+
+from .des import encrypt_block
+from .dukpt import COUNTER_BITS, SPENT, derive, key_of, pin_key, serial_text
+from .everyday import NUMBERS, nth_counter
+from .everyday_words import COMMANDS, MOST_KEYS
+from .frames import CODES, NO_NUMBER, REASONS, write_refusal, write_reply, write_request
+from .key_blocks import wrap
+from .pin_blocks import pin_block
+from .worlds import digits
+
+# Counters that are not usable, and the last ones that are.
+COUNTERS = (0, 0x7FF, 0x1FFFFF, 0x1FFC00, 1, 0x7FE, 0x1FF800, 1 << COUNTER_BITS - 1)
+NO_COUNTS = ("", "x", "1x", "-", "0x1", "1048577", "99999999999999999999", " 1", "\u0661", "1.0")
+# Words that are neither keys nor numbers, frames or texts of digits.
+NOTHINGS = ("", "g", "zz", "0", "00", "\u00e9" * 8, "12 34", "0x" + "1" * 30, "nothing")
+TEXTS = ("", "a", "4012345678909D987", "\u20ac 5,00", " ", "@", "00", "0g", "0a0")
+
+
+# The arguments of a run.
+Case = list[str]
+
+
+class Draw:
+    """Draws cases."""
+
+    def __init__(self, chance: random.Random) -> None:
+        self.chance = chance
+
+    def one_in(self, count: int) -> bool:
+        return self.chance.randrange(count) == 0
+
+    # Words
+
+    def written(self, word: str) -> str:
+        """Digits in either case, now and then one too few or too many, or with another character."""
+        chance = self.chance
+        if self.one_in(16):
+            at = chance.randrange(len(word))
+            return chance.choice((*NOTHINGS, word[1:], word + "0", word[2:], word * 2, word + " ",
+                                  word[:at] + chance.choice("gG/:@`\u00e9 ") + word[at + 1 :]))
+        return chance.choice((word.upper(), word.lower()))
+
+    def key(self, *sizes: int) -> tuple[bytes, str]:
+        """A key, and a word for it."""
+        key = self.chance.randbytes(self.chance.choice(sizes))
+        if self.one_in(40):
+            # Keys with equal halves, of zeros alone, and the like are keys too.
+            key = self.chance.choice((bytes(len(key)), b"\xff" * len(key), key[:8] * (len(key) // 8)))
+        return key, self.written(key.hex())
+
+    def serial(self) -> int:
+        """A number, most of which have a usable counter."""
+        counter = nth_counter(self.chance.randrange(NUMBERS))
+        if self.one_in(8):
+            counter = self.chance.choice(COUNTERS)
+        return self.iksn() + counter
+
+    def iksn(self) -> int:
+        return self.chance.randrange(1 << 80) // SPENT * SPENT
+
+    def number(self) -> tuple[int, str]:
+        serial = self.serial()
+        return serial, self.written(serial_text(serial))
+
+    def digits(self, least: int, most: int) -> tuple[str, str]:
+        """Digits, and a word for them."""
+        text = digits(self.chance, *self.chance.choice(((least, most), (least,) * 2, (most,) * 2)))
+        if self.one_in(10):
+            at = self.chance.randrange(len(text))
+            wrong = text[:at] + self.chance.choice("/:aA +\u0661") + text[at + 1 :]
+            return text, self.chance.choice(("", text[0] * (least - 1), text[0] * (most + 1), wrong))
+        return text, text
+
+    def pin(self) -> tuple[str, str]:
+        return self.digits(4, 12)
+
+    def pan(self) -> tuple[str, str]:
+        return self.digits(12, 19)
+
+    def count(self, most: int, above: int) -> str:
+        """A count, with zeros before it or none, or what is above the greatest one."""
+        if self.one_in(12):
+            return self.chance.choice((*NO_COUNTS, str(above)))
+        return "0" * self.chance.choice((0, 0, 0, 1, 30)) + str(self.chance.randrange(most))
+
+    # Cases
+
+    def case(self, command: str, *words: str, flags: Optional[Sequence[str]] = None,
+             **valued: Optional[str]) -> Case:
+        """A command with these values, and with options at random or these."""
+        parts = [(False, [word]) for word in words]
+        given = [it for it in COMMANDS[command].flags if self.one_in(2)] if flags is None else flags
+        options = [[f"--{it}"] for it in given]
+        for name, value in valued.items():
+            if value is not None:
+                options.append(self.chance.choice(([f"--{name}", value], [f"--{name}={value}"])))
+        is_many = COMMANDS[command].is_many
+        for option in options:
+            # Keys of which there may be many stand together.
+            ends = (0, len(parts))
+            at = self.chance.choice(ends) if is_many else self.chance.randint(*ends)
+            parts.insert(at, (True, option))
+        return self.refused_words([command, *self.joined(parts, is_many)])
+
+    def joined(self, parts: list[tuple[bool, list[str]]], is_together: bool) -> list[str]:
+        """The words of options and values. From the first value with a hyphen on, or now and then
+        from any, all options stand before `--`."""
+        at = next((at for at, (is_option, it) in enumerate(parts)
+                   if not is_option and it[0].startswith("-")), None)
+        if at is None and not self.one_in(10):
+            return [word for _, it in parts for word in it]
+        at = self.chance.randint(0, len(parts)) if at is None else at
+        if is_together and any(is_option for is_option, _ in parts[at:]):
+            at = 0
+        before = [word for _, it in parts[:at] for word in it]
+        moved = [word for is_option, it in parts[at:] for word in it if is_option]
+        return [*before, *moved, "--", *(it[0] for is_option, it in parts[at:] if not is_option)]
+
+    def refused_words(self, words: Case) -> Case:
+        """Now and then a word is missing, or there is one more."""
+        if self.one_in(60):
+            return [*words, "extra"]
+        return words[:1] if self.one_in(60) else words
+
+    # Each command
+
+    def derive(self) -> Case:
+        return self.case("derive", self.key(16)[1], self.number()[1])
+
+    def walk(self) -> Case:
+        counter = 0 if not self.one_in(10) else self.chance.choice((1, 0x100000))
+        skip = None if self.one_in(2) else self.count(200, 1_048_577)
+        return self.case("walk", self.key(16)[1], self.written(serial_text(self.iksn() + counter)),
+                         self.count(20, 1_048_577), skip=skip)
+
+    def initial(self) -> Case:
+        serial = self.iksn() if not self.one_in(10) else self.serial()
+        return self.case("initial", self.key(16)[1], self.written(serial_text(serial)))
+
+    def registers(self) -> Case:
+        return self.case("registers", self.key(16)[1], self.number()[1])
+
+    def kcv(self) -> Case:
+        count = self.chance.choice((1, 1, 2, 3, MOST_KEYS, self.chance.randint(1, MOST_KEYS)))
+        sizes = self.chance.choice(((16,), (24,), (16, 24)))
+        return self.case("kcv", *(self.key(*sizes)[1] for _ in range(count)))
+
+    def mac(self) -> Case:
+        data = self.chance.randbytes(self.chance.choice((0, 1, 7, 8, 9, 16, 23, 64, 600)))
+        text = self.chance.choice((self.written(data.hex() or "00"), data.hex(), data.hex(),
+                                   self.chance.choice(TEXTS), "--cmac", "-"))
+        return self.case("mac", self.key(16, 16, 24)[1], text)
+
+    def block(self, pin: str, pan: str, key: Optional[bytes]) -> str:
+        """A PIN block, or now and then almost one."""
+        clear = pin_block(pin, pan)
+        if self.one_in(8):
+            clear ^= self.chance.choice((1, 15, 1 << 63, 1 << 56, 10 << self.chance.randrange(0, 60, 4),
+                                         self.chance.randrange(1 << 64)))
+        block = clear.to_bytes(8, "big")
+        return self.written((block if key is None else encrypt_block(key, block)).hex())
+
+    def unpin(self) -> Case:
+        (pin, _), (pan, pan_word) = self.pin(), self.pan()
+        key, word = (None, None) if self.one_in(3) else self.key(16)
+        return self.case("unpin", self.block(pin, pan, key), pan_word, key=word)
+
+    def translate(self) -> Case:
+        (pin, _), (pan, pan_word) = self.pin(), self.pan()
+        (base, base_word), (serial, number) = self.key(16), self.number()
+        flags, key = self.under(base, serial)
+        return self.case("translate", self.block(pin, pan, pin_key(key)), pan_word, base_word, number,
+                         self.key(16, 24)[1], flags=flags)
+
+    def under(self, base: bytes, serial: int) -> tuple[list[str], bytes]:
+        """Whether a key is that of the terminal, as options say it, and the key of a number."""
+        is_own = self.one_in(2)
+        return ["initial"] if is_own else [], (key_of if is_own else derive)(base, serial)
+
+    def request(self) -> Case:
+        return self.case("request", self.key(16)[1], self.number()[1], self.pan()[1], self.pin()[1],
+                         self.count(1 << 32, 1 << 32))
+
+    def reply(self) -> Case:
+        (base, word), serial = self.key(16), self.serial()
+        flags, key = self.under(base, serial)
+        pan, pin, amount = self.pan()[0], self.pin()[0], self.chance.randrange(1 << 32)
+        request = write_request(key, serial, pan, pin, amount)
+        return self.case("reply", word, self.frame_word(request),
+                         self.frame_word(self.answer(key, serial)), flags=flags)
+
+    def answer(self, key: bytes, serial: int) -> bytes:
+        """An answer to a number, to another one, or to none."""
+        other = self.chance.choice((serial, serial, serial, serial, self.serial()))
+        if self.one_in(2):
+            made = write_reply(key, other, self.chance.choice(CODES))
+            wrong = made[:-1] + bytes([made[-1] ^ 1 << self.chance.randrange(8)])
+            return wrong if self.one_in(5) else made
+        return write_refusal(self.chance.choice((other, NO_NUMBER)), self.chance.choice(REASONS))
+
+    def frame_word(self, frame: bytes) -> str:
+        if self.one_in(10):
+            at = self.chance.randrange(len(frame))
+            frame = self.chance.choice((
+                frame[1:], frame[:-1], frame + b"\x00", frame[2:], bytes(2), frame[:1],
+                frame[:at] + bytes([frame[at] ^ 1 << self.chance.randrange(8)]) + frame[at + 1 :]))
+        return self.written(frame.hex() or "00")
+
+    def others(self) -> Case:
+        """The commands that were there before."""
+        return self.chance.choice((self.pin_case, self.wrap_case, self.unwrap_case))()
+
+    def pin_case(self) -> Case:
+        return self.case("pin", self.pin()[1], self.pan()[1],
+                         key=None if self.one_in(3) else self.key(16)[1])
+
+    def wrap_case(self) -> Case:
+        return self.case("wrap", self.key(16, 24)[1], "P0TE00E", self.key(16, 24)[1],
+                         self.written(self.chance.randbytes(6).hex()))
+
+    def unwrap_case(self) -> Case:
+        (protection, word), (key, _) = self.key(16, 24), self.key(16, 24)
+        text = wrap(protection, b"P0TE00E", key, self.chance.randbytes(6)).decode()
+        return self.case("unwrap", word, self.chance.choice((text, text, text[:-1] + "g")))
+
+
+DRAWS: dict[str, Callable[[Draw], Case]] = {
+    name: getattr(Draw, name) for name in (
+        "derive", "walk", "initial", "registers", "kcv", "mac", "unpin", "translate", "request",
+        "reply", "others")}

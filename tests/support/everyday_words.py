@@ -1,0 +1,151 @@
+"""How the program has to end on arguments of the commands over keys and PINs, by docs/COMMANDS.md:
+its status, its output and its faults, to the letter.
+
+First the arguments are read as such; then the command does its work, by `everyday` and `commands`.
+Of arguments that are refused as such, whose text is of `clap`, only the first line is known here.
+"""
+from __future__ import annotations
+
+from dataclasses import dataclass, field
+from typing import Callable, Mapping, Sequence
+
+from .commands import Refused, pin_lines, unwrap_lines, wrap_lines
+from .everyday import (
+    derive_lines, initial_lines, kcv_lines, mac_lines, registers_lines, reply_lines, request_lines,
+    translate_lines, unpin_lines, walk_lines)
+from .program import Ended
+
+Lines = Callable[..., list[str]]
+
+MOST_KEYS = 16
+# Arguments and values of options that are secrets.
+SECRETS = {"BDK", "KBPK", "PIN", "PAN", "ZONE"}
+OF_COMMANDS = {"wrap": {"KEY"}, "kcv": {"KEY"}, "mac": {"KEY"}, "pin": {"KEY"},
+               "unpin": {"KEY", "BLOCK"}, "translate": {"BLOCK"}}
+
+
+@dataclass(frozen=True)
+class Command:
+    """The names of a command's arguments, its options with what they take, and what it writes.
+
+    An option is handed on by its name, or by another one where that is a word of Python."""
+
+    lines: Lines
+    values: tuple[str, ...]
+    flags: tuple[str, ...] = ()
+    valued: Mapping[str, str] = field(default_factory=dict)
+    is_many: bool = False
+
+
+INITIAL = ("initial",)
+COMMANDS = {
+    "derive": Command(derive_lines, ("BDK", "KSN"), ("initial", "trace", "all")),
+    "walk": Command(walk_lines, ("BDK", "IKSN", "COUNT"), ("ksn", "initial"), {"skip": "K"}),
+    "pin": Command(pin_lines, ("PIN", "PAN"), (), {"key": "KEY"}),
+    "wrap": Command(wrap_lines, ("KBPK", "FIELDS", "KEY", "PAD")),
+    "unwrap": Command(unwrap_lines, ("KBPK", "BLOCK")),
+    "initial": Command(initial_lines, ("BDK", "IKSN")),
+    "registers": Command(registers_lines, ("BDK", "KSN"), INITIAL),
+    "kcv": Command(kcv_lines, ("KEY",), ("components", "show"), is_many=True),
+    "mac": Command(mac_lines, ("KEY", "TEXT"), ("cmac", "hex")),
+    "unpin": Command(unpin_lines, ("BLOCK", "PAN"), ("show",), {"key": "KEY"}),
+    "translate": Command(translate_lines, ("BLOCK", "PAN", "BDK", "KSN", "ZONE"), INITIAL),
+    "request": Command(request_lines, ("BDK", "KSN", "PAN", "PIN", "AMOUNT"), INITIAL),
+    "reply": Command(reply_lines, ("BDK", "REQUEST", "ANSWER"), INITIAL),
+}
+# What an option is called where Python has another use for its name.
+HANDED = {"all": "all_", "hex": "hex_", "cmac": "is_cmac"}
+
+
+def is_secret(command: str, name: str) -> bool:
+    return name in SECRETS or name in OF_COMMANDS.get(command, ())
+
+
+class ArgumentsRefused(Exception):
+    """The first line that tells why arguments are refused as such."""
+
+
+@dataclass
+class Given:
+    """What stands behind a command."""
+
+    values: list[str] = field(default_factory=list)
+    flags: set[str] = field(default_factory=set)
+    valued: dict[str, str] = field(default_factory=dict)
+
+
+def read(words: Sequence[str], command: Command) -> Given:
+    """Options stand anywhere before `--`, each once, but not between values of which there may be
+    many. All else are values, as many as there may be."""
+    given, left, is_over, is_after = Given(), list(words), False, False
+    while left:
+        word = left.pop(0)
+        if not is_over and word == "--":
+            is_over = True
+        elif not is_over and word.startswith("--"):
+            read_option(word[2:], left, command, given)
+            is_after = bool(given.values)
+        elif not is_over and word.startswith("-") and word != "-":
+            raise ArgumentsRefused(f"unexpected argument '{word}' found")
+        elif command.is_many and is_after:
+            demand_count(command, given)
+            raise ArgumentsRefused("the argument '<KEY>...' cannot be used multiple times")
+        elif len(given.values) == len(command.values) and not command.is_many:
+            raise ArgumentsRefused(f"unexpected argument '{word}' found")
+        else:
+            given.values.append(word)
+    demand_count(command, given)
+    return given
+
+
+def demand_count(command: Command, given: Given) -> None:
+    """Of too many keys the last one is named."""
+    if command.is_many and len(given.values) > MOST_KEYS:
+        raise ArgumentsRefused(
+            f"unexpected value '{given.values[-1]}' for '<KEY>...' found; no more were expected")
+    if len(given.values) < len(command.values):
+        raise ArgumentsRefused("the following required arguments were not provided:")
+
+
+def read_option(word: str, left: list[str], command: Command, given: Given) -> None:
+    name, equals, value = word.partition("=")
+    if name in given.flags or name in given.valued:
+        shown = f"--{name} <{command.valued[name]}>" if name in command.valued else f"--{name}"
+        raise ArgumentsRefused(f"the argument '{shown}' cannot be used multiple times")
+    if name in command.flags and not equals:
+        given.flags.add(name)
+    elif name in command.valued and (equals or left and (left[0] == "-" or left[0][:1] != "-")):
+        given.valued[name] = value if equals else left.pop(0)
+    elif name in command.flags:
+        raise ArgumentsRefused(
+            f"unexpected value '{value}' for '--{name}' found; no more were expected")
+    elif name in command.valued:
+        raise ArgumentsRefused(
+            f"a value is required for '--{name} <{command.valued[name]}>' but none was supplied")
+    else:
+        raise ArgumentsRefused(f"unexpected argument '--{name}' found")
+
+
+# The whole
+
+
+def lines_of(name: str, given: Given) -> list[str]:
+    command = COMMANDS[name]
+    options: dict[str, object] = {HANDED.get(it, it): True for it in given.flags}
+    options.update(given.valued)
+    values = [given.values] if command.is_many else given.values
+    return command.lines(*values, **options)
+
+
+def expected(words: Sequence[str]) -> Ended:
+    """How a run with these arguments ends. Of refused arguments it has the first line alone."""
+    name, *rest = words
+    try:
+        said = read(rest, COMMANDS[name])
+    except ArgumentsRefused as why:
+        return Ended(2, b"", f"error: {why}\n".encode())
+    try:
+        lines = lines_of(name, said)
+    except Refused as why:
+        return Ended(1, b"", f"{why}\n".encode())
+    return Ended(0, "".join(f"{line}\n" for line in lines).encode(), b"")

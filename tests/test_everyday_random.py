@@ -1,0 +1,88 @@
+"""The commands of every day with arguments at random, right ones and wrong ones: each line to the
+letter, and no secret where it does not belong."""
+from __future__ import annotations
+
+from collections import Counter
+
+from .support.case import ProgramCase
+from .support.everyday_cases import DRAWS, Draw
+from .support.everyday_words import expected
+from .support.leaks import leaks
+from .support.program import Ended, spoken
+from .support.quick import QuickRuns
+
+NUMBER_FAULTS = ("KSN refused", "counter refused")
+BASE_FAULTS = ("BDK refused", "initial refused")
+PAN_FAULTS = ("PanLength", "PanDigit")
+
+
+def kind_of(ended: Ended) -> str:
+    """What came of a run, without the values of it."""
+    if ended.status == 0:
+        return "done"
+    return ended.faults.decode().splitlines()[0] if ended.status == 1 else "arguments refused"
+
+
+class TestEveryday(ProgramCase):
+    """A command is tried by thousands, and a tally counts what came of it."""
+
+    weight = 7
+
+    def play(self, command: str, count: int, *kinds: str) -> None:
+        """So many cases of a command, of which each of these kinds has to come."""
+        draw, tally = Draw(self.chance), Counter[str]()
+        with QuickRuns(self.program) as runs:
+            for _ in range(count * self.times):
+                tally[kind_of(self.check(runs, DRAWS[command](draw)))] += 1
+        missing = [it for it in ("done", "arguments refused", *kinds) if not tally[it]]
+        self.assertFalse(missing, f"this never came: {missing}, but {dict(tally)}")
+        self.tells(f"{sum(tally.values())} runs, {tally['done']} done")
+
+    def check(self, runs: QuickRuns, words: list[str]) -> Ended:
+        wanted = expected(words)
+        ended = runs.run([word.encode() for word in words])
+        what = spoken(words)
+        if wanted.status == 2:
+            self.assertTrue(ended.faults.startswith(wanted.faults), f"{what}: {ended}, no {wanted}")
+            self.assert_ended(ended, 2, b"", ended.faults, what)
+        else:
+            self.assert_ended(ended, wanted.status, wanted.output, wanted.faults, what)
+        self.assertEqual(leaks(words, ended), [], what)
+        return ended
+
+    def test_derive(self) -> None:
+        self.play("derive", 1200, *BASE_FAULTS, *NUMBER_FAULTS)
+
+    def test_walk(self) -> None:
+        self.play("walk", 700, *BASE_FAULTS, "IKSN refused", "count refused")
+
+    def test_initial(self) -> None:
+        self.play("initial", 500, "BDK refused", "IKSN refused")
+
+    def test_registers(self) -> None:
+        self.play("registers", 700, *BASE_FAULTS, *NUMBER_FAULTS)
+
+    def test_kcv(self) -> None:
+        self.play("kcv", 1300, "key refused")
+
+    def test_mac(self) -> None:
+        self.play("mac", 1300, "key refused", "text refused")
+
+    def test_unpin(self) -> None:
+        self.play("unpin", 1300, "block refused", *PAN_FAULTS, "key refused", "NotAPinBlock")
+
+    def test_translate(self) -> None:
+        self.play("translate", 1200, "block refused", *PAN_FAULTS, *BASE_FAULTS, *NUMBER_FAULTS,
+                  "zone refused", "NotAPinBlock")
+
+    def test_request(self) -> None:
+        self.play("request", 1000, *BASE_FAULTS, *NUMBER_FAULTS, *PAN_FAULTS, "PinLength",
+                  "PinDigit", "amount refused")
+
+    def test_reply(self) -> None:
+        self.play("reply", 1300, *BASE_FAULTS, "request refused", "answer refused", "NotMine",
+                  "BadMac")
+
+    def test_others(self) -> None:
+        """`pin`, `wrap` and `unwrap`."""
+        self.play("others", 700, "KBPK refused", "Hex")
