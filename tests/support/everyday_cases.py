@@ -213,7 +213,7 @@ class Draw:
         return self.written(frame.hex() or "00")
 
     def others(self) -> Case:
-        """The commands that were there before."""
+        """`pin`, `wrap` or `unwrap`."""
         return self.chance.choice((self.pin_case, self.wrap_case, self.unwrap_case))()
 
     def pin_case(self) -> Case:
