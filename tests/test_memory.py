@@ -49,7 +49,7 @@ CALLS = {
     "parse_script": Growths(1, 5, 3),
     "run_script": Growths(1, 56, 40, has_events=True),
     "run_status": Growths(1, 58, 40, has_events=True),
-    "command": Growths(1, 100, 20),
+    "command": Growths(1, 194, 20),
 }
 ANSWER = re.compile(r"^(\S+) (\d+): (.*)$", re.M)
 ANSWERS = ("before", "refused", "midway", "whole")
