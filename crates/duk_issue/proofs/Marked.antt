@@ -1,0 +1,124 @@
+-- Marks of the numbers that are issued.
+use Rattle.std.proofs.Common.{◌≡◌, ◌≢◌, ◌⊎◌, inl, inr, ◌+◌, ◌<◌, ◌≤◌, ℕ, zero, suc, Bool, true, false, List, [], ◌∷◌, Contains, length, get_or, drop, refl, sym, ap, subst, ◌∙◌, arith, drop-cons}
+use Rattle.std.specs.List.{AllPairs}
+use Rattle.std.specs.Prelude.{slice_set}
+use Rattle.std.proofs.lemmas.Bool.{cases_eq}
+use Rattle.std.proofs.lemmas.List.{get_or-set_same, get_or-set_other, length-set}
+use Rattle.std.proofs.lemmas.List.Kept.{AllPairs-cons}
+use Rattle.duk_store.specs.Log.{Numbers}
+use Rattle.duk_issue.specs.Ledger.{AreNew}
+use Rattle.duk_issue.specs.Numbers.{iksn_at}
+use Rattle.duk_issue.specs.inner.Marks.{AreMarked, IsMarkedAlso, unmarked}
+use Rattle.duk_issue.proofs.Members.{all_members, first_in, later_in, member_cases, none_in}
+
+-- a place has one number
+same_place : (first p q : ℕ) → iksn_at first p ≡ iksn_at first q → p ≡ q
+same_place first p q same = omega (arith, same)
+
+-- a number without a place changes no mark
+pub no_mark : (marks : List Bool) (first iksn : ℕ) → ((p : ℕ) → p < length marks → iksn ≢ iksn_at first p) → IsMarkedAlso marks marks first iksn
+no_mark marks first iksn none = record {
+  size = refl;
+  marked = λ p within. (λ was. inl was, elim [ inl was ↦ was | inr is ↦ absurd (none p within is) ]);
+}
+
+-- a number has one place
+pub one_mark : (marks : List Bool) (first iksn place : ℕ) → place < length marks → iksn ≡ iksn_at first place → IsMarkedAlso marks (slice_set marks place true) first iksn
+one_mark marks first iksn place inside is = record {
+  size = length-set marks place true;
+  marked = λ p within. elim (cases_eq p place) [
+    | inl same ↦ (
+      λ now. inr (is ∙ ap (iksn_at first) (sym same)),
+      λ either. subst (λ q. get_or (slice_set marks place true) q false ≡ true) (sym same) (get_or-set_same marks place true false inside),
+    )
+    | inr other ↦ (
+      λ now. inl (sym (get_or-set_other marks place p true false other) ∙ now),
+      elim [ inl was ↦ get_or-set_other marks place p true false other ∙ was | inr at ↦ absurd (other (same_place first p place (sym at ∙ is))) ],
+    )
+  ];
+}
+
+-- the places without a mark from a place on, by the mark there
+pub after_marked : (marks : List Bool) (place : ℕ) → place < length marks → get_or marks place false ≡ true → unmarked (drop place marks) place ≡ unmarked (drop (place + 1) marks) (place + 1)
+after_marked marks place inside marked =
+    let next : place + 1 ≡ suc place = omega arith in
+    rw (drop-cons marks place false inside, marked, next) refl
+
+pub after_unmarked : (marks : List Bool) (place : ℕ) → place < length marks → get_or marks place false ≡ false → unmarked (drop place marks) place ≡ place ∷ unmarked (drop (place + 1) marks) (place + 1)
+after_unmarked marks place inside clear =
+    let next : place + 1 ≡ suc place = omega arith in
+    rw (drop-cons marks place false inside, clear, next) refl
+
+pub none_after : (marks : List Bool) (place start : ℕ) → length marks ≤ place → unmarked (drop place marks) start ≡ []
+none_after [] zero start past = refl
+none_after [] (suc place) start past = refl
+none_after (mark ∷ marks) zero start past = absurd (omega (arith, past))
+none_after (mark ∷ marks) (suc place) start past = none_after marks place start (omega (arith, past))
+
+true_or_false : (b : Bool) → (b ≡ true) ⊎ (b ≡ false)
+true_or_false true = inl refl
+true_or_false false = inr refl
+
+not_both : (b : Bool) → b ≡ true → b ≡ false → ⊥
+not_both b is_true is_false = cc
+
+-- the places without a mark are those without a mark
+clear_in : (marks : List Bool) (start k : ℕ) → k < length marks → get_or marks k false ≡ false → Contains (unmarked marks start) (start + k)
+clear_in [] start k inside clear = absurd (omega (arith, inside))
+clear_in (true ∷ marks) start zero inside clear = absurd (not_both true refl clear)
+clear_in (true ∷ marks) start (suc k) inside clear =
+    let same : suc start + k ≡ start + suc k = omega arith in
+    subst (λ p. Contains (unmarked marks (suc start)) p) same (clear_in marks (suc start) k (omega (arith, inside)) clear)
+clear_in (false ∷ marks) start zero inside clear =
+    let same : start ≡ start + 0 = omega arith in
+    subst (λ p. Contains (start ∷ unmarked marks (suc start)) p) same (first_in start (unmarked marks (suc start)))
+clear_in (false ∷ marks) start (suc k) inside clear =
+    let same : suc start + k ≡ start + suc k = omega arith in
+    later_in start (unmarked marks (suc start)) (start + suc k) (subst (λ p. Contains (unmarked marks (suc start)) p) same (clear_in marks (suc start) k (omega (arith, inside)) clear))
+
+-- a place without a mark
+record IsClear (marks : List Bool) (start p : ℕ) : Type 0 where
+  k : ℕ
+  inside : k < length marks
+  clear : get_or marks k false ≡ false
+  place_is : p ≡ start + k
+
+one_further : (mark : Bool) (marks : List Bool) (start p : ℕ) → IsClear marks (suc start) p → IsClear (mark ∷ marks) start p
+one_further mark marks start p is = record { k = suc is.k; inside = omega (arith, is.inside); clear = is.clear; place_is = omega (arith, is.place_is) }
+
+clear_of : (marks : List Bool) (start p : ℕ) → Contains (unmarked marks start) p → IsClear marks start p
+clear_of [] start p is_in = absurd (none_in p is_in)
+clear_of (true ∷ marks) start p is_in = one_further true marks start p (clear_of marks (suc start) p is_in)
+clear_of (false ∷ marks) start p is_in = elim (member_cases start (unmarked marks (suc start)) p is_in) [
+  | inl is ↦ record { k = 0; inside = omega arith; clear = refl; place_is = omega (arith, is) }
+  | inr later ↦ one_further false marks start p (clear_of marks (suc start) p later)
+]
+
+in_order : (marks : List Bool) (start : ℕ) → AllPairs (λ earlier later. earlier < later) (unmarked marks start)
+in_order [] start = λ i j d before within. absurd (omega (arith, within))
+in_order (true ∷ marks) start = in_order marks (suc start)
+in_order (false ∷ marks) start =
+    AllPairs-cons (λ earlier later. earlier < later) start (unmarked marks (suc start))
+    (all_members (λ later. start < later) (unmarked marks (suc start)) (λ later is_in. let is = clear_of marks (suc start) later is_in in omega (arith, is.place_is)))
+    (in_order marks (suc start))
+
+-- they are those of the order's places whose numbers are not issued
+pub new_places : (numbers : Numbers) (first count : ℕ) (marks : List Bool) → length marks ≡ count → AreMarked numbers first marks → AreNew numbers first count (unmarked marks 0)
+new_places numbers first count marks size marked = record {
+  members = λ place. (
+    λ is_in.
+        let is = clear_of marks 0 place is_in in
+        let same : place ≡ is.k = omega (arith, is.place_is) in
+        let clear : get_or marks place false ≡ false = subst (λ k. get_or marks k false ≡ false) (sym same) is.clear in (
+          omega (arith, same, is.inside, size),
+          λ issued. not_both (get_or marks place false) ((marked place (omega (arith, same, is.inside))).1 issued) clear,
+        ),
+    λ is_new. elim (true_or_false (get_or marks place false)) [
+      | inl set ↦ absurd (is_new.1 ((marked place (omega (arith, is_new.0, size))).0 set))
+      | inr clear ↦
+          let same : 0 + place ≡ place = omega arith in
+          subst (λ p. Contains (unmarked marks 0) p) same (clear_in marks 0 place (omega (arith, is_new.0, size)) clear)
+    ],
+  );
+  in_order = in_order marks 0;
+}

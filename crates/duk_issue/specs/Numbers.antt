@@ -1,0 +1,23 @@
+-- Initial key serial numbers in a row (this project's own, over the key serial numbers of
+-- ANSI X9.24-1:2009 annex A).
+use Rattle.std.specs.Prelude.{◌<◌, ◌≤◌, ◌+◌, ◌-◌, ◌*◌, ◌^◌, ℕ}
+use Rattle.duk_tree.specs.Serial.{Serial}
+
+-- the number at a place after the first, which is counted from 0: each lies 2^21, as many as there
+-- are counters, above the one before it
+abbrev pub iksn_at : ℕ → ℕ → ℕ
+iksn_at first place = first + place * 2 ^ 21
+
+-- an initial key serial number as a ledger keeps it: the key serial number with counter zero
+abbrev pub with_counter_zero : ℕ → Serial
+with_counter_zero iksn = record { iksn = iksn; counter = 0 }
+
+-- for how many terminals keys may be issued at once
+abbrev pub most_terminals : ℕ
+most_terminals = 1048576
+
+-- keys may be issued for so many terminals at once, and the last of their numbers has 80 bits
+pub record FitsFrom (first count : ℕ) : Type 0 where
+  pub some : 1 ≤ count
+  pub most : count ≤ most_terminals
+  pub last : iksn_at first (count - 1) < 2 ^ 80

@@ -1,0 +1,41 @@
+//! Marks of the terminals whose keys were issued, one for each place of an order.
+
+ghost use Rattle.std.specs.Prelude.{◌≡◌, MatchOption, length};
+ghost use Rattle.duk_issue.specs.inner.Marks.{IsFirstMarked, IsMarkedAlso, IsUnmarkedBefore, unmarked};
+
+use crate::serial::place_of;
+use duk_tree::Iksn;
+
+/// Marks the place of a number after the first, where there is one.
+pub(crate) fn mark(marks: &mut [bool], first: Iksn, iksn: Iksn)
+    ensures { IsMarkedAlso marks.old marks.new first iksn }
+{
+    let Some(place) = place_of(first, iksn) else {
+        return;
+    };
+    if place >= marks.len() as u128 {
+        return;
+    }
+    marks[place as usize] = true;
+}
+
+/// The first place with a mark.
+pub(crate) fn first_marked(marks: &[bool]) -> Option<usize>
+    ensures { MatchOption result (IsUnmarkedBefore marks.now (length marks.now))
+        (IsFirstMarked marks.now) }
+{
+    marks.iter().position(|marked| *marked)
+}
+
+/// How many places have no mark.
+pub(crate) fn count_unmarked(marks: &[bool]) -> usize
+    ensures { result ≡ length (unmarked marks.now 0) }
+{
+    let mut count = 0;
+    for marked in marks {
+        if !*marked {
+            count += 1;
+        }
+    }
+    count
+}
