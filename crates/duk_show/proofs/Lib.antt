@@ -1,0 +1,12 @@
+mod BlockOrder
+mod BlockStops
+mod FrameStops
+mod HeaderCharacters
+mod OptionalBlocks
+mod OptionalWalk
+mod ImageParts
+mod ImageStops
+mod LinesAppended
+mod LogRecords
+mod TerminalsInTurn
+mod Texts

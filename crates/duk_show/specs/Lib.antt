@@ -1,0 +1,10 @@
+pub mod Hexadecimal
+pub mod FrameFault
+pub mod Fault
+pub mod Frame
+pub mod KeyNames
+pub mod Block
+pub mod ImageFault
+pub mod Image
+pub mod Log
+pub mod inner

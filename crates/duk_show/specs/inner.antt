@@ -1,0 +1,4 @@
+pub mod Block
+pub mod Hexadecimal
+pub mod Image
+pub mod Log

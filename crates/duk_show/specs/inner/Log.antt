@@ -1,0 +1,27 @@
+-- What only private functions and proofs say beside `Log.antt`: this project's own.
+use Rattle.std.specs.Prelude.{◌≡◌, ◌⊎◌, ◌<◌, ℕ, List, [], ◌∷◌, ◌++◌, ⊤, length, replicate}
+use Rattle.duk_store.specs.RecordFormat.{HasRecordNumber, after_number, number_in, numbers_in}
+use Rattle.duk_store.specs.SlotFormat.{IsOpen}
+use Rattle.duk_tree.specs.Serial.{Serial}
+use Rattle.duk_show.specs.Log.{BeginsLog}
+use Rattle.duk_show.specs.declared.fault.ShowFault.{ShowFault}
+use Rattle.duk_show.specs.declared.fault.ShowFault.TheVariants.{LogRefused, OutOfMemory}
+
+-- a record that is closed leaves the numbers; one that has a number adds it
+abbrev pub IsNextRecord : List ℕ → ℕ → List Serial → List Serial → Type 0
+IsNextRecord bytes place old new =
+    (¬ IsOpen bytes × (new ≡ old))
+    ⊎ (HasRecordNumber bytes × (length old ≡ place) × (new ≡ old ++ number_in bytes ∷ []))
+
+-- a record that is open after a closed one, or lacks its zeros; memory may be refused
+abbrev pub IsRecordRefused : List ℕ → ℕ → ℕ → ShowFault → Type 0
+IsRecordRefused bytes place count (LogRefused refused) =
+    (refused ≡ place) × IsOpen bytes
+    × ((count < place) ⊎ ¬ (after_number bytes ≡ replicate 5 0))
+IsRecordRefused bytes place count OutOfMemory = ⊤
+IsRecordRefused bytes place count why = ⊥
+
+-- these are the numbers of the first records
+pub record AreFirstNumbers (records : ℕ) (bytes : List ℕ) (numbers : List Serial) : Type 0 where
+  pub begins : BeginsLog records (length numbers) bytes
+  pub numbers_are : numbers ≡ numbers_in (length numbers) bytes

@@ -1,0 +1,23 @@
+//! The command `show`: what a frame, a key block, a terminal's image or a log of used numbers says,
+//! each as the lines that it makes of its argument, or the fault and the place at which reading it
+//! stops. Nothing is deciphered.
+#![tactic(auto)]
+
+mod block;
+mod decimal;
+mod fault;
+mod frame;
+mod frame_fault;
+mod hexadecimal;
+mod image;
+mod image_fault;
+mod key_names;
+mod log;
+
+pub use block::block_lines;
+pub use fault::{ShowFault, report};
+pub use frame::frame_lines;
+pub use frame_fault::FrameFault;
+pub use image::image_lines;
+pub use image_fault::ImageFault;
+pub use log::log_lines;
