@@ -1,0 +1,22 @@
+use Rattle.std.proofs.Common.{subst}
+use Rattle.duk_tools.specs.Keys.{IsDerivedText}
+use Rattle.duk_tools.specs.Start.{IsStartRefused}
+use Rattle.duk_batch.proofs.DerivedItems.{derived_refused, derived_text}
+use Rattle.duk_batch.proofs.commands.DeriveItemsItems.lines.Goals as goal
+
+pub returns-in-Ok-clause-lines : goal.returns-in-Ok-clause-lines
+returns-in-Ok-clause-lines c =
+    let items = c.args.self.now in
+    let text = c.in-Ok.lines.items in
+    derived_text items.bdk c.args.item.now items.initial items.trace items.all text
+    (subst (λ given. IsDerivedText given c.args.item.now items.trace items.all text) c.new-given.ensures c.in-Ok.ensures.lines)
+
+pub returns-in-Err-clause-refused : goal.returns-in-Err-clause-refused
+returns-in-Err-clause-refused c =
+    let items = c.args.self.now in
+    let why = c.in-Err.why in record {
+      why = why;
+      cause = derived_refused items.bdk c.args.item.now items.initial items.trace items.all why
+          (subst (λ given. IsStartRefused given c.args.item.now why) c.new-given.ensures c.in-Err.ensures.refused);
+      line_is = c.fault_line.ensures;
+    }

@@ -1,0 +1,4 @@
+pub mod Item
+pub mod Batch
+pub mod Commands
+pub mod inner

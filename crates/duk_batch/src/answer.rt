@@ -1,0 +1,42 @@
+//! The answer to a line.
+
+ghost use Rattle.std.specs.Prelude.{◌≡◌};
+ghost use Rattle.duk_batch.specs.Item.{IsItemAnswer, no_item_line};
+
+use crate::item::read_item;
+use crate::items::Items;
+use duk_commands::{Lines, push_end, push_text};
+use std::alloc::Global;
+
+/// The answer to a line: its text, and whether that is what the command writes.
+#[derive(Drop)]
+pub(crate) struct Answer {
+    pub(crate) text: Lines,
+    pub(crate) done: bool,
+}
+
+/// The answer to a line, which is that of its item, or else that it is none.
+pub(crate) fn answer_line<I: Items>(alloc: Global, items: &I, line: &[u8]) -> Answer
+    ensures { IsItemAnswer (I.command items.now) line.now result.text.items result.done }
+{
+    let Some(item) = read_item(line) else {
+        return Answer {
+            text: no_item(),
+            done: false,
+        };
+    };
+    match items.lines(alloc, item) {
+        Ok(text) => Answer { text, done: true },
+        Err(text) => Answer { text, done: false },
+    }
+}
+
+/// What stands in the place of a line that is no item.
+fn no_item() -> Lines
+    ensures { result.items ≡ no_item_line }
+{
+    let mut line = Lines::new();
+    push_text(&mut line, b"line refused");
+    push_end(&mut line);
+    line
+}

@@ -1,0 +1,102 @@
+//! The commands that take an argument from each line of their input.
+
+ghost use Rattle.std.specs.Prelude.{◌≡◌};
+ghost use Rattle.std.specs.Option.{option_copied};
+ghost use Rattle.duk_commands.specs.Fault.{report_line};
+ghost use Rattle.duk_batch.specs.Item.{item_of_command};
+ghost use Rattle.duk_batch.specs.Commands.{derive_item, kcv_item, pan_item, pin_item};
+
+use crate::items::Items;
+use duk_commands::{Fault, KeyArgument, Lines, pin_lines, push_end, push_text};
+use duk_tools::{derived_lines, values_lines};
+use std::alloc::Global;
+
+/// `derive`, whose items are key serial numbers of 20 hexadecimal digits.
+#[derive(Clone, Copy)]
+pub struct DeriveItems<'a> {
+    /// The base derivation key, or the initial key of one terminal.
+    pub bdk: &'a str,
+    /// Whether it is an initial key.
+    pub initial: bool,
+    /// Whether the keys on the way to each number are printed.
+    pub trace: bool,
+    /// Whether the keys of the two MACs are printed.
+    pub all: bool,
+}
+
+impl Items for DeriveItems<'_> {
+    ghost command = { λ items item. item_of_command (derive_item items.bdk items.initial items.trace items.all item) };
+
+    fn lines(&self, _alloc: Global, item: &str) -> Result<Lines, Lines> {
+        let given = KeyArgument::new(self.bdk, self.initial);
+        match derived_lines(given, item, self.trace, self.all) {
+            Ok(lines) => Ok(lines),
+            Err(why) => Err(fault_line(why)),
+        }
+    }
+}
+
+/// `kcv`, whose items are keys of 32 or 48 hexadecimal digits.
+#[derive(Clone, Copy)]
+pub struct KcvItems;
+
+impl Items for KcvItems {
+    ghost command = { λ items item. item_of_command (kcv_item item) };
+
+    fn lines(&self, _alloc: Global, item: &str) -> Result<Lines, Lines> {
+        match values_lines(&[item], false, false) {
+            Ok(lines) => Ok(lines),
+            Err(why) => Err(fault_line(why)),
+        }
+    }
+}
+
+/// `pin` for one PAN, whose items are PINs.
+#[derive(Clone, Copy)]
+pub struct PinItems<'a> {
+    /// The PAN.
+    pub pan: &'a str,
+    /// The key under which each block is enciphered, of 32 hexadecimal digits.
+    pub key: Option<&'a str>,
+}
+
+impl Items for PinItems<'_> {
+    ghost command = { λ items item. item_of_command (pin_item items.pan.now (option_copied items.key) item) };
+
+    fn lines(&self, _alloc: Global, item: &str) -> Result<Lines, Lines> {
+        match pin_lines(item, self.pan, self.key) {
+            Ok(lines) => Ok(lines),
+            Err(why) => Err(fault_line(why)),
+        }
+    }
+}
+
+/// `pin` for one PIN, whose items are PANs.
+#[derive(Clone, Copy)]
+pub struct PanItems<'a> {
+    /// The PIN.
+    pub pin: &'a str,
+    /// The key under which each block is enciphered, of 32 hexadecimal digits.
+    pub key: Option<&'a str>,
+}
+
+impl Items for PanItems<'_> {
+    ghost command = { λ items item. item_of_command (pan_item items.pin.now (option_copied items.key) item) };
+
+    fn lines(&self, _alloc: Global, item: &str) -> Result<Lines, Lines> {
+        match pin_lines(self.pin, item, self.key) {
+            Ok(lines) => Ok(lines),
+            Err(why) => Err(fault_line(why)),
+        }
+    }
+}
+
+/// The line of a fault.
+fn fault_line(why: Fault) -> Lines
+    ensures { result.items ≡ report_line why }
+{
+    let mut line = Lines::new();
+    push_text(&mut line, why.text().as_bytes());
+    push_end(&mut line);
+    line
+}

@@ -1,0 +1,14 @@
+//! Commands over many items: each line of an input is one, and its answer is what the command makes
+//! of it alone.
+#![tactic(auto)]
+
+mod answer;
+mod batch;
+mod commands;
+mod item;
+mod items;
+mod run;
+
+pub use commands::{DeriveItems, KcvItems, PanItems, PinItems};
+pub use items::Items;
+pub use run::do_batch;
