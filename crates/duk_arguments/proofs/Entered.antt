@@ -69,3 +69,11 @@ enters_run = record { met = refl; turn = refl; finds = refl }
 pub enters_serve : Enters (codes "serve") (leaf_of (codes "serve"))
 unfolding clap_on_literals
 enters_serve = record { met = refl; turn = refl; finds = refl }
+
+pub enters_show : Enters (codes "show") (leaf_of (codes "show"))
+unfolding clap_on_literals
+enters_show = record { met = refl; turn = refl; finds = refl }
+
+pub enters_issue : Enters (codes "issue") (leaf_of (codes "issue"))
+unfolding clap_on_literals
+enters_issue = record { met = refl; turn = refl; finds = refl }

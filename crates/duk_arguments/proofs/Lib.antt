@@ -1,8 +1,8 @@
+mod AllThere
 mod Entered
 mod Failures
 mod FoundRows
 mod InFours
-mod KeysFound
 mod OneRequest
 pub mod PlainArguments
 mod ReadBlocks

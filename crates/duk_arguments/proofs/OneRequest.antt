@@ -8,8 +8,8 @@ use Rattle.clap.specs.Simple.{Shape}
 use Rattle.clap.specs.Walk.{Row, Rule, Text, all_of, first_of, one_of}
 use Rattle.duk_arguments.specs.Asked.{AsksFor, IsFound, IsFlag}
 use Rattle.duk_arguments.specs.CommandLine.{command_line}
-use Rattle.duk_arguments.specs.Given.{Each, Given, flag, given_of, name_of, needed, several, valued}
-use Rattle.duk_arguments.specs.Written.{arguments_of, words_of}
+use Rattle.duk_arguments.specs.Given.{Each, Given, flag, given_of, name_of, named, needed, several, valued}
+use Rattle.duk_arguments.specs.Written.{arguments_of, option_named, words_of}
 use Rattle.duk_arguments.specs.declared.request.Request.{Request}
 use Rattle.duk_arguments.specs.declared.request.Request.TheVariants as request
 
@@ -17,13 +17,15 @@ use Rattle.duk_arguments.specs.declared.request.Request.TheVariants as request
 abbrev pub key_of : Given → Given
 key_of (needed name text) = needed name []
 key_of (valued name text) = valued name None
+key_of (named name text) = named name []
 key_of (flag name there) = flag name false
 key_of (several name texts) = several name []
 
 -- what an argument with this rule gives, without its value
 abbrev key_of_rule : Rule → Given
 key_of_rule rule =
-    if rule.required then (if is_some rule.range then several rule.id [] else needed rule.id [])
+    if rule.required then (if is_some rule.range then several rule.id []
+    else (if is_some rule.long then named rule.id [] else needed rule.id []))
     else (if is_some rule.action then flag rule.id false else valued rule.id None)
 
 -- what the command of this name takes
@@ -48,6 +50,8 @@ keys_are (request.Unpin block pan key show) = refl
 keys_are (request.Translate block pan bdk ksn zone initial) = refl
 keys_are (request.MakeRequest bdk ksn pan pin amount initial) = refl
 keys_are (request.CheckReply bdk asked answer initial) = refl
+keys_are (request.Show kind what show) = refl
+keys_are (request.Issue bdk loading iksn count ledger skip_issued) = refl
 
 -- a flag was found, or none was
 abbrev pub HasFlag : List Row → Given → Type 0
@@ -59,6 +63,7 @@ HasFlag rows _ = ⊤
 abbrev words_by : List Row → Given → List Text
 words_by rows (needed name text) = unwrap_or (first_of name rows) [] ∷ []
 words_by rows (valued name text) = words_of (valued name (first_of name rows))
+words_by rows (named name text) = option_named name ∷ unwrap_or (first_of name rows) [] ∷ []
 words_by rows (flag name there) =
     words_of (flag name (option_map_or (bytes_eq (codes "true")) (one_of name rows) false))
 words_by rows (several name texts) = unwrap_or (all_of name rows) []
@@ -79,6 +84,8 @@ words_are rows (needed name text) found flagged =
     sym (ap (λ (o : Option Text). unwrap_or o [] ∷ []) found)
 words_are rows (valued name text) found flagged =
     sym (ap (λ (o : Option Text). words_of (valued name o)) found)
+words_are rows (named name text) found flagged =
+    sym (ap (λ (o : Option Text). option_named name ∷ unwrap_or o [] ∷ []) found)
 words_are rows (flag name there) found flagged =
     ap (λ (b : Bool). words_of (flag name b)) (flag_is_found rows name there found flagged)
 words_are rows (several name texts) found flagged =

@@ -141,3 +141,23 @@ reads_unwrap kbpk block plain = record {
   named = refl;
   shown = (refl, (refl, tt));
 }
+
+pub reads_show : (kind what : Bor Text) (show : Bool)
+    → IsPlainRequest (request.Show kind what show)
+    → IsRead (leaf_of (codes "show")) (all_marked (request.Show kind what show))
+    (request.Show kind what show)
+unfolding clap_on_literals
+reads_show kind what false plain = record {
+  goes = (plain.0, refl, refl, (plain.1.0, refl, refl, tt));
+  quiet = refl;
+  ends = refl;
+  named = refl;
+  shown = (refl, (refl, (refl, tt)));
+}
+reads_show kind what true plain = record {
+  goes = (plain.0, refl, refl, (plain.1.0, refl, refl, tt));
+  quiet = refl;
+  ends = refl;
+  named = refl;
+  shown = (refl, (refl, (refl, tt)));
+}

@@ -13,7 +13,7 @@ use Rattle.duk_arguments.specs.Written.{IsPlainArgument, IsPlainRequest}
 use Rattle.duk_arguments.specs.declared.keys.Keys.{Keys}
 use Rattle.duk_arguments.specs.declared.request.Request.TheVariants as request
 use Rattle.duk_arguments.proofs.Entered.{leaf_of}
-use Rattle.duk_arguments.proofs.KeysFound.{count_is}
+use Rattle.duk_arguments.proofs.AllThere.{count_is}
 use Rattle.duk_arguments.proofs.PlainArguments.{Goes, Marked, after, faults_after}
 use Rattle.duk_arguments.proofs.TopLevel.{IsRead, IsShown, all_marked, end_fault, end_of, marked_of, start}
 

@@ -164,3 +164,23 @@ reads_registers bdk ksn true plain = record {
   named = refl;
   shown = (refl, (refl, (refl, tt)));
 }
+
+pub reads_issue : (bdk loading iksn count ledger : Bor Text) (skip_issued : Bool)
+    → IsPlainRequest (request.Issue bdk loading iksn count ledger skip_issued)
+    → IsRead (leaf_of (codes "issue")) (all_marked (request.Issue bdk loading iksn count ledger skip_issued))
+    (request.Issue bdk loading iksn count ledger skip_issued)
+unfolding clap_on_literals
+reads_issue bdk loading iksn count ledger false plain = record {
+  goes = (plain.0, refl, refl, (plain.1.0, refl, refl, (plain.1.1.0, refl, refl, (plain.1.1.1.0, refl, refl, (plain.1.1.1.1.0, refl, refl, tt)))));
+  quiet = refl;
+  ends = refl;
+  named = refl;
+  shown = (refl, (refl, (refl, (refl, (refl, (refl, tt))))));
+}
+reads_issue bdk loading iksn count ledger true plain = record {
+  goes = (plain.0, refl, refl, (plain.1.0, refl, refl, (plain.1.1.0, refl, refl, (plain.1.1.1.0, refl, refl, (plain.1.1.1.1.0, refl, refl, tt)))));
+  quiet = refl;
+  ends = refl;
+  named = refl;
+  shown = (refl, (refl, (refl, (refl, (refl, (refl, tt))))));
+}

@@ -12,7 +12,7 @@ use Rattle.clap.proofs.FaultLemmas.{stopped_fault}
 use Rattle.clap.proofs.WalkLemmas.{walk_stopped}
 use Rattle.duk_arguments.specs.Asked.{Asks, AsksFor, AsksAfter, IsFlag, IsFound}
 use Rattle.duk_arguments.specs.CommandLine.{command_line}
-use Rattle.duk_arguments.specs.Given.{Each, Given, flag, given_of, name_of, needed, several, valued}
+use Rattle.duk_arguments.specs.Given.{Each, Given, flag, given_of, name_of, named, needed, several, valued}
 use Rattle.duk_arguments.specs.declared.request.Request.{Request}
 use Rattle.duk_arguments.specs.Written.{arguments_of, option_named, words_of}
 use Rattle.duk_arguments.proofs.OneRequest.{HasFlag, key_of, one_request}
@@ -95,6 +95,7 @@ top_end = refl
 abbrev pub IsShown : List Row → Given → Type 0
 IsShown rows (needed name text) = first_of name rows ≡ Some text
 IsShown rows (valued name text) = first_of name rows ≡ text
+IsShown rows (named name text) = first_of name rows ≡ Some text
 IsShown rows (flag name there) =
     one_of name rows ≡ Some (if there then codes "true" else codes "false")
 IsShown rows (several name texts) = all_of name rows ≡ Some texts
@@ -128,6 +129,7 @@ all_found : (rows : List Row) (given : List Given) → Each (IsShown rows) given
 all_found rows [] shown = tt
 all_found rows (needed name text ∷ rest) shown = (shown.0, all_found rows rest shown.1)
 all_found rows (valued name text ∷ rest) shown = (shown.0, all_found rows rest shown.1)
+all_found rows (named name text ∷ rest) shown = (shown.0, all_found rows rest shown.1)
 all_found rows (flag name there ∷ rest) shown =
     (is_flag rows name there shown.0, all_found rows rest shown.1)
 all_found rows (several name texts ∷ rest) shown = (shown.0, all_found rows rest shown.1)
@@ -137,6 +139,7 @@ all_flagged : (rows : List Row) (given : List Given) → Each (IsShown rows) giv
 all_flagged rows [] shown = tt
 all_flagged rows (needed name text ∷ rest) shown = (tt, all_flagged rows rest shown.1)
 all_flagged rows (valued name text ∷ rest) shown = (tt, all_flagged rows rest shown.1)
+all_flagged rows (named name text ∷ rest) shown = (tt, all_flagged rows rest shown.1)
 all_flagged rows (flag name true ∷ rest) shown =
     (inr (inl shown.0), all_flagged rows rest shown.1)
 all_flagged rows (flag name false ∷ rest) shown =
@@ -205,6 +208,7 @@ abbrev pub marked_of : Given → List Marked
 marked_of (needed name text) = (true, text) ∷ []
 marked_of (valued name None) = []
 marked_of (valued name (Some text)) = (false, option_named name) ∷ (true, text) ∷ []
+marked_of (named name text) = (false, option_named name) ∷ (true, text) ∷ []
 marked_of (flag name there) = if there then (false, option_named name) ∷ [] else []
 marked_of (several name texts) = map (λ text. (true, text)) texts
 
@@ -219,6 +223,7 @@ texts_of_given : (given : Given) → texts_in (marked_of given) ≡ words_of giv
 texts_of_given (needed name text) = refl
 texts_of_given (valued name None) = refl
 texts_of_given (valued name (Some text)) = refl
+texts_of_given (named name text) = refl
 texts_of_given (flag name true) = refl
 texts_of_given (flag name false) = refl
 texts_of_given (several name texts) = unmarked texts

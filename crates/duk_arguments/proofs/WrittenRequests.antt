@@ -4,13 +4,13 @@ use Rattle.clap.specs.Walk.{Text}
 use Rattle.duk_arguments.specs.Written.{IsPlainRequest, arguments_of}
 use Rattle.duk_arguments.specs.declared.request.Request.{Request}
 use Rattle.duk_arguments.specs.declared.request.Request.TheVariants as request
-use Rattle.duk_arguments.proofs.Entered.{leaf_of, enters_derive, enters_walk, enters_pin, enters_wrap, enters_unwrap, enters_run, enters_serve, enters_initial, enters_registers, enters_kcv, enters_mac, enters_unpin, enters_translate, enters_request, enters_reply}
+use Rattle.duk_arguments.proofs.Entered.{leaf_of, enters_derive, enters_walk, enters_pin, enters_wrap, enters_unwrap, enters_run, enters_serve, enters_initial, enters_registers, enters_kcv, enters_mac, enters_unpin, enters_translate, enters_request, enters_reply, enters_show, enters_issue}
 use Rattle.duk_arguments.proofs.TopLevel.{Make, make}
-use Rattle.duk_arguments.proofs.ReadBlocks.{reads_mac, reads_pin, reads_unpin, reads_translate, reads_wrap, reads_unwrap}
+use Rattle.duk_arguments.proofs.ReadBlocks.{reads_mac, reads_pin, reads_unpin, reads_translate, reads_wrap, reads_unwrap, reads_show}
 use Rattle.duk_arguments.proofs.ReadFiles.{reads_run, reads_serve}
 use Rattle.duk_arguments.proofs.ReadFrames.{reads_request, reads_reply}
 use Rattle.duk_arguments.proofs.ReadKcv.{reads_kcv}
-use Rattle.duk_arguments.proofs.ReadKeys.{reads_derive, reads_walk, reads_initial, reads_registers}
+use Rattle.duk_arguments.proofs.ReadKeys.{reads_derive, reads_walk, reads_initial, reads_issue, reads_registers}
 
 -- a request that is written after the program's name is made
 pub all_made : (program : Text) (asked : Request) → IsPlainRequest asked
@@ -60,3 +60,9 @@ all_made program (request.MakeRequest bdk ksn pan pin amount initial) plain =
 all_made program (request.CheckReply bdk asked answer initial) plain =
     make program (leaf_of (codes "reply")) (request.CheckReply bdk asked answer initial) enters_reply
     (reads_reply bdk asked answer initial plain)
+all_made program (request.Show kind what show) plain =
+    make program (leaf_of (codes "show")) (request.Show kind what show) enters_show
+    (reads_show kind what show plain)
+all_made program (request.Issue bdk loading iksn count ledger skip_issued) plain =
+    make program (leaf_of (codes "issue")) (request.Issue bdk loading iksn count ledger skip_issued)
+    enters_issue (reads_issue bdk loading iksn count ledger skip_issued plain)

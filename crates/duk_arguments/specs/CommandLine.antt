@@ -19,6 +19,10 @@ several_rule name = record (new_rule name) {
 abbrev pub option_rule : Text → Rule
 option_rule name = record (new_rule name) { long = Some name; value_names = 1 }
 
+-- --name VALUE: an option that has to be there, and has a value
+abbrev pub named_rule : Text → Rule
+named_rule name = record (option_rule name) { required = true }
+
 -- [--name]: an option that is there or not
 abbrev pub flag_rule : Text → Rule
 flag_rule name = record (new_rule name) { long = Some name; action = Some SetTrue }
@@ -43,6 +47,13 @@ walk_command = command (codes "walk")
 abbrev pub initial_command : Shape
 initial_command = command (codes "initial")
     (argument_rule (codes "BDK") ∷ argument_rule (codes "IKSN") ∷ [])
+
+-- issue BDK LOADING IKSN COUNT --ledger FILE [--skip-issued]
+abbrev pub issue_command : Shape
+issue_command = command (codes "issue")
+    (argument_rule (codes "BDK") ∷ argument_rule (codes "LOADING") ∷ argument_rule (codes "IKSN")
+    ∷ argument_rule (codes "COUNT") ∷ named_rule (codes "ledger") ∷ flag_rule (codes "skip-issued")
+    ∷ [])
 
 -- registers BDK KSN [--initial]
 abbrev pub registers_command : Shape
@@ -89,6 +100,11 @@ abbrev pub unwrap_command : Shape
 unwrap_command = command (codes "unwrap")
     (argument_rule (codes "KBPK") ∷ argument_rule (codes "BLOCK") ∷ [])
 
+-- show KIND WHAT [--show]
+abbrev pub show_command : Shape
+show_command = command (codes "show")
+    (argument_rule (codes "KIND") ∷ argument_rule (codes "WHAT") ∷ flag_rule (codes "show") ∷ [])
+
 -- request BDK KSN PAN PIN AMOUNT [--initial]
 abbrev pub request_command : Shape
 request_command = command (codes "request")
@@ -129,12 +145,13 @@ program_of commands = record {
 
 -- the commands over keys
 abbrev pub key_commands : List Shape
-key_commands = derive_command ∷ walk_command ∷ initial_command ∷ registers_command ∷ kcv_command ∷ []
+key_commands = derive_command ∷ walk_command ∷ initial_command ∷ issue_command ∷ registers_command
+    ∷ kcv_command ∷ []
 
 -- the commands over MACs, PIN blocks and key blocks
 abbrev pub block_commands : List Shape
 block_commands = mac_command ∷ pin_command ∷ unpin_command ∷ translate_command ∷ wrap_command
-    ∷ unwrap_command ∷ []
+    ∷ unwrap_command ∷ show_command ∷ []
 
 -- the commands over frames
 abbrev pub frame_commands : List Shape

@@ -7,10 +7,12 @@ use Rattle.duk_arguments.specs.declared.request.Request.{Request}
 use Rattle.duk_arguments.specs.declared.request.Request.TheVariants as request
 
 -- what stands after a command under a name: an argument that has to be there, an option with its
--- value, an option that is there or not, and an argument that may be written more than once
+-- value, one that has to be there, an option that is there or not, and an argument that may be
+-- written more than once
 pub data Given : Type 0 where
   needed : Text → Text → Given
   valued : Text → Option Text → Given
+  named : Text → Text → Given
   flag : Text → Bool → Given
   several : Text → List Text → Given
 
@@ -31,6 +33,8 @@ name_of (request.Unpin block pan key show) = codes "unpin"
 name_of (request.Translate block pan bdk ksn zone initial) = codes "translate"
 name_of (request.MakeRequest bdk ksn pan pin amount initial) = codes "request"
 name_of (request.CheckReply bdk asked answer initial) = codes "reply"
+name_of (request.Show kind what show) = codes "show"
+name_of (request.Issue bdk loading iksn count ledger skip_issued) = codes "issue"
 
 -- what a request gives after its command
 abbrev pub given_of : Request → List Given
@@ -79,6 +83,12 @@ given_of (request.MakeRequest bdk ksn pan pin amount initial) =
 given_of (request.CheckReply bdk asked answer initial) =
     needed (codes "BDK") bdk.now ∷ needed (codes "REQUEST") asked.now
     ∷ needed (codes "ANSWER") answer.now ∷ flag (codes "initial") initial ∷ []
+given_of (request.Show kind what show) =
+    needed (codes "KIND") kind.now ∷ needed (codes "WHAT") what.now ∷ flag (codes "show") show ∷ []
+given_of (request.Issue bdk loading iksn count ledger skip_issued) =
+    needed (codes "BDK") bdk.now ∷ needed (codes "LOADING") loading.now
+    ∷ needed (codes "IKSN") iksn.now ∷ needed (codes "COUNT") count.now
+    ∷ named (codes "ledger") ledger.now ∷ flag (codes "skip-issued") skip_issued ∷ []
 
 -- P holds of each of them
 abbrev pub Each : {A : Type 0} → (A → Type 0) → List A → Type 0

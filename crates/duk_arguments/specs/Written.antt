@@ -2,18 +2,20 @@
 use Rattle.std.specs.Prelude.{◌≢◌, ◌∷◌, ◌++◌, if◌then◌else◌, [], ⊤, IfSome, List, None, Some, codes}
 use Rattle.std.specs.List.{flat_map}
 use Rattle.clap.specs.Words.{Text}
-use Rattle.duk_arguments.specs.Given.{Each, Given, flag, given_of, name_of, needed, several, valued}
+use Rattle.duk_arguments.specs.Given.{Each, Given, flag, given_of, name_of, named, needed, several, valued}
 use Rattle.duk_arguments.specs.declared.request.Request.{Request}
 
 -- `--name`
 abbrev pub option_named : Text → Text
 option_named name = codes "--" ++ name
 
--- as it is written: the argument or the arguments, `--name VALUE` or nothing, `--name` or nothing
+-- as it is written: the argument or the arguments, `--name VALUE`, or nothing where it may be left
+-- out, `--name` or nothing
 abbrev pub words_of : Given → List Text
 words_of (needed name text) = text ∷ []
 words_of (valued name None) = []
 words_of (valued name (Some text)) = option_named name ∷ text ∷ []
+words_of (named name text) = option_named name ∷ text ∷ []
 words_of (flag name there) = if there then option_named name ∷ [] else []
 words_of (several name texts) = texts
 
@@ -30,6 +32,7 @@ IsPlainArgument (first ∷ rest) = first ≢ 45
 abbrev pub IsPlainGiven : Given → Type 0
 IsPlainGiven (needed name text) = IsPlainArgument text
 IsPlainGiven (valued name text) = IfSome text IsPlainArgument
+IsPlainGiven (named name text) = IsPlainArgument text
 IsPlainGiven (flag name there) = ⊤
 IsPlainGiven (several name texts) = Each IsPlainArgument texts
 

@@ -18,5 +18,7 @@ Status:
   1  A fault, and its line is on standard error
   2  The arguments are refused, and standard error says why
 
-The help of each command has its examples and its faults. Use test keys alone: keys and PINs on
-the command line stand in the list of processes and in the shell's history.";
+The help of each command has its examples and its faults. With --explain, anywhere before a --, a
+line behind that of a fault says what was found and what is wanted. Keys and PINs on the command line
+stand in the list of processes and in the shell's history: there use test keys alone, and write @FILE
+(the first line of a file) or @- (of standard input) in the place of others.";

@@ -7,7 +7,7 @@ const MOST: usize = 16;
 
 /// The texts of an argument, in the order in which they were written: from 1 to 16. They stand in
 /// fields, since the proofs over an enum cover no array of references in it.
-#[derive(Clone, Copy, Debug, PartialEq, Eq)]
+#[derive(Clone, Copy)]
 pub struct Keys<'a> {
     first: Four<'a>,
     second: Four<'a>,
@@ -18,7 +18,7 @@ pub struct Keys<'a> {
 }
 
 /// Four texts.
-#[derive(Clone, Copy, Debug, PartialEq, Eq)]
+#[derive(Clone, Copy)]
 struct Four<'a> {
     first: &'a str,
     second: &'a str,
@@ -27,7 +27,7 @@ struct Four<'a> {
 }
 
 /// The texts of an argument, as a slice gives them.
-#[derive(Clone, Copy, Debug)]
+#[derive(Clone, Copy)]
 pub struct KeyTexts<'a> {
     texts: [&'a str; MOST],
     count: usize,

@@ -2,8 +2,8 @@
 
 use crate::keys::Keys;
 
-/// What the arguments ask for.
-#[derive(Clone, Copy, Debug, PartialEq, Eq)]
+/// What the arguments ask for. It holds keys and PINs as written, and so has no `Debug`.
+#[derive(Clone, Copy)]
 pub enum Request<'a> {
     /// The keys of one key serial number.
     Derive {
@@ -161,6 +161,30 @@ pub enum Request<'a> {
         answer: &'a str,
         /// Whether `bdk` is the terminal's initial key.
         initial: bool,
+    },
+    /// The fields of a frame, a key block, a terminal's image or a log of used numbers.
+    Show {
+        /// Which of them it is, as written.
+        kind: &'a str,
+        /// What it is, as written; of a log its path.
+        what: &'a str,
+        /// Whether to print keys too.
+        show: bool,
+    },
+    /// Initial keys as loading blocks, and a ledger of those that are issued.
+    Issue {
+        /// The base derivation key, as written.
+        bdk: &'a str,
+        /// The key block protection key of the loading blocks, as written.
+        loading: &'a str,
+        /// The first initial key serial number, as written.
+        iksn: &'a str,
+        /// How many initial keys to issue, as written.
+        count: &'a str,
+        /// The path of the ledger.
+        ledger: &'a str,
+        /// Whether to pass over the initial keys that are issued already.
+        skip_issued: bool,
     },
 }
 

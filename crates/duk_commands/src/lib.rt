@@ -19,7 +19,7 @@ pub use derive::derive_command;
 pub use fault::{Fault, report};
 pub use key_argument::KeyArgument;
 pub use lines::{LINES_ROOM, Lines, push_end, push_line, push_text, push_text_line};
-pub use pin::pin_command;
+pub use pin::{pin_command, pin_lines};
 pub use unwrap::unwrap_command;
 pub use walk::walk_command;
 pub use wrap::wrap_command;

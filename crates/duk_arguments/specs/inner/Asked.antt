@@ -1,13 +1,29 @@
 -- What only private functions and proofs say beside `Asked.antt`: this project's own.
-use Rattle.std.specs.Prelude.{◌≡◌, ◌≢◌, ◌⊎◌, ⊤, List, []}
+use Rattle.std.specs.Prelude.{◌≡◌, ◌≢◌, ◌≤◌, ◌⊎◌, ⊤, Bool, IsSome, IsSomeAnd, List, Option, None, Some, [], length}
 use Rattle.std.specs.Prelude.{true, false}
-use Rattle.clap.specs.Words.{IsAmong, Text, fault_of}
+use Rattle.clap.specs.Words.{IsAmong, Row, Rule, Shape, Text, all_of, fault_of, first_of}
+use Rattle.clap.specs.declared.builder.range.ValueRange.{ValueRange}
 use Rattle.clap.specs.declared.error.kind.ErrorKind.{ErrorKind}
 use Rattle.clap.specs.declared.error.kind.ErrorKind.TheVariants.{MissingSubcommand, OutOfMemory}
 use Rattle.duk_arguments.specs.CommandLine.{command_line}
 use Rattle.duk_arguments.specs.declared.request.NoRequest.{NoRequest}
 use Rattle.duk_arguments.specs.declared.request.NoRequest.TheVariants as answer
-use Rattle.duk_arguments.specs.Asked.{is_shown, AskForNothing}
+use Rattle.duk_arguments.specs.Asked.{AskForNothing, is_shown}
+use Rattle.duk_arguments.specs.Given.{Each}
+
+-- the texts of an argument are found where it has to be there: one, or as many as it may have
+abbrev pub IsThereBy : List Row → Text → Bool → Option ValueRange → Type 0
+IsThereBy rows name false range = ⊤
+IsThereBy rows name true None = IsSome (first_of name rows)
+IsThereBy rows name true (Some range) = IsSomeAnd (all_of name rows)
+    (λ texts. (range.start_inclusive ≤ length texts) × (length texts ≤ range.end_inclusive))
+
+abbrev pub IsThere : List Row → Rule → Type 0
+IsThere rows rule = IsThereBy rows rule.id rule.required rule.range
+
+-- all that has to be there after the command is found
+abbrev pub AreThere : List Row → Shape → Type 0
+AreThere rows shape = Each (IsThere rows) shape.rules
 
 -- the kinds of error by which no request is found in the arguments
 abbrev pub MayFailBy : List Text → ErrorKind → Type 0

@@ -1,9 +1,8 @@
 //! What stands after a command, as `clap` has it.
 
-ghost use Rattle.std.specs.Prelude.{◌≡◌, IfOk, codes, map};
-ghost use Rattle.clap.specs.Words.{Shape, app_of, with_subcommand};
-ghost use Rattle.duk_arguments.specs.CommandLine.{argument_rule, command, flag_rule, option_rule, several_rule};
-ghost use Rattle.duk_arguments.specs.inner.CommandLine.{IsArgument, IsCommand, rule_of_argument};
+ghost use Rattle.std.specs.Prelude.{IfOk};
+ghost use Rattle.duk_arguments.specs.CommandLine.{argument_rule, flag_rule, named_rule, option_rule, several_rule};
+ghost use Rattle.duk_arguments.specs.inner.CommandLine.{IsArgument, IsCommand, rule_of_argument, shape_of_usage};
 
 use clap::{Arg, ArgAction, Command};
 use std::alloc::{AllocError, Global};
@@ -17,36 +16,33 @@ pub(crate) enum Argument<'a> {
     Several(&'a str, &'a str),
     /// An option that has a value: its name, that of the value, and its help.
     Valued(&'a str, &'a str, &'a str),
+    /// An option that has to be there, and has a value: its name, that of the value, and its help.
+    Named(&'a str, &'a str, &'a str),
     /// An option that is there or not: its name, and its help.
     Flag(&'a str, &'a str),
 }
 
-/// The program with one command more, where memory was there for the command's arguments.
-pub(crate) fn with_command<'a>(
-    program: Command<'a>,
-    arguments: Result<Command<'a>, AllocError>,
-) -> Result<Command<'a>, AllocError>
-    ensures { IfOk result (λ made. (shape : Shape) → IfOk arguments.entry (IsCommand shape)
-        → app_of made ≡ with_subcommand (app_of program.entry) shape) }
-{
-    program.subcommand(arguments?)
+/// How a command is used.
+#[derive(Clone, Copy)]
+pub(crate) struct Usage<'a> {
+    /// The command's name.
+    pub(crate) name: &'a str,
+    /// What the command is about.
+    pub(crate) about: &'a str,
+    /// What stands at the end of its help.
+    pub(crate) after_help: &'a str,
+    /// What may stand after the command, in order.
+    pub(crate) arguments: &'a [Argument<'a>],
 }
 
-/// A command of this name, with its help: what it is about, and what stands at the end. These
-/// arguments stand after it, in their order.
-pub(crate) fn command_of<'a>(
-    alloc: Global,
-    name: &'a str,
-    about: &'a str,
-    after_help: &'a str,
-    arguments: &[Argument<'a>],
-) -> Result<Command<'a>, AllocError>
-    ensures { IfOk result (IsCommand (command name.entry.now (map rule_of_argument arguments.now))) }
+/// A command as `clap` has it.
+pub(crate) fn command_of<'a>(alloc: Global, usage: &Usage<'a>) -> Result<Command<'a>, AllocError>
+    ensures { IfOk result (IsCommand (shape_of_usage usage.now)) }
 {
-    let mut command = Command::new(alloc, name)
-        .about(about)
-        .after_help(after_help);
-    for argument in arguments {
+    let mut command = Command::new(alloc, usage.name)
+        .about(usage.about)
+        .after_help(usage.after_help);
+    for argument in usage.arguments {
         command = command.arg(clap_argument(alloc, *argument))?;
     }
     Ok(command)
@@ -60,6 +56,7 @@ fn clap_argument<'a>(alloc: Global, argument: Argument<'a>) -> Arg<'a>
         Argument::Needed(name, help) => needed(alloc, name, help),
         Argument::Several(name, help) => several(alloc, name, help),
         Argument::Valued(name, value, help) => valued(alloc, name, value, help),
+        Argument::Named(name, value, help) => named(alloc, name, value, help),
         Argument::Flag(name, help) => flag(alloc, name, help),
     }
 }
@@ -91,6 +88,13 @@ fn valued<'a>(alloc: Global, name: &'a str, value: &'a str, help: &'a str) -> Ar
         .help(help)
 }
 
+/// An option that has to be there, and has a value.
+fn named<'a>(alloc: Global, name: &'a str, value: &'a str, help: &'a str) -> Arg<'a>
+    ensures { IsArgument (named_rule name.entry.now) result }
+{
+    valued(alloc, name, value, help).required(true)
+}
+
 /// An option that is there or not.
 fn flag<'a>(alloc: Global, name: &'a str, help: &'a str) -> Arg<'a>
     ensures { IsArgument (flag_rule name.entry.now) result }
@@ -102,39 +106,31 @@ fn flag<'a>(alloc: Global, name: &'a str, help: &'a str) -> Arg<'a>
 }
 
 /// The base derivation key.
-pub(crate) fn bdk_argument<'a>() -> Argument<'a>
-    ensures { rule_of_argument result ≡ argument_rule (codes "BDK") }
-{
-    Argument::Needed("BDK", "The base derivation key, 32 hexadecimal digits")
-}
+pub(crate) const BDK: Argument<'static> = Argument::Needed(
+    "BDK",
+    "The base derivation key, 32 hexadecimal digits",
+);
 
 /// The key serial number.
-pub(crate) fn ksn_argument<'a>() -> Argument<'a>
-    ensures { rule_of_argument result ≡ argument_rule (codes "KSN") }
-{
-    Argument::Needed("KSN", "The key serial number, 20 hexadecimal digits")
-}
+pub(crate) const KSN: Argument<'static> = Argument::Needed(
+    "KSN",
+    "The key serial number, 20 hexadecimal digits",
+);
 
 /// The initial key serial number.
-pub(crate) fn iksn_argument<'a>() -> Argument<'a>
-    ensures { rule_of_argument result ≡ argument_rule (codes "IKSN") }
-{
-    Argument::Needed(
-        "IKSN",
-        "The initial key serial number, 20 hexadecimal digits",
-    )
-}
+pub(crate) const IKSN: Argument<'static> = Argument::Needed(
+    "IKSN",
+    "The initial key serial number, 20 hexadecimal digits",
+);
 
 /// The PAN.
-pub(crate) fn pan_argument<'a>() -> Argument<'a>
-    ensures { rule_of_argument result ≡ argument_rule (codes "PAN") }
-{
-    Argument::Needed("PAN", "The PAN, 12 to 19 digits with its check digit")
-}
+pub(crate) const PAN: Argument<'static> = Argument::Needed(
+    "PAN",
+    "The PAN, 12 to 19 digits with its check digit",
+);
 
 /// That BDK is the terminal's initial key.
-pub(crate) fn initial_argument<'a>() -> Argument<'a>
-    ensures { rule_of_argument result ≡ flag_rule (codes "initial") }
-{
-    Argument::Flag("initial", "BDK is the terminal's initial key")
-}
+pub(crate) const INITIAL_KEY: Argument<'static> = Argument::Flag(
+    "initial",
+    "BDK is the terminal's initial key",
+);

@@ -1,40 +1,21 @@
 //! The commands over MACs, PIN blocks and key blocks.
 
-ghost use Rattle.std.specs.Prelude.{◌≡◌, IfOk, codes};
-ghost use Rattle.duk_arguments.specs.CommandLine.{argument_rule, block_commands, mac_command, pin_command, unpin_command, translate_command, wrap_command, unwrap_command};
-ghost use Rattle.duk_arguments.specs.inner.CommandLine.{AddsCommands, IsCommand, rule_of_argument};
+ghost use Rattle.std.specs.Prelude.{◌≡◌};
+ghost use Rattle.duk_arguments.specs.CommandLine.{mac_command, pin_command, unpin_command, translate_command, wrap_command, unwrap_command, show_command};
+ghost use Rattle.duk_arguments.specs.inner.CommandLine.{shape_of_usage};
 
-use super::arguments::{
-    Argument, bdk_argument, command_of, initial_argument, ksn_argument, pan_argument, with_command,
-};
+use super::arguments::{Argument, BDK, INITIAL_KEY, KSN, PAN, Usage};
 use crate::help::blocks as help;
-use clap::Command;
-use std::alloc::{AllocError, Global};
 
-/// The program with the commands over MACs, PIN blocks and key blocks too.
-pub(crate) fn with_block_commands<'a>(
-    program: Command<'a>,
-    alloc: Global,
-) -> Result<Command<'a>, AllocError>
-    ensures { IfOk result (AddsCommands block_commands program.entry) }
+/// `mac KEY TEXT [--cmac] [--hex]`
+pub(super) fn mac<'a>() -> Usage<'a>
+    ensures { shape_of_usage result ≡ mac_command }
 {
-    let program = with_command(program, mac_arguments(alloc))?;
-    let program = with_command(program, pin_arguments(alloc))?;
-    let program = with_command(program, unpin_arguments(alloc))?;
-    let program = with_command(program, translate_arguments(alloc))?;
-    let program = with_command(program, wrap_arguments(alloc))?;
-    with_command(program, unwrap_arguments(alloc))
-}
-
-fn mac_arguments<'a>(alloc: Global) -> Result<Command<'a>, AllocError>
-    ensures { IfOk result (IsCommand mac_command) }
-{
-    command_of(
-        alloc,
-        "mac",
-        "Prints the MAC of a text",
-        help::MAC,
-        &[
+    Usage {
+        name: "mac",
+        about: "Prints the MAC of a text",
+        after_help: help::MAC,
+        arguments: &[
             Argument::Needed(
                 "KEY",
                 "The key, 32 hexadecimal digits; with --cmac 32 or 48",
@@ -43,40 +24,40 @@ fn mac_arguments<'a>(alloc: Global) -> Result<Command<'a>, AllocError>
             Argument::Flag("cmac", "Prints the CMAC, and not the retail MAC"),
             Argument::Flag("hex", "TEXT is bytes in hexadecimal"),
         ],
-    )
+    }
 }
 
-fn pin_arguments<'a>(alloc: Global) -> Result<Command<'a>, AllocError>
-    ensures { IfOk result (IsCommand pin_command) }
+/// `pin PIN PAN [--key KEY]`
+pub(super) fn pin<'a>() -> Usage<'a>
+    ensures { shape_of_usage result ≡ pin_command }
 {
-    command_of(
-        alloc,
-        "pin",
-        "Prints the PIN block of a PIN and a PAN, and the block enciphered",
-        help::PIN,
-        &[
+    Usage {
+        name: "pin",
+        about: "Prints the PIN block of a PIN and a PAN, and the block enciphered",
+        after_help: help::PIN,
+        arguments: &[
             Argument::Needed("PIN", "The PIN, 4 to 12 digits"),
-            pan_argument(),
+            PAN,
             Argument::Valued(
                 "key",
                 "KEY",
                 "Enciphers the block under this key, 32 hexadecimal digits",
             ),
         ],
-    )
+    }
 }
 
-fn unpin_arguments<'a>(alloc: Global) -> Result<Command<'a>, AllocError>
-    ensures { IfOk result (IsCommand unpin_command) }
+/// `unpin BLOCK PAN [--key KEY] [--show]`
+pub(super) fn unpin<'a>() -> Usage<'a>
+    ensures { shape_of_usage result ≡ unpin_command }
 {
-    command_of(
-        alloc,
-        "unpin",
-        "Says whether a PIN block is valid, or prints its PIN",
-        help::UNPIN,
-        &[
+    Usage {
+        name: "unpin",
+        about: "Says whether a PIN block is valid, or prints its PIN",
+        after_help: help::UNPIN,
+        arguments: &[
             Argument::Needed("BLOCK", "The PIN block, 16 hexadecimal digits"),
-            pan_argument(),
+            PAN,
             Argument::Valued(
                 "key",
                 "KEY",
@@ -84,38 +65,38 @@ fn unpin_arguments<'a>(alloc: Global) -> Result<Command<'a>, AllocError>
             ),
             Argument::Flag("show", "Prints the PIN"),
         ],
-    )
+    }
 }
 
-fn translate_arguments<'a>(alloc: Global) -> Result<Command<'a>, AllocError>
-    ensures { IfOk result (IsCommand translate_command) }
+/// `translate BLOCK PAN BDK KSN ZONE [--initial]`
+pub(super) fn translate<'a>() -> Usage<'a>
+    ensures { shape_of_usage result ≡ translate_command }
 {
-    command_of(
-        alloc,
-        "translate",
-        "Prints the PIN block of a terminal, enciphered under a zone key",
-        help::TRANSLATE,
-        &[
+    Usage {
+        name: "translate",
+        about: "Prints the PIN block of a terminal, enciphered under a zone key",
+        after_help: help::TRANSLATE,
+        arguments: &[
             Argument::Needed("BLOCK", "The enciphered PIN block, 16 hexadecimal digits"),
-            pan_argument(),
-            bdk_argument(),
-            ksn_argument(),
+            PAN,
+            BDK,
+            KSN,
             Argument::Needed("ZONE", "The zone key, 32 or 48 hexadecimal digits"),
-            initial_argument(),
+            INITIAL_KEY,
         ],
-    )
+    }
 }
 
-fn wrap_arguments<'a>(alloc: Global) -> Result<Command<'a>, AllocError>
-    ensures { IfOk result (IsCommand wrap_command) }
+/// `wrap KBPK FIELDS KEY PAD`
+pub(super) fn wrap<'a>() -> Usage<'a>
+    ensures { shape_of_usage result ≡ wrap_command }
 {
-    command_of(
-        alloc,
-        "wrap",
-        "Prints the key block of a key",
-        help::WRAP,
-        &[
-            kbpk_argument(),
+    Usage {
+        name: "wrap",
+        about: "Prints the key block of a key",
+        after_help: help::WRAP,
+        arguments: &[
+            KBPK,
             Argument::Needed(
                 "FIELDS",
                 "The header fields, 7 bytes: usage, algorithm, mode, version and exportability",
@@ -123,27 +104,42 @@ fn wrap_arguments<'a>(alloc: Global) -> Result<Command<'a>, AllocError>
             Argument::Needed("KEY", "The key, 32 or 48 hexadecimal digits"),
             Argument::Needed("PAD", "The padding in hexadecimal, which should be random"),
         ],
-    )
+    }
 }
 
-fn unwrap_arguments<'a>(alloc: Global) -> Result<Command<'a>, AllocError>
-    ensures { IfOk result (IsCommand unwrap_command) }
+/// `unwrap KBPK BLOCK`
+pub(super) fn unwrap<'a>() -> Usage<'a>
+    ensures { shape_of_usage result ≡ unwrap_command }
 {
-    command_of(
-        alloc,
-        "unwrap",
-        "Prints the header fields and the key of a key block",
-        help::UNWRAP,
-        &[kbpk_argument(), Argument::Needed("BLOCK", "The key block")],
-    )
+    Usage {
+        name: "unwrap",
+        about: "Prints the header fields and the key of a key block",
+        after_help: help::UNWRAP,
+        arguments: &[KBPK, Argument::Needed("BLOCK", "The key block")],
+    }
+}
+
+/// `show KIND WHAT [--show]`
+pub(super) fn show<'a>() -> Usage<'a>
+    ensures { shape_of_usage result ≡ show_command }
+{
+    Usage {
+        name: "show",
+        about: "Prints the fields of a frame, a key block, a terminal's image or a log",
+        after_help: help::SHOW,
+        arguments: &[
+            Argument::Needed("KIND", "What WHAT is: frame, block, image or log"),
+            Argument::Needed(
+                "WHAT",
+                "A frame or an image in hexadecimal, a key block, or the file of a log",
+            ),
+            Argument::Flag("show", "Prints the keys of an image's registers too"),
+        ],
+    }
 }
 
 /// The key block protection key.
-fn kbpk_argument<'a>() -> Argument<'a>
-    ensures { rule_of_argument result ≡ argument_rule (codes "KBPK") }
-{
-    Argument::Needed(
-        "KBPK",
-        "The key block protection key, 32 or 48 hexadecimal digits",
-    )
-}
+const KBPK: Argument<'static> = Argument::Needed(
+    "KBPK",
+    "The key block protection key, 32 or 48 hexadecimal digits",
+);

@@ -1,59 +1,44 @@
 //! The commands over frames.
 
-ghost use Rattle.std.specs.Prelude.{IfOk};
-ghost use Rattle.duk_arguments.specs.CommandLine.{frame_commands, request_command, reply_command};
-ghost use Rattle.duk_arguments.specs.inner.CommandLine.{AddsCommands, IsCommand};
+ghost use Rattle.std.specs.Prelude.{◌≡◌};
+ghost use Rattle.duk_arguments.specs.CommandLine.{request_command, reply_command};
+ghost use Rattle.duk_arguments.specs.inner.CommandLine.{shape_of_usage};
 
-use super::arguments::{
-    Argument, bdk_argument, command_of, initial_argument, ksn_argument, pan_argument, with_command,
-};
+use super::arguments::{Argument, BDK, INITIAL_KEY, KSN, PAN, Usage};
 use crate::help::frames as help;
-use clap::Command;
-use std::alloc::{AllocError, Global};
 
-/// The program with the commands over frames too.
-pub(crate) fn with_frame_commands<'a>(
-    program: Command<'a>,
-    alloc: Global,
-) -> Result<Command<'a>, AllocError>
-    ensures { IfOk result (AddsCommands frame_commands program.entry) }
+/// `request BDK KSN PAN PIN AMOUNT [--initial]`
+pub(super) fn request<'a>() -> Usage<'a>
+    ensures { shape_of_usage result ≡ request_command }
 {
-    let program = with_command(program, request_arguments(alloc))?;
-    with_command(program, reply_arguments(alloc))
-}
-
-fn request_arguments<'a>(alloc: Global) -> Result<Command<'a>, AllocError>
-    ensures { IfOk result (IsCommand request_command) }
-{
-    command_of(
-        alloc,
-        "request",
-        "Prints the request frame of a payment, as a terminal makes it",
-        help::REQUEST,
-        &[
-            bdk_argument(),
-            ksn_argument(),
-            pan_argument(),
+    Usage {
+        name: "request",
+        about: "Prints the request frame of a payment, as a terminal makes it",
+        after_help: help::REQUEST,
+        arguments: &[
+            BDK,
+            KSN,
+            PAN,
             Argument::Needed("PIN", "The PIN, 4 to 12 digits"),
             Argument::Needed("AMOUNT", "The amount, a number up to 4294967295"),
-            initial_argument(),
+            INITIAL_KEY,
         ],
-    )
+    }
 }
 
-fn reply_arguments<'a>(alloc: Global) -> Result<Command<'a>, AllocError>
-    ensures { IfOk result (IsCommand reply_command) }
+/// `reply BDK REQUEST ANSWER [--initial]`
+pub(super) fn reply<'a>() -> Usage<'a>
+    ensures { shape_of_usage result ≡ reply_command }
 {
-    command_of(
-        alloc,
-        "reply",
-        "Checks the answer frame to a request frame",
-        help::REPLY,
-        &[
-            bdk_argument(),
+    Usage {
+        name: "reply",
+        about: "Checks the answer frame to a request frame",
+        after_help: help::REPLY,
+        arguments: &[
+            BDK,
             Argument::Needed("REQUEST", "The request frame in hexadecimal"),
             Argument::Needed("ANSWER", "The answer frame in hexadecimal"),
-            initial_argument(),
+            INITIAL_KEY,
         ],
-    )
+    }
 }

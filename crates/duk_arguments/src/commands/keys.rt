@@ -1,103 +1,117 @@
 //! The commands over keys.
 
-ghost use Rattle.std.specs.Prelude.{IfOk};
-ghost use Rattle.duk_arguments.specs.CommandLine.{key_commands, derive_command, walk_command, initial_command, registers_command, kcv_command};
-ghost use Rattle.duk_arguments.specs.inner.CommandLine.{AddsCommands, IsCommand};
+ghost use Rattle.std.specs.Prelude.{◌≡◌};
+ghost use Rattle.duk_arguments.specs.CommandLine.{derive_command, walk_command, initial_command, issue_command, registers_command, kcv_command};
+ghost use Rattle.duk_arguments.specs.inner.CommandLine.{shape_of_usage};
 
-use super::arguments::{
-    Argument, bdk_argument, command_of, iksn_argument, initial_argument, ksn_argument, with_command,
-};
+use super::arguments::{Argument, BDK, IKSN, INITIAL_KEY, KSN, Usage};
 use crate::help::keys as help;
-use clap::Command;
-use std::alloc::{AllocError, Global};
 
-/// The program with the commands over keys too.
-pub(crate) fn with_key_commands<'a>(
-    program: Command<'a>,
-    alloc: Global,
-) -> Result<Command<'a>, AllocError>
-    ensures { IfOk result (AddsCommands key_commands program.entry) }
+/// `derive BDK KSN [--initial] [--trace] [--all]`
+pub(super) fn derive<'a>() -> Usage<'a>
+    ensures { shape_of_usage result ≡ derive_command }
 {
-    let program = with_command(program, derive_arguments(alloc))?;
-    let program = with_command(program, walk_arguments(alloc))?;
-    let program = with_command(program, initial_arguments(alloc))?;
-    let program = with_command(program, registers_arguments(alloc))?;
-    with_command(program, kcv_arguments(alloc))
-}
-
-fn derive_arguments<'a>(alloc: Global) -> Result<Command<'a>, AllocError>
-    ensures { IfOk result (IsCommand derive_command) }
-{
-    command_of(
-        alloc,
-        "derive",
-        "Prints the initial key, the transaction key and the PIN key of a key serial number",
-        help::DERIVE,
-        &[
-            bdk_argument(),
-            ksn_argument(),
-            initial_argument(),
+    Usage {
+        name: "derive",
+        about: "Prints the initial key, the transaction key and the PIN key of a key serial number",
+        after_help: help::DERIVE,
+        arguments: &[
+            BDK,
+            KSN,
+            INITIAL_KEY,
             Argument::Flag(
                 "trace",
                 "Prints the steps from the initial key to the transaction key",
             ),
             Argument::Flag("all", "Prints the keys of the MACs too"),
         ],
-    )
+    }
 }
 
-fn walk_arguments<'a>(alloc: Global) -> Result<Command<'a>, AllocError>
-    ensures { IfOk result (IsCommand walk_command) }
+/// `walk BDK IKSN COUNT [--skip K] [--ksn] [--initial]`
+pub(super) fn walk<'a>() -> Usage<'a>
+    ensures { shape_of_usage result ≡ walk_command }
 {
-    command_of(
-        alloc,
-        "walk",
-        "Walks a terminal through its numbers and prints the key of each",
-        help::WALK,
-        &[
-            bdk_argument(),
-            iksn_argument(),
+    Usage {
+        name: "walk",
+        about: "Walks a terminal through its numbers and prints the key of each",
+        after_help: help::WALK,
+        arguments: &[
+            BDK,
+            IKSN,
             Argument::Needed("COUNT", "How many numbers to print, at most 1048576"),
             Argument::Valued("skip", "K", "Skips K numbers before printing"),
             Argument::Flag("ksn", "Prints the key serial numbers alone"),
-            initial_argument(),
+            INITIAL_KEY,
         ],
-    )
+    }
 }
 
-fn initial_arguments<'a>(alloc: Global) -> Result<Command<'a>, AllocError>
-    ensures { IfOk result (IsCommand initial_command) }
+/// `initial BDK IKSN`
+pub(super) fn initial<'a>() -> Usage<'a>
+    ensures { shape_of_usage result ≡ initial_command }
 {
-    command_of(
-        alloc,
-        "initial",
-        "Prints the initial key of a terminal, and its check value",
-        help::INITIAL,
-        &[bdk_argument(), iksn_argument()],
-    )
+    Usage {
+        name: "initial",
+        about: "Prints the initial key of a terminal, and its check value",
+        after_help: help::INITIAL,
+        arguments: &[BDK, IKSN],
+    }
 }
 
-fn registers_arguments<'a>(alloc: Global) -> Result<Command<'a>, AllocError>
-    ensures { IfOk result (IsCommand registers_command) }
+/// `issue BDK LOADING IKSN COUNT --ledger FILE [--skip-issued]`
+pub(super) fn issue<'a>() -> Usage<'a>
+    ensures { shape_of_usage result ≡ issue_command }
 {
-    command_of(
-        alloc,
-        "registers",
-        "Prints the 21 registers of a terminal at a key serial number",
-        help::REGISTERS,
-        &[bdk_argument(), ksn_argument(), initial_argument()],
-    )
+    Usage {
+        name: "issue",
+        about: "Issues the initial keys of terminals as loading blocks, each once",
+        after_help: help::ISSUE,
+        arguments: &[
+            BDK,
+            Argument::Needed(
+                "LOADING",
+                "The key block protection key of the loading blocks, 32 or 48 hexadecimal digits",
+            ),
+            Argument::Needed(
+                "IKSN",
+                "The first initial key serial number, 20 hexadecimal digits",
+            ),
+            Argument::Needed("COUNT", "How many initial keys to issue, at most 1048576"),
+            Argument::Named(
+                "ledger",
+                "FILE",
+                "Keeps the issued numbers in this file, which has to be there",
+            ),
+            Argument::Flag(
+                "skip-issued",
+                "Passes over the numbers that are issued already",
+            ),
+        ],
+    }
 }
 
-fn kcv_arguments<'a>(alloc: Global) -> Result<Command<'a>, AllocError>
-    ensures { IfOk result (IsCommand kcv_command) }
+/// `registers BDK KSN [--initial]`
+pub(super) fn registers<'a>() -> Usage<'a>
+    ensures { shape_of_usage result ≡ registers_command }
 {
-    command_of(
-        alloc,
-        "kcv",
-        "Prints the check values of keys, or of the components of a key and of the key",
-        help::KCV,
-        &[
+    Usage {
+        name: "registers",
+        about: "Prints the 21 registers of a terminal at a key serial number",
+        after_help: help::REGISTERS,
+        arguments: &[BDK, KSN, INITIAL_KEY],
+    }
+}
+
+/// `kcv KEY.. [--components] [--show]`
+pub(super) fn kcv<'a>() -> Usage<'a>
+    ensures { shape_of_usage result ≡ kcv_command }
+{
+    Usage {
+        name: "kcv",
+        about: "Prints the check values of keys, or of the components of a key and of the key",
+        after_help: help::KCV,
+        arguments: &[
             Argument::Several("KEY", "A key, 32 or 48 hexadecimal digits; 1 to 16 keys"),
             Argument::Flag(
                 "components",
@@ -105,5 +119,5 @@ fn kcv_arguments<'a>(alloc: Global) -> Result<Command<'a>, AllocError>
             ),
             Argument::Flag("show", "Prints the key that the components make"),
         ],
-    )
+    }
 }

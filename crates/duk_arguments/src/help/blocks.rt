@@ -5,13 +5,17 @@ pub(crate) const MAC: &str = "\
 The retail MAC is of ANSI X9.19, the CMAC of NIST SP 800-38B. With --hex TEXT stands for the bytes
 of its pairs of digits.
 
+KEY is better written as @FILE (the first line of a file) or @- (of standard input): every user of
+the machine sees the words of a process.
+
 Examples:
   $ dukpt mac 042666B4918430A368DE9628D03984C9 4012345678909
   mac 38842EFB38B0AA13
   $ dukpt mac 042666B4918430A368DE9628D03984C9 34303132333435363738393039 --cmac --hex
   mac DBACB76230ADE923
 
-Faults, on standard error with status 1, the first alone:
+Faults, on standard error with status 1, the first alone; --explain says more:
+  KEY: ..        KEY as @FILE or @-: cannot read, too long, not UTF-8
   key refused    KEY is not 32 hexadecimal digits, or with --cmac not 32 or 48
   text refused   With --hex TEXT is not pairs of digits; without --cmac it is empty
   write failed   Standard output takes no more
@@ -20,19 +24,27 @@ Faults, on standard error with status 1, the first alone:
 /// At the end of the help of `pin`.
 pub(crate) const PIN: &str = "\
 The PIN block is of ISO 9564-1 format 0. The check digit of PAN is not verified. KEY is a PIN key,
-as `derive` prints it.
+as `derive` prints it. With - for PIN or for PAN, these are read from standard input, one a line; one
+that is refused has the line of its fault in its place.
+
+PIN, PAN and KEY are better written as @FILE (the first line of a file) or @- (of standard input):
+every user of the machine sees the words of a process.
 
 Example:
   $ dukpt pin 1234 4012345678909 --key 042666B49184CF5C68DE9628D0397B36
   block 041274EDCBA9876F
   enciphered 1B9C1845EB993A7A
 
-Faults, on standard error with status 1, the first alone:
+Faults, on standard error with status 1, the first alone; --explain says more:
+  PIN: ..        PIN as @FILE or @-: cannot read, too long, not UTF-8
+  PAN: ..        PAN as @FILE or @-: the same
+  KEY: ..        KEY as @FILE or @-: the same
   PinLength      PIN is not 4 to 12 characters
   PinDigit       PIN has a character that is no digit
   PanLength      PAN is not 12 to 19 characters
   PanDigit       PAN has a character that is no digit
   key refused    KEY is not 32 hexadecimal digits
+  batch: ..      With - for PIN or PAN: items refused, read failed
   write failed   Standard output takes no more
   out of memory  Memory was refused";
 
@@ -41,13 +53,19 @@ pub(crate) const UNPIN: &str = "\
 The PIN block is of ISO 9564-1 format 0. KEY is a PIN key, as `derive` prints it. Without --show the
 PIN is not printed.
 
+BLOCK, PAN and KEY are better written as @FILE (the first line of a file) or @- (of standard input):
+every user of the machine sees the words of a process.
+
 Examples:
   $ dukpt unpin 1B9C1845EB993A7A 4012345678909 --key 042666B49184CF5C68DE9628D0397B36
   block valid
   $ dukpt unpin 041274EDCBA9876F 4012345678909 --show
   pin 1234
 
-Faults, on standard error with status 1, the first alone:
+Faults, on standard error with status 1, the first alone; --explain says more:
+  BLOCK: ..      BLOCK as @FILE or @-: cannot read, too long, not UTF-8
+  PAN: ..        PAN as @FILE or @-: the same
+  KEY: ..        KEY as @FILE or @-: the same
   block refused  BLOCK is not 16 hexadecimal digits
   PanLength      PAN is not 12 to 19 characters
   PanDigit       PAN has a character that is no digit
@@ -60,11 +78,18 @@ Faults, on standard error with status 1, the first alone:
 pub(crate) const TRANSLATE: &str = "\
 BLOCK is enciphered under the PIN key of KSN. The PIN blocks are of ISO 9564-1 format 0.
 
+BLOCK, PAN, BDK and ZONE are better written as @FILE (the first line of a file) or @- (of standard
+input): every user of the machine sees the words of a process.
+
 Example:
   $ dukpt translate 1B9C1845EB993A7A 4012345678909 0123456789ABCDEFFEDCBA9876543210 FFFF9876543210E00001 89E88CF7931444F334BD7547FC3F380C
   translated 8856DB66D89E9EFF
 
-Faults, on standard error with status 1, the first alone:
+Faults, on standard error with status 1, the first alone; --explain says more:
+  BLOCK: ..        BLOCK as @FILE or @-: cannot read, too long, not UTF-8
+  PAN: ..          PAN as @FILE or @-: the same
+  BDK: ..          BDK as @FILE or @-: the same
+  ZONE: ..         ZONE as @FILE or @-: the same
   block refused    BLOCK is not 16 hexadecimal digits
   PanLength        PAN is not 12 to 19 characters
   PanDigit         PAN has a character that is no digit
@@ -82,11 +107,16 @@ pub(crate) const WRAP: &str = "\
 The key block is of ANSI X9.143, version B, without optional blocks. PAD is 6 bytes, and 8 more for
 each block that is to hide the key's length.
 
+KBPK and KEY are better written as @FILE (the first line of a file) or @- (of standard input): every
+user of the machine sees the words of a process.
+
 Example:
   $ dukpt wrap DD7515F2BFC17F85CE48F3CA25CB21F6 P0TE00E 3F419E1CB7079442AA37474C2EFBF8B8 A5A5A5A5A5A5
   B0080P0TE00E0000E7EA8C782E7641E7CE775995E04329A4A0870CA20BF8F6E92E580F2E81EC0BA5
 
-Faults, on standard error with status 1, the first alone:
+Faults, on standard error with status 1, the first alone; --explain says more:
+  KBPK: ..        KBPK as @FILE or @-: cannot read, too long, not UTF-8
+  KEY: ..         KEY as @FILE or @-: the same
   KBPK refused    KBPK is not 32 or 48 hexadecimal digits
   fields refused  FIELDS is not 7 bytes
   key refused     KEY is not 32 or 48 hexadecimal digits
@@ -100,12 +130,16 @@ Faults, on standard error with status 1, the first alone:
 pub(crate) const UNWRAP: &str = "\
 The key block is of ANSI X9.143, version B. What its optional blocks hold is not examined.
 
+KBPK is better written as @FILE (the first line of a file) or @- (of standard input): every user of
+the machine sees the words of a process.
+
 Example:
   $ dukpt unwrap DD7515F2BFC17F85CE48F3CA25CB21F6 B0080P0TE00E000094B420079CC80BA3461F86FE26EFC4A3B8E4FA4C5F5341176EED7B727B8A248E
   fields P0TE00E
   key 3F419E1CB7079442AA37474C2EFBF8B8
 
-Faults, on standard error with status 1, the first alone:
+Faults, on standard error with status 1, the first alone; --explain says more:
+  KBPK: ..       KBPK as @FILE or @-: cannot read, too long, not UTF-8
   KBPK refused   KBPK is not 32 or 48 hexadecimal digits
   Length         The length of BLOCK is not allowed, or is not the one that it names
   Version        BLOCK does not begin with B
@@ -116,3 +150,35 @@ Faults, on standard error with status 1, the first alone:
   Payload        BLOCK has no key of 16 or 24 bytes
   write failed   Standard output takes no more
   out of memory  Memory was refused";
+
+/// At the end of the help of `show`.
+pub(crate) const SHOW: &str = "\
+Prints each field on a line, its name first. KIND says what WHAT is: `frame` a frame in hexadecimal,
+`block` a key block, `image` a terminal's image in hexadecimal, `log` the file of a log of used
+numbers. Nothing is deciphered and no MAC is tested. --show prints the keys of an image's registers.
+With - for WHAT of the first three, texts of KIND are read from standard input, one a line; one that
+is refused has the line of its fault in its place.
+
+WHAT of an image is better written as @FILE (the first line of a file) or @- (of standard input):
+every user of the machine sees the words of a process.
+
+Examples:
+  $ dukpt show frame 002E0101FFFF9876543210E000010D34303132333435363738393039000003E81B9C1845EB993A7A25ECC2EEB37FB551
+  frame request
+  ksn FFFF9876543210E00001
+  pan 4012345678909
+  amount 1000
+  pin-block 1B9C1845EB993A7A
+  mac 25ECC2EEB37FB551
+
+Faults, on standard error with status 1, the first alone; --explain says more:
+  WHAT: ..                WHAT as @FILE or @-: cannot read, too long, not UTF-8
+  KIND refused            KIND is not frame, block, image or log
+  frame refused at N: ..  WHAT is no frame: the place where reading stopped, from 0, and why
+  block refused at N: ..  WHAT is no key block: the same
+  image refused at N: ..  WHAT is no image: the same
+  log refused at N: ..    WHAT is a damaged log: the same, of its records
+  log: ..                 WHAT is the path of a file: cannot read, too long
+  batch: ..               With - for WHAT: items refused, read failed
+  write failed            Standard output takes no more
+  out of memory           Memory was refused";

@@ -15,7 +15,7 @@ Example:
   answer 2 accepted FFFF9876543210E00002 51
   t1 done FFFF9876543210E00002 51
 
-Faults, on standard error with status 1, the first alone:
+Faults, on standard error with status 1, the first alone; --explain says more:
   config: ..             The configuration: cannot read, too long, not TOML, unknown KEY, bad KEY
   script: cannot read    SCRIPT cannot be opened or read
   script: too long       SCRIPT has more than 1048576 bytes
@@ -33,7 +33,7 @@ Example:
   $ dd if=/dev/zero of=used.log bs=16 count=1000 conv=excl,fsync status=none
   $ dukpt serve examples/bank.toml --log used.log <requests >answers
 
-Faults, on standard error with status 1, the first alone:
+Faults, on standard error with status 1, the first alone; --explain says more:
   config: ..                    The configuration, as of `run`
   log: cannot open              FILE is missing, cannot be opened, or is in use by another service
   log: failed                   FILE is damaged, or a device step failed

@@ -4,11 +4,17 @@
 pub(crate) const REQUEST: &str = "\
 The frame has the PIN block under the PIN key of KSN, and a MAC under its key for requests.
 
+BDK, PAN and PIN are better written as @FILE (the first line of a file) or @- (of standard input):
+every user of the machine sees the words of a process.
+
 Example:
   $ dukpt request 0123456789ABCDEFFEDCBA9876543210 FFFF9876543210E00001 4012345678909 1234 1000
   request 002E0101FFFF9876543210E000010D34303132333435363738393039000003E81B9C1845EB993A7A25ECC2EEB37FB551
 
-Faults, on standard error with status 1, the first alone:
+Faults, on standard error with status 1, the first alone; --explain says more:
+  BDK: ..          BDK as @FILE or @-: cannot read, too long, not UTF-8
+  PAN: ..          PAN as @FILE or @-: the same
+  PIN: ..          PIN as @FILE or @-: the same
   BDK refused      BDK is not 32 hexadecimal digits
   initial refused  The same, with --initial
   KSN refused      KSN is not 20 hexadecimal digits
@@ -26,11 +32,15 @@ pub(crate) const REPLY: &str = "\
 `accepted` is printed of a reply with a right MAC, with its code; `refused` of a refusal, which has
 no MAC, with its reason. A refusal of no number has a key serial number of zeros.
 
+BDK is better written as @FILE (the first line of a file) or @- (of standard input): every user of
+the machine sees the words of a process.
+
 Example:
   $ dukpt reply 0123456789ABCDEFFEDCBA9876543210 002E0101FFFF9876543210E000010D34303132333435363738393039000003E81B9C1845EB993A7A25ECC2EEB37FB551 00160102FFFF9876543210E000013030591B50E0CA98FE70
   accepted FFFF9876543210E00001 00
 
-Faults, on standard error with status 1, the first alone:
+Faults, on standard error with status 1, the first alone; --explain says more:
+  BDK: ..          BDK as @FILE or @-: cannot read, too long, not UTF-8
   BDK refused      BDK is not 32 hexadecimal digits
   initial refused  The same, with --initial
   request refused  REQUEST is no request frame, or its counter is not usable

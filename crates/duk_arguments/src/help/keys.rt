@@ -4,9 +4,15 @@
 pub(crate) const DERIVE: &str = "\
 The initial key is the same at every number of a terminal. A KSN of 16 digits is refused: write FFFF
 before it. --trace prints a key for each one bit of the counter, from the most significant on.
+With - for KSN, numbers are read from standard input, one a line; one that is refused has the line of
+its fault in its place.
+
+BDK is better written as @FILE (the first line of a file) or @- (of standard input): every user of
+the machine sees the words of a process.
 
 Examples:
-  $ dukpt derive 0123456789ABCDEFFEDCBA9876543210 FFFF9876543210E00001
+  $ echo 0123456789ABCDEFFEDCBA9876543210 >bdk.txt
+  $ dukpt derive @bdk.txt FFFF9876543210E00001
   initial 6AC292FAA1315B4D858AB3A3D7D5933A
   key 042666B49184CFA368DE9628D0397BC9
   pin 042666B49184CF5C68DE9628D0397B36
@@ -19,11 +25,13 @@ Examples:
   mac-request 0DF3D9422ACAA9E547676D07AD6B52FA
   mac-response 0DF3D942D5CA56E547676D07526BADFA
 
-Faults, on standard error with status 1, the first alone:
+Faults, on standard error with status 1, the first alone; --explain says more:
+  BDK: ..          BDK as @FILE or @-: cannot read, too long, not UTF-8
   BDK refused      BDK is not 32 hexadecimal digits
   initial refused  The same, with --initial
   KSN refused      KSN is not 20 hexadecimal digits
   counter refused  The counter of KSN is zero or has more than ten one bits
+  batch: ..        With - for KSN: items refused, read failed
   write failed     Standard output takes no more
   out of memory    Memory was refused";
 
@@ -33,6 +41,9 @@ The terminal is loaded with the initial key of IKSN, or with BDK itself under --
 numbers. Then it takes up to COUNT numbers. `spent` is printed where a number is to be taken and
 none is left. An IKSN of 16 digits is refused: write FFFF before it.
 
+BDK is better written as @FILE (the first line of a file) or @- (of standard input): every user of
+the machine sees the words of a process.
+
 Examples:
   $ dukpt walk 0123456789ABCDEFFEDCBA9876543210 FFFF9876543210E00000 1
   FFFF9876543210E00001 042666B49184CFA368DE9628D0397BC9
@@ -40,7 +51,8 @@ Examples:
   FFFF9876543210FFF800
   spent
 
-Faults, on standard error with status 1, the first alone:
+Faults, on standard error with status 1, the first alone; --explain says more:
+  BDK: ..          BDK as @FILE or @-: cannot read, too long, not UTF-8
   BDK refused      BDK is not 32 hexadecimal digits
   initial refused  The same, with --initial
   IKSN refused     IKSN is not 20 hexadecimal digits with a counter of zero
@@ -53,16 +65,53 @@ pub(crate) const INITIAL: &str = "\
 Other tools call this key IPEK or IK. Its check value is the first three bytes of zeros enciphered
 under it.
 
+BDK is better written as @FILE (the first line of a file) or @- (of standard input): every user of
+the machine sees the words of a process.
+
 Example:
-  $ dukpt initial 0123456789ABCDEFFEDCBA9876543210 FFFF9876543210E00000
+  $ echo 0123456789ABCDEFFEDCBA9876543210 >bdk.txt
+  $ dukpt initial @bdk.txt FFFF9876543210E00000
   initial 6AC292FAA1315B4D858AB3A3D7D5933A
   kcv AF8C07
 
-Faults, on standard error with status 1, the first alone:
+Faults, on standard error with status 1, the first alone; --explain says more:
+  BDK: ..        BDK as @FILE or @-: cannot read, too long, not UTF-8
   BDK refused    BDK is not 32 hexadecimal digits
   IKSN refused   IKSN is not 20 hexadecimal digits with a counter of zero
   write failed   Standard output takes no more
   out of memory  Memory was refused";
+
+/// At the end of the help of `issue`.
+pub(crate) const ISSUE: &str = "\
+Issues COUNT initial keys, the first of IKSN and each at the next initial key serial number, as lines
+`issued IKSN BLOCK KCV`. BLOCK is a key block under LOADING with the fields B1TX00N and random
+padding, KCV the key's check value. FILE is a log of used numbers, as of `serve`: each number is in
+it before its line is printed. None is issued where FILE has one already; with --skip-issued those
+are passed over.
+
+BDK and LOADING are better written as @FILE (the first line of a file) or @- (of standard input):
+every user of the machine sees the words of a process.
+
+Example:
+  $ echo 0123456789ABCDEFFEDCBA9876543210 >bdk.txt
+  $ echo DD7515F2BFC17F85CE48F3CA25CB21F6 >loading.txt
+  $ dd if=/dev/zero of=issued.log bs=16 count=1000 conv=excl,fsync status=none
+  $ dukpt issue @bdk.txt @loading.txt FFFF9876543210E00000 1 --ledger issued.log | cut -d ' ' -f 1,2,4
+  issued FFFF9876543210E00000 AF8C07
+
+Faults, on standard error with status 1, the first alone; --explain says more:
+  BDK: ..          BDK as @FILE or @-: cannot read, too long, not UTF-8
+  LOADING: ..      LOADING as @FILE or @-: the same
+  BDK refused      BDK is not 32 hexadecimal digits
+  loading refused  LOADING is not 32 or 48 hexadecimal digits
+  IKSN refused     IKSN is not 20 hexadecimal digits with a counter of zero
+  count refused    COUNT is no number, is above 1048576, or more than numbers are left from IKSN on
+  padding: ..      The system's random device: cannot read
+  ledger: ..       FILE: cannot open, failed, damaged
+  IKSN: issued     The first of the numbers that FILE has already
+  ledger: full     FILE has no room for all that are to be issued
+  write failed     Standard output takes no more
+  out of memory    Memory was refused";
 
 /// At the end of the help of `registers`.
 pub(crate) const REGISTERS: &str = "\
@@ -70,13 +119,17 @@ KSN is the number that the terminal takes next. Each of the 21 lines has a place
 from the least significant bit on, the number of its Future Key Register, and the key serial number
 and key that the register holds, or `empty`.
 
+BDK is better written as @FILE (the first line of a file) or @- (of standard input): every user of
+the machine sees the words of a process.
+
 Example:
   $ dukpt registers 0123456789ABCDEFFEDCBA9876543210 FFFF9876543210E00002 | sed -n 1,3p
   register 0 21 empty
   register 1 20 FFFF9876543210E00002 C46551CEF9FD24B0AA9AD834130D3BC7
   register 2 19 FFFF9876543210E00004 279C0F6AEED0BE652B2C733E1383AE91
 
-Faults, on standard error with status 1, the first alone:
+Faults, on standard error with status 1, the first alone; --explain says more:
+  BDK: ..          BDK as @FILE or @-: cannot read, too long, not UTF-8
   BDK refused      BDK is not 32 hexadecimal digits
   initial refused  The same, with --initial
   KSN refused      KSN is not 20 hexadecimal digits
@@ -88,7 +141,11 @@ Faults, on standard error with status 1, the first alone:
 pub(crate) const KCV: &str = "\
 `kcv` is the first three bytes of zeros enciphered under a key, `cmac` the first five of the CMAC of
 zeros. With --components the keys are combined by exclusive or, and the values of the components
-come first. --show prints a key with --components alone.
+come first. --show prints a key with --components alone. With - for KEY, and no option, keys are read
+from standard input, one a line; one that is refused has the line of its fault in its place.
+
+KEY is better written as @FILE (the first line of a file) or @- (of standard input): every user of
+the machine sees the words of a process.
 
 Examples:
   $ dukpt kcv 0123456789ABCDEFFEDCBA9876543210
@@ -102,7 +159,9 @@ Examples:
   kcv 08D7B4
   cmac 0A82458664
 
-Faults, on standard error with status 1, the first alone:
+Faults, on standard error with status 1, the first alone; --explain says more:
+  KEY: ..        KEY as @FILE or @-: cannot read, too long, not UTF-8
   key refused    A KEY is not 32 or 48 hexadecimal digits, or components differ in length
+  batch: ..      With - for KEY: items refused, read failed
   write failed   Standard output takes no more
   out of memory  Memory was refused";

@@ -23,6 +23,6 @@ one_more old new clap_argument name arguments i d within was is adds = (
 
 pub loop-argument-preserved : goal.loop-argument-preserved
 loop-argument-preserved c =
-    one_more c.loop-argument.command c.in_ok-command.command c.clap_argument.result c.args.name.now c.args.arguments.now
+    one_more c.loop-argument.command c.in_ok-command.command c.clap_argument.result c.args.usage.now.name.now c.args.usage.now.arguments.now
     c.loop-argument.argument-index _ c.loop-argument-test.true c.loop-argument.invariant c.clap_argument.ensures
     c.in_ok-command.ensures

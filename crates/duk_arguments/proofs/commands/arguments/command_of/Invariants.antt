@@ -6,4 +6,4 @@ use Rattle.duk_arguments.proofs.commands.arguments.command_of.Given as goal
 -- the command has the arguments so far
 abbrev pub invariant-loop-argument : goal.invariant-loop-argument
 invariant-loop-argument l =
-    IsCommand (command l.fn.name (map rule_of_argument (take l.argument-index l.arguments))) l.command
+    IsCommand (command l.usage.name.now (map rule_of_argument (take l.argument-index l.usage.arguments.now))) l.command
