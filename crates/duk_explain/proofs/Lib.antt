@@ -1,0 +1,6 @@
+mod AllLines
+mod Between
+mod FirstWrong
+mod KeyLengths
+mod NumberTexts
+mod Unfit
