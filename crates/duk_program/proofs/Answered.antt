@@ -1,18 +1,28 @@
 -- What the arguments of a command ask for, once what was held back is handed on, and in a run of
 -- the program.
-use Rattle.std.proofs.Common.{ℕ, List, inl, inr}
-use Rattle.duk_commands.specs.Answer.{Command, IsDone, IsNotDone, streams}
-use Rattle.duk_io.specs.Known.{Known}
-use Rattle.duk_io.specs.Sink.{IsUntouched}
-use Rattle.duk_program.proofs.WrittenStaysWritten.{untouched_still, written_still}
-use Rattle.duk_program.specs.Commands.{IsCommandLineDone, IsCommandLineFailed, command_for}
-use Rattle.duk_program.specs.Program.{IsProgramDone, IsProgramNotDone, IsRequestDone, IsRequestNotDone, Scene, writers_of}
-use Rattle.duk_store.specs.Disk.{DiskMeaning}
+use Rattle.std.proofs.Common.{◌≡◌, ◌≢◌, ◌⊎◌, ℕ, Bool, List, Option, Some, None, inl, inr, refl, sym}
+use Rattle.std.proofs.lemmas.Option.{none-some}
+use Rattle.std.specs.Borrow.{Bor}
 use Rattle.duk_arguments.specs.declared.request.Request.{Request}
 use Rattle.duk_arguments.specs.declared.request.Request.TheVariants as request
+use Rattle.duk_commands.specs.Answer.{Command, IsDone, IsNotDone, Streams, streams}
+use Rattle.duk_io.specs.Known.{Known}
+use Rattle.duk_io.specs.Sink.{IsUntouched}
+use Rattle.duk_program.proofs.Words.{words_have_meaning}
+use Rattle.duk_program.proofs.WrittenStaysWritten.{untouched_still, written_still}
+use Rattle.duk_program.specs.Commands.{HasShown, IsCommandLineDone, IsCommandLineFailed, command_for}
+use Rattle.duk_program.specs.Files.{FileKnown}
+use Rattle.duk_program.specs.Items.{IsAtOnce, LineItems, items_of}
+use Rattle.duk_program.specs.LogFiles.{DiskKnown}
+use Rattle.duk_program.specs.Meant.{HasLostLines, HasMeantDone, IsDoneAlone, IsMeantNotDone, IsNotDoneAlone, IsOverItemsDone, IsOverItemsNotDone}
+use Rattle.duk_program.specs.Program.{IsProgramDone, IsProgramNotDone, IsRequestDone, IsRequestNotDone}
+use Rattle.duk_program.specs.Scene.{Scene, writers_of}
+use Rattle.duk_program.specs.Secrets.{IsOverSecrets}
+use Rattle.duk_program.specs.inner.Commands.{NeedsNoFile}
+use Rattle.duk_store.specs.Disk.{DiskMeaning}
 
 -- a command that is done is done once its lines are handed on
-done_still : (command : Command) (output written output' fault reported fault' : Known) → IsDone command (streams output written fault reported)
+pub done_still : (command : Command) (output written output' fault reported fault' : Known) → IsDone command (streams output written fault reported)
     → IsUntouched written output' → IsUntouched reported fault' → IsDone command (streams output output' fault fault')
 done_still command output written output' fault reported fault' done kept silent = record {
   text = done.text;
@@ -23,54 +33,125 @@ done_still command output written output' fault reported fault' done kept silent
   };
 }
 
--- so are arguments that are answered
-pub answered_still : (arguments : List (List ℕ)) (output written output' fault reported fault' : Known) → IsCommandLineDone arguments (streams output written fault reported)
-    → IsUntouched written output' → IsUntouched reported fault' → IsCommandLineDone arguments (streams output output' fault fault')
-answered_still arguments output written output' fault reported fault' (inl answered) kept silent = inl (record {
-  request = answered.request;
-  asked = answered.asked;
-  done = done_still (command_for answered.request) output written output' fault reported fault' answered.done kept silent;
-})
-answered_still arguments output written output' fault reported fault' (inr shown) kept silent = inr (record {
+-- so is a text that is shown
+pub shown_still : (arguments : List (List ℕ)) (output written output' fault reported fault' : Known) → HasShown arguments (streams output written fault reported)
+    → IsUntouched written output' → IsUntouched reported fault' → HasShown arguments (streams output output' fault fault')
+shown_still arguments output written output' fault reported fault' shown kept silent = record {
   asked = shown.asked;
   text = shown.text;
   written = record {
     written = written_still output written output' shown.text shown.written.written kept;
     no_fault = untouched_still fault reported fault' shown.written.no_fault silent;
   };
+}
+
+-- so are arguments that are answered
+pub answered_still : (arguments : List (List ℕ)) (output written output' fault reported fault' : Known) → IsCommandLineDone arguments (streams output written fault reported)
+    → IsUntouched written output' → IsUntouched reported fault' → IsCommandLineDone arguments (streams output output' fault fault')
+answered_still arguments output written output' fault reported fault' (inl answered) kept silent = inl (record {
+  request = answered.request;
+  asked = answered.asked;
+  at_once = answered.at_once;
+  done = done_still (command_for answered.request) output written output' fault reported fault' answered.done kept silent;
 })
+answered_still arguments output written output' fault reported fault' (inr shown) kept silent =
+    inr (shown_still arguments output written output' fault reported fault' shown kept silent)
+
+-- a command that is done at once takes nothing of the input
+at_once_done : {D : Type 0} (items : Option LineItems) (s : Scene D) (alone : Type 0) → items ≡ None → alone → IsOverItemsDone items s alone
+at_once_done None s alone none done = done
+at_once_done (Some items) s alone none done = absurd (none-some items (sym none))
+
+at_once_not_done : {D : Type 0} (items : Option LineItems) (s : Scene D) (alone : Type 0) → items ≡ None → alone → IsOverItemsNotDone items s alone
+at_once_not_done None s alone none not_done = not_done
+at_once_not_done (Some items) s alone none not_done = absurd (none-some items (sym none))
 
 -- what a command does is what the program does
-request_done : {D : Type 0} (meaning : DiskMeaning D) (s : Scene D) (asked : Request) → IsDone (command_for asked) (writers_of s)
+request_done : {D : Type 0} (meaning : DiskMeaning D) (s : Scene D) (asked : Request) → IsAtOnce asked → IsDone (command_for asked) (writers_of s)
     → IsRequestDone meaning s asked
-request_done meaning s (request.Run config script) done = absurd done.asked
-request_done meaning s (request.Serve config log) done = absurd done.asked
-request_done meaning s asked done = done
+request_done meaning s (request.Run config script) at_once done = absurd done.asked
+request_done meaning s (request.Serve config log) at_once done = absurd done.asked
+request_done meaning s (request.Show kind what show) at_once done = absurd done.asked
+request_done meaning s (request.Issue bdk loading iksn count ledger skip) at_once done = absurd done.asked
+request_done meaning s asked at_once done = record {
+  input = s.streams.input_before;
+  read = record { untouched = λ _. refl };
+  meant = asked;
+  means = words_have_meaning s.held asked tt at_once.words;
+  done = at_once_done (items_of asked) s (IsDoneAlone meaning s.held s.disks (writers_of s) asked) at_once.no_items done;
+}
 
 pub program_done : {D : Type 0} (meaning : DiskMeaning D) (arguments : List (List ℕ)) (s : Scene D) → IsCommandLineDone arguments (writers_of s)
     → IsProgramDone meaning arguments s
 program_done meaning arguments s (inl answered) = inl (record {
   request = answered.request;
   asked = answered.asked;
-  done = request_done meaning s answered.request answered.done;
+  done = request_done meaning s answered.request answered.at_once answered.done;
 })
 program_done meaning arguments s (inr shown) = inr shown
 
 -- so is what it does not
-request_not_done : {D : Type 0} (meaning : DiskMeaning D) (s : Scene D) (asked : Request) → IsNotDone (command_for asked) (writers_of s)
+request_not_done : {D : Type 0} (meaning : DiskMeaning D) (s : Scene D) (asked : Request) → IsAtOnce asked → IsNotDone (command_for asked) (writers_of s)
     → IsRequestNotDone meaning s asked
-request_not_done meaning s (request.Run config script) (inl refused) = absurd refused.cause
-request_not_done meaning s (request.Run config script) (inr short) = absurd short.asked
-request_not_done meaning s (request.Serve config log) (inl refused) = absurd refused.cause
-request_not_done meaning s (request.Serve config log) (inr short) = absurd short.asked
-request_not_done meaning s asked not_done = not_done
+request_not_done meaning s (request.Run config script) at_once (inl refused) = absurd refused.cause
+request_not_done meaning s (request.Run config script) at_once (inr short) = absurd short.asked
+request_not_done meaning s (request.Serve config log) at_once (inl refused) = absurd refused.cause
+request_not_done meaning s (request.Serve config log) at_once (inr short) = absurd short.asked
+request_not_done meaning s (request.Show kind what show) at_once (inl refused) = absurd refused.cause
+request_not_done meaning s (request.Show kind what show) at_once (inr short) = absurd short.asked
+request_not_done meaning s (request.Issue bdk loading iksn count ledger skip) at_once (inl refused) = absurd refused.cause
+request_not_done meaning s (request.Issue bdk loading iksn count ledger skip) at_once (inr short) = absurd short.asked
+request_not_done meaning s asked at_once not_done = inl (record {
+  input = s.streams.input_before;
+  read = record { untouched = λ _. refl };
+  meant = asked;
+  means = words_have_meaning s.held asked tt at_once.words;
+  not_done = at_once_not_done (items_of asked) s (IsNotDoneAlone meaning s.held s.disks (writers_of s) asked) at_once.no_items (inl not_done);
+})
 
 pub program_not_done : {D : Type 0} (meaning : DiskMeaning D) (arguments : List (List ℕ)) (s : Scene D) → IsCommandLineFailed arguments (writers_of s)
     → IsProgramNotDone meaning arguments s
 program_not_done meaning arguments s (inl (inl answered)) = inl (record {
   request = answered.request;
   asked = answered.asked;
-  not_done = request_not_done meaning s answered.request answered.not_done;
+  not_done = request_not_done meaning s answered.request answered.at_once answered.not_done;
 })
 program_not_done meaning arguments s (inl (inr not_shown)) = inr (inl not_shown)
 program_not_done meaning arguments s (inr lost) = inr (inr lost)
+
+-- what a command over secrets does is what the program does, and what it does not
+pub meant_done : {D : Type 0} (meaning : DiskMeaning D) (s : Scene D) (asked : Request) → IsOverSecrets asked → HasMeantDone meaning s asked
+    → IsRequestDone meaning s asked
+meant_done meaning s (request.Run config script) over done = absurd over
+meant_done meaning s (request.Serve config log) over done = absurd over
+meant_done meaning s asked over done = done
+
+pub meant_not_done : {D : Type 0} (meaning : DiskMeaning D) (s : Scene D) (asked : Request) → IsOverSecrets asked → IsMeantNotDone meaning s asked
+    → IsRequestNotDone meaning s asked
+meant_not_done meaning s (request.Run config script) over not_done = absurd over
+meant_not_done meaning s (request.Serve config log) over not_done = absurd over
+meant_not_done meaning s asked over not_done = not_done
+
+-- of a request over its arguments its command is done
+pub done_alone : {D : Type 0} (meaning : DiskMeaning D) (held : List ℕ → FileKnown) (disks : List ℕ → DiskKnown D) (s : Streams) (asked : Request)
+    → NeedsNoFile asked → IsDone (command_for asked) s → IsDoneAlone meaning held disks s asked
+done_alone meaning held disks s (request.Show kind what show) no_file done = absurd no_file
+done_alone meaning held disks s (request.Issue bdk loading iksn count ledger skip) no_file done = absurd no_file
+done_alone meaning held disks s asked no_file done = done
+
+pub not_done_alone : {D : Type 0} (meaning : DiskMeaning D) (held : List ℕ → FileKnown) (disks : List ℕ → DiskKnown D) (s : Streams) (asked : Request)
+    → NeedsNoFile asked → IsNotDone (command_for asked) s ⊎ HasLostLines (command_for asked) s → IsNotDoneAlone meaning held disks s asked
+not_done_alone meaning held disks s (request.Show kind what show) no_file not_done = absurd no_file
+not_done_alone meaning held disks s (request.Issue bdk loading iksn count ledger skip) no_file not_done = absurd no_file
+not_done_alone meaning held disks s asked no_file not_done = not_done
+
+-- a command is a request over its arguments
+pub no_file_needed : (asked : Request) → IsOverSecrets asked
+    → ((kind what : Bor (List ℕ)) (show : Bool) → asked ≢ request.Show kind what show)
+    → ((bdk loading iksn count ledger : Bor (List ℕ)) (skip : Bool) → asked ≢ request.Issue bdk loading iksn count ledger skip)
+    → NeedsNoFile asked
+no_file_needed (request.Run config script) over no_show no_issue = absurd over
+no_file_needed (request.Serve config log) over no_show no_issue = absurd over
+no_file_needed (request.Show kind what show) over no_show no_issue = absurd (no_show kind what show refl)
+no_file_needed (request.Issue bdk loading iksn count ledger skip) over no_show no_issue = absurd (no_issue bdk loading iksn count ledger skip refl)
+no_file_needed asked over no_show no_issue = tt

@@ -1,5 +1,8 @@
 -- What a command leaves on the writer of faults where it is not done.
-use Rattle.std.proofs.Common.{Option, Some, None, inl, inr, refl}
+use Rattle.std.proofs.Common.{◌⊎◌, ℕ, List, Option, Some, None, inl, inr, refl}
+use Rattle.duk_arguments.specs.declared.request.Request.TheVariants as request
+use Rattle.duk_batch.specs.Batch.{Input, IsBatchNotDone, refused_line, unread_line}
+use Rattle.duk_batch.specs.Item.{ItemCommand}
 use Rattle.duk_commands.specs.Answer.{Command, IsNotDone, Streams}
 use Rattle.duk_commands.specs.Fault.{IsFaultReported, report_line}
 use Rattle.duk_commands.specs.declared.fault.Fault.TheVariants.{WriteFailed}
@@ -12,15 +15,31 @@ use Rattle.duk_host.specs.declared.fault.HostFault.{HostFault}
 use Rattle.duk_host.specs.declared.fault.HostFault.TheVariants as host
 use Rattle.duk_io.specs.Known.{Known}
 use Rattle.duk_io.specs.Sink.{IsTried}
+use Rattle.duk_issue.specs.Fault.{issue_line}
+use Rattle.duk_issue.specs.Issue.{Job}
+use Rattle.duk_issue.specs.declared.fault.IssueFault.{IssueFault}
+use Rattle.duk_issue.specs.declared.fault.IssueFault.TheVariants as issue
+use Rattle.duk_program.specs.Commands.{command_for}
 use Rattle.duk_program.specs.Configured.{IsConfigFaultReported}
 use Rattle.duk_program.specs.Files.{FileKnown}
 use Rattle.duk_program.specs.LogFiles.{DiskKnown}
+use Rattle.duk_program.specs.IssueFiles.{HasNotIssuedFiles, IsNotIssuedOver, Issuing}
+use Rattle.duk_program.specs.Items.{LineItems, command_of_line, items_of}
+use Rattle.duk_program.specs.Meant.{HasLostLines, IsMeantNotDone, IsNotAnswered, IsNotDoneAlone, IsOverItemsNotDone}
 use Rattle.duk_program.specs.RunFiles.{FileRun, HasReportedFault, script_line}
+use Rattle.duk_program.specs.Scene.{Scene, input_in, reading_on, writers_of}
+use Rattle.duk_program.specs.Secrets.{secret_line}
 use Rattle.duk_program.specs.Serve.{HasNotServed, Serving, over_log, serve_line}
 use Rattle.duk_program.specs.ServeFiles.{FileService, HasNotServedFiles, IsUnservedOver, unopened_line}
-use Rattle.duk_program.specs.Reported.{IsLineReported}
+use Rattle.duk_program.specs.Reported.{IsLineReported, IsOtherFaultLine}
+use Rattle.duk_program.specs.Show.{HasNotShownText, ShowArguments}
 use Rattle.duk_program.specs.declared.file_system.FileFault.{FileFault}
 use Rattle.duk_program.specs.declared.file_system.FileFault.TheVariants as file
+use Rattle.duk_program.specs.declared.issue_files.IssueArguments.{IssueArguments}
+use Rattle.duk_program.specs.declared.secrets.SecretFault.{SecretFault}
+use Rattle.duk_show.specs.Fault.{show_line}
+use Rattle.duk_store.specs.Log.{LogMeaning}
+use Rattle.duk_arguments.specs.declared.request.Request.{Request}
 use Rattle.duk_script.specs.FaultLine.{fault_line}
 use Rattle.duk_store.specs.Disk.{DiskMeaning}
 use Rattle.duk_store.specs.DiskLog.{disk_log_meaning}
@@ -78,7 +97,7 @@ over_reported : {D : Type 0} (meaning : DiskMeaning D) (log_file : Option (DiskK
     (old new : Known) → IsUnservedOver meaning log_file config s old new → IsLineReported old new
 over_reported meaning None config s old new failed = service_reported (over_log memory_log_meaning) _ s old new failed
 over_reported meaning (Some known) config s old new (inl none) =
-    record { line = unopened_line; line_is = inr (inr (inr (inr refl))); reported = none.line }
+    record { line = unopened_line; line_is = inr (inr (inr (inr (inl refl)))); reported = none.line }
 over_reported meaning (Some known) config s old new (inr failed) =
     service_reported (over_log (disk_log_meaning meaning)) _ s old new failed.failed
 
@@ -88,3 +107,79 @@ pub unserved_reported : {D : Type 0} (meaning : DiskMeaning D) (r : FileService 
 unserved_reported meaning r (inl none) = config_reported r.config_held r.fault_before r.fault_after none.reports
 unserved_reported meaning r (inr failed) =
     over_reported meaning r.log_file failed.config r.streams r.fault_before r.fault_after failed.failed
+
+-- the line of a secret that is not read is the line of a fault
+secret_reported : (old new : Known) (why : SecretFault) → IsTried old new (secret_line why) → IsLineReported old new
+secret_reported old new why reported =
+    record { line = secret_line why; line_is = inr (inr (inr (inr (inr (inl (why, refl)))))); reported = reported }
+
+-- so is that of `show`, of `issue`, and of a command over the lines of the input
+other_reported : (old new : Known) (line : List ℕ) → IsOtherFaultLine line → IsTried old new line → IsLineReported old new
+other_reported old new line line_is reported = record { line = line; line_is = inr (inr (inr (inr (inr (inr line_is))))); reported = reported }
+
+written_reported : (old new : Known) → IsTried old new (report_line WriteFailed) → IsLineReported old new
+written_reported old new line = command_reported old new (record { why = WriteFailed; line = line })
+
+issue_reported : (old new : Known) (why : IssueFault) → IsTried old new (issue_line why) → IsLineReported old new
+issue_reported old new why reported = other_reported old new (issue_line why) (inr (inl (why, refl))) reported
+
+-- where nothing is shown, a line is reported
+show_reported : (arguments : ShowArguments) (s : Streams) → HasNotShownText arguments s → IsLineReported s.fault_before s.fault_after
+show_reported arguments s (inl refused) =
+    other_reported s.fault_before s.fault_after (show_line refused.why) (inl (refused.why, refl)) refused.line
+show_reported arguments s (inr (inl short)) = written_reported s.fault_before s.fault_after short.failed.line
+show_reported arguments s (inr (inr lost)) = written_reported s.fault_before s.fault_after lost.reported.line
+
+-- where not all keys are issued, a line is reported
+over_ledger_reported : {L : Type 0} (meaning : LogMeaning L) (job : Job) (i : Issuing L) → IsNotIssuedOver meaning job i
+    → IsLineReported i.streams.fault_before i.streams.fault_after
+over_ledger_reported meaning job i (inl stopped) = elim stopped.ended [
+  | inl told ↦ issue_reported i.streams.fault_before i.streams.fault_after stopped.why told.1
+  | inr lost ↦ issue_reported i.streams.fault_before i.streams.fault_after issue.WriteFailed lost.line
+]
+over_ledger_reported meaning job i (inr lost) = issue_reported i.streams.fault_before i.streams.fault_after issue.WriteFailed lost.reported.line
+
+unissued_reported : {D : Type 0} (meaning : DiskMeaning D) (known : DiskKnown D) (arguments : IssueArguments) (s : Streams)
+    → HasNotIssuedFiles meaning known arguments s → IsLineReported s.fault_before s.fault_after
+unissued_reported meaning known arguments s (inl none) = issue_reported s.fault_before s.fault_after none.why none.reported.line
+unissued_reported meaning known arguments s (inr (inl none)) = issue_reported s.fault_before s.fault_after none.why none.reported.line
+unissued_reported meaning known arguments s (inr (inr (inl none))) =
+    issue_reported s.fault_before s.fault_after issue.LedgerUnopened none.reported.line
+unissued_reported meaning known arguments s (inr (inr (inr begun))) = over_ledger_reported _ _ _ begun.end
+
+-- where not all lines of the input are answered with those of the command, a line is reported
+batch_reported : (command : List ℕ → ItemCommand) (input : Input) (s : Streams) → IsBatchNotDone command input s
+    → IsLineReported s.fault_before s.fault_after
+batch_reported command input s (inl refused) =
+    other_reported s.fault_before s.fault_after refused_line (inr (inr (inr refl))) refused.line
+batch_reported command input s (inr (inl unread)) =
+    other_reported s.fault_before s.fault_after unread_line (inr (inr (inl refl))) unread.line
+batch_reported command input s (inr (inr unwritten)) = written_reported s.fault_before s.fault_after unwritten.line
+
+items_reported : {D : Type 0} (items : Option LineItems) (s : Scene D) (alone : Type 0) → (alone → IsLineReported s.fault_before s.fault_after)
+    → IsOverItemsNotDone items s alone → IsLineReported s.fault_before s.fault_after
+items_reported None s alone reported failed = reported failed
+items_reported (Some items) s alone reported failed = batch_reported (command_of_line items) (input_in s.streams) (writers_of s) failed
+
+-- where a command is not done, or its lines could not be handed on, a line is reported
+lost_reported : (command : Command) (s : Streams) → IsNotDone command s ⊎ HasLostLines command s → IsLineReported s.fault_before s.fault_after
+lost_reported command s (inl failed) = command_reported s.fault_before s.fault_after (fault_reported command s failed)
+lost_reported command s (inr lost) = written_reported s.fault_before s.fault_after lost.line
+
+alone_reported : {D : Type 0} (meaning : DiskMeaning D) (held : List ℕ → FileKnown) (disks : List ℕ → DiskKnown D) (s : Streams) (asked : Request)
+    → IsNotDoneAlone meaning held disks s asked → IsLineReported s.fault_before s.fault_after
+alone_reported meaning held disks s (request.Show kind what show) failed = show_reported _ s failed
+alone_reported meaning held disks s (request.Issue bdk loading iksn count ledger skip) failed = unissued_reported meaning _ _ s failed
+alone_reported meaning held disks s asked failed = lost_reported (command_for asked) s failed
+
+-- where a command over secrets ends with status 1, a line is reported
+unanswered_reported : {D : Type 0} (meaning : DiskMeaning D) (s : Scene D) (asked : Request) → IsNotAnswered meaning s asked
+    → IsLineReported s.fault_before s.fault_after
+unanswered_reported meaning s asked failed =
+    items_reported (items_of asked) s (IsNotDoneAlone meaning s.held s.disks (writers_of s) asked)
+    (λ alone. alone_reported meaning s.held s.disks (writers_of s) asked alone) failed
+
+pub meant_reported : {D : Type 0} (meaning : DiskMeaning D) (s : Scene D) (asked : Request) → IsMeantNotDone meaning s asked
+    → IsLineReported s.fault_before s.fault_after
+meant_reported meaning s asked (inl failed) = unanswered_reported meaning (reading_on s failed.input) failed.meant failed.not_done
+meant_reported meaning s asked (inr unread) = secret_reported s.fault_before s.fault_after unread.why unread.line

@@ -1,5 +1,9 @@
 mod Answered
 mod FaultIsReported
+mod Marked
 mod Results
 mod WrittenStaysWritten
 mod Endings
+mod Told
+mod Words
+mod ShownLogs

@@ -21,6 +21,7 @@ use Rattle.duk_tools.specs.Registers.{registers_of}
 use Rattle.duk_io.specs.Known.{Known}
 use Rattle.duk_io.specs.Sink.{IsTried}
 use Rattle.duk_program.specs.HandedOn.{IsFlushLost}
+use Rattle.duk_program.specs.Items.{IsAtOnce}
 use Rattle.duk_arguments.specs.Keys.{texts_of_keys}
 use Rattle.duk_arguments.specs.Asked.{AskForHelp, Asks}
 use Rattle.duk_arguments.specs.declared.request.Request.{Request}
@@ -35,7 +36,8 @@ abbrev pub derive_for : Bor (List ℕ) → List ℕ → Bool → Bool → Bool �
 derive_for bdk ksn false false false = derive_of bdk.now ksn
 derive_for bdk ksn initial trace all = derived_of (key_argument bdk initial) ksn trace all
 
--- the command of a request, over the arguments of that request; what is asked of files is none
+-- the command of a request, over the arguments of that request; what is asked of
+-- files, and `show`, are none
 abbrev pub command_for : Request → Command
 command_for (request.Derive bdk ksn initial trace all) = derive_for bdk ksn.now initial trace all
 command_for (request.Walk bdk iksn count skip alone initial) =
@@ -46,6 +48,8 @@ command_for (request.Wrap kbpk fields key pad) =
 command_for (request.Unwrap kbpk block) = unwrap_of kbpk.now block.now
 command_for (request.Run config script) = no_command
 command_for (request.Serve config log) = no_command
+command_for (request.Show kind what show) = no_command
+command_for (request.Issue bdk loading iksn count ledger skip) = no_command
 command_for (request.Initial bdk iksn) = initial_of bdk.now iksn.now
 command_for (request.Registers bdk ksn initial) = registers_of (key_argument bdk initial) ksn.now
 command_for (request.Kcv keys components show) = values_of (texts_of_keys keys) components show
@@ -61,10 +65,11 @@ command_for (request.MakeRequest bdk ksn pan pin amount initial) =
 command_for (request.CheckReply bdk asked answer initial) =
     reply_of (reply_arguments (key_argument bdk initial) asked.now answer.now)
 
--- the arguments ask for a request whose command is done
+-- the arguments ask for a request that is done at once, whose command is done
 pub record HasCommandDone (arguments : List (List ℕ)) (s : Streams) : Type 0 where
   pub request : Request
   pub asked : Asks arguments request
+  pub at_once : IsAtOnce request
   pub done : IsDone (command_for request) s
 
 -- the arguments ask for help, or for the version, and a text was written
@@ -77,10 +82,11 @@ pub record HasShown (arguments : List (List ℕ)) (s : Streams) : Type 0 where
 abbrev pub IsCommandLineDone : List (List ℕ) → Streams → Type 0
 IsCommandLineDone arguments s = HasCommandDone arguments s ⊎ HasShown arguments s
 
--- the arguments ask for a request whose command is not done
+-- the arguments ask for a request that is done at once, whose command is not done
 pub record HasCommandNotDone (arguments : List (List ℕ)) (s : Streams) : Type 0 where
   pub request : Request
   pub asked : Asks arguments request
+  pub at_once : IsAtOnce request
   pub not_done : IsNotDone (command_for request) s
 
 -- the arguments ask for help, or for the version, a text was begun, and a write failed

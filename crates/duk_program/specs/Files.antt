@@ -1,6 +1,7 @@
 -- What contracts know of files (this project's own). Of what there is under a path files may make
 -- known nothing, that there are bytes, or that there are none that can be read.
-use Rattle.std.specs.Prelude.{◌≡◌, ◌<◌, ◌≤◌, ℕ, List, ⊤, Option, Some, None, length}
+use Rattle.std.specs.Prelude.{◌≡◌, ◌==◌, ◌-◌, ◌<◌, ◌≤◌, ℕ, Bool, List, ⊤, Option, Some, None, get_or, length, take, if◌then◌else◌}
+use Rattle.std.specs.List.{before_first, list_any}
 use Rattle.duk_program.specs.declared.file_system.FileFault.{FileFault}
 use Rattle.duk_program.specs.declared.file_system.FileFault.TheVariants as fault
 
@@ -43,3 +44,35 @@ abbrev pub IsFileUnread : FileKnown → ℕ → FileFault → Type 0
 IsFileUnread held most fault.CannotRead = IsUnreadableFile held
 IsFileUnread held most fault.TooLong = IsLongerThan most held
 IsFileUnread held most fault.NoMemory = IsReadableFile held
+
+-- a line without its last byte, where that is CR (13)
+abbrev pub without_return : List ℕ → List ℕ
+without_return line =
+    if get_or line (length line - 1) 0 == 13 then take (length line - 1) line else line
+
+-- whether there is an LF (10)
+abbrev pub has_end : List ℕ → Bool
+has_end bytes = list_any (λ byte. byte == 10) bytes
+
+-- the first line of bytes: what stands before the first LF, or CR LF; or all, where there is none
+abbrev pub first_line : List ℕ → List ℕ
+first_line bytes =
+    if has_end bytes then without_return (before_first (λ byte. byte == 10) bytes) else bytes
+
+-- the file's first line is this, and it is not too long
+abbrev pub IsLineRead : FileKnown → ℕ → List ℕ → Type 0
+IsLineRead None most line = ⊤
+IsLineRead (Some None) most line = ⊥
+IsLineRead (Some (Some bytes)) most line = (line ≡ first_line bytes) × (length line ≤ most)
+
+-- the file's first line is longer than this
+abbrev pub HasLongLine : ℕ → FileKnown → Type 0
+HasLongLine most None = ⊤
+HasLongLine most (Some None) = ⊥
+HasLongLine most (Some (Some bytes)) = most < length (first_line bytes)
+
+-- why the first line of a file is not read; memory is refused only where the file can be read
+abbrev pub IsLineUnread : FileKnown → ℕ → FileFault → Type 0
+IsLineUnread held most fault.CannotRead = IsUnreadableFile held
+IsLineUnread held most fault.TooLong = HasLongLine most held
+IsLineUnread held most fault.NoMemory = IsReadableFile held

@@ -2,40 +2,16 @@
 -- `serve` read, and their streams).
 use Rattle.std.specs.Prelude.{◌⊎◌, ℕ, List, Option}
 use Rattle.std.specs.Option.{option_map}
-use Rattle.duk_commands.specs.Answer.{IsDone, IsNotDone, Streams, streams}
-use Rattle.duk_io.specs.Known.{Known}
-use Rattle.duk_program.specs.Commands.{HasLostCommandOutput, HasShown, IsNotShown, command_for}
-use Rattle.duk_program.specs.Files.{FileKnown}
+use Rattle.duk_program.specs.Commands.{HasLostCommandOutput, HasShown, IsNotShown}
 use Rattle.duk_program.specs.LogFiles.{DiskKnown}
+use Rattle.duk_program.specs.Meant.{HasMeantDone, IsMeantNotDone}
 use Rattle.duk_program.specs.RunFiles.{FileRun, HasRunFiles, HasReportedFault, file_run}
-use Rattle.duk_program.specs.Serve.{Serving}
+use Rattle.duk_program.specs.Scene.{Scene, writers_of}
 use Rattle.duk_program.specs.ServeFiles.{FileService, HasNotServedFiles, HasServedFiles, file_service}
 use Rattle.duk_store.specs.Disk.{DiskMeaning}
 use Rattle.duk_arguments.specs.Asked.{Asks}
 use Rattle.duk_arguments.specs.declared.request.Request.{Request}
 use Rattle.duk_arguments.specs.declared.request.Request.TheVariants as request
-
--- what files make known of each path, and what the streams make known before and after
-pub record Scene (D : Type 0) : Type 0 where
-  pub held : List ℕ → FileKnown
-  pub disks : List ℕ → DiskKnown D
-  pub streams : Serving
-  pub fault_before : Known
-  pub fault_after : Known
-
-abbrev pub scene : {D : Type 0} → (List ℕ → FileKnown) → (List ℕ → DiskKnown D) → Serving → Known
-    → Known → Scene D
-scene held disks streams fault_before fault_after = record {
-  held = held;
-  disks = disks;
-  streams = streams;
-  fault_before = fault_before;
-  fault_after = fault_after;
-}
-
--- the writers of a scene
-abbrev pub writers_of : {D : Type 0} → Scene D → Streams
-writers_of s = streams s.streams.output_before s.streams.output_after s.fault_before s.fault_after
 
 -- a run over the files of these paths
 abbrev pub run_in : {D : Type 0} → Scene D → List ℕ → List ℕ → FileRun
@@ -53,7 +29,7 @@ abbrev pub IsRequestDone : {D : Type 0} → DiskMeaning D → Scene D → Reques
 IsRequestDone meaning s (request.Run config script) = HasRunFiles (run_in s config.now script.now)
 IsRequestDone meaning s (request.Serve config log) =
     HasServedFiles meaning (service_in s config.now (option_map (λ path. s.disks path.now) log))
-IsRequestDone meaning s asked = IsDone (command_for asked) (writers_of s)
+IsRequestDone meaning s asked = HasMeantDone meaning s asked
 
 -- status 1 of a request: of files, the first fault in the order that is reported there
 abbrev pub IsRequestNotDone : {D : Type 0} → DiskMeaning D → Scene D → Request → Type 0
@@ -61,7 +37,7 @@ IsRequestNotDone meaning s (request.Run config script) =
     HasReportedFault (run_in s config.now script.now)
 IsRequestNotDone meaning s (request.Serve config log) =
     HasNotServedFiles meaning (service_in s config.now (option_map (λ path. s.disks path.now) log))
-IsRequestNotDone meaning s asked = IsNotDone (command_for asked) (writers_of s)
+IsRequestNotDone meaning s asked = IsMeantNotDone meaning s asked
 
 -- the arguments ask for a request that is done
 pub record HasDone {D : Type 0} (meaning : DiskMeaning D) (arguments : List (List ℕ)) (s : Scene D)

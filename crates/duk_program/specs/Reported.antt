@@ -1,25 +1,41 @@
 -- That a fault was reported (this project's own).
 use Rattle.std.specs.Prelude.{◌≡◌, ◌⊎◌, ℕ, List}
+use Rattle.duk_batch.specs.Batch.{refused_line, unread_line}
 use Rattle.duk_commands.specs.Fault.{report_line}
 use Rattle.duk_commands.specs.declared.fault.Fault.{Fault}
 use Rattle.duk_config.specs.declared.fault.ScriptFault.{ScriptFault}
 use Rattle.duk_host.specs.declared.fault.HostFault.{HostFault}
 use Rattle.duk_io.specs.Known.{Known}
+use Rattle.duk_issue.specs.Fault.{issue_line}
+use Rattle.duk_issue.specs.declared.fault.IssueFault.{IssueFault}
+use Rattle.duk_show.specs.Fault.{show_line}
+use Rattle.duk_show.specs.declared.fault.ShowFault.{ShowFault}
 use Rattle.duk_io.specs.Sink.{IsTried}
 use Rattle.duk_program.specs.Configured.{config_line}
+use Rattle.duk_program.specs.Secrets.{secret_line}
 use Rattle.duk_program.specs.Serve.{serve_line}
 use Rattle.duk_program.specs.ServeFiles.{unopened_line}
 use Rattle.duk_program.specs.declared.file_system.FileFault.{FileFault}
+use Rattle.duk_program.specs.declared.secrets.SecretFault.{SecretFault}
 use Rattle.duk_script.specs.FaultLine.{fault_line}
 
+-- the line of a fault of `show`, of `issue`, or of a command over the lines of the input
+abbrev pub IsOtherFaultLine : List ℕ → Type 0
+IsOtherFaultLine line =
+    ((why : ShowFault) × (line ≡ show_line why))
+    ⊎ (((why : IssueFault) × (line ≡ issue_line why))
+    ⊎ ((line ≡ unread_line) ⊎ (line ≡ refused_line)))
+
 -- the line of a fault: of a command over keys and PINs, of a configuration's file, of a
--- configuration and a script, of serving, or of a log's file
+-- configuration and a script, of serving, of a log's file, of a secret that is not read, or another
 abbrev pub IsFaultLine : List ℕ → Type 0
 IsFaultLine line =
     ((why : Fault) × (line ≡ report_line why))
     ⊎ (((why : FileFault) × (line ≡ config_line why))
     ⊎ (((why : ScriptFault) × (line ≡ fault_line why))
-    ⊎ (((why : HostFault) × (line ≡ serve_line why)) ⊎ (line ≡ unopened_line))))
+    ⊎ (((why : HostFault) × (line ≡ serve_line why))
+    ⊎ ((line ≡ unopened_line)
+    ⊎ (((why : SecretFault) × (line ≡ secret_line why)) ⊎ IsOtherFaultLine line)))))
 
 -- such a line was written, but for what a failed write cut off
 pub record IsLineReported (old new : Known) : Type 0 where

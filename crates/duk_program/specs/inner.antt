@@ -1,2 +1,4 @@
 pub mod Commands
 pub mod Status
+pub mod Items
+pub mod Secrets

@@ -118,7 +118,10 @@ pub(crate) fn do_command<W: Sink, F: Sink>(
             let lines = reply_lines(alloc, KeyArgument::new(bdk, initial), request, answer);
             finish(lines, output, fault)
         }
-        Request::Run { .. } | Request::Serve { .. } => report(fault, Fault::OutOfMemory),
+        Request::Run { .. }
+        | Request::Serve { .. }
+        | Request::Show { .. }
+        | Request::Issue { .. } => report(fault, Fault::OutOfMemory),
     }
 }
 

@@ -1,24 +1,27 @@
 //! Finds what the arguments ask for, and does it unless it needs files.
 
-ghost use Rattle.std.specs.Prelude.{◌≡◌, ℕ, List};
+ghost use Rattle.std.specs.Prelude.{◌≡◌, ◌⊎◌, ℕ, IsFalse, List};
 ghost use Rattle.std.specs.Io.KnownBytes.{Keeps};
 ghost use Rattle.duk_commands.specs.Answer.{IsDone, IsNotDone, streams};
 ghost use Rattle.duk_commands.specs.Fault.{IsFaultReported};
 ghost use Rattle.duk_io.specs.Sink.{IsUntouched};
-ghost use Rattle.duk_program.specs.Commands.{HasShown, IsCommandLineDone, IsNotShown, IsCommandLineFailed, command_for};
+ghost use Rattle.duk_program.specs.Commands.{HasLostCommandOutput, HasShown, IsCommandLineDone, IsNotShown, IsCommandLineFailed, command_for};
+ghost use Rattle.duk_program.specs.Items.{IsAtOnce};
 ghost use Rattle.duk_program.specs.Status.{EndsWith, IsLeftToDo, IsStatus, IsToRun, RunsAsked};
 ghost use Rattle.duk_program.specs.inner.Status.{RunsRequest};
 ghost use Rattle.duk_arguments.specs.Asked.{AreRefused, IsNoRequestOf, texts_of};
 
 use crate::commands::do_command;
 use crate::ending::hand_on;
+use crate::items::line_command;
+use crate::references::has_reference;
 use duk_arguments::{NoRequest, Request, read_request};
 use duk_commands::{Fault, report};
 use duk_io::{Sink, write_text};
 use std::alloc::Global;
 
 /// What is left to do when the arguments are dealt with.
-#[derive(Clone, Copy, Debug, PartialEq, Eq)]
+#[derive(Clone, Copy)]
 pub enum Todo<'a> {
     /// To end with this status: 0 where all is done, 1 after the line of a fault, 2 where the
     /// arguments were refused.
@@ -37,10 +40,13 @@ pub enum Todo<'a> {
         /// The path of the log of used numbers, or none for a log in memory.
         log: Option<&'a str>,
     },
+    /// To do a command that needs files or the input: `show`, `issue`, one with a secret that is
+    /// given by reference, or one over the lines of the input. Nothing is written yet.
+    Read(Request<'a>),
 }
 
-/// Does what the arguments ask, the first of which is the program's name. What they ask of files is
-/// left to do.
+/// Does what the arguments ask, the first of which is the program's name. What needs files or
+/// the input is left to do.
 ///
 /// What a command prints goes to `output`, and so does help that was asked for; the line of a fault
 /// and the text that refuses the arguments go to `fault`. Where all is done, `output` is flushed
@@ -104,7 +110,8 @@ fn dispatch_arguments<'a, W: Sink, F: Sink>(
     }
 }
 
-/// Does the command of a request, where that needs no file, and reports what is left to do.
+/// Does the command of a request, where that needs neither files nor the input, and reports what is
+/// left to do.
 fn do_request<'a, W: Sink, F: Sink>(
     alloc: Global,
     request: Request<'a>,
@@ -115,6 +122,7 @@ fn do_request<'a, W: Sink, F: Sink>(
     ensures no_fault { EndsWith result 0 → IsUntouched (F.known fault.old) (F.known fault.new) }
     ensures fault { EndsWith result 1 → IsFaultReported (F.known fault.old) (F.known fault.new) }
     ensures not_refused { ¬ EndsWith result 2 }
+    ensures at_once { (status : ℕ) → EndsWith result status → IsAtOnce request.entry }
     ensures done { EndsWith result 0 → IsDone (command_for request.entry)
         (streams (W.known output.old) (W.known output.new)
         (F.known fault.old) (F.known fault.new)) }
@@ -128,7 +136,40 @@ fn do_request<'a, W: Sink, F: Sink>(
     match request {
         Request::Run { config, script } => Todo::Run { config, script },
         Request::Serve { config, log } => Todo::Serve { config, log },
+        Request::Show { .. } | Request::Issue { .. } => Todo::Read(request),
+        request if is_left(&request) => Todo::Read(request),
         request => Todo::Exit(do_command(alloc, request, output, fault)),
+    }
+}
+
+/// Whether a request needs files or the input, of those whose commands are over their arguments.
+fn is_left(request: &Request<'_>) -> bool
+    ensures { IsFalse result → IsAtOnce request.now }
+{
+    has_reference(request) || line_command(request).is_some()
+}
+
+/// Writes what stands in place of a request, hands it on, and gives the status.
+pub(crate) fn show_at_end<W: Sink, F: Sink>(answer: &NoRequest, output: &mut W, fault: &mut F) -> u8
+    ensures status { IsStatus result }
+    ensures no_fault { result ≡ 0 → IsUntouched (F.known fault.old) (F.known fault.new) }
+    ensures refused { result ≡ 2
+        → Keeps (W.known output.old).contents (W.known output.new).contents }
+    ensures arguments_refused { (arguments : List (List ℕ)) → IsNoRequestOf arguments answer.now → result ≡ 2
+        → AreRefused arguments }
+    ensures shown { (arguments : List (List ℕ)) → IsNoRequestOf arguments answer.now → result ≡ 0
+        → HasShown arguments (streams (W.known output.old) (W.known output.new)
+        (F.known fault.old) (F.known fault.new)) }
+    ensures not_shown { (arguments : List (List ℕ)) → IsNoRequestOf arguments answer.now → result ≡ 1
+        → IsNotShown arguments (streams (W.known output.old) (W.known output.new)
+        (F.known fault.old) (F.known fault.new))
+        ⊎ HasLostCommandOutput arguments (streams (W.known output.old) (W.known output.new)
+        (F.known fault.old) (F.known fault.new)) }
+{
+    duk_io::laws::writes();
+    match show(answer, output, fault) {
+        0 => hand_on(&Fault::WriteFailed, output, fault),
+        status => status,
     }
 }
 

@@ -1,8 +1,10 @@
-//! Reads whole files, through a trait by which a contract can say what a file holds.
+//! Reads whole files, first lines and first bytes of files, through a trait by which a contract can
+//! say what a file holds.
 
-ghost use Rattle.std.specs.Prelude.{ℕ, List, None, IfOk, IfErr};
-ghost use Rattle.duk_program.specs.Files.{FileKnown, IsFileRead, IsFileUnread};
+ghost use Rattle.std.specs.Prelude.{◌≡◌, ℕ, List, None, IfOk, IfErr, length};
+ghost use Rattle.duk_program.specs.Files.{FileKnown, IsFileRead, IsFileUnread, IsLineRead, IsLineUnread};
 
+use duk_explain::Reason;
 use std::alloc::Global;
 use std::io::{ErrorKind, Read};
 use std::rt::Files;
@@ -33,25 +35,139 @@ pub trait FileSystem {
         ensures read { IfOk result
             (λ bytes. IsFileRead (held self.now path.now) most bytes.items) }
         ensures refused { IfErr result (IsFileUnread (held self.now path.now) most) };
+
+    /// The first bytes of the file under a path, exactly so many. No clause says which they are.
+    fn read_front(&self, alloc: Global, path: &str, count: usize) -> Result<Vec<u8>, FileFault>
+        ensures { IfOk result (λ bytes. length bytes.items ≡ count) };
+
+    /// The first line of the file under a path without its end, LF or CR LF, where it has at most
+    /// so many bytes. No more is read than a piece that has the line's end.
+    fn read_line(&self, alloc: Global, path: &str, most: usize) -> Result<Vec<u8>, FileFault>
+        ensures read { IfOk result
+            (λ line. IsLineRead (held self.now path.now) most line.items) }
+        ensures refused { IfErr result (IsLineUnread (held self.now path.now) most) };
+
+    /// Why the file under a path cannot be read, as the system tells who asks once more. None where
+    /// it can be read, and of a pipe or a device, since to open one may wait. No clause says more.
+    fn reading_reason(&self, path: &str) -> Option<Reason>;
+
+    /// All bytes of the file under a path, read once more, where they are at most so many. None where
+    /// it cannot be read, and of a pipe, a device or a folder. No clause says more.
+    fn read_again(&self, alloc: Global, path: &str, most: usize) -> Option<Vec<u8>>;
 }
 
 impl<R: Files> FileSystem for R {
     ghost held = { λ _ _. None };
 
     fn read_file(&self, alloc: Global, path: &str, most: usize) -> Result<Vec<u8>, FileFault> {
-        match read_front(self, alloc, path, (most as u64).saturating_add(1)) {
+        match read_at_most(self, alloc, path, (most as u64).saturating_add(1)) {
             Ok(bytes) if bytes.len() <= most => Ok(bytes),
             Ok(_) => Err(FileFault::TooLong),
             Err(error) if error.kind() == ErrorKind::OutOfMemory => Err(FileFault::NoMemory),
             Err(_) => Err(FileFault::CannotRead),
         }
     }
+
+    fn read_front(&self, alloc: Global, path: &str, count: usize) -> Result<Vec<u8>, FileFault> {
+        match read_at_most(self, alloc, path, count as u64) {
+            Ok(bytes) if bytes.len() == count => Ok(bytes),
+            Ok(_) => Err(FileFault::CannotRead),
+            Err(error) if error.kind() == ErrorKind::OutOfMemory => Err(FileFault::NoMemory),
+            Err(_) => Err(FileFault::CannotRead),
+        }
+    }
+
+    fn read_line(&self, alloc: Global, path: &str, most: usize) -> Result<Vec<u8>, FileFault> {
+        match read_first_line(self, alloc, path, (most as u64).saturating_add(2)) {
+            Ok(line) if line.len() <= most => Ok(line),
+            Ok(_) => Err(FileFault::TooLong),
+            Err(error) if error.kind() == ErrorKind::OutOfMemory => Err(FileFault::NoMemory),
+            Err(_) => Err(FileFault::CannotRead),
+        }
+    }
+
+    fn reading_reason(&self, path: &str) -> Option<Reason> {
+        match read_byte(self, path) {
+            Ok(()) => None,
+            Err(error) => Some(reason_of(&error)),
+        }
+    }
+
+    fn read_again(&self, alloc: Global, path: &str, most: usize) -> Option<Vec<u8>> {
+        if is_regular(self, path) {
+            self.read_file(alloc, path, most).ok()
+        } else {
+            None
+        }
+    }
+}
+
+/// The reason that an error tells.
+pub(crate) fn reason_of(error: &io::Error) -> Reason {
+    match error.kind() {
+        ErrorKind::NotFound => Reason::Missing,
+        ErrorKind::PermissionDenied => Reason::NoPermission,
+        ErrorKind::IsADirectory => Reason::Folder,
+        _ => Reason::Other,
+    }
 }
 
 /// The first bytes of a file, so many at most.
-fn read_front<R: Files>(files: &R, alloc: Global, path: &str, most: u64) -> io::Result<Vec<u8>> {
+fn read_at_most<R: Files>(files: &R, alloc: Global, path: &str, most: u64) -> io::Result<Vec<u8>> {
     let mut bytes = Vec::new(alloc);
     let mut file = fs::open(files, path)?.take(most);
     file.read_to_end(&mut bytes)?;
     Ok(bytes)
+}
+
+/// Whether there is a file under a path that is no pipe, device or folder.
+fn is_regular<R: Files>(files: &R, path: &str) -> bool {
+    match fs::metadata(files, path) {
+        Ok(metadata) => metadata.is_file(),
+        Err(_) => false,
+    }
+}
+
+/// Reads the first byte of a file, where it has one, or of a folder; nothing else is opened.
+fn read_byte<R: Files>(files: &R, path: &str) -> io::Result<()> {
+    let metadata = fs::metadata(files, path)?;
+    if metadata.is_file() || metadata.is_dir() {
+        let mut byte = [0];
+        let _ = fs::open(files, path)?.read(&mut byte)?;
+    }
+    Ok(())
+}
+
+/// The first line of a file without its end, of which so many bytes are read at most: what is behind
+/// them is not waited for.
+fn read_first_line<R: Files>(
+    files: &R,
+    alloc: Global,
+    path: &str,
+    most: u64,
+) -> io::Result<Vec<u8>> {
+    let mut line = Vec::new(alloc);
+    let mut file = fs::open(files, path)?.take(most);
+    let mut piece = [0; 512];
+    for _ in 0..most {
+        let count = file.read(&mut piece)?;
+        let read = &piece[..count];
+        if let Some(end) = read.iter().position(|byte| *byte == b'\n') {
+            line.extend_from_slice(&read[..end])?;
+            strip_return(&mut line);
+            return Ok(line);
+        }
+        line.extend_from_slice(read)?;
+        if count == 0 {
+            return Ok(line);
+        }
+    }
+    Ok(line)
+}
+
+/// Takes the CR from the end of a line that LF ends, where there is one.
+pub(crate) fn strip_return(line: &mut Vec<u8>) {
+    if line.last() == Some(&b'\r') {
+        line.pop();
+    }
 }

@@ -9,8 +9,10 @@ ghost use Rattle.std.specs.Prelude.{ℕ, List, None, IfOk, OnErr};
 ghost use Rattle.duk_program.specs.HostSize.{IsSmall};
 ghost use Rattle.duk_program.specs.LogFiles.{DiskKnown, IsDisk, IsNoDisk};
 
+use crate::file_system::reason_of;
+use duk_explain::Reason;
 use duk_store::{FileDisk, StoreFault};
-use std::fs::File;
+use std::fs::{File, OpenOptions, TryLockError};
 use std::rt::Files;
 
 /// Files each of which may be opened as a disk, to keep a log. They may make known, for contracts to
@@ -32,6 +34,10 @@ pub trait LogFiles {
         ensures opened { IfOk result (IsDisk (disks self.now path.now)) }
         ensures refused { OnErr result (IsNoDisk (disks self.now path.now)) };
 
+    /// Why the file under a path cannot be opened as a disk, as the system tells who asks once more.
+    /// No clause says more.
+    fn opening_reason(&self, path: &str) -> Reason;
+
     /// Such a disk takes little memory.
     ghost small: { IsSmall Self.Disk.row };
 }
@@ -45,5 +51,20 @@ impl<R: Files<File = File>> LogFiles for R {
 
     fn open_disk(&self, path: &str) -> Result<FileDisk, StoreFault> {
         FileDisk::new(self, path)
+    }
+
+    fn opening_reason(&self, path: &str) -> Reason {
+        match OpenOptions::new().read(true).write(true).open(self, path) {
+            Ok(file) => locking_reason(&file),
+            Err(error) => reason_of(&error),
+        }
+    }
+}
+
+/// Why an open file cannot be locked.
+fn locking_reason(file: &File) -> Reason {
+    match file.try_lock() {
+        Err(TryLockError::WouldBlock) => Reason::InUse,
+        _ => Reason::Other,
     }
 }

@@ -1,17 +1,23 @@
 //! One run of the program: the command that the arguments ask for, with the files that it needs.
 
-ghost use Rattle.std.specs.Prelude.{◌≡◌};
+ghost use Rattle.std.specs.Prelude.{◌≡◌, false};
 ghost use Rattle.std.specs.Io.KnownBytes.{Keeps};
 ghost use Rattle.duk_io.specs.Sink.{IsUntouched};
-ghost use Rattle.duk_program.specs.Program.{IsProgramDone, IsProgramNotDone, scene};
+ghost use Rattle.duk_program.specs.Explain.{is_marked, without_explain};
+ghost use Rattle.duk_program.specs.Explained.{IsRunDone, IsRunNotDone};
+ghost use Rattle.duk_program.specs.Program.{IsProgramDone, IsProgramNotDone};
+ghost use Rattle.duk_program.specs.Scene.{scene};
 ghost use Rattle.duk_program.specs.Serve.{serving_of};
 ghost use Rattle.duk_program.specs.Status.{IsStatus};
 ghost use Rattle.duk_program.specs.Reported.{IsLineReported};
 ghost use Rattle.duk_arguments.specs.Asked.{AreRefused, texts_of};
 
 use crate::dispatch::{Todo, command};
+use crate::explain::take_explain;
+use crate::explained::run_explained;
 use crate::file_system::FileSystem;
 use crate::log_files::LogFiles;
+use crate::meant::do_over_secrets;
 use crate::run_files::run_files;
 use crate::serve_files::serve_files;
 use duk_io::{Sink, Source};
@@ -53,5 +59,46 @@ where
         Todo::Serve { config, log } => {
             serve_files(alloc, files, config, log, input, output, fault)
         }
+        Todo::Read(request) => do_over_secrets(alloc, files, request, input, output, fault),
+    }
+}
+
+/// Does what the arguments ask, as `run_arguments`, and with the option `--explain` among them says
+/// more of a fault: behind its line another tells what was found, and what is wanted. The option is
+/// taken out of the arguments.
+///
+/// That line tells nothing of a secret but its length, and the first place that is wrong. What it
+/// tells of a file is what the system says of it after the fault.
+pub fn run_program<S: FileSystem + LogFiles, R: Source, W: Sink, F: Sink>(
+    alloc: Global,
+    files: &S,
+    arguments: &mut Vec<String>,
+    input: &mut R,
+    output: &mut W,
+    fault: &mut F,
+) -> u8
+where
+    S::Disk: Disk,
+    ensures status { IsStatus result }
+    ensures no_fault { result ≡ 0 → IsUntouched (F.known fault.old) (F.known fault.new) }
+    ensures fault { result ≡ 1 → is_marked (texts_of arguments.old.items) ≡ false
+        → IsLineReported (F.known fault.old) (F.known fault.new) }
+    ensures refused { result ≡ 2
+        → Keeps (W.known output.old).contents (W.known output.new).contents }
+    ensures arguments_refused { result ≡ 2
+        → AreRefused (without_explain (texts_of arguments.old.items)) }
+    ensures done { result ≡ 0 → IsRunDone (is_marked (texts_of arguments.old.items))
+        S.Disk.meaning (without_explain (texts_of arguments.old.items)) (scene
+        (S.held files.now) (S.disks files.now) (serving_of R.known R.reads W.known input.old
+        input.new output.old output.new) (F.known fault.old) (F.known fault.new)) }
+    ensures not_done { result ≡ 1 → IsRunNotDone (is_marked (texts_of arguments.old.items))
+        S.Disk.meaning (without_explain (texts_of arguments.old.items)) (scene
+        (S.held files.now) (S.disks files.now) (serving_of R.known R.reads W.known input.old
+        input.new output.old output.new) (F.known fault.old) (F.known fault.new)) }
+{
+    if take_explain(arguments) {
+        run_explained(alloc, files, arguments.as_slice(), input, output, fault)
+    } else {
+        run_arguments(alloc, files, arguments.as_slice(), input, output, fault)
     }
 }

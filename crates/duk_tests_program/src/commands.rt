@@ -39,7 +39,8 @@ fn stops_writing(alloc: Global, place: usize, wrong: Wrong) -> Option<bool> {
     } else {
         (0, "")
     };
-    let is_reported = todo == Todo::Exit(exit) && fault.as_slice() == line.as_bytes();
+    let is_reported = matches!(todo, Todo::Exit(status) if status == exit)
+        && fault.as_slice() == line.as_bytes();
     Some(is_reported && writer.written() == DERIVED.as_bytes().get(..place)?)
 }
 

@@ -2,36 +2,62 @@
 
 ghost use Rattle.std.proofs.Common.{rules};
 ghost use Rattle.std.specs.Option.{option_map};
-ghost use Rattle.std.specs.Prelude.{Some, None};
+ghost use Rattle.std.specs.Prelude.{◌≡◌, IfErr, IfOk, None, Some};
+ghost use Rattle.duk_program.specs.declared.file_system.FileFault.TheVariants.{NoMemory};
 
 use crate::commands::arguments_of;
-use duk_program::{FileFault, FileSystem, LogFiles, run_arguments};
+use duk_program::{FileFault, FileSystem, LogFiles, Reason, run_arguments};
 use duk_store::{Disk, MemDisk, StoreFault};
 use duk_tests_support::files::BANK;
 use duk_tests_support::frames::{FIRST_REPLY, FIRST_REQUEST};
 use std::alloc::Global;
 
-/// Files that all hold the same bytes, or of which none can be read. None can be opened as a disk.
+/// Files that all hold the same text, or of which none can be read, and for a line of which memory is
+/// refused. None can be opened as a disk.
 #[derive(Drop)]
 struct EveryFile {
-    bytes: Option<&'static [u8]>,
+    text: Option<&'static str>,
 }
 
 impl FileSystem for EveryFile {
-    ghost held = { λ files _. Some (option_map (λ bytes. bytes.now) files.bytes) };
+    ghost held = { λ files _. Some (option_map (λ text. text.now) files.text) };
 
     fn read_file(&self, alloc: Global, _path: &str, most: usize) -> Result<Vec<u8>, FileFault> {
-        let Some(bytes) = self.bytes else {
+        let Some(text) = self.text else {
             return Err(FileFault::CannotRead);
         };
-        if bytes.len() > most {
+        if text.len() > most {
             return Err(FileFault::TooLong);
         }
-        match Vec::from_slice(alloc, bytes) {
-            Ok(bytes) => Ok(bytes),
-            Err(_) => Err(FileFault::NoMemory),
+        copy_of(alloc, text.as_bytes())
+    }
+
+    fn read_front(&self, _alloc: Global, _path: &str, _count: usize) -> Result<Vec<u8>, FileFault> {
+        Err(FileFault::CannotRead)
+    }
+
+    fn read_line(&self, _alloc: Global, _path: &str, _most: usize) -> Result<Vec<u8>, FileFault> {
+        match self.text {
+            Some(_) => Err(FileFault::NoMemory),
+            None => Err(FileFault::CannotRead),
         }
     }
+
+    fn reading_reason(&self, _path: &str) -> Option<Reason> {
+        Some(Reason::Missing)
+    }
+
+    fn read_again(&self, _alloc: Global, _path: &str, _most: usize) -> Option<Vec<u8>> {
+        None
+    }
+}
+
+/// These bytes, in a vector.
+fn copy_of(alloc: Global, bytes: &[u8]) -> Result<Vec<u8>, FileFault>
+    ensures copied { IfOk result (λ copy. copy.items ≡ bytes.now) }
+    ensures refused { IfErr result (λ why. why ≡ NoMemory) }
+{
+    Vec::from_slice(alloc, bytes).map_err(|_| FileFault::NoMemory)
 }
 
 impl LogFiles for EveryFile {
@@ -44,9 +70,14 @@ impl LogFiles for EveryFile {
     fn open_disk(&self, _path: &str) -> Result<MemDisk, StoreFault> {
         Err(StoreFault::Device)
     }
+
+    fn opening_reason(&self, _path: &str) -> Reason {
+        Reason::InUse
+    }
 }
 
-/// Files that all state the same configuration, and may be opened as disks in memory, of zeros.
+/// Files that all state the same configuration, for a line of which memory is refused, and that may
+/// be opened as disks in memory, of zeros.
 #[derive(Drop)]
 struct Banks {
     alloc: Global,
@@ -59,10 +90,23 @@ impl FileSystem for Banks {
         if BANK.len() > most {
             return Err(FileFault::TooLong);
         }
-        match Vec::from_slice(alloc, BANK.as_bytes()) {
-            Ok(bytes) => Ok(bytes),
-            Err(_) => Err(FileFault::NoMemory),
-        }
+        copy_of(alloc, BANK.as_bytes())
+    }
+
+    fn read_front(&self, _alloc: Global, _path: &str, _count: usize) -> Result<Vec<u8>, FileFault> {
+        Err(FileFault::CannotRead)
+    }
+
+    fn read_line(&self, _alloc: Global, _path: &str, _most: usize) -> Result<Vec<u8>, FileFault> {
+        Err(FileFault::NoMemory)
+    }
+
+    fn reading_reason(&self, _path: &str) -> Option<Reason> {
+        None
+    }
+
+    fn read_again(&self, alloc: Global, path: &str, most: usize) -> Option<Vec<u8>> {
+        self.read_file(alloc, path, most).ok()
     }
 }
 
@@ -75,6 +119,10 @@ impl LogFiles for Banks {
 
     fn open_disk(&self, _path: &str) -> Result<MemDisk, StoreFault> {
         MemDisk::new(self.alloc, 64)
+    }
+
+    fn opening_reason(&self, _path: &str) -> Reason {
+        Reason::Other
     }
 }
 
@@ -103,13 +151,8 @@ where
 }
 
 /// Whether a command over such files fails with this line, and writes nothing.
-fn fails(
-    alloc: Global,
-    bytes: Option<&'static [u8]>,
-    command: &[&str],
-    line: &str,
-) -> Option<bool> {
-    let (status, output, fault) = of_command(alloc, &EveryFile { bytes }, command)?;
+fn fails(alloc: Global, text: Option<&'static str>, command: &[&str], line: &str) -> Option<bool> {
+    let (status, output, fault) = of_command(alloc, &EveryFile { text }, command)?;
     Some(status == 1 && output.is_empty() && fault.as_slice() == line.as_bytes())
 }
 
@@ -127,9 +170,8 @@ static FILES: [(Option<&str>, &str, &str); 3] = [
 #[test]
 fn files_that_are_known(rt: HostRuntime) {
     for (text, of_run, of_serve) in &FILES {
-        let bytes = text.map(|text| text.as_bytes());
-        assert_eq!(rt; fails(rt.alloc(), bytes, &RUN, of_run), Some(true));
-        assert_eq!(rt; fails(rt.alloc(), bytes, &SERVE, of_serve), Some(true));
+        assert_eq!(rt; fails(rt.alloc(), *text, &RUN, of_run), Some(true));
+        assert_eq!(rt; fails(rt.alloc(), *text, &SERVE, of_serve), Some(true));
     }
 }
 
@@ -145,9 +187,7 @@ where
 /// Over a log in memory, and over one on a disk in memory.
 #[test]
 fn a_service(rt: HostRuntime) {
-    let bank = EveryFile {
-        bytes: Some(BANK.as_bytes()),
-    };
+    let bank = EveryFile { text: Some(BANK) };
     let banks = Banks { alloc: rt.alloc() };
     assert_eq!(rt; serves(rt.alloc(), &bank, &["serve", "config"]), Some(true));
     assert_eq!(rt; serves(rt.alloc(), &banks, &SERVE), Some(true));

@@ -2,19 +2,25 @@
 #![tactic(auto)]
 
 mod arguments;
+mod handles;
 
 use arguments::{process_arguments, refuse_arguments};
-use duk_program::run_arguments;
+use duk_program::run_program;
+use handles::hold_handle;
 use std::process::ExitCode;
 
 fn main(rt: HostRuntime) -> ExitCode {
+    // As many as there are standard streams; those that no stream needs do no harm.
+    let _first = hold_handle(&rt);
+    let _second = hold_handle(&rt);
+    let _third = hold_handle(&rt);
     let mut input = rt.stdin();
     let (mut output, mut fault) = (rt.stdout(), rt.stderr());
     let status = match process_arguments(&rt) {
-        Ok(arguments) => run_arguments(
+        Ok(mut arguments) => run_program(
             rt.alloc(),
             &rt,
-            arguments.as_slice(),
+            &mut arguments,
             &mut input,
             &mut output,
             &mut fault,

@@ -143,6 +143,14 @@ pub fn try_run(alloc: Global) -> Tried {
     }
 }
 
+/// The status of a command that was done at once.
+fn status_of(todo: Todo<'_>) -> Option<u8> {
+    match todo {
+        Todo::Exit(status) => Some(status),
+        _ => None,
+    }
+}
+
 /// Tokens that are refused memory write nothing, and report it.
 pub fn try_command(alloc: Global) -> Tried {
     let bdk = "0123456789ABCDEFFEDCBA9876543210";
@@ -153,11 +161,12 @@ pub fn try_command(alloc: Global) -> Tried {
     let mut output = Vec::with_capacity(alloc, 8000)?;
     let mut fault = Vec::with_capacity(alloc, 100)?;
     let todo = command(alloc, tokens.as_slice(), &mut output, &mut fault);
-    if todo == Todo::Exit(0) {
+    let status = status_of(todo);
+    if status == Some(0) {
         let written = output.as_slice() == DERIVED.as_bytes() && fault.is_empty();
         return Ok(Answer::Whole.where_holds(written, "something else is written"));
     }
-    let reported = todo == Todo::Exit(1) && fault.as_slice() == b"out of memory\n".as_slice();
+    let reported = status == Some(1) && fault.as_slice() == b"out of memory\n".as_slice();
     Ok(
         Answer::Refused
             .where_holds(reported, "another fault")

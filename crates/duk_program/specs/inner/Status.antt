@@ -2,11 +2,13 @@
 use Rattle.std.specs.Prelude.{◌≡◌}
 use Rattle.duk_arguments.specs.declared.request.Request.{Request}
 use Rattle.duk_arguments.specs.declared.request.Request.TheVariants as request
+use Rattle.duk_program.specs.Secrets.{IsOverSecrets}
 use Rattle.duk_program.specs.declared.dispatch.Todo.{Todo}
-use Rattle.duk_program.specs.declared.dispatch.Todo.TheVariants.{Exit, Run, Serve}
+use Rattle.duk_program.specs.declared.dispatch.Todo.TheVariants.{Exit, Read, Run, Serve}
 
--- a script is left to run, or frames to serve, only where the request is that of these paths
+-- what is left to do is what the request asks
 abbrev pub RunsRequest : Request → Todo → Type 0
 RunsRequest asked (Exit status) = Unit {0}
 RunsRequest asked (Run config script) = asked ≡ request.Run config script
 RunsRequest asked (Serve config log) = asked ≡ request.Serve config log
+RunsRequest asked (Read read) = (asked ≡ read) × IsOverSecrets read

@@ -1,6 +1,6 @@
 use Rattle.std.proofs.Common.{inl}
-use Rattle.duk_program.proofs.Answered.{program_done, program_not_done}
-use Rattle.duk_program.proofs.FaultIsReported.{files_reported, unserved_reported}
+use Rattle.duk_program.proofs.Answered.{meant_done, meant_not_done, program_done, program_not_done}
+use Rattle.duk_program.proofs.FaultIsReported.{files_reported, meant_reported, unserved_reported}
 use Rattle.duk_arguments.specs.declared.request.Request.TheVariants as request
 use Rattle.duk_program.proofs.program.run_arguments.Goals as goal
 
@@ -44,4 +44,24 @@ returns-in-Serve-clause-not_done g c one = inl (record {
   request = request.Serve c.in-Serve.config c.in-Serve.log;
   asked = c.in-Serve.ensures.asked;
   not_done = rw (c.in-Serve.ensures.quiet tt, c.in-Serve.ensures.silent tt) at (c.serve_files.ensures.reported one);
+})
+
+pub returns-in-Read-clause-fault : goal.returns-in-Read-clause-fault
+returns-in-Read-clause-fault g c failed =
+    rw (← c.in-Read.ensures.silent tt) (meant_reported _ _ _ (c.do_over_secrets.ensures.not_done failed))
+
+pub returns-in-Read-clause-done : goal.returns-in-Read-clause-done
+returns-in-Read-clause-done g c zero = inl (record {
+  request = c.in-Read.request;
+  asked = c.in-Read.ensures.asked.0;
+  done = meant_done _ _ _ c.in-Read.ensures.asked.1
+      (rw (c.in-Read.ensures.quiet tt, c.in-Read.ensures.silent tt) at (c.do_over_secrets.ensures.done zero));
+})
+
+pub returns-in-Read-clause-not_done : goal.returns-in-Read-clause-not_done
+returns-in-Read-clause-not_done g c one = inl (record {
+  request = c.in-Read.request;
+  asked = c.in-Read.ensures.asked.0;
+  not_done = meant_not_done _ _ _ c.in-Read.ensures.asked.1
+      (rw (c.in-Read.ensures.quiet tt, c.in-Read.ensures.silent tt) at (c.do_over_secrets.ensures.not_done one));
 })

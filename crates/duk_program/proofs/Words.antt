@@ -1,0 +1,140 @@
+-- Texts of which each is a word, and what is meant by texts.
+use Rattle.std.proofs.Common.{◌≡◌, ◌≢◌, ◌+◌, ◌<◌, ℕ, zero, suc, List, [], ◌∷◌, ◌++◌, Option, Some, None, map, take, get_or, length, option_map, sym, subst, ap, codes, refl, ◌∙◌, arith}
+use Rattle.std.specs.Borrow.{Bor}
+use Rattle.std.specs.Option.{option_copied}
+use Rattle.std.specs.Prelude.{option_to_list}
+use Rattle.std.proofs.lemmas.List.{get_or-map, length-map, map_more, take-map}
+use Rattle.duk_arguments.specs.Given.{Each}
+use Rattle.duk_arguments.specs.Keys.{texts_of_keys}
+use Rattle.duk_arguments.specs.declared.request.Request.{Request}
+use Rattle.duk_arguments.specs.declared.request.Request.TheVariants as request
+use Rattle.duk_program.specs.Files.{FileKnown}
+use Rattle.duk_program.specs.Meant.{IsOfFiles}
+use Rattle.duk_program.specs.Secrets.{EachMeans, HasMeaning, HasWordsAlone, IsOverSecrets, IsSecretFault, IsUnread, IsWord, Means, OptionMeans, reference_in, secret_at, secrets_of}
+use Rattle.duk_program.specs.declared.secrets.Secret.{Secret}
+use Rattle.duk_program.specs.inner.Secrets.{IsSecretRefused}
+use Rattle.duk_program.specs.declared.secrets.SecretFault.{SecretFault}
+use Rattle.duk_program.specs.declared.secrets.SecretFault.TheVariants.{NoMemory, Unread}
+
+pub each_push : {A : Type 0} (P : A → Type 0) (xs : List A) (x : A) → Each P xs → P x → Each P (xs ++ x ∷ [])
+each_push P [] x each one = (one, tt)
+each_push P (y ∷ xs) x each one = (each.0, each_push P xs x each.1 one)
+
+pub words_more : (texts : List (Bor (List ℕ))) (i : ℕ) (d : Bor (List ℕ)) → i < length texts
+    → Each IsWord (map (λ text. text.now) (take i texts)) → IsWord (get_or texts i d).now
+    → Each IsWord (map (λ text. text.now) (take (i + 1) texts))
+words_more texts i d inside each one =
+    subst (Each IsWord) (sym (map_more (λ text. text.now) texts i d inside)) (each_push IsWord _ _ each one)
+
+-- a word means itself
+pub word_means : (held : List ℕ → FileKnown) (text : List ℕ) → IsWord text → Means held text text
+word_means held text word = rw word refl
+
+pub words_mean : (held : List ℕ → FileKnown) (texts : List (List ℕ)) → Each IsWord texts → EachMeans held texts texts
+words_mean held [] words = tt
+words_mean held (text ∷ texts) words = (word_means held text words.0, words_mean held texts words.1)
+
+-- one text more
+pub means_push : (held : List ℕ → FileKnown) (written texts : List (List ℕ)) (word text : List ℕ) → EachMeans held written texts
+    → Means held word text → EachMeans held (written ++ word ∷ []) (texts ++ text ∷ [])
+means_push held [] [] word text each one = (one, tt)
+means_push held (other ∷ written) (told ∷ texts) word text each one = (each.0, means_push held written texts word text each.1 one)
+means_push held [] (told ∷ texts) word text each one = absurd each
+means_push held (other ∷ written) [] word text each one = absurd each
+
+-- as many texts as are written
+pub means_length : (held : List ℕ → FileKnown) (written texts : List (List ℕ)) → EachMeans held written texts → length texts ≡ length written
+means_length held [] [] each = refl
+means_length held (word ∷ written) (text ∷ texts) each = ap suc (means_length held written texts each.1)
+means_length held [] (text ∷ texts) each = absurd each
+means_length held (word ∷ written) [] each = absurd each
+
+-- the text at a place
+pub means_at : (held : List ℕ → FileKnown) (written texts : List (List ℕ)) (place : ℕ) → EachMeans held written texts → place < length written
+    → Means held (get_or written place []) (get_or texts place [])
+means_at held (word ∷ written) (text ∷ texts) zero each inside = each.0
+means_at held (word ∷ written) (text ∷ texts) (suc place) each inside =
+    means_at held written texts place each.1 (omega (arith, inside))
+means_at held [] texts place each inside = absurd (omega (arith, inside))
+means_at held (word ∷ written) [] place each inside = absurd each
+
+-- an option behind two secrets
+pub option_means : (held : List ℕ → FileKnown) (first second : List ℕ) (third : Option (Bor (List ℕ))) (texts : List (List ℕ))
+    → EachMeans held (first ∷ second ∷ option_to_list (option_copied third)) texts
+    → OptionMeans held (option_copied third) (option_map (λ _. get_or texts 2 []) (option_copied third))
+option_means held first second None texts each = tt
+option_means held first second (Some key) texts each = means_at held (first ∷ second ∷ key.now ∷ []) texts 2 each (omega arith)
+
+-- words alone are what is meant
+pub words_have_meaning : (held : List ℕ → FileKnown) (asked : Request) → IsOverSecrets asked → HasWordsAlone asked → HasMeaning held asked asked
+words_have_meaning held (request.Run config script) over words = absurd over
+words_have_meaning held (request.Serve config log) over words = absurd over
+words_have_meaning held (request.Derive bdk ksn initial trace all) over words =
+    (word_means held bdk.now words.0, refl, refl, refl, refl)
+words_have_meaning held (request.Walk bdk iksn count skip alone initial) over words =
+    (word_means held bdk.now words.0, refl, refl, refl, refl, refl)
+words_have_meaning held (request.Pin pin pan None) over words =
+    (word_means held pin.now words.0, word_means held pan.now words.1.0, tt)
+words_have_meaning held (request.Pin pin pan (Some key)) over words =
+    (word_means held pin.now words.0, word_means held pan.now words.1.0, word_means held key.now words.1.1.0)
+words_have_meaning held (request.Wrap kbpk fields key pad) over words =
+    (word_means held kbpk.now words.0, refl, word_means held key.now words.1.0, refl)
+words_have_meaning held (request.Unwrap kbpk block) over words = (word_means held kbpk.now words.0, refl)
+words_have_meaning held (request.Initial bdk iksn) over words = (word_means held bdk.now words.0, refl)
+words_have_meaning held (request.Registers bdk ksn initial) over words = (word_means held bdk.now words.0, refl, refl)
+words_have_meaning held (request.Kcv keys components show) over words = (words_mean held (texts_of_keys keys) words, refl, refl)
+words_have_meaning held (request.Mac key text cmac hex) over words = (word_means held key.now words.0, refl, refl, refl)
+words_have_meaning held (request.Unpin block pan None show) over words =
+    (word_means held block.now words.0, word_means held pan.now words.1.0, tt, refl)
+words_have_meaning held (request.Unpin block pan (Some key) show) over words =
+    (word_means held block.now words.0, word_means held pan.now words.1.0, word_means held key.now words.1.1.0, refl)
+words_have_meaning held (request.Translate block pan bdk ksn zone initial) over words = (
+  word_means held block.now words.0,
+  word_means held pan.now words.1.0,
+  word_means held bdk.now words.1.1.0,
+  refl,
+  word_means held zone.now words.1.1.1.0,
+  refl,
+)
+words_have_meaning held (request.MakeRequest bdk ksn pan pin amount initial) over words =
+    (word_means held bdk.now words.0, refl, word_means held pan.now words.1.0, word_means held pin.now words.1.1.0, refl, refl)
+words_have_meaning held (request.CheckReply bdk asked answer initial) over words = (word_means held bdk.now words.0, refl, refl, refl)
+words_have_meaning held (request.Issue bdk loading iksn count ledger skip) over words =
+    (word_means held bdk.now words.0, word_means held loading.now words.1.0, refl, refl, refl, refl)
+words_have_meaning held (request.Show kind what show) over words = (refl, word_means held what.now words.0, refl)
+
+-- one secret more is read
+pub reads_more : (held : List ℕ → FileKnown) (written : List (Bor (List ℕ))) (texts : List (List ℕ)) (place : ℕ) (d : Bor (List ℕ)) (text : List ℕ)
+    → place < length written → EachMeans held (map (λ word. word.now) (take place written)) texts → Means held (get_or written place d).now text
+    → EachMeans held (map (λ word. word.now) (take (place + 1) written)) (texts ++ text ∷ [])
+reads_more held written texts place d text inside each one =
+    subst (λ words. EachMeans held words (texts ++ text ∷ [])) (sym (map_more (λ word. word.now) written place d inside))
+    (means_push held (map (λ word. word.now) (take place written)) texts (get_or written place d).now text each one)
+
+-- a secret is not read, and those before it are
+pub first_unread : (held : List ℕ → FileKnown) (asked : Request) (written : List (Bor (List ℕ))) (texts : List (List ℕ)) (place : ℕ) (d : Bor (List ℕ))
+    (secret : Secret) (why : SecretFault) → map (λ word. word.now) written ≡ secrets_of asked → place < length written
+    → EachMeans held (map (λ word. word.now) (take place written)) texts → secret ≡ secret_at asked place
+    → IsSecretRefused held secret (get_or written place d).now why → IsSecretFault held asked why
+first_unread held asked written texts place d secret NoMemory same inside each named refused = tt
+first_unread held asked written texts place d secret (Unread name why) same inside each named refused = record {
+  place = place;
+  is_there = subst (λ words. place < length words) same (subst (λ n. place < n) (sym (length-map written (λ word. word.now))) inside);
+  texts = texts;
+  before = subst (λ words. EachMeans held words texts) (sym (take-map (λ word. word.now) place written) ∙ ap (take place) same) each;
+  secret_is = refused.0 ∙ named;
+  cause = subst (λ word. IsUnread held (reference_in word) why)
+      (sym (get_or-map (λ word. word.now) written place d [] inside) ∙ ap (λ words. get_or words place []) same) refused.1;
+}
+
+of_file : (written : List (Bor (List ℕ))) (place : ℕ) (d : Bor (List ℕ)) → place < length written
+    → Each (λ word. word ≢ codes "@-") (map (λ word. word.now) written) → (get_or written place d).now ≢ codes "@-"
+of_file (word ∷ written) zero d inside each = each.0
+of_file (word ∷ written) (suc place) d inside each = of_file written place d (omega (arith, inside)) each.1
+of_file [] place d inside each = absurd (omega (arith, inside))
+
+-- no secret of a request is read from the input, and so none at a place
+pub of_file_at : (asked : Request) (written : List (Bor (List ℕ))) (place : ℕ) (d : Bor (List ℕ)) → map (λ word. word.now) written ≡ secrets_of asked
+    → place < length written → IsOfFiles asked → (get_or written place d).now ≢ codes "@-"
+of_file_at asked written place d same inside each =
+    of_file written place d inside (subst (Each (λ word. word ≢ codes "@-")) (sym same) each)

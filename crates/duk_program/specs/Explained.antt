@@ -1,0 +1,103 @@
+-- What a run with `--explain` does (this project's own, over what a run without it does): the line of
+-- a fault is held until the command has ended, and then written with the line that explains it.
+use Rattle.std.specs.Prelude.{◌≡◌, ◌⊎◌, ℕ, Bool, true, false, List, [], Option, Some, None}
+use Rattle.duk_arguments.specs.Asked.{Asks}
+use Rattle.duk_arguments.specs.declared.request.Request.{Request}
+use Rattle.duk_arguments.specs.declared.request.Request.TheVariants as request
+use Rattle.duk_explain.specs.Explanation.{IsExplanation}
+use Rattle.duk_explain.specs.declared.found.Facts.{Facts}
+use Rattle.duk_host.specs.Serve.{Supply}
+use Rattle.duk_io.specs.Known.{Known}
+use Rattle.duk_io.specs.Sink.{IsTried}
+use Rattle.duk_program.specs.Commands.{HasLostCommandOutput, HasShown, IsNotShown}
+use Rattle.duk_program.specs.Meant.{AreSecretsRead, HasUnreadSecret, IsNotAnswered}
+use Rattle.duk_program.specs.Program.{IsProgramDone, IsProgramNotDone, IsRequestDone, IsRequestNotDone}
+use Rattle.duk_program.specs.Scene.{Scene, reading_on, scene, writers_of}
+use Rattle.duk_program.specs.Secrets.{HasMeaning}
+use Rattle.duk_store.specs.Disk.{DiskMeaning}
+
+-- what a writer in memory makes known that holds this text
+abbrev pub holding : List ℕ → Known
+holding text = record { contents = Some text; failures = None }
+
+-- the scene in which faults are written to memory, which holds this at the end
+abbrev pub heard_in : {D : Type 0} → Scene D → List ℕ → Scene D
+heard_in s line = scene s.held s.disks s.streams (holding []) (holding line)
+
+-- the line of a fault was written, but for what a failed write cut off, and behind it the line that
+-- explains it of this request; what the system says of files is as it says
+pub record IsTold (line : List ℕ) (about : Request) (old new : Known) : Type 0 where
+  pub between : Known
+  pub line_told : IsTried old between line
+  pub facts : Facts
+  pub text : List ℕ
+  pub explains : IsExplanation about line facts text
+  pub text_told : IsTried between new text
+
+-- status 0 of a request
+pub record IsHeardDone {D : Type 0} (meaning : DiskMeaning D) (s : Scene D) (asked : Request)
+    : Type 0 where
+  pub heard : List ℕ
+  pub done : IsRequestDone meaning (heard_in s heard) asked
+
+-- the request is not done over what its secrets stand for
+pub record IsMeantFailed {D : Type 0} (meaning : DiskMeaning D) (s : Scene D) (asked meant : Request)
+    : Type 0 where
+  pub input : Supply
+  pub read : AreSecretsRead s asked input
+  pub means : HasMeaning s.held asked meant
+  pub not_done : IsNotAnswered meaning (reading_on s input) meant
+
+-- status 1 of a request, and of which request it is explained: of the one whose secrets are what
+-- they stand for, or where one is not read, of the request as it is written
+abbrev pub IsNotDoneOf : {D : Type 0} → DiskMeaning D → Scene D → Request → Request → Type 0
+IsNotDoneOf meaning s (request.Run config script) about =
+    (about ≡ request.Run config script)
+    × IsRequestNotDone meaning s (request.Run config script)
+IsNotDoneOf meaning s (request.Serve config log) about =
+    (about ≡ request.Serve config log) × IsRequestNotDone meaning s (request.Serve config log)
+IsNotDoneOf meaning s asked about =
+    IsMeantFailed meaning s asked about
+    ⊎ ((about ≡ asked) × HasUnreadSecret s.held asked (writers_of s))
+
+-- a request is not done, and its fault is told and explained
+pub record HasExplained {D : Type 0} (meaning : DiskMeaning D) (s : Scene D) (asked : Request)
+    : Type 0 where
+  pub line : List ℕ
+  pub about : Request
+  pub not_done : IsNotDoneOf meaning (heard_in s line) asked about
+  pub told : IsTold line about s.fault_before s.fault_after
+
+-- the arguments ask for a request that is done
+pub record HasDoneHeard {D : Type 0} (meaning : DiskMeaning D) (arguments : List (List ℕ))
+    (s : Scene D) : Type 0 where
+  pub request : Request
+  pub asked : Asks arguments request
+  pub done : IsHeardDone meaning s request
+
+-- status 0
+abbrev pub IsExplainedDone : {D : Type 0} → DiskMeaning D → List (List ℕ) → Scene D → Type 0
+IsExplainedDone meaning arguments s =
+    HasDoneHeard meaning arguments s ⊎ HasShown arguments (writers_of s)
+
+-- the arguments ask for a request that is not done, and its fault is explained
+pub record HasNotDoneExplained {D : Type 0} (meaning : DiskMeaning D) (arguments : List (List ℕ))
+    (s : Scene D) : Type 0 where
+  pub request : Request
+  pub asked : Asks arguments request
+  pub explained : HasExplained meaning s request
+
+-- status 1
+abbrev pub IsExplainedNotDone : {D : Type 0} → DiskMeaning D → List (List ℕ) → Scene D → Type 0
+IsExplainedNotDone meaning arguments s = HasNotDoneExplained meaning arguments s
+    ⊎ IsNotShown arguments (writers_of s) ⊎ HasLostCommandOutput arguments (writers_of s)
+
+-- status 0 of a run with `--explain` or without it
+abbrev pub IsRunDone : {D : Type 0} → Bool → DiskMeaning D → List (List ℕ) → Scene D → Type 0
+IsRunDone false = IsProgramDone
+IsRunDone true = IsExplainedDone
+
+-- status 1
+abbrev pub IsRunNotDone : {D : Type 0} → Bool → DiskMeaning D → List (List ℕ) → Scene D → Type 0
+IsRunNotDone false = IsProgramNotDone
+IsRunNotDone true = IsExplainedNotDone

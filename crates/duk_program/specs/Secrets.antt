@@ -1,0 +1,219 @@
+-- Secrets that arguments give by reference (this project's own): `@FILE` stands for the first line
+-- of a file, and `@-` for that of standard input.
+use Rattle.std.specs.Prelude.{◌≡◌, ◌≢◌, ◌==◌, ◌<◌, ⊤, ℕ, List, [], ◌∷◌, ◌++◌, Option, Some, None, codes, get_or, length, option_to_list, take, if◌then◌else◌}
+use Rattle.std.specs.Str.{IsUtf8}
+use Rattle.std.specs.Option.{option_copied}
+use Rattle.duk_arguments.specs.Given.{Each}
+use Rattle.duk_arguments.specs.Keys.{texts_of_keys}
+use Rattle.duk_arguments.specs.declared.request.Request.{Request}
+use Rattle.duk_arguments.specs.declared.request.Request.TheVariants as request
+use Rattle.duk_commands.specs.Fault.{line_end}
+use Rattle.duk_program.specs.Files.{FileKnown, HasLongLine, IsLineRead, IsUnreadableFile}
+use Rattle.duk_program.specs.declared.secrets.Secret.{Secret}
+use Rattle.duk_program.specs.declared.secrets.Secret.TheVariants.{Bdk, Kbpk, Pin, Pan, Zone, Key, Block, Loading, What}
+use Rattle.duk_program.specs.declared.secrets.SecretFault.{SecretFault}
+use Rattle.duk_program.specs.declared.secrets.SecretFault.TheVariants.{NoMemory, Unread}
+use Rattle.duk_program.specs.declared.secrets.Unread.{Unread as Why}
+use Rattle.duk_program.specs.declared.secrets.Unread.TheVariants.{CannotRead, TooLong, NotUtf8}
+
+-- the most bytes of a secret's line
+abbrev pub longest_line : ℕ
+longest_line = 4096
+
+-- what a text that begins with `@` (64) refers to
+abbrev pub reference_in : List ℕ → Option (List ℕ)
+reference_in [] = None
+reference_in (first ∷ rest) = if first == 64 then Some rest else None
+
+-- what a secret that is written stands for: itself, the first line of a file, or of standard input,
+-- of which no clause says more
+abbrev pub StandsFor : (List ℕ → FileKnown) → Option (List ℕ) → List ℕ → List ℕ → Type 0
+StandsFor held None written text = text ≡ written
+StandsFor held (Some path) written text =
+    path ≢ codes "-" → IsLineRead (held path) longest_line text
+
+abbrev pub Means : (List ℕ → FileKnown) → List ℕ → List ℕ → Type 0
+Means held written text = StandsFor held (reference_in written) written text
+
+-- the same of texts, in their order
+abbrev pub EachMeans : (List ℕ → FileKnown) → List (List ℕ) → List (List ℕ) → Type 0
+EachMeans held [] [] = ⊤
+EachMeans held (written ∷ others) (text ∷ texts) =
+    Means held written text × EachMeans held others texts
+EachMeans held others texts = ⊥
+
+-- the first line of a file is no text
+pub record HasNoText (held : FileKnown) : Type 0 where
+  pub line : List ℕ
+  pub read : IsLineRead held longest_line line
+  pub not_utf8 : ¬ IsUtf8 line
+
+-- why the first line of a file is not read as a secret
+abbrev pub IsUnreadLine : FileKnown → Why → Type 0
+IsUnreadLine held CannotRead = IsUnreadableFile held
+IsUnreadLine held TooLong = HasLongLine longest_line held
+IsUnreadLine held NotUtf8 = HasNoText held
+
+-- why a secret that is written so is not read; of standard input no clause says more
+abbrev pub IsUnread : (List ℕ → FileKnown) → Option (List ℕ) → Why → Type 0
+IsUnread held None why = ⊥
+IsUnread held (Some path) why = path ≢ codes "-" → IsUnreadLine (held path) why
+
+-- an optional secret
+abbrev pub OptionMeans : (List ℕ → FileKnown) → Option (List ℕ) → Option (List ℕ) → Type 0
+OptionMeans held None None = ⊤
+OptionMeans held (Some written) (Some text) = Means held written text
+OptionMeans held written text = ⊥
+
+-- a request with what its secrets stand for in their place; all else is as it was
+abbrev pub HasMeaning : (List ℕ → FileKnown) → Request → Request → Type 0
+HasMeaning held (request.Derive bdk ksn initial trace all)
+    (request.Derive bdk' ksn' initial' trace' all') =
+    Means held bdk.now bdk'.now × (ksn' ≡ ksn) × (initial' ≡ initial) × (trace' ≡ trace)
+    × (all' ≡ all)
+HasMeaning held (request.Walk bdk iksn count skip alone initial)
+    (request.Walk bdk' iksn' count' skip' alone' initial') =
+    Means held bdk.now bdk'.now × (iksn' ≡ iksn) × (count' ≡ count) × (skip' ≡ skip)
+    × (alone' ≡ alone) × (initial' ≡ initial)
+HasMeaning held (request.Pin pin pan key)
+    (request.Pin pin' pan' key') =
+    Means held pin.now pin'.now × Means held pan.now pan'.now
+    × OptionMeans held (option_copied key) (option_copied key')
+HasMeaning held (request.Wrap kbpk fields key pad)
+    (request.Wrap kbpk' fields' key' pad') =
+    Means held kbpk.now kbpk'.now × (fields' ≡ fields) × Means held key.now key'.now
+    × (pad' ≡ pad)
+HasMeaning held (request.Unwrap kbpk block)
+    (request.Unwrap kbpk' block') =
+    Means held kbpk.now kbpk'.now × (block' ≡ block)
+HasMeaning held (request.Initial bdk iksn)
+    (request.Initial bdk' iksn') =
+    Means held bdk.now bdk'.now × (iksn' ≡ iksn)
+HasMeaning held (request.Registers bdk ksn initial)
+    (request.Registers bdk' ksn' initial') =
+    Means held bdk.now bdk'.now × (ksn' ≡ ksn) × (initial' ≡ initial)
+HasMeaning held (request.Kcv keys components show)
+    (request.Kcv keys' components' show') =
+    EachMeans held (texts_of_keys keys) (texts_of_keys keys') × (components' ≡ components)
+    × (show' ≡ show)
+HasMeaning held (request.Mac key text cmac hex)
+    (request.Mac key' text' cmac' hex') =
+    Means held key.now key'.now × (text' ≡ text) × (cmac' ≡ cmac) × (hex' ≡ hex)
+HasMeaning held (request.Unpin block pan key show)
+    (request.Unpin block' pan' key' show') =
+    Means held block.now block'.now × Means held pan.now pan'.now
+    × OptionMeans held (option_copied key) (option_copied key') × (show' ≡ show)
+HasMeaning held (request.Translate block pan bdk ksn zone initial)
+    (request.Translate block' pan' bdk' ksn' zone' initial') =
+    Means held block.now block'.now × Means held pan.now pan'.now × Means held bdk.now bdk'.now
+    × (ksn' ≡ ksn) × Means held zone.now zone'.now × (initial' ≡ initial)
+HasMeaning held (request.MakeRequest bdk ksn pan pin amount initial)
+    (request.MakeRequest bdk' ksn' pan' pin' amount' initial') =
+    Means held bdk.now bdk'.now × (ksn' ≡ ksn) × Means held pan.now pan'.now
+    × Means held pin.now pin'.now × (amount' ≡ amount) × (initial' ≡ initial)
+HasMeaning held (request.CheckReply bdk asked answer initial)
+    (request.CheckReply bdk' asked' answer' initial') =
+    Means held bdk.now bdk'.now × (asked' ≡ asked) × (answer' ≡ answer) × (initial' ≡ initial)
+HasMeaning held (request.Issue bdk loading iksn count ledger skip)
+    (request.Issue bdk' loading' iksn' count' ledger' skip') =
+    Means held bdk.now bdk'.now × Means held loading.now loading'.now × (iksn' ≡ iksn)
+    × (count' ≡ count) × (ledger' ≡ ledger) × (skip' ≡ skip)
+HasMeaning held (request.Show kind what show)
+    (request.Show kind' what' show') =
+    (kind' ≡ kind) × Means held what.now what'.now × (show' ≡ show)
+HasMeaning held asked meant = ⊥
+
+-- the secrets of a request
+abbrev pub secrets_of : Request → List (List ℕ)
+secrets_of (request.Derive bdk ksn initial trace all) = bdk.now ∷ []
+secrets_of (request.Walk bdk iksn count skip alone initial) = bdk.now ∷ []
+secrets_of (request.Pin pin pan key) = pin.now ∷ pan.now ∷ option_to_list (option_copied key)
+secrets_of (request.Wrap kbpk fields key pad) = kbpk.now ∷ key.now ∷ []
+secrets_of (request.Unwrap kbpk block) = kbpk.now ∷ []
+secrets_of (request.Initial bdk iksn) = bdk.now ∷ []
+secrets_of (request.Registers bdk ksn initial) = bdk.now ∷ []
+secrets_of (request.Kcv keys components show) = texts_of_keys keys
+secrets_of (request.Mac key text cmac hex) = key.now ∷ []
+secrets_of (request.Unpin block pan key show) = block.now ∷ pan.now ∷ option_to_list (option_copied key)
+secrets_of (request.Translate block pan bdk ksn zone initial) = block.now ∷ pan.now ∷ bdk.now ∷ zone.now ∷ []
+secrets_of (request.MakeRequest bdk ksn pan pin amount initial) = bdk.now ∷ pan.now ∷ pin.now ∷ []
+secrets_of (request.CheckReply bdk asked answer initial) = bdk.now ∷ []
+secrets_of (request.Issue bdk loading iksn count ledger skip) = bdk.now ∷ loading.now ∷ []
+secrets_of (request.Show kind what show) = what.now ∷ []
+secrets_of asked = []
+
+-- the arguments that the secrets of a request are, in their order; one that is written more than
+-- once stands here once
+abbrev pub secret_names : Request → List Secret
+secret_names (request.Derive bdk ksn initial trace all) = Bdk ∷ []
+secret_names (request.Walk bdk iksn count skip alone initial) = Bdk ∷ []
+secret_names (request.Pin pin pan key) = Pin ∷ Pan ∷ Key ∷ []
+secret_names (request.Wrap kbpk fields key pad) = Kbpk ∷ Key ∷ []
+secret_names (request.Unwrap kbpk block) = Kbpk ∷ []
+secret_names (request.Initial bdk iksn) = Bdk ∷ []
+secret_names (request.Registers bdk ksn initial) = Bdk ∷ []
+secret_names (request.Kcv keys components show) = Key ∷ []
+secret_names (request.Mac key text cmac hex) = Key ∷ []
+secret_names (request.Unpin block pan key show) = Block ∷ Pan ∷ Key ∷ []
+secret_names (request.Translate block pan bdk ksn zone initial) = Block ∷ Pan ∷ Bdk ∷ Zone ∷ []
+secret_names (request.MakeRequest bdk ksn pan pin amount initial) = Bdk ∷ Pan ∷ Pin ∷ []
+secret_names (request.CheckReply bdk asked answer initial) = Bdk ∷ []
+secret_names (request.Issue bdk loading iksn count ledger skip) = Bdk ∷ Loading ∷ []
+secret_names (request.Show kind what show) = What ∷ []
+secret_names asked = Bdk ∷ []
+
+-- the argument that the secret at a place is; those behind the others are keys
+abbrev pub secret_at : Request → ℕ → Secret
+secret_at asked place = get_or (secret_names asked) place Key
+
+-- a secret of a request is not read, and those before it are
+pub record IsFirstUnread (held : List ℕ → FileKnown) (asked : Request) (secret : Secret) (why : Why)
+    : Type 0 where
+  pub place : ℕ
+  pub is_there : place < length (secrets_of asked)
+  pub texts : List (List ℕ)
+  pub before : EachMeans held (take place (secrets_of asked)) texts
+  pub secret_is : secret ≡ secret_at asked place
+  pub cause : IsUnread held (reference_in (get_or (secrets_of asked) place [])) why
+
+-- the fault of the secrets of a request; memory may be refused at any time
+abbrev pub IsSecretFault : (List ℕ → FileKnown) → Request → SecretFault → Type 0
+IsSecretFault held asked (Unread secret why) = IsFirstUnread held asked secret why
+IsSecretFault held asked NoMemory = ⊤
+
+-- a text that is no reference
+abbrev pub IsWord : List ℕ → Type 0
+IsWord text = reference_in text ≡ None
+
+-- no secret of a request is a reference
+abbrev pub HasWordsAlone : Request → Type 0
+HasWordsAlone asked = Each IsWord (secrets_of asked)
+
+-- a request whose command is over secrets, and not over a configuration
+abbrev pub IsOverSecrets : Request → Type 0
+IsOverSecrets (request.Run config script) = ⊥
+IsOverSecrets (request.Serve config log) = ⊥
+IsOverSecrets asked = Unit {0}
+
+-- the name of a secret's argument in the help
+abbrev pub secret_name : Secret → List ℕ
+secret_name Bdk = codes "BDK"
+secret_name Kbpk = codes "KBPK"
+secret_name Pin = codes "PIN"
+secret_name Pan = codes "PAN"
+secret_name Zone = codes "ZONE"
+secret_name Key = codes "KEY"
+secret_name Block = codes "BLOCK"
+secret_name Loading = codes "LOADING"
+secret_name What = codes "WHAT"
+
+-- what is reported of a secret that is not read, behind its name
+abbrev pub unread_text : Why → List ℕ
+unread_text CannotRead = codes ": cannot read"
+unread_text TooLong = codes ": too long"
+unread_text NotUtf8 = codes ": not UTF-8"
+
+-- the line of a fault: which secret is not read, and why, and never what was found
+abbrev pub secret_line : SecretFault → List ℕ
+secret_line (Unread secret why) = secret_name secret ++ unread_text why ++ line_end
+secret_line NoMemory = codes "out of memory" ++ line_end

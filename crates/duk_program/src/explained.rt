@@ -1,0 +1,176 @@
+//! A run of the program whose faults explain themselves.
+
+ghost use Rattle.std.specs.Prelude.{◌≡◌, ◌≢◌, ◌⊎◌};
+ghost use Rattle.std.specs.Io.KnownBytes.{Keeps};
+ghost use Rattle.duk_arguments.specs.Asked.{AreRefused, texts_of};
+ghost use Rattle.duk_io.specs.Sink.{IsTried, IsUntouched};
+ghost use Rattle.duk_program.specs.Explained.{HasExplained, IsExplainedDone, IsExplainedNotDone, IsHeardDone, IsTold};
+ghost use Rattle.duk_program.specs.Scene.{scene};
+ghost use Rattle.duk_program.specs.Secrets.{IsOverSecrets, secret_line};
+ghost use Rattle.duk_program.specs.Serve.{serving_of};
+ghost use Rattle.duk_program.specs.Status.{IsStatus};
+
+use crate::answers::answer;
+use crate::dispatch::show_at_end;
+use crate::ending::EndingFault;
+use crate::file_system::FileSystem;
+use crate::log_files::LogFiles;
+use crate::meant::{keys_of, read_texts};
+use crate::reasons::facts_of;
+use crate::request_secrets::with_secrets;
+use crate::run_files::run_files;
+use crate::secrets::SecretFault;
+use crate::serve_files::serve_files;
+use duk_arguments::{Request, read_request};
+use duk_explain::explanation;
+use duk_io::{Sink, Source, write_text};
+use duk_store::Disk;
+use std::alloc::Global;
+
+/// Does what the arguments ask, the first of which is the program's name, and gives the status, as
+/// `run_arguments`. Behind the line of a fault another explains it.
+pub(crate) fn run_explained<S: FileSystem + LogFiles, R: Source, W: Sink, F: Sink>(
+    alloc: Global,
+    files: &S,
+    arguments: &[String],
+    input: &mut R,
+    output: &mut W,
+    fault: &mut F,
+) -> u8
+where
+    S::Disk: Disk,
+    ensures status { IsStatus result }
+    ensures no_fault { result ≡ 0 → IsUntouched (F.known fault.old) (F.known fault.new) }
+    ensures refused { result ≡ 2
+        → Keeps (W.known output.old).contents (W.known output.new).contents }
+    ensures arguments_refused { result ≡ 2 → AreRefused (texts_of arguments.now) }
+    ensures done { result ≡ 0 → IsExplainedDone S.Disk.meaning (texts_of arguments.now) (scene
+        (S.held files.now) (S.disks files.now) (serving_of R.known R.reads W.known input.old
+        input.new output.old output.new) (F.known fault.old) (F.known fault.new)) }
+    ensures not_done { result ≡ 1 → IsExplainedNotDone S.Disk.meaning (texts_of arguments.now)
+        (scene (S.held files.now) (S.disks files.now) (serving_of R.known R.reads W.known
+        input.old input.new output.old output.new) (F.known fault.old) (F.known fault.new)) }
+{
+    match read_request(alloc, arguments) {
+        Ok(request) => do_explained(alloc, files, request, input, output, fault),
+        Err(answer) => show_at_end(&answer, output, fault),
+    }
+}
+
+/// Does a request, and gives the status. What it writes of a fault is held until it has ended, and
+/// then written with the line that explains it.
+fn do_explained<S: FileSystem + LogFiles, R: Source, W: Sink, F: Sink>(
+    alloc: Global,
+    files: &S,
+    request: Request<'_>,
+    input: &mut R,
+    output: &mut W,
+    fault: &mut F,
+) -> u8
+where
+    S::Disk: Disk,
+    ensures status { (result ≡ 0) ⊎ (result ≡ 1) }
+    ensures no_fault { result ≡ 0 → IsUntouched (F.known fault.old) (F.known fault.new) }
+    ensures done { result ≡ 0 → IsHeardDone S.Disk.meaning (scene (S.held files.now)
+        (S.disks files.now) (serving_of R.known R.reads W.known input.old input.new output.old
+        output.new) (F.known fault.old) (F.known fault.new)) request.entry }
+    ensures not_done { result ≡ 1 → HasExplained S.Disk.meaning (scene (S.held files.now)
+        (S.disks files.now) (serving_of R.known R.reads W.known input.old input.new output.old
+        output.new) (F.known fault.old) (F.known fault.new)) request.entry }
+{
+    match request {
+        Request::Run { config, script } => {
+            let mut line = Vec::new(alloc);
+            let status = run_files(alloc, files, config, script, output, &mut line);
+            tell(alloc, files, &request, status, line.as_slice(), fault)
+        }
+        Request::Serve { config, log } => {
+            let mut line = Vec::new(alloc);
+            let status = serve_files(alloc, files, config, log, input, output, &mut line);
+            tell(alloc, files, &request, status, line.as_slice(), fault)
+        }
+        request => do_meant_explained(alloc, files, request, input, output, fault),
+    }
+}
+
+/// Does the command of a request over what its secrets stand for. A secret that is not read is
+/// explained as it is written.
+fn do_meant_explained<S: FileSystem + LogFiles, R: Source, W: Sink, F: Sink>(
+    alloc: Global,
+    files: &S,
+    request: Request<'_>,
+    input: &mut R,
+    output: &mut W,
+    fault: &mut F,
+) -> u8
+where
+    S::Disk: Disk,
+    requires { IsOverSecrets request }
+    ensures status { (result ≡ 0) ⊎ (result ≡ 1) }
+    ensures no_fault { result ≡ 0 → IsUntouched (F.known fault.old) (F.known fault.new) }
+    ensures done { result ≡ 0 → IsHeardDone S.Disk.meaning (scene (S.held files.now)
+        (S.disks files.now) (serving_of R.known R.reads W.known input.old input.new output.old
+        output.new) (F.known fault.old) (F.known fault.new)) request.entry }
+    ensures not_done { result ≡ 1 → HasExplained S.Disk.meaning (scene (S.held files.now)
+        (S.disks files.now) (serving_of R.known R.reads W.known input.old input.new output.old
+        output.new) (F.known fault.old) (F.known fault.new)) request.entry }
+{
+    duk_io::laws::writes();
+    let texts = match read_texts(alloc, files, &request, input) {
+        Ok(texts) => texts,
+        Err(why) => return tell_unread(alloc, files, &request, why, fault),
+    };
+    let Some(texts) = keys_of(texts.as_slice()) else {
+        return tell_unread(alloc, files, &request, SecretFault::NoMemory, fault);
+    };
+    let meant = with_secrets(&request, &texts);
+    let mut line = Vec::new(alloc);
+    let status = answer(alloc, files, meant, input, output, &mut line);
+    tell(alloc, files, &meant, status, line.as_slice(), fault)
+}
+
+/// Writes the line of a secret that is not read, and the one that explains it, and gives the status
+/// 1.
+fn tell_unread<S: FileSystem + LogFiles, F: Sink>(
+    alloc: Global,
+    files: &S,
+    request: &Request<'_>,
+    why: SecretFault,
+    fault: &mut F,
+) -> u8
+    ensures status { result ≡ 1 }
+    ensures told { IsTold (secret_line why) request.now (F.known fault.old) (F.known fault.new) }
+{
+    let line = why.line();
+    tell(alloc, files, request, 1, line.as_slice(), fault)
+}
+
+/// After status 1 writes the line of a fault, and the one that explains it of this request; and
+/// gives the status.
+fn tell<S: FileSystem + LogFiles, F: Sink>(
+    alloc: Global,
+    files: &S,
+    about: &Request<'_>,
+    status: u8,
+    line: &[u8],
+    fault: &mut F,
+) -> u8
+    ensures status { result ≡ status }
+    ensures silent { status ≢ 1 → F.known fault.new ≡ F.known fault.old }
+    ensures told { status ≡ 1
+        → IsTold line.now about.now (F.known fault.old) (F.known fault.new) }
+{
+    if status == 1 {
+        let facts = facts_of(alloc, files, about, line);
+        try_write(fault, line);
+        try_write(fault, explanation(about, line, &facts).as_slice());
+    }
+    status
+}
+
+/// Writes a text. What cannot be written of it is lost.
+fn try_write<F: Sink>(fault: &mut F, text: &[u8])
+    ensures { IsTried (F.known fault.old) (F.known fault.new) text.now }
+{
+    let _ = write_text(fault, text);
+}

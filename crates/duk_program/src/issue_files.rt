@@ -1,0 +1,144 @@
+//! The command `issue` over the file of its ledger.
+
+ghost use Rattle.std.specs.Prelude.{◌≡◌, ◌⊎◌, ◌*◌, ◌≤◌, IfErr, IfOk, length};
+ghost use Rattle.duk_commands.specs.Answer.{streams};
+ghost use Rattle.duk_issue.specs.Fault.{issue_line};
+ghost use Rattle.duk_issue.specs.Issue.{job};
+ghost use Rattle.duk_issue.specs.Order.{IsOrderOf, IsOrderRefused};
+ghost use Rattle.duk_issue.specs.declared.fault.IssueFault.TheVariants as fault;
+ghost use Rattle.duk_program.specs.IssueFiles.{HasIssuedFiles, HasNotIssuedFiles, IsIssuedOver, IsNotIssuedOver, issuing, order_in};
+
+use crate::ending::{EndingFault, hand_on, report_after};
+use crate::file_system::{FileFault, FileSystem};
+use crate::log_files::LogFiles;
+use duk_io::Sink;
+use duk_issue::{IssueFault, Order, PADDING_LENGTH, issue, report};
+use duk_store::{Disk, DiskLog, UsedLog};
+use std::alloc::Global;
+
+/// The system's random device.
+const RANDOM: &str = "/dev/urandom";
+
+/// The arguments of `issue`, as written, beside the path of its ledger.
+#[derive(Clone, Copy)]
+pub(crate) struct IssueArguments<'a> {
+    pub(crate) bdk: &'a str,
+    pub(crate) loading: &'a str,
+    pub(crate) iksn: &'a str,
+    pub(crate) count: &'a str,
+    pub(crate) skip_issued: bool,
+}
+
+impl EndingFault for IssueFault {
+    ghost line = { issue_line };
+
+    fn report<F: Sink>(&self, fault: &mut F) -> u8 {
+        report(fault, *self)
+    }
+}
+
+/// Issues the initial keys that the arguments ask for, over the ledger in the file under a path, and
+/// gives the status: 0, or 1 with a line on `fault`.
+///
+/// The faults, in this order: `BDK refused`, `loading refused`, `IKSN refused`, `count refused`;
+/// `padding: cannot read`, where the system gives no random bytes; `ledger: cannot open`; then those
+/// of `duk_issue::issue`.
+pub(crate) fn issue_files<S: FileSystem + LogFiles, W: Sink, F: Sink>(
+    alloc: Global,
+    files: &S,
+    arguments: &IssueArguments<'_>,
+    ledger: &str,
+    output: &mut W,
+    fault: &mut F,
+) -> u8
+where
+    S::Disk: Disk,
+    ensures status { (result ≡ 0) ⊎ (result ≡ 1) }
+    ensures done { result ≡ 0 → HasIssuedFiles S.Disk.meaning (S.disks files.now ledger.now)
+        arguments.now (streams (W.known output.old) (W.known output.new)
+        (F.known fault.old) (F.known fault.new)) }
+    ensures not_done { result ≡ 1 → HasNotIssuedFiles S.Disk.meaning
+        (S.disks files.now ledger.now) arguments.now
+        (streams (W.known output.old) (W.known output.new)
+        (F.known fault.old) (F.known fault.new)) }
+{
+    duk_io::laws::writes();
+    let order = match read_order(arguments) {
+        Ok(order) => order,
+        Err(why) => return report(fault, why),
+    };
+    let padding = match read_padding(alloc, files, order.count) {
+        Ok(padding) => padding,
+        Err(why) => return report(fault, why),
+    };
+    match files.open_disk(ledger) {
+        Ok(disk) => {
+            let padding = padding.as_slice();
+            let skip_issued = arguments.skip_issued;
+            issue_over(
+                alloc,
+                &order,
+                skip_issued,
+                padding,
+                DiskLog::new(disk),
+                output,
+                fault,
+            )
+        }
+        Err(_) => report(fault, IssueFault::LedgerUnopened),
+    }
+}
+
+/// Reads the arguments of an order.
+fn read_order(arguments: &IssueArguments<'_>) -> Result<Order, IssueFault>
+    ensures read { IfOk result (IsOrderOf (order_in arguments.now)) }
+    ensures refused { IfErr result (IsOrderRefused (order_in arguments.now)) }
+{
+    Order::read(
+        arguments.bdk,
+        arguments.loading,
+        arguments.iksn,
+        arguments.count,
+    )
+}
+
+/// Random bytes of the system, for the key blocks of so many terminals.
+fn read_padding<S: FileSystem>(alloc: Global, files: &S, count: u32) -> Result<Vec<u8>, IssueFault>
+    requires { count ≤ 1048576 }
+    ensures read { IfOk result (λ bytes. 6 * count ≤ length bytes.items) }
+    ensures refused { IfErr result
+        (λ why. (why ≡ fault.PaddingUnread) ⊎ (why ≡ fault.OutOfMemory)) }
+{
+    match files.read_front(alloc, RANDOM, PADDING_LENGTH * count as usize) {
+        Ok(bytes) => Ok(bytes),
+        Err(FileFault::NoMemory) => Err(IssueFault::OutOfMemory),
+        Err(_) => Err(IssueFault::PaddingUnread),
+    }
+}
+
+/// Issues the initial keys of an order over a ledger, hands their lines on, and gives the status.
+fn issue_over<L: UsedLog, W: Sink, F: Sink>(
+    alloc: Global,
+    order: &Order,
+    skip_issued: bool,
+    padding: &[u8],
+    ledger: L,
+    output: &mut W,
+    fault: &mut F,
+) -> u8
+    requires { 6 * order.now.count ≤ length padding.now }
+    ensures status { (result ≡ 0) ⊎ (result ≡ 1) }
+    ensures done { result ≡ 0 → IsIssuedOver L.meaning (job order.now skip_issued padding.now)
+        (issuing ledger (streams (W.known output.old) (W.known output.new)
+        (F.known fault.old) (F.known fault.new))) }
+    ensures not_done { result ≡ 1 → IsNotIssuedOver L.meaning
+        (job order.now skip_issued padding.now)
+        (issuing ledger (streams (W.known output.old) (W.known output.new)
+        (F.known fault.old) (F.known fault.new))) }
+{
+    let mut ledger = ledger;
+    match issue(alloc, order, skip_issued, padding, &mut ledger, output) {
+        Ok(()) => hand_on(&IssueFault::WriteFailed, output, fault),
+        Err(why) => report_after(&why, &IssueFault::WriteFailed, output, fault),
+    }
+}

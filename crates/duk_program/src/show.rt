@@ -1,0 +1,142 @@
+//! The command `show`.
+
+ghost use Rattle.std.specs.Prelude.{◌≡◌, ◌⊎◌, IfErr, IfOk};
+ghost use Rattle.duk_commands.specs.Answer.{HasWriteFailed, HasWritten, streams};
+ghost use Rattle.duk_program.specs.Show.{HasNotShownText, HasShownText, IsLogFileRefused, IsLogFileText, IsShowRefused, IsShowText, show_arguments};
+ghost use Rattle.duk_show.specs.Block.{IsBlockRefused, IsBlockText};
+ghost use Rattle.duk_show.specs.Frame.{IsFrameRefused, IsFrameText};
+ghost use Rattle.duk_show.specs.Image.{IsImageRefused, IsImageText};
+ghost use Rattle.duk_show.specs.declared.fault.ShowFault.TheVariants.{OutOfMemory};
+
+use crate::ending::hand_on;
+use crate::file_system::{FileFault, FileSystem};
+use duk_commands::Fault;
+use duk_io::{Sink, write_text};
+use duk_show::{ShowFault, block_lines, frame_lines, image_lines, log_lines, report};
+use std::alloc::Global;
+
+/// The most bytes of a log.
+pub(crate) const LONGEST_LOG: usize = 1 << 30;
+
+/// Prints what a text of its kind says, or the log in the file under a path, and gives the status:
+/// 0, or 1 with a line on `fault`.
+pub(crate) fn show_text<S: FileSystem, W: Sink, F: Sink>(
+    alloc: Global,
+    files: &S,
+    kind: &str,
+    what: &str,
+    show: bool,
+    output: &mut W,
+    fault: &mut F,
+) -> u8
+    ensures status { (result ≡ 0) ⊎ (result ≡ 1) }
+    ensures done { result ≡ 0 → HasShownText
+        (show_arguments kind.now what.now show (S.held files.now what.now))
+        (streams (W.known output.old) (W.known output.new)
+        (F.known fault.old) (F.known fault.new)) }
+    ensures not_done { result ≡ 1 → HasNotShownText
+        (show_arguments kind.now what.now show (S.held files.now what.now))
+        (streams (W.known output.old) (W.known output.new)
+        (F.known fault.old) (F.known fault.new)) }
+{
+    duk_io::laws::writes();
+    let text = match shown_text(alloc, files, kind, what, show) {
+        Ok(text) => text,
+        Err(why) => return report(fault, why),
+    };
+    match print(text.as_slice(), output, fault) {
+        0 => hand_on(&Fault::WriteFailed, output, fault),
+        status => status,
+    }
+}
+
+/// Writes a text, and gives the status: 0, or 1 with a line on `fault`.
+fn print<W: Sink, F: Sink>(text: &[u8], output: &mut W, fault: &mut F) -> u8
+    ensures status { (result ≡ 0) ⊎ (result ≡ 1) }
+    ensures done { result ≡ 0 → HasWritten text.now (streams (W.known output.old)
+        (W.known output.new) (F.known fault.old) (F.known fault.new)) }
+    ensures not_done { result ≡ 1 → HasWriteFailed text.now (streams (W.known output.old)
+        (W.known output.new) (F.known fault.old) (F.known fault.new)) }
+{
+    duk_io::laws::writes();
+    match write_text(output, text) {
+        Ok(()) => 0,
+        Err(_) => duk_commands::report(fault, Fault::WriteFailed),
+    }
+}
+
+/// What is shown of a text of its kind, or of the log in the file under a path; or why not.
+fn shown_text<S: FileSystem>(
+    alloc: Global,
+    files: &S,
+    kind: &str,
+    what: &str,
+    show: bool,
+) -> Result<Vec<u8>, ShowFault>
+    ensures text { IfOk result (λ text. IsShowText
+        (show_arguments kind.now what.now show (S.held files.now what.now)) text.items) }
+    ensures refused { IfErr result (IsShowRefused
+        (show_arguments kind.now what.now show (S.held files.now what.now))) }
+{
+    match kind {
+        "frame" => frame_text(alloc, what),
+        "block" => block_text(alloc, what),
+        "image" => image_text(alloc, what, show),
+        "log" => log_text(alloc, files, what),
+        _ => Err(ShowFault::KindRefused),
+    }
+}
+
+/// The text of a frame.
+fn frame_text(alloc: Global, what: &str) -> Result<Vec<u8>, ShowFault>
+    ensures text { IfOk result (λ text. IsFrameText what.now text.items) }
+    ensures refused { IfErr result (λ why. IsFrameRefused what.now why ⊎ (why ≡ OutOfMemory)) }
+{
+    match frame_lines(alloc, what) {
+        Ok(lines) => text_of(alloc, lines.as_slice()),
+        Err(why) => Err(why),
+    }
+}
+
+/// The text of a key block.
+fn block_text(alloc: Global, what: &str) -> Result<Vec<u8>, ShowFault>
+    ensures text { IfOk result (λ text. IsBlockText what.now text.items) }
+    ensures refused { IfErr result (λ why. IsBlockRefused what.now why ⊎ (why ≡ OutOfMemory)) }
+{
+    match block_lines(what) {
+        Ok(lines) => text_of(alloc, lines.as_slice()),
+        Err(why) => Err(why),
+    }
+}
+
+/// The text of a terminal's image.
+fn image_text(alloc: Global, what: &str, show: bool) -> Result<Vec<u8>, ShowFault>
+    ensures text { IfOk result (λ text. IsImageText what.now show text.items) }
+    ensures refused { IfErr result (λ why. IsImageRefused what.now why ⊎ (why ≡ OutOfMemory)) }
+{
+    match image_lines(alloc, what, show) {
+        Ok(lines) => text_of(alloc, lines.as_slice()),
+        Err(why) => Err(why),
+    }
+}
+
+/// These bytes, in a vector.
+fn text_of(alloc: Global, lines: &[u8]) -> Result<Vec<u8>, ShowFault>
+    ensures text { IfOk result (λ text. text.items ≡ lines.now) }
+    ensures refused { IfErr result (λ why. why ≡ OutOfMemory) }
+{
+    Vec::from_slice(alloc, lines).map_err(|_| ShowFault::OutOfMemory)
+}
+
+/// The text of the log in the file under a path.
+fn log_text<S: FileSystem>(alloc: Global, files: &S, path: &str) -> Result<Vec<u8>, ShowFault>
+    ensures text { IfOk result (λ text. IsLogFileText (S.held files.now path.now) text.items) }
+    ensures refused { IfErr result (IsLogFileRefused (S.held files.now path.now)) }
+{
+    match files.read_file(alloc, path, LONGEST_LOG) {
+        Ok(bytes) => log_lines(alloc, bytes.as_slice()),
+        Err(FileFault::NoMemory) => Err(ShowFault::OutOfMemory),
+        Err(FileFault::TooLong) => Err(ShowFault::LogTooLong),
+        Err(FileFault::CannotRead) => Err(ShowFault::LogUnread),
+    }
+}
