@@ -55,23 +55,29 @@ class LostOutput(ProgramCase):
         return Ended(done.returncode, done.stdout, done.stderr)
 
     def test_a_closed_output(self) -> None:
-        for words in WRITERS:
+        """Nobody takes it for a file that is opened later: a secret is read, and never written to."""
+        (self.home / "it").write_text(f"{BASE}\n")
+        for words in (*WRITERS, ["derive", "@it", SERIAL]):
             self.assert_ended(self.in_bash(words, ">&-"), 1, b"", LOST, f"{spoken(words)} >&-")
+        self.assertEqual((self.home / "it").read_text(), f"{BASE}\n")
 
     def test_closed_faults(self) -> None:
         """Without standard error the status is the same, and so is the output."""
-        for words in WRITERS:
-            ended = Ended(0, expected(words).output, b"")
-            self.assertEqual(self.in_bash(words, "2>&-"), ended, words)
-        for words, status in ((["kcv", "x"], 1), (["kcv"], 2)):
+        (self.home / "it").write_text(f"{BASE}\n")
+        for words in (*WRITERS, ["derive", "@it", SERIAL]):
+            wanted = expected(words, {"it": f"{BASE}\n".encode()})
+            self.assertEqual(self.in_bash(words, "2>&-"), Ended(0, wanted.output, b""), words)
+        for words, status in ((["kcv", "x"], 1), (["kcv", "@missing"], 1), (["kcv"], 2)):
             self.assertEqual(self.in_bash(words, "2>&-"), Ended(status, b"", b""), words)
             self.assertEqual(self.in_bash(words, "2>/dev/full"), Ended(status, b"", b""), words)
             self.assertEqual(self.in_bash(words, ">&- 2>&-"), Ended(status, b"", b""), words)
+        self.assertEqual((self.home / "it").read_text(), f"{BASE}\n")
 
     def test_faults_before_output(self) -> None:
         """Where there is a fault nothing is written, so a device that is full is not noticed."""
         with open("/dev/full", "wb") as full:
             for words, fault in ((["unpin", "041274EDCBA9876E", "4012345678909"], b"NotAPinBlock\n"),
-                                 (["kcv", BASE, "x"], b"key refused\n")):
+                                 (["kcv", BASE, "x"], b"key refused\n"),
+                                 (["kcv", "@missing"], b"KEY: cannot read\n")):
                 ended = self.program.run(*words, output=full.fileno())
                 self.assert_ended(ended, 1, b"", fault, f"{spoken(words)} >/dev/full")

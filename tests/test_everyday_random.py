@@ -3,9 +3,10 @@ letter, and no secret where it does not belong."""
 from __future__ import annotations
 
 from collections import Counter
+from pathlib import Path
 
 from .support.case import ProgramCase
-from .support.everyday_cases import DRAWS, Draw
+from .support.everyday_cases import DRAWS, Case, Draw
 from .support.everyday_words import expected
 from .support.leaks import leaks
 from .support.program import Ended, spoken
@@ -14,6 +15,7 @@ from .support.quick import QuickRuns
 NUMBER_FAULTS = ("KSN refused", "counter refused")
 BASE_FAULTS = ("BDK refused", "initial refused")
 PAN_FAULTS = ("PanLength", "PanDigit")
+READS = ("cannot read", "too long", "not UTF-8")
 
 
 def kind_of(ended: Ended) -> str:
@@ -30,28 +32,32 @@ class TestEveryday(ProgramCase):
 
     def play(self, command: str, count: int, *kinds: str) -> None:
         """So many cases of a command, of which each of these kinds has to come."""
-        draw, tally = Draw(self.chance), Counter[str]()
+        home, tally = self.folder(), Counter[str]()
+        draw = Draw(self.chance, str(home))
         with QuickRuns(self.program) as runs:
             for _ in range(count * self.times):
-                tally[kind_of(self.check(runs, DRAWS[command](draw)))] += 1
+                case = DRAWS[command](draw)
+                tally[kind_of(self.check(runs, case))] += 1
         missing = [it for it in ("done", "arguments refused", *kinds) if not tally[it]]
         self.assertFalse(missing, f"this never came: {missing}, but {dict(tally)}")
         self.tells(f"{sum(tally.values())} runs, {tally['done']} done")
 
-    def check(self, runs: QuickRuns, words: list[str]) -> Ended:
-        wanted = expected(words)
-        ended = runs.run([word.encode() for word in words])
-        what = spoken(words)
+    def check(self, runs: QuickRuns, case: Case) -> Ended:
+        for path, data in case.files.items():
+            Path(path).write_bytes(data)
+        wanted = expected(case.words, case.files, case.given)
+        ended = runs.run([word.encode() for word in case.words], case.given)
+        what = f"{spoken(case.words)} with {case.files} and {case.given!r}"
         if wanted.status == 2:
             self.assertTrue(ended.faults.startswith(wanted.faults), f"{what}: {ended}, no {wanted}")
             self.assert_ended(ended, 2, b"", ended.faults, what)
         else:
             self.assert_ended(ended, wanted.status, wanted.output, wanted.faults, what)
-        self.assertEqual(leaks(words, ended), [], what)
+        self.assertEqual(leaks(case, ended), [], what)
         return ended
 
     def test_derive(self) -> None:
-        self.play("derive", 1200, *BASE_FAULTS, *NUMBER_FAULTS)
+        self.play("derive", 1200, *BASE_FAULTS, *NUMBER_FAULTS, *(f"BDK: {it}" for it in READS))
 
     def test_walk(self) -> None:
         self.play("walk", 700, *BASE_FAULTS, "IKSN refused", "count refused")
@@ -63,26 +69,27 @@ class TestEveryday(ProgramCase):
         self.play("registers", 700, *BASE_FAULTS, *NUMBER_FAULTS)
 
     def test_kcv(self) -> None:
-        self.play("kcv", 1300, "key refused")
+        self.play("kcv", 1300, "key refused", *(f"KEY: {it}" for it in READS))
 
     def test_mac(self) -> None:
-        self.play("mac", 1300, "key refused", "text refused")
+        self.play("mac", 1300, "key refused", "text refused", *(f"KEY: {it}" for it in READS))
 
     def test_unpin(self) -> None:
-        self.play("unpin", 1300, "block refused", *PAN_FAULTS, "key refused", "NotAPinBlock")
+        self.play("unpin", 1300, "block refused", *PAN_FAULTS, "key refused", "NotAPinBlock",
+                  "KEY: cannot read", *(f"{it}: {why}" for why in READS for it in ("BLOCK", "PAN")))
 
     def test_translate(self) -> None:
         self.play("translate", 1200, "block refused", *PAN_FAULTS, *BASE_FAULTS, *NUMBER_FAULTS,
-                  "zone refused", "NotAPinBlock")
+                  "zone refused", "NotAPinBlock", "ZONE: cannot read", "BLOCK: cannot read")
 
     def test_request(self) -> None:
         self.play("request", 1000, *BASE_FAULTS, *NUMBER_FAULTS, *PAN_FAULTS, "PinLength",
-                  "PinDigit", "amount refused")
+                  "PinDigit", "amount refused", "PIN: cannot read")
 
     def test_reply(self) -> None:
         self.play("reply", 1300, *BASE_FAULTS, "request refused", "answer refused", "NotMine",
                   "BadMac")
 
     def test_others(self) -> None:
-        """`pin`, `wrap` and `unwrap`."""
+        """`pin`, `wrap` and `unwrap`, whose secrets may be references too."""
         self.play("others", 700, "KBPK refused", "Hex")

@@ -73,7 +73,7 @@ class Rows(ProgramCase):
 
     def test_bytes_that_are_no_text(self) -> None:
         for words in (("kcv", b"\xff"), ("mac", BASE, b"\xff"), ("unpin", b"\xc3", "1"),
-                      ("derive", b"\xff", SERIAL), ("request", BASE, SERIAL, b"\x80", "1", "1")):
+                      ("derive", b"@\xff", SERIAL), ("request", BASE, SERIAL, b"\x80", "1", "1")):
             ended = self.program.run(*words)
             self.assertEqual((ended.status, ended.output), (2, b""), spoken(words))
 

@@ -4,8 +4,13 @@ from __future__ import annotations
 from typing import Optional, Sequence
 
 from .support.bank import BANK, LONGEST, BankCase
+from .support.dukpt import SPENT
+from .support.everyday_rows import BASE
+from .support.images import log_disk
+from .support.issuing import numbers_from
 from .support.little_memory import AMPLE, OUT_OF_MEMORY, PAGE, least_to_start
 from .support.program import Ended, Limits, Word, spoken
+from .support.shown import log_ended
 from .test_lost_output import WRITERS
 
 # Of the bytes of a word that a system takes.
@@ -48,6 +53,22 @@ class LittleMemory(BankCase):
         self.tells(f"{words[0]}: out of memory {len(told)} times, "
                    f"{least >> 10} to {ample >> 10} KiB")
         return told
+
+    def test_a_shown_log(self) -> None:
+        """All of it is printed, or nothing."""
+        data = log_disk([at % 50 * SPENT + at // 50 for at in range(20_000)], 1)
+        self.write("log", data)
+        told = self.try_sizes(("show", "log", "log"), log_ended(data).output, 20)
+        self.assertEqual(set(told), {0})
+
+    def test_issued_numbers(self) -> None:
+        """A run that passes over all of its numbers has their list; it prints nothing, and the
+        ledger is as before."""
+        data = log_disk(numbers_from(0, 20_000), 1)
+        self.write("ledger", data)
+        words = ("issue", BASE, BASE, "0" * 20, "20000", "--ledger", "ledger", "--skip-issued")
+        self.assertEqual(set(self.try_sizes(words, b"", 20)), {0})
+        self.assertEqual((self.home / "ledger").read_bytes(), data)
 
     def test_a_run_of_many_lines(self) -> None:
         """Of a run that is refused memory the lines of the events before it are written."""

@@ -20,7 +20,7 @@ CRATE = ROOT / "crates" / "duk_driver"
 # The number of the allocation that is refused: so many the program takes before its call and in it,
 # after those for its own.
 REFUSED_AT = 4000 + 7
-SECONDS = 900
+SECONDS = 1800
 
 
 @dataclass(frozen=True)
@@ -49,7 +49,7 @@ CALLS = {
     "parse_script": Growths(1, 5, 3),
     "run_script": Growths(1, 56, 40, has_events=True),
     "run_status": Growths(1, 58, 40, has_events=True),
-    "command": Growths(1, 194, 20),
+    "command": Growths(1, 220, 20),
 }
 ANSWER = re.compile(r"^(\S+) (\d+): (.*)$", re.M)
 ANSWERS = ("before", "refused", "midway", "whole")

@@ -78,24 +78,36 @@ class Recipes(ProgramCase):
         self.assertEqual(parts[-1], "", "what is printed after the last command")
         return list(zip(parts[::2], parts[1::2])), done.stderr.decode(errors="replace")
 
-    def test_a_loading_block(self) -> None:
+    def test_loading_blocks(self) -> None:
         self.run_recipe(0)
 
     def test_components(self) -> None:
         self.run_recipe(1)
 
-    def test_a_trace(self) -> None:
+    def test_secrets_by_reference(self) -> None:
         self.run_recipe(2)
 
-    def test_a_translated_pin_block(self) -> None:
+    def test_a_refused_argument(self) -> None:
         self.run_recipe(3)
 
-    def test_a_walk(self) -> None:
+    def test_many_items(self) -> None:
         self.run_recipe(4)
 
-    def test_a_file_of_frames(self) -> None:
+    def test_a_frame(self) -> None:
         self.run_recipe(5)
+
+    def test_a_trace(self) -> None:
+        self.run_recipe(6)
+
+    def test_a_translated_pin_block(self) -> None:
+        self.run_recipe(7)
+
+    def test_a_walk(self) -> None:
+        self.run_recipe(8)
+
+    def test_a_file_of_frames(self) -> None:
+        self.run_recipe(9)
 
     def test_there_are_no_others(self) -> None:
         """The last one is of the page, and has no command."""
-        self.assertEqual([bool(commands) for _, commands in recipes()], [True] * 6 + [False])
+        self.assertEqual([bool(commands) for _, commands in recipes()], [True] * 10 + [False])

@@ -11,8 +11,8 @@ from .support.log_file import RECORD
 from .support.program import SECONDS, Ended, Limits
 from .support.service import NARROW, PIECE, PLAIN, How
 from .support.service_case import (
-    AMPLE, LOG_FAILED, ON_LOG, WRITE_FAILED, ServiceCase, answers_to, frames_of, numbers_of,
-    stream_of)
+    AMPLE, LOG_FAILED, ON_LOG, READ_FAILED, WRITE_FAILED, ServiceCase, answers_to, frames_of,
+    numbers_of, stream_of)
 
 
 class SlowOutput(ServiceCase):
@@ -64,6 +64,20 @@ class LostOutput(ServiceCase):
             how = How(taken=full.fileno())
             self.check(ON_LOG, frames_of(requests), b"", WRITE_FAILED, how)
         self.assert_image(numbers_of(requests[:1]), "an output that takes nothing")
+
+    def test_a_closed_one(self) -> None:
+        """The log is not taken for it, nor for standard error."""
+        requests, cut = payments(2), payments(1)[0].frame[:9]
+        for way, answers, kept in ((">&-", b"", 1), (">&- 2>&-", b"", 1), ("<&- >&- 2>&-", b"", 0),
+                                   ("2>&-", answers_to(requests), 2), ("<&-", b"", 0)):
+            self.make_log(3)
+            done = subprocess.run(
+                ["bash", "-c", f'exec "$0" "$@" {way}', str(self.program.path), *ON_LOG],
+                cwd=self.home, input=stream_of(requests) + cut, capture_output=True, check=False,
+                timeout=SECONDS)
+            fault = b"" if "2>" in way else f"{WRITE_FAILED if kept else READ_FAILED}\n".encode()
+            self.assertEqual((done.returncode, done.stdout, done.stderr), (1, answers, fault), way)
+            self.assert_image(numbers_of(requests[:kept]), way)
 
 
 class FailingWrites(ServiceCase):

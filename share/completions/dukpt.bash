@@ -3,24 +3,26 @@
 # What may stand after each command. A word in capitals is a value's name, with two dots where several
 # may stand. The test bench compares these arguments with the program's help.
 declare -gA _dukpt_arguments=(
-    [derive]="BDK KSN --initial --trace --all -h --help"
-    [walk]="BDK IKSN COUNT --skip=K --ksn --initial -h --help"
-    [initial]="BDK IKSN -h --help"
-    [registers]="BDK KSN --initial -h --help"
-    [kcv]="KEY.. --components --show -h --help"
-    [mac]="KEY TEXT --cmac --hex -h --help"
-    [pin]="PIN PAN --key=KEY -h --help"
-    [unpin]="BLOCK PAN --key=KEY --show -h --help"
-    [translate]="BLOCK PAN BDK KSN ZONE --initial -h --help"
-    [wrap]="KBPK FIELDS KEY PAD -h --help"
-    [unwrap]="KBPK BLOCK -h --help"
-    [request]="BDK KSN PAN PIN AMOUNT --initial -h --help"
-    [reply]="BDK REQUEST ANSWER --initial -h --help"
-    [run]="CONFIG SCRIPT -h --help"
-    [serve]="CONFIG --log=FILE -h --help"
+    [derive]="BDK KSN --initial --trace --all --explain -h --help"
+    [walk]="BDK IKSN COUNT --skip=K --ksn --initial --explain -h --help"
+    [initial]="BDK IKSN --explain -h --help"
+    [issue]="BDK LOADING IKSN COUNT --ledger=FILE --skip-issued --explain -h --help"
+    [registers]="BDK KSN --initial --explain -h --help"
+    [kcv]="KEY.. --components --show --explain -h --help"
+    [mac]="KEY TEXT --cmac --hex --explain -h --help"
+    [pin]="PIN PAN --key=KEY --explain -h --help"
+    [unpin]="BLOCK PAN --key=KEY --show --explain -h --help"
+    [translate]="BLOCK PAN BDK KSN ZONE --initial --explain -h --help"
+    [wrap]="KBPK FIELDS KEY PAD --explain -h --help"
+    [unwrap]="KBPK BLOCK --explain -h --help"
+    [show]="KIND WHAT --show --explain -h --help"
+    [request]="BDK KSN PAN PIN AMOUNT --initial --explain -h --help"
+    [reply]="BDK REQUEST ANSWER --initial --explain -h --help"
+    [run]="CONFIG SCRIPT --explain -h --help"
+    [serve]="CONFIG --log=FILE --explain -h --help"
     [help]="COMMAND"
 )
-_dukpt_options="-h --help -V --version"
+_dukpt_options="--explain -h --help -V --version"
 
 # Which value the last of these words is; nothing where it is none.
 _dukpt_value() {
@@ -47,11 +49,19 @@ _dukpt_value() {
     fi
 }
 
+# Offers the files that begin so. Bash has cut the word at its = and @.
+_dukpt_files() {
+    compopt -o filenames 2>/dev/null
+    mapfile -t COMPREPLY < <(compgen -f -- "$1")
+}
+
 _dukpt() {
     local words=() word offered=
-    # Bash cuts its own words at =. The dot stands for the cursor.
+    # Bash cuts its own words at = and @. The dot stands for the cursor.
     read -ra words <<<"${COMP_LINE:0:COMP_POINT}."
     words[-1]=${words[-1]%.}
+    # It may stand before the command too.
+    [[ ${words[1]} == --explain && ${#words[@]} -gt 2 ]] && words=("${words[0]}" "${words[@]:2}")
     word=${words[-1]}
     if ((${#words[@]} == 2)); then
         offered="${!_dukpt_arguments[*]} $_dukpt_options"
@@ -62,11 +72,17 @@ _dukpt() {
         return
     else
         [[ $word == --*=* ]] && word=${word#*=}
-        case $(_dukpt_value "${words[@]}") in
-            COMMAND) offered=${!_dukpt_arguments[*]} ;;
-            CONFIG | SCRIPT | FILE) compopt -o filenames 2>/dev/null
-                mapfile -t COMPREPLY < <(compgen -f -- "$word")
+        case ${words[1]}:$(_dukpt_value "${words[@]}") in
+            *:COMMAND) offered=${!_dukpt_arguments[*]} ;;
+            *:KIND) offered="frame block image log" ;;
+            *:CONFIG | *:SCRIPT | *:FILE) _dukpt_files "$word"; return ;;
+            unwrap:BLOCK) ;;
+            # A secret may stand in a file.
+            *:BDK | *:KBPK | *:LOADING | *:PIN | *:PAN | *:ZONE | *:KEY | *:KEY.. | *:BLOCK)
+                [[ $word == @* ]] && _dukpt_files "${word#@}"
                 return ;;
+            # A log is a file too.
+            *:WHAT) _dukpt_files "${word#@}"; return ;;
         esac
     fi
     COMPREPLY=($(compgen -W "$offered" -- "$word"))

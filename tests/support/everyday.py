@@ -2,7 +2,7 @@
 
 It has `initial`, `registers`, `kcv`, `mac`, `unpin`, `translate`, `request` and `reply`, and `derive`
 and `walk` with all of their options, over the ciphers of the bench. `everyday_words` has what stands
-before them: how arguments are read.
+before them: how arguments are read, and secrets by reference.
 """
 from __future__ import annotations
 

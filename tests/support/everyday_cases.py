@@ -1,14 +1,15 @@
-"""Arguments of the commands of every day at random, right ones and wrong ones. `everyday_words`
-says how each case has to end."""
+"""Arguments of the commands of every day at random, right ones and wrong ones, with files and standard
+input that hold secrets. `everyday_words` says how each case has to end."""
 from __future__ import annotations
 
 import random
+from dataclasses import dataclass, field
 from typing import Callable, Optional, Sequence
 
 from .des import encrypt_block
 from .dukpt import COUNTER_BITS, SPENT, derive, key_of, pin_key, serial_text
 from .everyday import NUMBERS, nth_counter
-from .everyday_words import COMMANDS, MOST_KEYS
+from .everyday_words import COMMANDS, MOST_BYTES, MOST_KEYS, is_secret
 from .frames import CODES, NO_NUMBER, REASONS, write_refusal, write_reply, write_request
 from .key_blocks import wrap
 from .pin_blocks import pin_block
@@ -19,18 +20,24 @@ COUNTERS = (0, 0x7FF, 0x1FFFFF, 0x1FFC00, 1, 0x7FE, 0x1FF800, 1 << COUNTER_BITS 
 NO_COUNTS = ("", "x", "1x", "-", "0x1", "1048577", "99999999999999999999", " 1", "\u0661", "1.0")
 # Words that are neither keys nor numbers, frames or texts of digits.
 NOTHINGS = ("", "g", "zz", "0", "00", "\u00e9" * 8, "12 34", "0x" + "1" * 30, "nothing")
-TEXTS = ("", "a", "4012345678909D987", "\u20ac 5,00", " ", "@", "00", "0g", "0a0")
+TEXTS = ("", "a", "4012345678909D987", "\u20ac 5,00", " ", "@", "@-", "@missing", "00", "0g", "0a0")
 
 
-# The arguments of a run.
-Case = list[str]
+@dataclass
+class Case:
+    """The arguments of a run, and what the files that they name and its standard input hold."""
+
+    words: list[str]
+    files: dict[str, bytes] = field(default_factory=dict)
+    given: bytes = b""
 
 
 class Draw:
-    """Draws cases."""
+    """Draws cases. Files stand in a folder; those that a case names are the caller's to write."""
 
-    def __init__(self, chance: random.Random) -> None:
+    def __init__(self, chance: random.Random, folder: str) -> None:
         self.chance = chance
+        self.folder = folder
 
     def one_in(self, count: int) -> bool:
         return self.chance.randrange(count) == 0
@@ -93,20 +100,24 @@ class Draw:
 
     def case(self, command: str, *words: str, flags: Optional[Sequence[str]] = None,
              **valued: Optional[str]) -> Case:
-        """A command with these values, and with options at random or these."""
-        parts = [(False, [word]) for word in words]
-        given = [it for it in COMMANDS[command].flags if self.one_in(2)] if flags is None else flags
+        """A command with these values, with options at random or these, and secrets by reference."""
+        made, about = Case([]), COMMANDS[command]
+        names = about.values * len(words) if about.is_many else about.values
+        parts = [(False, [self.referred(made, command, name, word)])
+                 for name, word in zip(names, words)]
+        given = [it for it in about.flags if self.one_in(2)] if flags is None else flags
         options = [[f"--{it}"] for it in given]
         for name, value in valued.items():
             if value is not None:
-                options.append(self.chance.choice(([f"--{name}", value], [f"--{name}={value}"])))
-        is_many = COMMANDS[command].is_many
+                word = self.referred(made, command, about.valued[name], value)
+                options.append(self.chance.choice(([f"--{name}", word], [f"--{name}={word}"])))
         for option in options:
             # Keys of which there may be many stand together.
             ends = (0, len(parts))
-            at = self.chance.choice(ends) if is_many else self.chance.randint(*ends)
+            at = self.chance.choice(ends) if about.is_many else self.chance.randint(*ends)
             parts.insert(at, (True, option))
-        return self.refused_words([command, *self.joined(parts, is_many)])
+        made.words = [command, *self.joined(parts, about.is_many)]
+        return self.refused_words(made)
 
     def joined(self, parts: list[tuple[bool, list[str]]], is_together: bool) -> list[str]:
         """The words of options and values. From the first value with a hyphen on, or now and then
@@ -122,11 +133,41 @@ class Draw:
         moved = [word for is_option, it in parts[at:] for word in it if is_option]
         return [*before, *moved, "--", *(it[0] for is_option, it in parts[at:] if not is_option)]
 
-    def refused_words(self, words: Case) -> Case:
+    def refused_words(self, case: Case) -> Case:
         """Now and then a word is missing, or there is one more."""
         if self.one_in(60):
-            return [*words, "extra"]
-        return words[:1] if self.one_in(60) else words
+            case.words.append("extra")
+        elif self.one_in(60):
+            case.words = case.words[:1]
+        return case
+
+    def referred(self, case: Case, command: str, name: str, word: str) -> str:
+        """A secret in a file or on standard input, now and then."""
+        if not is_secret(command, name) or not self.one_in(4):
+            return word
+        data = self.file_of(word.encode())
+        if self.one_in(4):
+            case.given = case.given or data
+            return "@-"
+        path = f"{self.folder}/{len(case.files)}"
+        if self.one_in(8):
+            return f"@{path}.missing"
+        case.files[path] = data
+        return f"@{path}"
+
+    def file_of(self, line: bytes) -> bytes:
+        """A file whose first line this is, or now and then another one, or none that is read."""
+        if self.one_in(8):
+            return self.chance.choice((
+                line + b"\xff\n", b"\xed\xa0\x80\n", b"0" * (MOST_BYTES + 1), b"0" * MOST_BYTES + b"\r",
+                b"\xff" * (MOST_BYTES + 1)))
+        if self.one_in(12):
+            return self.chance.choice((
+                b"", b"\n", b"\r\n", line + b"\r", b"\n" + line, b" " + line, line + b" \n",
+                b"\xef\xbb\xbf" + line, line + b"\x00\n", b"0" * MOST_BYTES + b"\n",
+                b"0" * MOST_BYTES + b"\r\n"))
+        return line + self.chance.choice((b"\n", b"\n", b"\r\n", b"", b"\nmore\n", b"\n\xff\xfe",
+                                          b"\r\n" + b"x" * 5000, b"\n\n"))
 
     # Each command
 
@@ -227,7 +268,7 @@ class Draw:
     def unwrap_case(self) -> Case:
         (protection, word), (key, _) = self.key(16, 24), self.key(16, 24)
         text = wrap(protection, b"P0TE00E", key, self.chance.randbytes(6)).decode()
-        return self.case("unwrap", word, self.chance.choice((text, text, text[:-1] + "g")))
+        return self.case("unwrap", word, self.chance.choice((text, text, text[:-1] + "g", "@block")))
 
 
 DRAWS: dict[str, Callable[[Draw], Case]] = {

@@ -39,6 +39,7 @@ RIGHT = {
     "mac": ["mac", BASE, "text"],
     "unpin": ["unpin", "1B9C1845EB993A7A", PAN, "--key", PIN_KEY, "--show"],
     "translate": ["translate", "1B9C1845EB993A7A", PAN, BASE, SERIAL, ZONE],
+    "show": ["show", "frame", REQUEST, "--show"],
     "request": ["request", BASE, SERIAL, PAN, PIN, "1"],
     "reply": ["reply", BASE, REQUEST, REPLY],
 }

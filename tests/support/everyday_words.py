@@ -1,27 +1,32 @@
 """How the program has to end on arguments of the commands over keys and PINs, by docs/COMMANDS.md:
 its status, its output and its faults, to the letter.
 
-First the arguments are read as such; then the command does its work, by `everyday` and `commands`.
-Of arguments that are refused as such, whose text is of `clap`, only the first line is known here.
+First the arguments are read as such; then the references to secrets, each in its turn; then the
+command does its work, by `everyday` and `commands`. Of arguments that are refused as such, whose text
+is of `clap`, only the first line is known here.
 """
 from __future__ import annotations
 
 from dataclasses import dataclass, field
-from typing import Callable, Mapping, Sequence
+from typing import Callable, Mapping, Optional, Sequence
 
 from .commands import Refused, pin_lines, unwrap_lines, wrap_lines
 from .everyday import (
     derive_lines, initial_lines, kcv_lines, mac_lines, registers_lines, reply_lines, request_lines,
     translate_lines, unpin_lines, walk_lines)
 from .program import Ended
+from .shown import show_lines
 
+# What a file named by a reference holds; one that is missing here cannot be read.
+Files = Mapping[str, bytes]
 Lines = Callable[..., list[str]]
 
+MOST_BYTES = 4096
 MOST_KEYS = 16
 # Arguments and values of options that are secrets.
 SECRETS = {"BDK", "KBPK", "PIN", "PAN", "ZONE"}
 OF_COMMANDS = {"wrap": {"KEY"}, "kcv": {"KEY"}, "mac": {"KEY"}, "pin": {"KEY"},
-               "unpin": {"KEY", "BLOCK"}, "translate": {"BLOCK"}}
+               "unpin": {"KEY", "BLOCK"}, "translate": {"BLOCK"}, "show": {"WHAT"}}
 
 
 @dataclass(frozen=True)
@@ -50,6 +55,8 @@ COMMANDS = {
     "mac": Command(mac_lines, ("KEY", "TEXT"), ("cmac", "hex")),
     "unpin": Command(unpin_lines, ("BLOCK", "PAN"), ("show",), {"key": "KEY"}),
     "translate": Command(translate_lines, ("BLOCK", "PAN", "BDK", "KSN", "ZONE"), INITIAL),
+    # A text; the logs are files.
+    "show": Command(show_lines, ("KIND", "WHAT"), ("show",)),
     "request": Command(request_lines, ("BDK", "KSN", "PAN", "PIN", "AMOUNT"), INITIAL),
     "reply": Command(reply_lines, ("BDK", "REQUEST", "ANSWER"), INITIAL),
 }
@@ -126,6 +133,52 @@ def read_option(word: str, left: list[str], command: Command, given: Given) -> N
         raise ArgumentsRefused(f"unexpected argument '--{name}' found")
 
 
+# Secrets by reference
+
+
+class References:
+    """Reads what references name; standard input once."""
+
+    def __init__(self, files: Files, given: bytes) -> None:
+        self.files = files
+        self.given: Optional[bytes] = given
+
+    def text(self, name: str, word: str) -> str:
+        if not word.startswith("@"):
+            return word
+        if word == "@-":
+            data, self.given = self.given, None
+        else:
+            data = self.files.get(word[1:])
+        if data is None:
+            raise Refused(f"{name}: cannot read")
+        return first_line(name, data)
+
+
+def first_line(name: str, data: bytes) -> str:
+    """The first line without its end, which is LF or CR LF."""
+    line, end, _ = data.partition(b"\n")
+    if end and line.endswith(b"\r"):
+        line = line[:-1]
+    if len(line) > MOST_BYTES:
+        raise Refused(f"{name}: too long")
+    try:
+        return line.decode()
+    except UnicodeDecodeError:
+        raise Refused(f"{name}: not UTF-8") from None
+
+
+def resolve(name: str, command: Command, given: Given, references: References) -> None:
+    """Puts texts in the place of references: of the values in their order, then of the options."""
+    for at, word in enumerate(given.values):
+        called = command.values[0 if command.is_many else at]
+        if is_secret(name, called):
+            given.values[at] = references.text(called, word)
+    for option, called in command.valued.items():
+        if option in given.valued and is_secret(name, called):
+            given.valued[option] = references.text(called, given.valued[option])
+
+
 # The whole
 
 
@@ -137,7 +190,7 @@ def lines_of(name: str, given: Given) -> list[str]:
     return command.lines(*values, **options)
 
 
-def expected(words: Sequence[str]) -> Ended:
+def expected(words: Sequence[str], files: Optional[Files] = None, given: bytes = b"") -> Ended:
     """How a run with these arguments ends. Of refused arguments it has the first line alone."""
     name, *rest = words
     try:
@@ -145,6 +198,7 @@ def expected(words: Sequence[str]) -> Ended:
     except ArgumentsRefused as why:
         return Ended(2, b"", f"error: {why}\n".encode())
     try:
+        resolve(name, COMMANDS[name], said, References(files or {}, given))
         lines = lines_of(name, said)
     except Refused as why:
         return Ended(1, b"", f"{why}\n".encode())

@@ -3,12 +3,13 @@ asked to show them."""
 from __future__ import annotations
 
 import re
-from typing import Sequence
 
-from .commands import shown
+from .commands import Refused, shown
 from .des import decrypt_block
 from .dukpt import derive, initial_key, iksn_of, key_of, pin_key
-from .everyday_words import COMMANDS, ArgumentsRefused, Given, is_secret, read
+from .everyday_cases import Case
+from .everyday_words import (
+    COMMANDS, ArgumentsRefused, Given, References, is_secret, read, resolve)
 from .pin_blocks import pin_block, pin_in
 from .program import Ended
 
@@ -18,13 +19,18 @@ LEAST = 4
 LONG = 16
 
 
-def leaks(words: Sequence[str], ended: Ended) -> list[str]:
-    """The secrets among these arguments that stand where they must not."""
-    name, *rest = words
+def leaks(case: Case, ended: Ended) -> list[str]:
+    """The secrets of a case that stand where they must not."""
+    name, *rest = case.words
+    command = COMMANDS[name]
     try:
-        given = read(rest, COMMANDS[name])
+        given = read(rest, command)
+        resolve(name, command, given, References(case.files, case.given))
     except ArgumentsRefused:
         return []
+    except Refused:
+        # Some are references yet; what they name is searched for as far as it was read.
+        pass
     secrets = {word for word in given_secrets(name, given) if len(word) >= LEAST}
     found = [it for it in secrets if is_in(it, ended.faults)]
     if ended.status == 0:

@@ -12,7 +12,9 @@ from .program import ROOT
 
 # What the program itself takes, beside its commands.
 PROGRAM = "dukpt"
-HELP: dict[str, Optional[str]] = {"-h": None, "--help": None}
+# What each command takes.
+EXPLAIN = "--explain"
+EACH: dict[str, Optional[str]] = {"-h": None, "--help": None, EXPLAIN: None}
 
 Options = dict[str, Optional[str]]
 
@@ -81,7 +83,9 @@ def words_of_help(helps: dict[str, str]) -> Words:
     """The words of the help of the program and of each command."""
     words = Words()
     for command, text in helps.items():
-        words.add(command, values_of_help(text), options_of_help(text))
+        # It stands in the texts of the helps, and not among the options.
+        explains = {EXPLAIN: None} if EXPLAIN in text else {}
+        words.add(command, values_of_help(text), {**options_of_help(text), **explains})
     return words
 
 
@@ -107,18 +111,20 @@ def examples_of_help(text: str) -> list[tuple[str, str]]:
 
 
 def words_of_heading(text: str) -> tuple[str, list[str], Options]:
-    """Of `walk BDK [--skip K] [--ksn]`: the command, the words for values, and the options."""
+    """Of `walk BDK [--skip K] [--ksn]`: the command, the words for values, and the options. One that
+    has to stand there has no brackets."""
     command, _, rest = text.partition(" ")
-    found = re.findall(r"\[(--[\w-]+)(?: (\w+))?\]", rest)
-    options = {name: value or None for name, value in found}
-    values = re.sub(r"\[--[^]]*\]", "", rest).split()
+    option = r"\[(--[\w-]+)(?: (\w+))?\]|(--[\w-]+) (\w+)"
+    options = {name or needed: value or word or None
+               for name, value, needed, word in re.findall(option, rest)}
+    values = re.sub(option, "", rest).split()
     # `KEY..` stands for one or more.
     return command, [value.strip("[].") for value in values], options
 
 
-def with_help(command: str, options: Options) -> Options:
-    """A heading says nothing of the help that each command has."""
-    return options if command == "help" else {**options, **HELP}
+def with_each(command: str, options: Options) -> Options:
+    """A heading says nothing of what each command takes."""
+    return options if command == "help" else {**options, **EACH}
 
 
 def words_of_manual() -> Words:
@@ -129,7 +135,7 @@ def words_of_manual() -> Words:
             command = PROGRAM if rest == "OPTIONS" else None
         elif macro == ".SS":
             command, values, options = words_of_heading(rest)
-            words.add(command, values, with_help(command, options))
+            words.add(command, values, with_each(command, options))
         elif command == PROGRAM and macro == ".BR" and rest.startswith("-"):
             words.options[PROGRAM].update(dict.fromkeys(re.findall(r"-[\w-]+", rest)))
         elif command and macro in (".I", ".BI", ".B") and re.match(r"--|[A-Z]+(\.\.)?$", rest):
@@ -142,7 +148,7 @@ def demand_described(words: Words, described: dict[str, list[str]]) -> None:
     """Below each heading of the manual page stand the words of the heading, and no others."""
     for command, values in words.values.items():
         named = [" ".join(filter(None, (option, value)))
-                 for option, value in words.options[command].items() if option not in HELP]
+                 for option, value in words.options[command].items() if option not in EACH]
         found = [re.sub(" +", " ", it) for it in described.get(command, [])]
         if command != PROGRAM and sorted(found) != sorted(values + named):
             raise Unreadable(f"the words below {command} are not those of its heading")
@@ -153,7 +159,7 @@ def words_of_commands() -> Words:
     words, text = Words(), text_of("docs", "COMMANDS.md")
     for heading in re.findall(r"^## `(.*)`$", text, re.M):
         command, values, options = words_of_heading(heading)
-        words.add(command, values, with_help(command, options))
+        words.add(command, values, with_each(command, options))
     rows = re.findall(r"^\| (`.*?) \|", text.split("\n## ")[0], re.M)
     for name in re.findall(r"`([^`]+)`", " ".join(rows)):
         if name.startswith("-"):
@@ -217,7 +223,7 @@ def words_of_fish() -> Words:
         words.add(command, [it.rstrip(".") for it in values.split()], {})
     for command, rest in re.findall(OPTION_OF_FISH, text, re.M):
         value = re.search(r"-[xr] .*-d '(\w+):", rest)
-        for dash, name in re.findall(r"-(s|l) (\w+)", rest.partition(" -d ")[0]):
+        for dash, name in re.findall(r"-(s|l) ([\w-]+)", rest.partition(" -d ")[0]):
             name = f"-{name}" if dash == "s" else f"--{name}"
             words.options[command or PROGRAM][name] = value.group(1) if value else None
     offered = re.search(r"from help' -a '(.*)'$", text, re.M)

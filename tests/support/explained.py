@@ -1,0 +1,414 @@
+"""What `--explain` adds to the line of a fault: a line more, of the arguments as they were read, of the
+fault's line, and of what the system says of a file.
+
+`expected` is the whole of a run of the commands over keys and PINs; of the others `explained` has the
+line, where a test says what is known of their files.
+"""
+from __future__ import annotations
+
+import re
+from dataclasses import dataclass, field
+from typing import Mapping, Optional, Sequence
+
+from . import everyday_words
+from .commands import MOST_COUNT, Refused
+from .everyday_words import COMMANDS, Files, Given, References, resolve
+from .program import Ended
+from .shown import log_lines
+
+# Why a file is refused.
+MISSING, NO_PERMISSION, A_FOLDER, IN_USE = "no such file", "no permission", "a folder", "in use"
+OTHER, READ_BEFORE = "the system refuses it", "standard input, read before"
+
+HEX = frozenset(b"0123456789ABCDEFabcdef")
+DECIMAL = frozenset(b"0123456789")
+PRINTABLE = frozenset(range(0x20, 0x7F))
+ANY = frozenset(range(256))
+
+ONE_KEY, ANY_KEY = "32 hexadecimal digits", "32 or 48 hexadecimal digits"
+PAIRS = "pairs of hexadecimal digits"
+READABLE = "a file that can be read"
+A_LOG = "a file of zeros, 16 bytes a number, that no other uses"
+BEFORE_16 = "write FFFF before it"
+COUNTER_BITS = 21
+
+
+@dataclass(frozen=True)
+class Facts:
+    """What is known of a file after a fault: why it is refused; and which record of a log, from 0, or
+    which line of a text, from 1, is at fault."""
+
+    reason: str = OTHER
+    place: Optional[int] = None
+
+
+@dataclass(frozen=True)
+class Asked:
+    """A command with its arguments, by their names; those of which there may be many stand apart."""
+
+    command: str
+    texts: Mapping[str, str] = field(default_factory=dict)
+    keys: Sequence[str] = ()
+    flags: frozenset[str] = frozenset()
+
+
+@dataclass(frozen=True)
+class Explanation:
+    name: str
+    found: str
+    wanted: str
+    way: str = ""
+
+    def __str__(self) -> str:
+        return f"{self.name}: {self.found}; wanted: {self.wanted}" + (f"; {self.way}" if self.way else "")
+
+
+# What is found of a text
+
+
+def first_wrong(text: str, kind: frozenset[int]) -> Optional[int]:
+    """The place of the first byte that is not of a kind."""
+    return next((at for at, byte in enumerate(text.encode()) if byte not in kind), None)
+
+
+def measured(text: str, wrong: Optional[int]) -> str:
+    """All that is told of a text, which may be a secret."""
+    count = len(text.encode())
+    bytes_ = "1 byte" if count == 1 else f"{count} bytes"
+    return bytes_ if wrong is None else f"{bytes_}, wrong at {wrong}"
+
+
+def found_in(text: str, kind: frozenset[int]) -> str:
+    return measured(text, first_wrong(text, kind))
+
+
+def is_16_digits(text: str) -> bool:
+    return len(text) == 16 and first_wrong(text, HEX) is None
+
+
+def first_one_bit(text: str) -> Optional[int]:
+    """Of twenty digits: the first that has one of the last 21 bits, and that bit is one."""
+    bits = f"{int(text, 16):080b}"
+    one = bits.find("1", len(bits) - COUNTER_BITS)
+    return None if one < 0 else one // 4
+
+
+def is_count(text: str) -> bool:
+    return bool(re.fullmatch("[0-9]+", text)) and int(text) <= MOST_COUNT
+
+
+# Faults of one argument, by its name: what it is made of, and what is wanted.
+
+TEXTS = {
+    "BDK refused": ("BDK", HEX, ONE_KEY),
+    "initial refused": ("BDK", HEX, ONE_KEY),
+    "KBPK refused": ("KBPK", HEX, ANY_KEY),
+    "loading refused": ("LOADING", HEX, ANY_KEY),
+    "zone refused": ("ZONE", HEX, ANY_KEY),
+    "fields refused": ("FIELDS", ANY, "7 bytes"),
+    "pad refused": ("PAD", HEX, PAIRS),
+    "PadLength": ("PAD", HEX, "12 hexadecimal digits, and 16 for each further block"),
+    "block refused": ("BLOCK", HEX, "16 hexadecimal digits"),
+    "PinLength": ("PIN", DECIMAL, "4 to 12 decimal digits"),
+    "PinDigit": ("PIN", DECIMAL, "4 to 12 decimal digits"),
+    "PanLength": ("PAN", DECIMAL, "12 to 19 decimal digits"),
+    "PanDigit": ("PAN", DECIMAL, "12 to 19 decimal digits"),
+    "amount refused": ("AMOUNT", DECIMAL, "a number up to 4294967295"),
+    "request refused": ("REQUEST", HEX, "the frame of a request whose number is usable",
+                        "show frame tells its fields"),
+    "answer refused": ("ANSWER", HEX, "the frame of a reply or of a refusal",
+                       "show frame tells its fields"),
+    "KIND refused": ("KIND", ANY, "frame, block, image or log"),
+}
+A_KEY_BLOCK = ("BLOCK", ANY, "a key block of version B", "show block tells the place")
+OF_UNWRAP = dict.fromkeys(("Length", "Version", "HeaderField", "OptionalBlock", "Hex"), A_KEY_BLOCK)
+PRINTED_FIELDS = ("FIELDS", PRINTABLE, "printable characters")
+
+
+def of_text(asked: Asked, fault: str) -> Optional[Explanation]:
+    if asked.command == "unwrap":
+        row = OF_UNWRAP.get(fault) or TEXTS.get(fault)
+    elif (asked.command, fault) == ("wrap", "HeaderField"):
+        row = PRINTED_FIELDS
+    else:
+        row = TEXTS.get(fault)
+    if row is None:
+        return None
+    name, kind, *rest = row
+    return Explanation(name, found_in(asked.texts[name], kind), *rest)
+
+
+# Faults of one argument that are told otherwise
+
+
+def of_ksn(asked: Asked) -> Explanation:
+    text = asked.texts["KSN"]
+    way = BEFORE_16 if is_16_digits(text) else ""
+    return Explanation("KSN", found_in(text, HEX), "20 hexadecimal digits", way)
+
+
+def of_counter(asked: Asked) -> Explanation:
+    ones = (int(asked.texts["KSN"], 16) % (1 << COUNTER_BITS)).bit_count()
+    return Explanation("KSN", f"{ones} one bits in its counter", "1 to 10",
+                       "walk prints the numbers that a terminal uses")
+
+
+def of_iksn(asked: Asked) -> Explanation:
+    text = asked.texts["IKSN"]
+    wrong = first_wrong(text, HEX)
+    if len(text) == 20 and wrong is None:
+        wrong = first_one_bit(text)
+    way = BEFORE_16 if is_16_digits(text) else ""
+    return Explanation("IKSN", measured(text, wrong), "20 hexadecimal digits, the last 21 bits zeros", way)
+
+
+def of_count(asked: Asked) -> Explanation:
+    if asked.command == "issue":
+        wanted = "1 to 1048576, no more than are left from IKSN on"
+        return Explanation("COUNT", found_in(asked.texts["COUNT"], DECIMAL), wanted)
+    name = "K" if is_count(asked.texts["COUNT"]) else "COUNT"
+    return Explanation(name, found_in(asked.texts[name], DECIMAL), "a number up to 1048576")
+
+
+def of_key(asked: Asked) -> Explanation:
+    if asked.command == "kcv":
+        return of_keys(asked.keys)
+    is_any = asked.command == "wrap" or "cmac" in asked.flags
+    return Explanation("KEY", found_in(asked.texts["KEY"], HEX), ANY_KEY if is_any else ONE_KEY)
+
+
+def of_keys(keys: Sequence[str]) -> Explanation:
+    """The first that is no key; where all are, the first that is not as long as the first one."""
+    none = next((at for at, it in enumerate(keys)
+                 if len(it) not in (32, 48) or first_wrong(it, HEX) is not None), None)
+    if none is not None:
+        name = "KEY" if len(keys) == 1 else f"KEY {none + 1}"
+        return Explanation(name, found_in(keys[none], HEX), ANY_KEY)
+    other = next(at for at, it in enumerate(keys) if len(it) != len(keys[0]))
+    return Explanation(f"KEY {other + 1}", found_in(keys[other], HEX), "as many digits as KEY 1")
+
+
+def of_mac_text(asked: Asked) -> Explanation:
+    if "hex" in asked.flags:
+        return Explanation("TEXT", found_in(asked.texts["TEXT"], HEX), PAIRS)
+    return Explanation("TEXT", found_in(asked.texts["TEXT"], ANY), "one byte or more")
+
+
+OF_ONE = {"KSN refused": of_ksn, "counter refused": of_counter, "IKSN refused": of_iksn,
+          "count refused": of_count, "key refused": of_key, "text refused": of_mac_text}
+
+# Faults whose line says all that is known.
+
+NO_ROOM = Explanation("output", "a write failed", "a device with room, or a reader")
+CONSTANT = {
+    "NotAPinBlock": Explanation("BLOCK", "no PIN of this PAN",
+                                "the PAN and the key that it was made with"),
+    "NotMine": Explanation("ANSWER", "another key serial number", "the answer to REQUEST"),
+    "BadMac": Explanation("ANSWER", "another MAC",
+                          "the answer as it was sent, and the key of its terminal"),
+    "Mac": Explanation("BLOCK", "another MAC", "the key block as it was made, and its KBPK"),
+    "Payload": Explanation("BLOCK", "no such key", "a key of 16 or 24 bytes"),
+    "log: too long": Explanation("WHAT", "a longer file", "at most 1073741824 bytes"),
+    "ledger: failed": Explanation("ledger", "a step of its device failed", "a device that works",
+                                  "the next number may stand in it"),
+    "ledger: full": Explanation("ledger", "too little room", "16 bytes of zeros for each number"),
+    "config: too long": Explanation("CONFIG", "a longer file", "at most 1048576 bytes"),
+    "script: too long": Explanation("SCRIPT", "a longer file", "at most 1048576 bytes"),
+    "serve: read failed": Explanation("input", "a read failed", "frames"),
+    "serve: input ends in a frame": Explanation("input", "a part of a frame", "whole frames"),
+    "serve: frame too long": Explanation("input", "a length above 62", "frames of requests"),
+    "write failed": NO_ROOM,
+    "script: write failed": NO_ROOM,
+    "serve: write failed": NO_ROOM,
+    "batch: items refused": Explanation("input", "lines that are refused", "one item a line",
+                                        "the fault of each stands in its place"),
+    "batch: read failed": Explanation("input", "a read failed", "one item a line"),
+    "out of memory": Explanation("memory", "refused", "more memory"),
+}
+
+# Faults of files for which the system is asked.
+
+REASONED = {
+    "log: cannot read": ("WHAT", READABLE),
+    "config: cannot read": ("CONFIG", READABLE),
+    "script: cannot read": ("SCRIPT", READABLE),
+    "padding: cannot read": ("/dev/urandom", "a device that can be read"),
+    "log: cannot open": ("log", A_LOG),
+    "ledger: cannot open": ("ledger", A_LOG),
+}
+
+
+def of_file(fault: str, facts: Facts) -> Optional[Explanation]:
+    if fault in REASONED:
+        name, wanted = REASONED[fault]
+        return Explanation(name, facts.reason, wanted)
+    record = None if facts.place is None else f"record {facts.place}"
+    if fault == "ledger: damaged":
+        return Explanation("ledger", record or "other bytes", "initial key serial numbers")
+    if fault == "log: failed":
+        return Explanation("log", record or "a step of its device failed",
+                           "a log as it was kept, on a device that works")
+    number = re.fullmatch("([0-9A-F]{20}): issued", fault)
+    if number:
+        return Explanation("IKSN", f"{number[1]} stands in the ledger", "numbers that do not",
+                           "--skip-issued passes over them")
+    line = re.fullmatch("line ([0-9]+): not an event", fault)
+    if line:
+        return Explanation("SCRIPT", f"line {line[1]}",
+                           "an event, a comment after # or an empty line")
+    return None
+
+
+# A secret that is a reference
+
+
+def of_reference(fault: str, facts: Facts) -> Optional[Explanation]:
+    found = re.fullmatch("([A-Z]+): (cannot read|too long|not UTF-8)", fault)
+    if not found:
+        return None
+    name, why = found.groups()
+    return {"cannot read": Explanation(name, facts.reason, READABLE),
+            "too long": Explanation(name, "a longer line", "at most 4096 bytes"),
+            "not UTF-8": Explanation(name, "other bytes", "a line of UTF-8")}[why]
+
+
+# Configurations
+
+WANTED_OF = {
+    "lmk": ANY_KEY, "zone": ANY_KEY, "loading": ONE_KEY, "terminals": "1 to 16", "log": "1 to 100000",
+    "stores": "memory or disk", "bdk": "1 to 8 tables", "card": "at most 1000 tables",
+}
+WANTED_OF_ENTRY = {
+    "bdk": "prefix, 10 hexadecimal digits, and key, 32; each prefix once",
+    "card": "pan, 12 to 19 digits, pin, 4 to 12, and limit up to 4294967295; each pan once",
+}
+BLANKS = b" \t"
+
+
+def of_config(fault: str, facts: Facts) -> Optional[Explanation]:
+    line = None if facts.place is None else f"line {facts.place}"
+    if fault == "config: not TOML":
+        return Explanation("CONFIG", line or "other text", "TOML in UTF-8")
+    if fault.startswith("config: unknown "):
+        return Explanation("CONFIG", line or "another key",
+                           "lmk, zone, loading, terminals, log, stores, bdk and card")
+    bad = re.fullmatch("config: bad ([a-z]+)( [0-9]+)?", fault)
+    if not bad:
+        return None
+    return Explanation("CONFIG", line or "no such line", (WANTED_OF_ENTRY if bad[2] else WANTED_OF)[bad[1]])
+
+
+def line_of(config: bytes, fault: str) -> Optional[int]:
+    """The line of a configuration, from 1, that a fault is of."""
+    found = re.fullmatch("config: (unknown|bad) (.*?)( [0-9]+)?", fault, re.S)
+    if not found:
+        return None
+    key, place = found[2].encode(), found[3]
+    lines = [it.strip(BLANKS) for it in config.split(b"\n")]
+    if place and found[1] == "bad":
+        heads = [at for at, it in enumerate(lines, 1) if is_head(it, key, 2)]
+        return heads[int(place) - 1] if int(place) <= len(heads) else None
+    return next((at for at, it in enumerate(lines, 1)
+                 if is_set(it, key) or is_head(it, key, 1) or is_head(it, key, 2)), None)
+
+
+def is_set(line: bytes, key: bytes) -> bool:
+    """`KEY =`: the key as a whole word."""
+    return line.startswith(key) and line[len(key) :].lstrip(BLANKS).startswith(b"=")
+
+
+def is_head(line: bytes, key: bytes, brackets: int) -> bool:
+    """`[KEY]` or `[[KEY]]`, with blanks within."""
+    inner = line[brackets : len(line) - brackets]
+    return line == b"[" * brackets + inner + b"]" * brackets and inner.strip(BLANKS) == key
+
+
+# What is shown
+
+SHOWN = {
+    "frame": {
+        "Hex": PAIRS, "Length": "the length of the frame in its first two bytes", "Version": "01",
+        "Kind": "01 to 03", "Size": "the size of its kind", "PanLength": "0C to 13",
+        "PanDigit": "decimal digits", "Code": "00, 14, 30, 51 or 55", "Reason": "01 to 06",
+    },
+    "block": {
+        "Length": "80 to 512 characters in eights, and their number at 1",
+        "Version": "B",
+        "HeaderField": "printable fields, and two decimal digits at 12",
+        "OptionalBlock": "as many optional blocks as are told at 12, and 64 digits or more",
+        "Hex": "hexadecimal digits",
+    },
+    "image": {
+        "Hex": PAIRS, "Version": "01 or 02", "Length": "350 bytes of version 1, 431 of version 2",
+        "Iksn": "a counter of zero", "Counter": "a counter with 1 to 10 one bits, or 200000",
+        "Registers": "zeros in each register without a number",
+        "Past": "past numbers with counters of zero, each once, then zeros",
+    },
+}
+
+
+def of_show(asked: Asked, fault: str) -> Optional[Explanation]:
+    found = re.fullmatch("(frame|block|image|log) refused at ([0-9]+): ([A-Za-z]+)", fault)
+    if not found:
+        return None
+    kind, place, why = found.groups()
+    if kind == "log":
+        return Explanation("WHAT", f"record {place}", "16 zero bytes, or a record as FORMATS has it")
+    wrong = int(place) if why == "Hex" else None
+    return Explanation("WHAT", measured(asked.texts["WHAT"], wrong), SHOWN[kind][why])
+
+
+def damaged_record(log: bytes) -> Optional[int]:
+    """The record at which these bytes are no log, from 0."""
+    try:
+        log_lines(log)
+    except Refused as why:
+        return int(str(why).split()[3].rstrip(":"))
+    return None
+
+
+# The whole
+
+
+def explained(asked: Asked, fault: str, facts: Facts = Facts()) -> str:
+    """The line behind that of a fault; neither has its end here."""
+    of_this = OF_ONE.get(fault)
+    found = (CONSTANT.get(fault) or of_show(asked, fault) or of_reference(fault, facts)
+             or of_file(fault, facts) or of_config(fault, facts) or of_text(asked, fault)
+             or (of_this and of_this(asked)))
+    if not found:
+        raise ValueError(f"there is no such fault: {fault}")
+    return str(found)
+
+
+class Traced(References):
+    """References, of which the one that was looked at last is known."""
+
+    def text(self, name: str, word: str) -> str:
+        self.facts = Facts(READ_BEFORE if word == "@-" and self.given is None else MISSING)
+        return super().text(name, word)
+
+
+def asked_by(name: str, given: Given) -> Asked:
+    command = COMMANDS[name]
+    texts = {} if command.is_many else dict(zip(command.values, given.values))
+    texts.update({called: given.valued[option] for option, called in command.valued.items()
+                  if option in given.valued})
+    return Asked(name, texts, given.values if command.is_many else (), frozenset(given.flags))
+
+
+def expected(words: Sequence[str], files: Optional[Files] = None, given: bytes = b"") -> Ended:
+    """How a run of these words with `--explain` among them ends. A file that is not among these does
+    not exist."""
+    ended = everyday_words.expected(words, files, given)
+    if ended.status != 1:
+        return ended
+    said, references = everyday_words.read(words[1:], COMMANDS[words[0]]), Traced(files or {}, given)
+    references.facts = Facts()
+    try:
+        resolve(words[0], COMMANDS[words[0]], said, references)
+    except Refused:
+        # Its line is that of the run.
+        pass
+    line = explained(asked_by(words[0], said), ended.faults.decode()[:-1], references.facts)
+    return Ended(1, ended.output, ended.faults + f"{line}\n".encode())

@@ -1,0 +1,261 @@
+"""What `show` prints, by docs/COMMANDS.md: the fields of a frame, a key block, an image or a log,
+read by docs/FORMATS.md; or the first field that is wrong, and where it begins."""
+from __future__ import annotations
+
+import re
+from typing import Callable, NoReturn
+
+from .commands import Refused, shown
+from .dukpt import (
+    COUNTER_BITS, MOST_PAST, NO_KEY, SPENT, counter_of, held, iksn_of, serial_text, usable)
+from .images import IMAGE_1, IMAGE_2, RECORD
+from .key_blocks import HEXADECIMAL, LENGTHS, PRINTED
+from .pin_blocks import PAN_LENGTHS
+from .program import Ended
+
+CODES = {"00": "approved", "14": "no such card", "30": "PIN block unreadable",
+         "51": "over the card's limit", "55": "wrong PIN"}
+REASONS = ("malformed", "unknown key set", "bad counter", "bad MAC", "used", "log full")
+
+# The tables of ANSI X9.143, in words of this project.
+USAGES = {
+    "B0": "base derivation key", "B1": "initial DUKPT key", "B2": "base key variant key",
+    "B3": "key derivation key, not ANSI X9.24", "C0": "card verification key",
+    "D0": "symmetric key for data encryption", "D1": "asymmetric key for data encryption",
+    "D2": "data encryption key for a decimalization table",
+    "D3": "data encryption key for sensitive data",
+    "E0": "EMV issuer master key, application cryptograms",
+    "E1": "EMV issuer master key, secure messaging for confidentiality",
+    "E2": "EMV issuer master key, secure messaging for integrity",
+    "E3": "EMV issuer master key, data authentication code",
+    "E4": "EMV issuer master key, dynamic numbers",
+    "E5": "EMV issuer master key, card personalization", "E6": "EMV issuer master key, other",
+    "E7": "EMV asymmetric key pair for PIN block encryption", "I0": "initialization vector",
+    "K0": "key encryption or wrapping", "K1": "TR-31 key block protection key",
+    "K2": "TR-34 asymmetric key", "K3": "asymmetric key for key agreement or key wrapping",
+    "K4": "ISO 20038 key block protection key", "M0": "ISO 16609 MAC algorithm 1, using TDEA",
+    "M1": "ISO 9797-1 MAC algorithm 1", "M2": "ISO 9797-1 MAC algorithm 2",
+    "M3": "ISO 9797-1 MAC algorithm 3", "M4": "ISO 9797-1 MAC algorithm 4",
+    "M5": "ISO 9797-1:1999 MAC algorithm 5", "M6": "ISO 9797-1:2011 MAC algorithm 5, CMAC",
+    "M7": "HMAC", "M8": "ISO 9797-1:2011 MAC algorithm 6", "P0": "PIN encryption",
+    "P1": "PIN generation", "S0": "asymmetric key pair for digital signature",
+    "S1": "asymmetric key pair, CA key", "S2": "asymmetric key pair, not ANSI X9.24",
+    "V0": "PIN verification, other algorithm", "V1": "PIN verification, IBM 3624",
+    "V2": "PIN verification, VISA PVV", "V3": "PIN verification, ANSI X9.132 algorithm 1",
+    "V4": "PIN verification, ANSI X9.132 algorithm 2",
+    "V5": "PIN verification, ANSI X9.132 algorithm 3",
+}
+ALGORITHMS = {"A": "AES", "D": "DEA", "E": "elliptic curve", "H": "HMAC", "R": "RSA", "S": "DSA",
+              "T": "TDEA"}
+MODES = {
+    "B": "both encrypt and decrypt, or wrap and unwrap", "C": "both generate and verify",
+    "D": "decrypt or unwrap only", "E": "encrypt or wrap only", "G": "generate only",
+    "N": "no special restrictions", "S": "signature only", "T": "both sign and decrypt",
+    "V": "verify only", "X": "derive other keys", "Y": "create key variants",
+}
+EXPORTABILITIES = {"E": "exportable under a trusted key, in a form of ANSI X9.24",
+                   "N": "not exportable", "S": "sensitive, exportable under a key in another form"}
+
+
+def stop(kind: str, place: int, fault: str) -> NoReturn:
+    raise Refused(f"{kind} refused at {place}: {fault}")
+
+
+def bytes_in(kind: str, text: str) -> bytes:
+    """The bytes of a text in hexadecimal; places are those of its characters as bytes."""
+    data = text.encode()
+    wrong = next((at for at, it in enumerate(data) if it not in HEXADECIMAL), len(data))
+    if wrong < len(data) or len(data) % 2:
+        stop(kind, wrong, "Hex")
+    return bytes.fromhex(text)
+
+
+# Frames
+
+
+def frame_lines(text: str) -> list[str]:
+    data = bytes_in("frame", text)
+    if len(data) < 2 or int.from_bytes(data[:2], "big") != len(data) - 2:
+        stop("frame", 0, "Length")
+    if data[2:3] != b"\x01":
+        stop("frame", 2, "Version")
+    if data[3:4] not in (b"\x01", b"\x02", b"\x03"):
+        stop("frame", 3, "Kind")
+    return (request_lines, reply_lines, refusal_lines)[data[3] - 1](data)
+
+
+def request_lines(data: bytes) -> list[str]:
+    count = len(data) - 2 - 33
+    if count not in PAN_LENGTHS:
+        stop("frame", 0, "Size")
+    if data[14] != count:
+        stop("frame", 14, "PanLength")
+    pan, rest = data[15 : 15 + count], data[15 + count :]
+    if not re.fullmatch(b"[0-9]*", pan):
+        stop("frame", 15, "PanDigit")
+    return ["frame request", f"ksn {shown(data[4:14])}", f"pan {pan.decode()}",
+            f"amount {int.from_bytes(rest[:4], 'big')}", f"pin-block {shown(rest[4:12])}",
+            f"mac {shown(rest[12:])}"]
+
+
+def reply_lines(data: bytes) -> list[str]:
+    if len(data) != 24:
+        stop("frame", 0, "Size")
+    code = data[14:16].decode("latin-1")
+    if code not in CODES:
+        stop("frame", 14, "Code")
+    return ["frame reply", f"ksn {shown(data[4:14])}", f"code {code} {CODES[code]}",
+            f"mac {shown(data[16:])}"]
+
+
+def refusal_lines(data: bytes) -> list[str]:
+    if len(data) != 15:
+        stop("frame", 0, "Size")
+    if not 1 <= data[14] <= len(REASONS):
+        stop("frame", 14, "Reason")
+    return ["frame refusal", f"ksn {shown(data[4:14])}", f"reason {data[14]} {REASONS[data[14] - 1]}"]
+
+
+# Key blocks
+
+
+def block_lines(text: str) -> list[str]:
+    data = text.encode()
+    if len(data) not in LENGTHS or len(data) % 8 or data[1:5] != b"%04d" % len(data):
+        stop("block", 1, "Length")
+    if data[:1] != b"B":
+        stop("block", 0, "Version")
+    for place in range(5, 14):
+        if data[place] not in (PRINTED if place < 12 else b"0123456789"):
+            stop("block", place, "HeaderField")
+    blocks, at = optional_blocks(data)
+    wrong = next((place for place in range(at, len(data)) if data[place] not in HEXADECIMAL), None)
+    if wrong is not None:
+        stop("block", wrong, "Hex")
+    return [
+        "version B", f"length {len(data)}", worded("usage", text[5:7], USAGES),
+        worded("algorithm", text[7], ALGORITHMS), worded("mode", text[8], MODES),
+        f"key-version {text[9:11]}", worded("exportability", text[11], EXPORTABILITIES),
+        f"optional-blocks {int(text[12:14])}", f"reserved {as_it_is(data[14:16])}",
+        *(f"optional-block {as_it_is(it)}" for it in blocks),
+        f"ciphertext {as_it_is(data[at:-16])}", f"mac {as_it_is(data[-16:])}"]
+
+
+def as_it_is(data: bytes) -> str:
+    """A part of a text, which may begin or end within a character."""
+    return data.decode(errors="surrogateescape")
+
+
+def optional_blocks(data: bytes) -> tuple[list[bytes], int]:
+    """Each optional block, and where what follows them begins."""
+    found, at = [], 16
+    for _ in range(int(data[12:14])):
+        digits = data[at + 2 : at + 4]
+        length = int(digits, 16) if len(digits) == 2 and HEXADECIMAL.issuperset(digits) else 0
+        if length < 4 or at + length > len(data):
+            stop("block", at, "OptionalBlock")
+        found.append(data[at : at + length])
+        at += length
+    if len(data) - at < 64 or (len(data) - at) % 16:
+        stop("block", at, "OptionalBlock")
+    return found, at
+
+
+def worded(name: str, value: str, table: dict[str, str]) -> str:
+    return f"{name} {value} {table.get(value, 'unknown')}"
+
+
+# Images
+
+
+def image_lines(text: str, show: bool = False) -> list[str]:
+    data = bytes_in("image", text)
+    version = data[0] if data else 0
+    if version not in (1, 2):
+        stop("image", 0, "Version")
+    size = IMAGE_1 if version == 1 else IMAGE_2
+    if len(data) != size:
+        stop("image", min(len(data), size), "Length")
+    iksn, counter = int.from_bytes(data[1:11], "big"), int.from_bytes(data[11:14], "big")
+    if counter_of(iksn):
+        stop("image", 1, "Iksn")
+    if not (usable(counter) or counter == SPENT):
+        stop("image", 11, "Counter")
+    lines = [f"version {version}", f"iksn {serial_text(iksn)}",
+             "next spent" if counter == SPENT else f"next {serial_text(iksn + counter)}"]
+    for place in range(COUNTER_BITS):
+        key = data[14 + 16 * place : 30 + 16 * place]
+        if key != NO_KEY and held(counter, place) is None:
+            stop("image", 14, "Registers")
+        state = "empty" if key == NO_KEY else shown(key) if show else "filled"
+        lines.append(f"register {place} {COUNTER_BITS - place} {state}")
+    return lines + ([f"past {serial_text(it)}" for it in past_in(data[IMAGE_1:], iksn)]
+                    if version == 2 else [])
+
+
+def past_in(data: bytes, iksn: int) -> list[int]:
+    """The initial key serial numbers of an image of version 2 that were before."""
+    count, places = data[0], data[1:]
+    if count > MOST_PAST or any(places[10 * count :]):
+        stop("image", IMAGE_1, "Past")
+    past = [int.from_bytes(places[at : at + 10], "big") for at in range(0, 10 * count, 10)]
+    if len({iksn, *past}) != count + 1 or any(map(counter_of, past)):
+        stop("image", IMAGE_1, "Past")
+    return past
+
+
+# Logs
+
+
+def log_lines(data: bytes) -> list[str]:
+    """The first record that is wrong, and behind whole ones the one in which the bytes end."""
+    numbers: list[int] = []
+    for place in range(len(data) // RECORD):
+        record = data[RECORD * place : RECORD * (place + 1)]
+        if record[0] != 1:
+            continue
+        if len(numbers) < place or any(record[11:]):
+            stop("log", place, "Damaged")
+        numbers.append(int.from_bytes(record[1:11], "big"))
+    if not data or len(data) % RECORD:
+        stop("log", len(data) // RECORD, "Damaged")
+    of: dict[int, list[int]] = {}
+    for it in numbers:
+        of.setdefault(iksn_of(it), []).append(it)
+    return [f"numbers {len(numbers)}", f"room {len(data) // RECORD - len(numbers)}",
+            *(f"terminal {serial_text(iksn)} {len(it)} {serial_text(it[0])} {serial_text(it[-1])}"
+              for iksn, it in of.items())]
+
+
+# The whole
+
+
+def printed(lines: list[str]) -> bytes:
+    return "".join(f"{line}\n" for line in lines).encode(errors="surrogateescape")
+
+
+KINDS: dict[str, Callable[[str], list[str]]] = {
+    "frame": frame_lines, "block": block_lines, "image": image_lines}
+
+
+def show_lines(kind: str, what: str, show: bool = False) -> list[str]:
+    """The lines of a text."""
+    if kind not in KINDS:
+        raise Refused("KIND refused")
+    return image_lines(what, show) if kind == "image" else KINDS[kind](what)
+
+
+def ended(kind: str, what: str, show: bool = False) -> Ended:
+    """How a run ends over a text."""
+    try:
+        return Ended(0, printed(show_lines(kind, what, show)), b"")
+    except Refused as why:
+        return Ended(1, b"", f"{why}\n".encode())
+
+
+def log_ended(data: bytes) -> Ended:
+    """How a run ends over a log of these bytes."""
+    try:
+        return Ended(0, printed(log_lines(data)), b"")
+    except Refused as why:
+        return Ended(1, b"", f"{why}\n".encode())

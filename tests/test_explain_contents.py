@@ -1,0 +1,213 @@
+"""`--explain` over what files hold: which record of a log or a ledger is damaged, and which line of a
+configuration or a script is wrong."""
+from __future__ import annotations
+
+import os
+import threading
+from typing import Optional
+
+from .support.bank import BANK, BDK, CARD, FRONT
+from .support.client import payments
+from .support.dukpt import SPENT, serial_text
+from .support.everyday_rows import FIRST
+from .support.explain_case import EXPLAIN, ISSUE, SCRIPT, ExplainCase
+from .support.explained import Asked, Facts, damaged_record, explained, line_of
+from .support.issuing import bytes_of, numbers_from
+from .support.log_file import RECORD, log_image, record
+from .support.program import SECONDS, Limits, spoken
+from .test_service_logs import turn_of_devices
+from .test_show import Damaged
+
+A_GOOD_LOG = "a log as it was kept, on a device that works"
+NUMBERS = "initial key serial numbers"
+
+
+class Logs(ExplainCase):
+    """Which record of a log or a ledger is damaged."""
+
+    def failed(self, image: bytes, place: Optional[int], name: str) -> None:
+        """That serve and issue name this record, and change nothing."""
+        record_ = None if place is None else f"record {place}"
+        self.write("it", image)
+        self.explained(["serve", "bank.toml", "--log", "it"], "log: failed",
+                       f"log: {record_ or 'a step of its device failed'}; wanted: {A_GOOD_LOG}")
+        self.explained([*ISSUE, "it"], "ledger: damaged",
+                       f"ledger: {record_ or 'other bytes'}; wanted: {NUMBERS}")
+        self.assertEqual((self.home / "it").read_bytes(), image, name)
+
+    def test_spoiled(self) -> None:
+        """One byte behind a number changed, at each record; or the gate of one closed: then the next
+        one is wrong."""
+        numbers = bytes_of(numbers_from(int(FIRST, 16), 4))
+        for place, turned in ([(RECORD * it + self.chance.randrange(11, RECORD), 1) for it in range(4)]
+                              + [(RECORD * it, 3) for it in range(3)]):
+            image = bytearray(log_image(numbers, 6))
+            image[place] ^= turned
+            wanted = place // RECORD + (place % RECORD == 0)
+            self.assertEqual(damaged_record(bytes(image)), wanted)
+            self.failed(bytes(image), wanted, f"byte {place}")
+
+    def test_sizes(self) -> None:
+        for size in (0, 1, 15, 17, 31, 33, 1000, RECORD * 1000 + 5):
+            self.failed(bytes(size), size // RECORD, f"{size} bytes")
+
+    def test_random(self) -> None:
+        """The first record at which a reader of the format stops."""
+        count = 0
+        while count < 60 * self.times:
+            image = Damaged(self.chance).log()
+            place = damaged_record(image)
+            if place is not None:
+                self.failed(image, place, image.hex())
+                count += 1
+
+    def test_what_is_no_file(self) -> None:
+        """Devices without an end, and a pipe to which nobody writes: the run ends as it does without
+        `--explain`. Its first record is told, or none."""
+        os.mkfifo(self.home / "pipe")
+        with turn_of_devices():
+            for name in ("/dev/null", "/dev/zero", "/dev/full", "pipe"):
+                for words, fault, called, wanted, none in (
+                    (["serve", "bank.toml", "--log", name], "log: failed", "log", A_GOOD_LOG,
+                     "a step of its device failed"),
+                    ([*ISSUE, name], "ledger: damaged", "ledger", NUMBERS, "other bytes"),
+                ):
+                    ended = self.run_with([*words, EXPLAIN], seconds=20)
+                    lines = {f"{fault}\n{called}: {it}; wanted: {wanted}\n".encode()
+                             for it in (none, "record 0")}
+                    self.assertEqual((ended.status, ended.output), (1, b""), spoken(words))
+                    self.assertIn(ended.faults, lines, spoken(words))
+
+    def test_far_behind(self) -> None:
+        """Of many records the last but one is open, behind closed ones."""
+        self.failed(bytes(RECORD * 5000) + record(bytes(10)) + bytes(RECORD), 5000, "record 5000")
+
+    def test_other_numbers(self) -> None:
+        """Records that are sound, with a number that does not belong there: it is named, or nothing
+        is."""
+        first = int(FIRST, 16)
+        of_service = {"twice": ([first + 1, first + 2, first + 1], 2), "no counter": ([first], 0),
+                      "eleven ones": ([first + 1, first + 0x7FF], 1)}
+        of_ledger = {"a counter": ([first, first + SPENT + 1], 1), "the first": ([first + 1], 0)}
+        for words, fault, called, wanted, none, cases in (
+            (["serve", "bank.toml", "--log", "it"], "log: failed", "log", A_GOOD_LOG,
+             "a step of its device failed", of_service),
+            ([*ISSUE, "it"], "ledger: damaged", "ledger", NUMBERS, "other bytes", of_ledger),
+        ):
+            for name, (numbers, place) in cases.items():
+                self.write("it", log_image(bytes_of(numbers), 5))
+                ended = self.run_with([*words, EXPLAIN])
+                lines = {f"{fault}\n{called}: {it}; wanted: {wanted}\n".encode()
+                         for it in (none, f"record {place}")}
+                self.assertEqual((ended.status, ended.output), (1, b""), name)
+                self.assertIn(ended.faults, lines, name)
+
+    def test_writes_that_fail(self) -> None:
+        """The log itself is sound then."""
+        for room in (0, 5, RECORD, RECORD + 3):
+            self.write("it", bytes(5 * RECORD))
+            limits = Limits(file_size=room)
+            frames = b"".join(it.frame for it in payments(3))
+            ended = self.run_with(["serve", "bank.toml", "--log", "it", EXPLAIN], frames, limits=limits)
+            line = f"log: a step of its device failed; wanted: {A_GOOD_LOG}"
+            answers = b"".join(it.answer for it in payments(3)[: room // RECORD])
+            self.assert_ended(ended, 1, answers, f"log: failed\n{line}\n".encode(), f"{room} bytes")
+            self.write("it", bytes(5 * RECORD))
+            ended = self.run_with([*ISSUE[:4], "3", "--ledger", "it", EXPLAIN], limits=limits)
+            line = ("ledger: a step of its device failed; wanted: a device that works; the next number "
+                    "may stand in it")
+            self.assertEqual((ended.status, ended.faults), (1, f"ledger: failed\n{line}\n".encode()))
+            self.assertEqual(ended.output.count(b"\n"), room // RECORD)
+
+    def test_issued(self) -> None:
+        """The first of the numbers that stands there; and where there is too little room."""
+        numbers = numbers_from(int(FIRST, 16), 3)
+        image = log_image(bytes_of(numbers[1:2]), 2)
+        self.write("it", image)
+        second = serial_text(numbers[1])
+        line = (f"IKSN: {second} stands in the ledger; wanted: numbers that do not; --skip-issued "
+                "passes over them")
+        self.explained([*ISSUE[:4], "3", "--ledger", "it"], f"{second}: issued", line)
+        line = "ledger: too little room; wanted: 16 bytes of zeros for each number"
+        words = [*ISSUE[:4], "3", "--ledger", "it", "--skip-issued"]
+        self.explained(words, "ledger: full", line)
+        self.assertEqual((self.home / "it").read_bytes(), image)
+        ended = self.run_with([*ISSUE[:4], "2", "--ledger", "it", "--skip-issued", EXPLAIN])
+        self.assertEqual((ended.status, ended.faults, ended.output.count(b"\n")), (0, b"", 1))
+
+
+class Configurations(ExplainCase):
+    """Which line of a configuration is wrong."""
+
+    def wrong(self, config: bytes, key: str, line: Optional[int]) -> None:
+        """A configuration with this fault, of which this line is told, or none."""
+        self.assertEqual(line_of(config, f"config: {key}"), line, config)
+        self.write("it.toml", config)
+        told = explained(Asked("run"), f"config: {key}", Facts(place=line))
+        self.explained(["run", "it.toml", SCRIPT], f"config: {key}", told)
+        self.explained(["serve", "it.toml", "--log", "missing"], f"config: {key}", told)
+
+    def test_lines(self) -> None:
+        for config, key, line in (
+            (b"# a comment\n\n" + BANK.replace(b"log = 100", b"log = 0"), "bad log", 7),
+            (BANK.replace(b"log = 100", b"  log\t=   0  # none"), "bad log", 5),
+            (BANK.replace(b"log = 100", b"log=0"), "bad log", 5),
+            (BANK.replace(b"log = 100\n", b"# log = 0\n"), "bad log", None),
+            (BANK.replace(b"log = 100", b'"log" = 0'), "bad log", None),
+            (BANK.replace(b"lmk = ", b"# lmk = 1\nlmk = 1 # "), "bad lmk", 2),
+            (BANK.replace(b"terminals = 2", b"terminals = 17"), "bad terminals", 4),
+            (BANK.replace(b"terminals = 2\n", b""), "bad terminals", None),
+            (b"logs = 1\n" + BANK, "unknown logs", 1),
+            (b"lo = 1\n" + BANK, "unknown lo", 1),
+            (BANK + b"[other]\nx = 1\n", "unknown other", 13),
+            (BANK + b"\n  [[other]]\n", "unknown other", 14),
+            (b"a.b = 1\n" + BANK, "unknown a", None),
+            (b"'a b' = 1\n" + BANK, "unknown a b", None),
+            (FRONT + b"[bdk]\n" + CARD, "bad bdk", 6),
+            (FRONT + 9 * BDK + CARD, "bad bdk", 6),
+            (FRONT + BDK + b"# twice\n" + BDK + CARD, "bad bdk 2", 10),
+            (FRONT + BDK + b" [[bdk]] \n" + CARD, "bad bdk 2", 9),
+            (BANK + CARD, "bad card 2", 13),
+            (BANK.replace(b"limit = 10000", b"limit = -1"), "bad card 1", 9),
+            (BANK.replace(b"[[card]]", b"[card]"), "bad card", 9),
+        ):
+            self.wrong(config, key, line)
+
+    def test_not_toml(self) -> None:
+        """Its line is told where it is known."""
+        for config, line in ((b"lmk = \n", 1), (BANK + b"x\n", 13), (BANK + b"# \xff\n", 13)):
+            self.write("it.toml", config)
+            ended = self.run_with(["run", "it.toml", SCRIPT, EXPLAIN])
+            lines = {f"config: not TOML\nCONFIG: {it}; wanted: TOML in UTF-8\n".encode()
+                     for it in ("other text", f"line {line}")}
+            self.assertEqual((ended.status, ended.output), (1, b""))
+            self.assertIn(ended.faults, lines)
+
+    def test_many_entries(self) -> None:
+        """The last card of a thousand."""
+        cards = b"".join(b'[[card]]\npan = "%012d"\npin = "1234"\nlimit = 1\n' % it for it in range(999))
+        wrong = b'[[card]]\npan = "1"\npin = "1234"\nlimit = 1\n'
+        self.wrong(FRONT + BDK + cards + wrong, "bad card 1000", 9 + 4 * 999)
+
+    def test_by_other_ways(self) -> None:
+        """A configuration that comes once, as by a pipe: its line is told, or that there is none. The run
+        ends as it does without `--explain`."""
+        config = BANK.replace(b"log = 100", b"log = 0")
+        wanted = {f"config: bad log\nCONFIG: {it}; wanted: 1 to 100000\n".encode()
+                  for it in ("line 5", "no such line")}
+        ended = self.run_with(["run", "/dev/stdin", SCRIPT, EXPLAIN], config)
+        self.assertEqual((ended.status, ended.output), (1, b""))
+        self.assertIn(ended.faults, wanted)
+        os.mkfifo(self.home / "pipe")
+        writer = threading.Thread(target=(self.home / "pipe").write_bytes, args=[config])
+        writer.start()
+        ended = self.run_with(["run", "pipe", SCRIPT, EXPLAIN], seconds=20)
+        writer.join(SECONDS)
+        self.assertEqual((ended.status, ended.output), (1, b""))
+        self.assertIn(ended.faults, wanted)
+
+    def test_scripts(self) -> None:
+        for script, line in ((b"up 01\n", 1), (b"# up\n\nup 1\nup\n", 4), (b"\n" * 99 + b" ", 100)):
+            self.write("it.script", script)
+            wanted = f"SCRIPT: line {line}; wanted: an event, a comment after # or an empty line"
+            self.explained(["run", "bank.toml", "it.script"], f"line {line}: not an event", wanted)

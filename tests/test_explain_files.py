@@ -1,0 +1,247 @@
+"""`--explain` over files and streams: what the system says of a file that is refused, and what ends a
+service or a batch. What files hold stands in test_explain_contents."""
+from __future__ import annotations
+
+import fcntl
+import os
+import re
+from collections import Counter
+from typing import Sequence
+
+from .support.bank import BANK, LONGEST
+from .support.client import payments
+from .support.everyday_rows import BASE, SERIAL
+from .support.explain_case import EXPLAIN, ISSUE, SCRIPT, WITHOUT_RIGHTS, ExplainCase
+from .support.explained import A_FOLDER, A_LOG, IN_USE, MISSING, NO_PERMISSION, OTHER, READABLE
+from .support.little_memory import AMPLE, OUT_OF_MEMORY, least_to_start
+from .support.log_file import RECORD, log_image, record
+from .support.program import Ended, Limits, spoken
+from .support.service import Service
+
+# Commands over a file whose name stands behind them, with the fault where it is not opened or read, and
+# what the explanation calls it.
+READERS = (
+    (["serve"], "config: cannot read", "CONFIG"), (["run"], "config: cannot read", "CONFIG"),
+    (["run", "bank.toml"], "script: cannot read", "SCRIPT"),
+    (["show", "log"], "log: cannot read", "WHAT"),
+)
+LOCKERS = ((["serve", "bank.toml", "--log"], "log: cannot open", "log"),
+           (ISSUE, "ledger: cannot open", "ledger"))
+
+
+def reader_words(words: list[str], name: str) -> list[str]:
+    """`run` has a script behind its configuration."""
+    return [*words, name, SCRIPT] if words == ["run"] else [*words, name]
+
+
+class Refused(ExplainCase):
+    """Files that are not opened or read."""
+
+    def refused(self, name: str, reason: str, front: Sequence[str] = ()) -> None:
+        """A file to be read."""
+        for words, fault, called in READERS:
+            line = f"{called}: {reason}; wanted: {READABLE}"
+            self.explained(reader_words(words, name), fault, line, front=front)
+        line = f"BDK: {reason}; wanted: {READABLE}"
+        self.explained(["derive", f"@{name}", SERIAL], "BDK: cannot read", line, front=front)
+
+    def refused_lock(self, name: str, reason: str, front: Sequence[str] = ()) -> None:
+        """A file to be opened and locked."""
+        for words, fault, called in LOCKERS:
+            line = f"{called}: {reason}; wanted: {A_LOG}"
+            self.explained([*words, name], fault, line, front=front)
+
+    def test_reasons(self) -> None:
+        (self.home / "loop").symlink_to("loop")
+        (self.home / "gone").symlink_to("nowhere")
+        for name, reason in (("missing", MISSING), ("", MISSING), ("gone", MISSING), ("logs", A_FOLDER),
+                             (".", A_FOLDER), ("/", A_FOLDER), ("missing/it", MISSING), ("loop", OTHER),
+                             ("bank.toml/it", OTHER), ("x" * 300, OTHER)):
+            self.refused(name, reason)
+            self.refused_lock(name, reason)
+
+    def test_a_read_that_fails(self) -> None:
+        """It can be opened."""
+        self.refused("/proc/self/mem", OTHER)
+
+    def test_rights(self) -> None:
+        front = WITHOUT_RIGHTS if os.geteuid() == 0 else ()
+        (self.home / "it").write_bytes(BANK)
+        (self.home / "it").chmod(0)
+        self.refused("it", NO_PERMISSION, front)
+        self.refused_lock("it", NO_PERMISSION, front)
+        (self.home / "log").write_bytes(bytes(3 * RECORD))
+        (self.home / "log").chmod(0o444)
+        self.refused_lock("log", NO_PERMISSION, front)
+        closed = self.home / "closed"
+        closed.mkdir()
+        (closed / "it").write_bytes(BANK)
+        closed.chmod(0)
+        self.refused("closed/it", NO_PERMISSION, front)
+        self.refused_lock("closed/it", NO_PERMISSION, front)
+        closed.chmod(0o700)
+
+    def test_in_use(self) -> None:
+        """By any process that has a lock on it; the file stays as it is, and is free behind that."""
+        image = bytes(3 * RECORD)
+        self.write("log", image)
+        with open(self.home / "log", "rb") as other:
+            fcntl.flock(other, fcntl.LOCK_EX)
+            self.refused_lock("log", IN_USE)
+            fcntl.flock(other, fcntl.LOCK_UN)
+            fcntl.flock(other, fcntl.LOCK_SH)
+            self.refused_lock("log", IN_USE)
+        self.assertEqual((self.home / "log").read_bytes(), image)
+        self.assertEqual(self.run_with(["serve", "bank.toml", "--log", "log", EXPLAIN]), Ended(0, b"", b""))
+
+    def test_in_use_by_a_service(self) -> None:
+        """It goes on, and its log is as it has to be."""
+        self.write("log", bytes(3 * RECORD))
+        two = payments(2)
+        service = Service(self.program, self.home, "serve", "bank.toml", "--log", "log", EXPLAIN)
+        self.addCleanup(service.release)
+        service.ask([two[0].frame])
+        self.refused_lock("log", IN_USE)
+        service.ask([two[1].frame])
+        answers = b"".join(it.answer for it in two)
+        self.assertEqual(service.end(), Ended(0, answers, b""))
+        self.assertEqual((self.home / "log").read_bytes(), log_image([it.number for it in two], 3))
+
+    def test_references(self) -> None:
+        """Of several references the one is explained that could not be read."""
+        self.write("it", BASE.encode())
+        for words, fault, reason in (
+            (["kcv", "@it", "@missing"], "KEY: cannot read", MISSING),
+            (["kcv", "@it", "@logs", "@missing"], "KEY: cannot read", A_FOLDER),
+            (["kcv", BASE, "@it", "@missing", "@logs"], "KEY: cannot read", MISSING),
+            (["kcv", "@-", "@-"], "KEY: cannot read", "standard input, read before"),
+            (["kcv", "@-", "@missing"], "KEY: cannot read", MISSING),
+            (["kcv", "@-", "@it", "@-"], "KEY: cannot read", "standard input, read before"),
+            (["pin", "@it", "4012345678909", "--key", "@missing"], "KEY: cannot read", MISSING),
+            (["wrap", "@it", "x", "@logs", "x"], "KEY: cannot read", A_FOLDER),
+            (["translate", "@it", "@it", "@-", "x", "@-"], "ZONE: cannot read",
+             "standard input, read before"),
+            ([*ISSUE[:2], "@missing", *ISSUE[3:], "x"], "LOADING: cannot read", MISSING),
+            (["show", "image", "@missing"], "WHAT: cannot read", MISSING),
+        ):
+            name = fault.split(":")[0]
+            self.explained(words, fault, f"{name}: {reason}; wanted: {READABLE}", given=BASE.encode())
+
+    def test_an_input_that_cannot_be_read(self) -> None:
+        folder = os.open(self.home, os.O_RDONLY)
+        self.addCleanup(os.close, folder)
+        line = f"BDK: {OTHER}; wanted: {READABLE}"
+        self.explained(["derive", "@-", SERIAL], "BDK: cannot read", line, given=folder)
+
+    def test_references_that_are_refused(self) -> None:
+        self.write("long", b"0" * 4097)
+        self.write("bytes", b"\xff")
+        for name, fault, rest in (("long", "too long", "a longer line; wanted: at most 4096 bytes"),
+                                  ("bytes", "not UTF-8", "other bytes; wanted: a line of UTF-8")):
+            for words, called in ((["kcv", BASE, f"@{name}"], "KEY"),
+                                  (["pin", "1234", f"@{name}"], "PAN"),
+                                  (["show", "frame", f"@{name}"], "WHAT")):
+                self.explained(words, f"{called}: {fault}", f"{called}: {rest}")
+
+    def test_long_files(self) -> None:
+        self.write("long", b"#" * (LONGEST + 1))
+        with open(self.home / "longer", "wb") as it:
+            it.truncate((1 << 30) + 1)
+        for words, fault, line in (
+            (["run", "long", SCRIPT], "config: too long",
+             "CONFIG: a longer file; wanted: at most 1048576 bytes"),
+            (["run", "bank.toml", "long"], "script: too long",
+             "SCRIPT: a longer file; wanted: at most 1048576 bytes"),
+            (["show", "log", "longer"], "log: too long",
+             "WHAT: a longer file; wanted: at most 1073741824 bytes"),
+        ):
+            self.explained(words, fault, line)
+
+    def test_no_random_bytes(self) -> None:
+        """No random device, or an empty one, which can be opened."""
+        self.write("ledger", bytes(2 * RECORD))
+        for way, reason in (("mount -t tmpfs none /dev", MISSING),
+                            ("mount --bind /dev/null /dev/urandom", OTHER)):
+            front = ["unshare", "--user", "--map-root-user", "--mount", "sh", "-c",
+                     f'{way} && exec "$@"', "sh"]
+            line = f"/dev/urandom: {reason}; wanted: a device that can be read"
+            self.explained([*ISSUE, "ledger"], "padding: cannot read", line, front=front)
+
+
+class Ends(ExplainCase):
+    """What ends a service; its answers are the same."""
+
+    def test_ends(self) -> None:
+        two, cut = payments(2), payments(3)[2].frame[:9]
+        stream, answers = b"".join(it.frame for it in two), b"".join(it.answer for it in two)
+        self.write("log", bytes(RECORD * 10))
+        for words in (["serve", "bank.toml"], ["serve", "bank.toml", "--log", "log"]):
+            for given, fault, line in (
+                (cut, "serve: input ends in a frame", "input: a part of a frame; wanted: whole frames"),
+                (b"\x00\x3f", "serve: frame too long",
+                 "input: a length above 62; wanted: frames of requests"),
+            ):
+                self.write("log", bytes(RECORD * 10))
+                ended = self.run_with([*words, EXPLAIN], stream + given)
+                self.assert_ended(ended, 1, answers, f"{fault}\n{line}\n".encode(), spoken(words))
+                if "--log" in words:
+                    numbers = [it.number for it in two]
+                    self.assertEqual((self.home / "log").read_bytes(), log_image(numbers, 10))
+            ended = self.run_with([*words[:2], EXPLAIN], stream)
+            self.assertEqual(ended, Ended(0, answers, b""))
+
+    def test_a_read_that_fails(self) -> None:
+        folder = os.open(self.home, os.O_RDONLY)
+        self.addCleanup(os.close, folder)
+        for words, fault, wanted in ((["serve", "bank.toml"], "serve: read failed", "frames"),
+                                     (["kcv", "-"], "batch: read failed", "one item a line")):
+            self.explained(words, fault, f"input: a read failed; wanted: {wanted}", given=folder)
+
+    def test_streams_that_are_closed(self) -> None:
+        """Neither log nor ledger are taken for them."""
+        image, damaged = bytes(RECORD * 3), bytes(RECORD) + record(bytes(10))
+        frame = payments(1)[0].frame
+        for way in ("2>&-", ">&- 2>&-", "<&- >&- 2>&-"):
+            for words, before in ((["serve", "bank.toml", "--log", "it"], damaged),
+                                  ([*ISSUE, "it"], damaged), ([*ISSUE, "it"], bytes(17)),
+                                  (["show", "log", "it"], damaged), (["run", "it", SCRIPT], b"x = 1\n"),
+                                  (["run", "bank.toml", "it"], b"up\n"),
+                                  (["derive", "@it", SERIAL], b"x\n")):
+                self.write("it", before)
+                self.assertEqual(self.in_bash([EXPLAIN, *words], way).status, 1, f"{spoken(words)} {way}")
+                self.assertEqual((self.home / "it").read_bytes(), before, f"{spoken(words)} {way}")
+        self.write("it", image)
+        ended = self.in_bash(["serve", "bank.toml", "--log", "it", EXPLAIN], "2>&-", frame + b"\x00")
+        self.assertEqual(ended, Ended(1, payments(1)[0].answer, b""))
+        self.assertEqual((self.home / "it").read_bytes(), log_image([payments(1)[0].number], 3))
+
+
+class Memory(ExplainCase):
+    """With little memory a run with `--explain` ends as it has to, or says that it is out of memory; of
+    arguments for which there is no memory no more is known."""
+
+    weight = 4
+
+    def test_little_memory(self) -> None:
+        told = OUT_OF_MEMORY + b"memory: refused; wanted: more memory\n"
+        least, tally = least_to_start(self.program), Counter[bytes]()
+        self.write("long.toml", BANK.ljust(LONGEST, b"#"))
+        self.write("bad.toml", BANK.replace(b"log = 100", b"log = 0").ljust(LONGEST, b"#"))
+        for words in (["kcv", "x"], ["run", "bad.toml", SCRIPT], ["run", "long.toml", SCRIPT],
+                      ["kcv", "@missing"], ["show", "log", "logs/of_31_bytes.log"],
+                      ["derive", *["0" * 50_000] * 4]):
+            ample = self.run_with([EXPLAIN, *words], limits=Limits(memory=AMPLE))
+            for _ in range(40 * self.times):
+                size = least + self.chance.randrange(6 << 20)
+                ended = self.run_with([EXPLAIN, *words], limits=Limits(memory=size))
+                if ended != ample:
+                    what = f"{spoken(words)[:60]} with {size >> 10} KiB: {ended}"
+                    self.assertEqual((ended.status, ended.output), (1, b""), what)
+                    self.assertIn(ended.faults, {told, OUT_OF_MEMORY, self.without_its_line(ample)}, what)
+                    tally[ended.faults] += 1
+        self.assertGreater(tally[told], 0, dict(tally))
+        self.tells(f"out of memory {sum(tally.values())} times")
+
+    def without_its_line(self, ended: Ended) -> bytes:
+        """What is told where the configuration could not be read once more."""
+        return re.sub(rb"(?m)^CONFIG: line \d+;", b"CONFIG: no such line;", ended.faults)
