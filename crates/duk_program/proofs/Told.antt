@@ -32,12 +32,15 @@ pub unread_explained : {D : Type 0} (meaning : DiskMeaning D) (s : Scene D) (ask
 unread_explained meaning s asked why over cause quiet told = record {
   line = secret_line why;
   about = asked;
-  not_done = not_done_of meaning (heard_in s (secret_line why)) asked asked over (inr (refl, record {
-    why = why;
-    cause = cause;
-    no_output = quiet;
-    line = inl (record { bytes = refl; unfailed = tt });
-  }));
+  not_done = not_done_of meaning (heard_in s (secret_line why)) asked asked over (inr (
+    refl,
+    record {
+      why = why;
+      cause = cause;
+      no_output = quiet;
+      line = inl (record { bytes = refl; unfailed = tt });
+    },
+  ));
   told = told;
 }
 
