@@ -1,7 +1,7 @@
 -- Where a request is asked for, all that its command needs is there.
 use Rattle.std.proofs.Common.{◌≡◌, ◌≤◌, ◌∙◌, ℕ, List, Option, Some, ap, length, subst, sym}
 use Rattle.std.proofs.lemmas.List.{length-map, length-take-le}
-use Rattle.std.specs.Prelude.{IsSome, IsSomeAnd, find, is_some, unwrap_or}
+use Rattle.std.specs.Prelude.{IfSome, IsSome, IsSomeAnd, find, is_some, unwrap_or}
 use Rattle.std.specs.Str.{bytes_eq}
 use Rattle.clap.specs.Words.{Row, Shape, Text}
 use Rattle.duk_arguments.specs.Asked.{AsksFor, IsFound}
@@ -51,7 +51,15 @@ are_found rows (request.CheckReply bdk asked answer initial) f = (some f.0, (som
 are_found rows (request.Show kind what show) f = (some f.0, (some f.1.0, (tt, tt)))
 are_found rows (request.Issue bdk loading iksn count ledger skip_issued) f = (some f.0, (some f.1.0, (some f.1.1.0, (some f.1.1.1.0, (some f.1.1.1.1.0, (tt, tt))))))
 
-pub all_there : (name : Text) (rows : List Row) (asked : Request) → AsksFor name rows asked
-    → AreThere rows (command_named name)
-all_there name rows asked asks =
-    subst (λ (n : Text). AreThere rows (command_named n)) (sym asks.0) (are_found rows asked asks.1)
+-- all that this command needs is there, where its name has been met
+pub there_by : {name command : Text} (rows : List Row) (asked : Request) → name ≡ command
+    → AsksFor name rows asked → AreThere rows (command_named command)
+there_by {name} {command} rows asked met asks =
+    subst (λ (n : Text). AreThere rows (command_named n)) (sym asks.0 ∙ met)
+    (are_found rows asked asks.1)
+
+-- what asks for this after the command asks for it after its name
+pub asks_by : {name command : Text} (rows : List Row) (result : Option Request) → name ≡ command
+    → IfSome result (AsksFor command rows) → IfSome result (AsksFor name rows)
+asks_by {name} {command} rows result met asks =
+    subst (λ (n : Text). IfSome result (AsksFor n rows)) (sym met) asks

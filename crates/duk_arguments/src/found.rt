@@ -1,8 +1,8 @@
 //! The request of each command, of what `clap` found after it.
 
-ghost use Rattle.std.specs.Prelude.{IfSome, IsSome, codes};
-ghost use Rattle.clap.specs.Words.{found_of, rows_of, subcommand_rows_of};
-ghost use Rattle.duk_arguments.specs.Asked.{AsksAfter, AsksFor};
+ghost use Rattle.std.specs.Prelude.{◌≡◌, IfSome, IsSome, Some, codes, map, option_map};
+ghost use Rattle.clap.specs.Words.{all_of, first_of, found_of, rows_of, subcommand_rows_of};
+ghost use Rattle.duk_arguments.specs.Asked.{AsksAfter, AsksFor, IsFlag};
 ghost use Rattle.duk_arguments.specs.CommandLine.{derive_command, walk_command, initial_command, issue_command, registers_command, kcv_command, mac_command, pin_command, unpin_command, translate_command, wrap_command, unwrap_command, show_command, request_command, reply_command, run_command, serve_command};
 ghost use Rattle.duk_arguments.specs.inner.Asked.{AreThere};
 
@@ -48,170 +48,159 @@ fn request_by<'a>(name: &str, found: &ArgMatches<'a>) -> Option<Request<'a>>
     }
 }
 
-#[tactic(auto, using(crate::proofs::FoundRows::by_rows))]
 fn derive_request<'a>(found: &ArgMatches<'a>) -> Option<Request<'a>>
     ensures asks { IfSome result (AsksFor (codes "derive") (rows_of (found_of found.now))) }
     ensures all { AreThere (rows_of (found_of found.now)) derive_command → IsSome result }
 {
-    let bdk = found.get_str("BDK")?;
-    let ksn = found.get_str("KSN")?;
+    let bdk = text(found, "BDK")?;
+    let ksn = text(found, "KSN")?;
     Some(Request::Derive {
         bdk,
         ksn,
-        initial: found.get_flag("initial"),
-        trace: found.get_flag("trace"),
-        all: found.get_flag("all"),
+        initial: flag(found, "initial"),
+        trace: flag(found, "trace"),
+        all: flag(found, "all"),
     })
 }
 
-#[tactic(auto, using(crate::proofs::FoundRows::by_rows))]
 fn walk_request<'a>(found: &ArgMatches<'a>) -> Option<Request<'a>>
     ensures asks { IfSome result (AsksFor (codes "walk") (rows_of (found_of found.now))) }
     ensures all { AreThere (rows_of (found_of found.now)) walk_command → IsSome result }
 {
-    let bdk = found.get_str("BDK")?;
-    let iksn = found.get_str("IKSN")?;
-    let count = found.get_str("COUNT")?;
+    let bdk = text(found, "BDK")?;
+    let iksn = text(found, "IKSN")?;
+    let count = text(found, "COUNT")?;
     Some(Request::Walk {
         bdk,
         iksn,
         count,
-        skip: found.get_str("skip"),
-        alone: found.get_flag("ksn"),
-        initial: found.get_flag("initial"),
+        skip: value(found, "skip"),
+        alone: flag(found, "ksn"),
+        initial: flag(found, "initial"),
     })
 }
 
-#[tactic(auto, using(crate::proofs::FoundRows::by_rows))]
 fn initial_request<'a>(found: &ArgMatches<'a>) -> Option<Request<'a>>
     ensures asks { IfSome result (AsksFor (codes "initial") (rows_of (found_of found.now))) }
     ensures all { AreThere (rows_of (found_of found.now)) initial_command → IsSome result }
 {
-    let bdk = found.get_str("BDK")?;
-    let iksn = found.get_str("IKSN")?;
+    let bdk = text(found, "BDK")?;
+    let iksn = text(found, "IKSN")?;
     Some(Request::Initial { bdk, iksn })
 }
 
-#[tactic(auto, using(crate::proofs::FoundRows::by_rows))]
 fn issue_request<'a>(found: &ArgMatches<'a>) -> Option<Request<'a>>
     ensures asks { IfSome result (AsksFor (codes "issue") (rows_of (found_of found.now))) }
     ensures all { AreThere (rows_of (found_of found.now)) issue_command → IsSome result }
 {
-    let bdk = found.get_str("BDK")?;
-    let loading = found.get_str("LOADING")?;
-    let iksn = found.get_str("IKSN")?;
-    let count = found.get_str("COUNT")?;
-    let ledger = found.get_str("ledger")?;
+    let bdk = text(found, "BDK")?;
+    let loading = text(found, "LOADING")?;
+    let iksn = text(found, "IKSN")?;
+    let count = text(found, "COUNT")?;
+    let ledger = text(found, "ledger")?;
     Some(Request::Issue {
         bdk,
         loading,
         iksn,
         count,
         ledger,
-        skip_issued: found.get_flag("skip-issued"),
+        skip_issued: flag(found, "skip-issued"),
     })
 }
 
-#[tactic(auto, using(crate::proofs::FoundRows::by_rows))]
 fn registers_request<'a>(found: &ArgMatches<'a>) -> Option<Request<'a>>
     ensures asks { IfSome result (AsksFor (codes "registers") (rows_of (found_of found.now))) }
     ensures all { AreThere (rows_of (found_of found.now)) registers_command → IsSome result }
 {
-    let bdk = found.get_str("BDK")?;
-    let ksn = found.get_str("KSN")?;
+    let bdk = text(found, "BDK")?;
+    let ksn = text(found, "KSN")?;
     Some(Request::Registers {
         bdk,
         ksn,
-        initial: found.get_flag("initial"),
+        initial: flag(found, "initial"),
     })
 }
 
-#[tactic(auto, using(crate::proofs::FoundRows::by_rows))]
 fn kcv_request<'a>(found: &ArgMatches<'a>) -> Option<Request<'a>>
     ensures asks { IfSome result (AsksFor (codes "kcv") (rows_of (found_of found.now))) }
     ensures all { AreThere (rows_of (found_of found.now)) kcv_command → IsSome result }
 {
-    let keys = Keys::from_slice(found.get_strs("KEY")?)?;
+    let keys = Keys::from_slice(texts(found, "KEY")?)?;
     Some(Request::Kcv {
         keys,
-        components: found.get_flag("components"),
-        show: found.get_flag("show"),
+        components: flag(found, "components"),
+        show: flag(found, "show"),
     })
 }
 
-#[tactic(auto, using(crate::proofs::FoundRows::by_rows))]
 fn mac_request<'a>(found: &ArgMatches<'a>) -> Option<Request<'a>>
     ensures asks { IfSome result (AsksFor (codes "mac") (rows_of (found_of found.now))) }
     ensures all { AreThere (rows_of (found_of found.now)) mac_command → IsSome result }
 {
-    let key = found.get_str("KEY")?;
-    let text = found.get_str("TEXT")?;
+    let key = text(found, "KEY")?;
+    let text = text(found, "TEXT")?;
     Some(Request::Mac {
         key,
         text,
-        cmac: found.get_flag("cmac"),
-        hex: found.get_flag("hex"),
+        cmac: flag(found, "cmac"),
+        hex: flag(found, "hex"),
     })
 }
 
-#[tactic(auto, using(crate::proofs::FoundRows::by_rows))]
 fn pin_request<'a>(found: &ArgMatches<'a>) -> Option<Request<'a>>
     ensures asks { IfSome result (AsksFor (codes "pin") (rows_of (found_of found.now))) }
     ensures all { AreThere (rows_of (found_of found.now)) pin_command → IsSome result }
 {
-    let pin = found.get_str("PIN")?;
-    let pan = found.get_str("PAN")?;
+    let pin = text(found, "PIN")?;
+    let pan = text(found, "PAN")?;
     Some(Request::Pin {
         pin,
         pan,
-        key: found.get_str("key"),
+        key: value(found, "key"),
     })
 }
 
-#[tactic(auto, using(crate::proofs::FoundRows::by_rows))]
 fn unpin_request<'a>(found: &ArgMatches<'a>) -> Option<Request<'a>>
     ensures asks { IfSome result (AsksFor (codes "unpin") (rows_of (found_of found.now))) }
     ensures all { AreThere (rows_of (found_of found.now)) unpin_command → IsSome result }
 {
-    let block = found.get_str("BLOCK")?;
-    let pan = found.get_str("PAN")?;
+    let block = text(found, "BLOCK")?;
+    let pan = text(found, "PAN")?;
     Some(Request::Unpin {
         block,
         pan,
-        key: found.get_str("key"),
-        show: found.get_flag("show"),
+        key: value(found, "key"),
+        show: flag(found, "show"),
     })
 }
 
-#[tactic(auto, using(crate::proofs::FoundRows::by_rows))]
 fn translate_request<'a>(found: &ArgMatches<'a>) -> Option<Request<'a>>
     ensures asks { IfSome result (AsksFor (codes "translate") (rows_of (found_of found.now))) }
     ensures all { AreThere (rows_of (found_of found.now)) translate_command → IsSome result }
 {
-    let block = found.get_str("BLOCK")?;
-    let pan = found.get_str("PAN")?;
-    let bdk = found.get_str("BDK")?;
-    let ksn = found.get_str("KSN")?;
-    let zone = found.get_str("ZONE")?;
+    let block = text(found, "BLOCK")?;
+    let pan = text(found, "PAN")?;
+    let bdk = text(found, "BDK")?;
+    let ksn = text(found, "KSN")?;
+    let zone = text(found, "ZONE")?;
     Some(Request::Translate {
         block,
         pan,
         bdk,
         ksn,
         zone,
-        initial: found.get_flag("initial"),
+        initial: flag(found, "initial"),
     })
 }
 
-#[tactic(auto, using(crate::proofs::FoundRows::by_rows))]
 fn wrap_request<'a>(found: &ArgMatches<'a>) -> Option<Request<'a>>
     ensures asks { IfSome result (AsksFor (codes "wrap") (rows_of (found_of found.now))) }
     ensures all { AreThere (rows_of (found_of found.now)) wrap_command → IsSome result }
 {
-    let kbpk = found.get_str("KBPK")?;
-    let fields = found.get_str("FIELDS")?;
-    let key = found.get_str("KEY")?;
-    let pad = found.get_str("PAD")?;
+    let kbpk = text(found, "KBPK")?;
+    let fields = text(found, "FIELDS")?;
+    let key = text(found, "KEY")?;
+    let pad = text(found, "PAD")?;
     Some(Request::Wrap {
         kbpk,
         fields,
@@ -220,84 +209,113 @@ fn wrap_request<'a>(found: &ArgMatches<'a>) -> Option<Request<'a>>
     })
 }
 
-#[tactic(auto, using(crate::proofs::FoundRows::by_rows))]
 fn unwrap_request<'a>(found: &ArgMatches<'a>) -> Option<Request<'a>>
     ensures asks { IfSome result (AsksFor (codes "unwrap") (rows_of (found_of found.now))) }
     ensures all { AreThere (rows_of (found_of found.now)) unwrap_command → IsSome result }
 {
-    let kbpk = found.get_str("KBPK")?;
-    let block = found.get_str("BLOCK")?;
+    let kbpk = text(found, "KBPK")?;
+    let block = text(found, "BLOCK")?;
     Some(Request::Unwrap { kbpk, block })
 }
 
-#[tactic(auto, using(crate::proofs::FoundRows::by_rows))]
 fn show_request<'a>(found: &ArgMatches<'a>) -> Option<Request<'a>>
     ensures asks { IfSome result (AsksFor (codes "show") (rows_of (found_of found.now))) }
     ensures all { AreThere (rows_of (found_of found.now)) show_command → IsSome result }
 {
-    let kind = found.get_str("KIND")?;
-    let what = found.get_str("WHAT")?;
+    let kind = text(found, "KIND")?;
+    let what = text(found, "WHAT")?;
     Some(Request::Show {
         kind,
         what,
-        show: found.get_flag("show"),
+        show: flag(found, "show"),
     })
 }
 
-#[tactic(auto, using(crate::proofs::FoundRows::by_rows))]
 fn make_request<'a>(found: &ArgMatches<'a>) -> Option<Request<'a>>
     ensures asks { IfSome result (AsksFor (codes "request") (rows_of (found_of found.now))) }
     ensures all { AreThere (rows_of (found_of found.now)) request_command → IsSome result }
 {
-    let bdk = found.get_str("BDK")?;
-    let ksn = found.get_str("KSN")?;
-    let pan = found.get_str("PAN")?;
-    let pin = found.get_str("PIN")?;
-    let amount = found.get_str("AMOUNT")?;
+    let bdk = text(found, "BDK")?;
+    let ksn = text(found, "KSN")?;
+    let pan = text(found, "PAN")?;
+    let pin = text(found, "PIN")?;
+    let amount = text(found, "AMOUNT")?;
     Some(Request::MakeRequest {
         bdk,
         ksn,
         pan,
         pin,
         amount,
-        initial: found.get_flag("initial"),
+        initial: flag(found, "initial"),
     })
 }
 
-#[tactic(auto, using(crate::proofs::FoundRows::by_rows))]
 fn check_reply<'a>(found: &ArgMatches<'a>) -> Option<Request<'a>>
     ensures asks { IfSome result (AsksFor (codes "reply") (rows_of (found_of found.now))) }
     ensures all { AreThere (rows_of (found_of found.now)) reply_command → IsSome result }
 {
-    let bdk = found.get_str("BDK")?;
-    let request = found.get_str("REQUEST")?;
-    let answer = found.get_str("ANSWER")?;
+    let bdk = text(found, "BDK")?;
+    let request = text(found, "REQUEST")?;
+    let answer = text(found, "ANSWER")?;
     Some(Request::CheckReply {
         bdk,
         request,
         answer,
-        initial: found.get_flag("initial"),
+        initial: flag(found, "initial"),
     })
 }
 
-#[tactic(auto, using(crate::proofs::FoundRows::by_rows))]
 fn run_request<'a>(found: &ArgMatches<'a>) -> Option<Request<'a>>
     ensures asks { IfSome result (AsksFor (codes "run") (rows_of (found_of found.now))) }
     ensures all { AreThere (rows_of (found_of found.now)) run_command → IsSome result }
 {
-    let config = found.get_str("CONFIG")?;
-    let script = found.get_str("SCRIPT")?;
+    let config = text(found, "CONFIG")?;
+    let script = text(found, "SCRIPT")?;
     Some(Request::Run { config, script })
 }
 
-#[tactic(auto, using(crate::proofs::FoundRows::by_rows))]
 fn serve_request<'a>(found: &ArgMatches<'a>) -> Option<Request<'a>>
     ensures asks { IfSome result (AsksFor (codes "serve") (rows_of (found_of found.now))) }
     ensures all { AreThere (rows_of (found_of found.now)) serve_command → IsSome result }
 {
-    let config = found.get_str("CONFIG")?;
+    let config = text(found, "CONFIG")?;
     Some(Request::Serve {
         config,
-        log: found.get_str("log"),
+        log: value(found, "log"),
     })
+}
+
+/// The text that was found under a name, where there is one.
+#[tactic(auto, using(crate::proofs::FoundRows::by_rows))]
+fn text<'a>(found: &ArgMatches<'a>, name: &str) -> Option<&'a str>
+    ensures found { IfSome result
+        (λ text. first_of name.now (rows_of (found_of found.now)) ≡ Some text.now) }
+    ensures there { IsSome (first_of name.now (rows_of (found_of found.now))) → IsSome result }
+{
+    found.get_str(name)
+}
+
+/// The value of an option, where it was found.
+#[tactic(auto, using(crate::proofs::FoundRows::by_rows))]
+fn value<'a>(found: &ArgMatches<'a>, name: &str) -> Option<&'a str>
+    ensures { first_of name.now (rows_of (found_of found.now)) ≡ option_map (λ text. text.now) result }
+{
+    found.get_str(name)
+}
+
+/// The texts that were found under a name, where there are any.
+#[tactic(auto, using(crate::proofs::FoundRows::by_rows))]
+fn texts<'f, 'a>(found: &'f ArgMatches<'a>, name: &str) -> Option<&'f [&'a str]>
+    ensures { all_of name.now (rows_of (found_of found.now))
+        ≡ option_map (λ texts. map (λ text. text.now) texts.now) result }
+{
+    found.get_strs(name)
+}
+
+/// Whether a flag was found.
+#[tactic(auto, using(crate::proofs::FoundRows::by_rows))]
+fn flag(found: &ArgMatches<'_>, name: &str) -> bool
+    ensures { IsFlag (rows_of (found_of found.now)) name.now result }
+{
+    found.get_flag(name)
 }

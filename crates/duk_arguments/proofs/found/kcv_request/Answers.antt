@@ -9,10 +9,9 @@ use Rattle.duk_arguments.proofs.found.kcv_request.Goals as goal
 
 pub returns-in_err-keys-clause-all : goal.returns-in_err-keys-clause-all
 returns-in_err-keys-clause-all c = λ there.
-    let texts = c.in_ok-get_strs.field-0.now in
+    let texts = c.in_ok-texts.field-0.now in
     let rows = rows_of (found_of c.args.found.now) in
-    let found : all_of (codes "KEY") rows ≡ Some (map (λ (text : Bor Text). text.now) texts) =
-    all_by_rows (found_of c.args.found.now) (codes "KEY") ∙ sym c.in_ok-get_strs.ensures in
+    let found : all_of (codes "KEY") rows ≡ Some (map (λ (text : Bor Text). text.now) texts) = c.in_ok-texts.ensures in
     let room : HaveRoom (map (λ (text : Bor Text). text.now) texts) =
     subst (λ (o : Option (List Text)). IsSomeAnd o HaveRoom) found there.0 in
     let same : length (map (λ (text : Bor Text). text.now) texts) ≡ length texts = length-map _ _ in
