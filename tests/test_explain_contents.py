@@ -30,9 +30,9 @@ class Logs(ExplainCase):
         record_ = None if place is None else f"record {place}"
         self.write("it", image)
         self.explained(["serve", "bank.toml", "--log", "it"], "log: failed",
-                       f"log: {record_ or 'a step of its device failed'}; wanted: {A_GOOD_LOG}")
+                       f"log: {record_ or 'wrong records, or a step that failed'}; wanted: {A_GOOD_LOG}")
         self.explained([*ISSUE, "it"], "ledger: damaged",
-                       f"ledger: {record_ or 'other bytes'}; wanted: {NUMBERS}")
+                       f"ledger: {record_ or 'numbers that no ledger has'}; wanted: {NUMBERS}")
         self.assertEqual((self.home / "it").read_bytes(), image, name)
 
     def test_spoiled(self) -> None:
@@ -69,8 +69,9 @@ class Logs(ExplainCase):
             for name in ("/dev/null", "/dev/zero", "/dev/full", "pipe"):
                 for words, fault, called, wanted, none in (
                     (["serve", "bank.toml", "--log", name], "log: failed", "log", A_GOOD_LOG,
-                     "a step of its device failed"),
-                    ([*ISSUE, name], "ledger: damaged", "ledger", NUMBERS, "other bytes"),
+                     "wrong records, or a step that failed"),
+                    ([*ISSUE, name], "ledger: damaged", "ledger", NUMBERS,
+                     "numbers that no ledger has"),
                 ):
                     ended = self.run_with([*words, EXPLAIN], seconds=20)
                     lines = {f"{fault}\n{called}: {it}; wanted: {wanted}\n".encode()
@@ -91,8 +92,9 @@ class Logs(ExplainCase):
         of_ledger = {"a counter": ([first, first + SPENT + 1], 1), "the first": ([first + 1], 0)}
         for words, fault, called, wanted, none, cases in (
             (["serve", "bank.toml", "--log", "it"], "log: failed", "log", A_GOOD_LOG,
-             "a step of its device failed", of_service),
-            ([*ISSUE, "it"], "ledger: damaged", "ledger", NUMBERS, "other bytes", of_ledger),
+             "wrong records, or a step that failed", of_service),
+            ([*ISSUE, "it"], "ledger: damaged", "ledger", NUMBERS, "numbers that no ledger has",
+             of_ledger),
         ):
             for name, (numbers, place) in cases.items():
                 self.write("it", log_image(bytes_of(numbers), 5))
@@ -109,7 +111,7 @@ class Logs(ExplainCase):
             limits = Limits(file_size=room)
             frames = b"".join(it.frame for it in payments(3))
             ended = self.run_with(["serve", "bank.toml", "--log", "it", EXPLAIN], frames, limits=limits)
-            line = f"log: a step of its device failed; wanted: {A_GOOD_LOG}"
+            line = f"log: wrong records, or a step that failed; wanted: {A_GOOD_LOG}"
             answers = b"".join(it.answer for it in payments(3)[: room // RECORD])
             self.assert_ended(ended, 1, answers, f"log: failed\n{line}\n".encode(), f"{room} bytes")
             self.write("it", bytes(5 * RECORD))
@@ -194,7 +196,7 @@ class Configurations(ExplainCase):
         ends as it does without `--explain`."""
         config = BANK.replace(b"log = 100", b"log = 0")
         wanted = {f"config: bad log\nCONFIG: {it}; wanted: 1 to 100000\n".encode()
-                  for it in ("line 5", "no such line")}
+                  for it in ("line 5", "the line was not found")}
         ended = self.run_with(["run", "/dev/stdin", SCRIPT, EXPLAIN], config)
         self.assertEqual((ended.status, ended.output), (1, b""))
         self.assertIn(ended.faults, wanted)

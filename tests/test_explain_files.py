@@ -244,4 +244,4 @@ class Memory(ExplainCase):
 
     def without_its_line(self, ended: Ended) -> bytes:
         """What is told where the configuration could not be read once more."""
-        return re.sub(rb"(?m)^CONFIG: line \d+;", b"CONFIG: no such line;", ended.faults)
+        return re.sub(rb"(?m)^CONFIG: line \d+;", b"CONFIG: the line was not found;", ended.faults)

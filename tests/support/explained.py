@@ -244,9 +244,9 @@ def of_file(fault: str, facts: Facts) -> Optional[Explanation]:
         return Explanation(name, facts.reason, wanted)
     record = None if facts.place is None else f"record {facts.place}"
     if fault == "ledger: damaged":
-        return Explanation("ledger", record or "other bytes", "initial key serial numbers")
+        return Explanation("ledger", record or "numbers that no ledger has", "initial key serial numbers")
     if fault == "log: failed":
-        return Explanation("log", record or "a step of its device failed",
+        return Explanation("log", record or "wrong records, or a step that failed",
                            "a log as it was kept, on a device that works")
     number = re.fullmatch("([0-9A-F]{20}): issued", fault)
     if number:
@@ -295,7 +295,8 @@ def of_config(fault: str, facts: Facts) -> Optional[Explanation]:
     bad = re.fullmatch("config: bad ([a-z]+)( [0-9]+)?", fault)
     if not bad:
         return None
-    return Explanation("CONFIG", line or "no such line", (WANTED_OF_ENTRY if bad[2] else WANTED_OF)[bad[1]])
+    wanted = (WANTED_OF_ENTRY if bad[2] else WANTED_OF)[bad[1]]
+    return Explanation("CONFIG", line or "the line was not found", wanted)
 
 
 def line_of(config: bytes, fault: str) -> Optional[int]:
@@ -328,7 +329,8 @@ def is_head(line: bytes, key: bytes, brackets: int) -> bool:
 SHOWN = {
     "frame": {
         "Hex": PAIRS, "Length": "the length of the frame in its first two bytes", "Version": "01",
-        "Kind": "01 to 03", "Size": "the size of its kind", "PanLength": "0C to 13",
+        "Kind": "01 to 03", "Size": "the size of its kind",
+        "PanLength": "0C to 13, and 35 less than the frame has bytes",
         "PanDigit": "decimal digits", "Code": "00, 14, 30, 51 or 55", "Reason": "01 to 06",
     },
     "block": {

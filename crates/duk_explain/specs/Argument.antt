@@ -130,6 +130,27 @@ abbrev pub what_of : Request → Option (List ℕ)
 what_of (request.Show kind what show) = Some what.now
 what_of asked = None
 
+-- CONFIG
+abbrev pub config_of : Request → Option (List ℕ)
+config_of (request.Run config script) = Some config.now
+config_of (request.Serve config log) = Some config.now
+config_of asked = None
+
+-- SCRIPT
+abbrev pub script_of : Request → Option (List ℕ)
+script_of (request.Run config script) = Some script.now
+script_of asked = None
+
+-- the path of the log
+abbrev pub log_of : Request → Option (List ℕ)
+log_of (request.Serve config log) = option_copied log
+log_of asked = None
+
+-- the path of the ledger
+abbrev pub ledger_of : Request → Option (List ℕ)
+ledger_of (request.Issue bdk loading iksn count ledger skip_issued) = Some ledger.now
+ledger_of asked = None
+
 -- the text of an argument, where the request has it
 abbrev pub text_of : Request → Argument → Option (List ℕ)
 text_of asked argument.Bdk = bdk_of asked

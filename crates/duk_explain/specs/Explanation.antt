@@ -136,11 +136,13 @@ abbrev pub found_explained : Found → Row → Request → Facts → List ℕ �
 found_explained (found.Text argument kind) r asked facts middle = if_there (text_of asked argument)
     (λ text. row_explained r middle (measure_text (measure_of kind text)))
 found_explained found.Words r asked facts middle = row_explained r middle r.words
-found_explained found.Reason r asked facts middle =
+found_explained (found.Reason file) r asked facts middle =
+    row_explained r middle (reason_found facts.reason)
+found_explained (found.Locking file) r asked facts middle =
     row_explained r middle (reason_found facts.reason)
 found_explained found.Reference r asked facts middle =
     row_explained r middle (reference_found r.words facts.reason)
-found_explained found.Record r asked facts middle =
+found_explained (found.Record file) r asked facts middle =
     row_explained r middle (place_found (codes "record ") r.words facts.place)
 found_explained found.Line r asked facts middle =
     row_explained r middle (place_found (codes "line ") r.words facts.place)

@@ -6,3 +6,4 @@ pub mod Reading
 pub mod Numbers
 pub mod Keys
 pub mod Explanation
+pub mod Subject

@@ -2,6 +2,7 @@
 use Rattle.std.specs.Prelude.{ℕ, List, [], ◌++◌, codes}
 use Rattle.duk_explain.specs.declared.argument.Argument.{Argument}
 use Rattle.duk_explain.specs.declared.argument.Argument.TheVariants as argument
+use Rattle.duk_explain.specs.declared.files.File.TheVariants as file
 use Rattle.duk_explain.specs.declared.kind.Kind.{Kind}
 use Rattle.duk_explain.specs.declared.kind.Kind.TheVariants.{Hexadecimal, Decimal, Any}
 use Rattle.duk_explain.specs.declared.rows.Found.{Found}
@@ -185,7 +186,7 @@ row told.FrameKind = shown_row (codes "frame") (codes "Kind") found.Stopped [] (
 row told.FrameSize =
     shown_row (codes "frame") (codes "Size") found.Stopped [] (codes "the size of its kind")
 row told.FramePanLength =
-    shown_row (codes "frame") (codes "PanLength") found.Stopped [] (codes "0C to 13")
+    shown_row (codes "frame") (codes "PanLength") found.Stopped [] (codes "0C to 13, and 35 less than the frame has bytes")
 row told.FramePanDigit =
     shown_row (codes "frame") (codes "PanDigit") found.Stopped [] (codes "decimal digits")
 row told.FrameCode =
@@ -227,19 +228,20 @@ row told.LogDamaged =
     shown_row (codes "log") (codes "Damaged") found.Before (codes "record ")
     (codes "16 zero bytes, or a record as FORMATS has it")
 row told.LogUnread =
-    words_row (codes "log: cannot read") (codes "WHAT") found.Reason []
+    words_row (codes "log: cannot read") (codes "WHAT") (found.Reason file.What) []
     (codes "a file that can be read") []
 row told.LogTooLong =
     words_row (codes "log: too long") (codes "WHAT") found.Words (codes "a longer file")
     (codes "at most 1073741824 bytes") []
 row told.PaddingUnread =
-    words_row (codes "padding: cannot read") (codes "/dev/urandom") found.Reason []
+    words_row (codes "padding: cannot read") (codes "/dev/urandom") (found.Reason file.Padding) []
     (codes "a device that can be read") []
 row told.LedgerUnopened =
-    words_row (codes "ledger: cannot open") (codes "ledger") found.Reason []
+    words_row (codes "ledger: cannot open") (codes "ledger") (found.Locking file.Ledger) []
     (codes "a file of zeros, 16 bytes a number, that no other uses") []
 row told.LedgerDamaged =
-    words_row (codes "ledger: damaged") (codes "ledger") found.Record (codes "other bytes")
+    words_row (codes "ledger: damaged") (codes "ledger") (found.Record file.Ledger)
+    (codes "numbers that no ledger has")
     (codes "initial key serial numbers") []
 row told.LedgerFailed =
     words_row (codes "ledger: failed") (codes "ledger") found.Words
@@ -253,47 +255,47 @@ row told.LedgerFull =
     words_row (codes "ledger: full") (codes "ledger") found.Words (codes "too little room")
     (codes "16 bytes of zeros for each number") []
 row told.ConfigUnread =
-    words_row (codes "config: cannot read") (codes "CONFIG") found.Reason []
+    words_row (codes "config: cannot read") (codes "CONFIG") (found.Reason file.Config) []
     (codes "a file that can be read") []
 row told.ConfigTooLong =
     words_row (codes "config: too long") (codes "CONFIG") found.Words (codes "a longer file")
     (codes "at most 1048576 bytes") []
 row told.NotToml =
-    words_row (codes "config: not TOML") (codes "CONFIG") found.Line (codes "other text")
+    words_row (codes "config: not TOML") (codes "CONFIG") found.Words (codes "other text")
     (codes "TOML in UTF-8") []
 row told.BadLmk =
-    words_row (codes "config: bad lmk") (codes "CONFIG") found.Line (codes "no such line")
+    words_row (codes "config: bad lmk") (codes "CONFIG") found.Line (codes "the line was not found")
     (codes "32 or 48 hexadecimal digits") []
 row told.BadZone =
-    words_row (codes "config: bad zone") (codes "CONFIG") found.Line (codes "no such line")
+    words_row (codes "config: bad zone") (codes "CONFIG") found.Line (codes "the line was not found")
     (codes "32 or 48 hexadecimal digits") []
 row told.BadLoading =
-    words_row (codes "config: bad loading") (codes "CONFIG") found.Line (codes "no such line")
+    words_row (codes "config: bad loading") (codes "CONFIG") found.Line (codes "the line was not found")
     (codes "32 hexadecimal digits") []
 row told.BadTerminals =
-    words_row (codes "config: bad terminals") (codes "CONFIG") found.Line (codes "no such line")
+    words_row (codes "config: bad terminals") (codes "CONFIG") found.Line (codes "the line was not found")
     (codes "1 to 16") []
 row told.BadLog =
-    words_row (codes "config: bad log") (codes "CONFIG") found.Line (codes "no such line")
+    words_row (codes "config: bad log") (codes "CONFIG") found.Line (codes "the line was not found")
     (codes "1 to 100000") []
 row told.BadStores =
-    words_row (codes "config: bad stores") (codes "CONFIG") found.Line (codes "no such line")
+    words_row (codes "config: bad stores") (codes "CONFIG") found.Line (codes "the line was not found")
     (codes "memory or disk") []
 row told.BadBdk =
-    words_row (codes "config: bad bdk") (codes "CONFIG") found.Line (codes "no such line")
+    words_row (codes "config: bad bdk") (codes "CONFIG") found.Line (codes "the line was not found")
     (codes "1 to 8 tables") []
 row told.BadCard =
-    words_row (codes "config: bad card") (codes "CONFIG") found.Line (codes "no such line")
+    words_row (codes "config: bad card") (codes "CONFIG") found.Line (codes "the line was not found")
     (codes "at most 1000 tables") []
 row told.BadBdkEntry =
     middle_row (codes "config: bad bdk ") middle.Place [] (codes "CONFIG") found.Line
-    (codes "no such line") (codes "prefix, 10 hexadecimal digits, and key, 32; each prefix once") []
+    (codes "the line was not found") (codes "prefix, 10 hexadecimal digits, and key, 32; each prefix once") []
 row told.BadCardEntry =
     middle_row (codes "config: bad card ") middle.Place [] (codes "CONFIG") found.Line
-    (codes "no such line")
+    (codes "the line was not found")
     (codes "pan, 12 to 19 digits, pin, 4 to 12, and limit up to 4294967295; each pan once") []
 row told.ScriptUnread =
-    words_row (codes "script: cannot read") (codes "SCRIPT") found.Reason []
+    words_row (codes "script: cannot read") (codes "SCRIPT") (found.Reason file.Script) []
     (codes "a file that can be read") []
 row told.ScriptTooLong =
     words_row (codes "script: too long") (codes "SCRIPT") found.Words (codes "a longer file")
@@ -302,10 +304,11 @@ row told.NotAnEvent =
     middle_row (codes "line ") middle.Place (codes ": not an event") (codes "SCRIPT") found.Before
     (codes "line ") (codes "an event, a comment after # or an empty line") []
 row told.LogUnopened =
-    words_row (codes "log: cannot open") (codes "log") found.Reason []
+    words_row (codes "log: cannot open") (codes "log") (found.Locking file.Log) []
     (codes "a file of zeros, 16 bytes a number, that no other uses") []
 row told.LogFailed =
-    words_row (codes "log: failed") (codes "log") found.Record (codes "a step of its device failed")
+    words_row (codes "log: failed") (codes "log") (found.Record file.Log)
+    (codes "wrong records, or a step that failed")
     (codes "a log as it was kept, on a device that works") []
 row told.ServeUnread =
     words_row (codes "serve: read failed") (codes "input") found.Words (codes "a read failed")

@@ -3,7 +3,7 @@
 ghost use Rattle.std.specs.Prelude.{◌≡◌};
 ghost use Rattle.std.specs.Option.{option_copied, option_map};
 ghost use Rattle.duk_arguments.specs.Keys.{texts_of_keys};
-ghost use Rattle.duk_explain.specs.Argument.{amount_of, answer_of, bdk_of, block_of, count_of, fields_of, frame_of, iksn_of, kbpk_of, key_of, keys_of, kind_of, ksn_of, loading_of, mac_text_of, pad_of, pan_of, pin_of, skip_of, text_of, what_of, zone_of};
+ghost use Rattle.duk_explain.specs.Argument.{amount_of, answer_of, bdk_of, block_of, config_of, count_of, fields_of, frame_of, iksn_of, kbpk_of, key_of, keys_of, kind_of, ksn_of, ledger_of, loading_of, log_of, mac_text_of, pad_of, pan_of, pin_of, script_of, skip_of, text_of, what_of, zone_of};
 
 use duk_arguments::{Keys, Request};
 
@@ -278,7 +278,9 @@ pub(crate) fn what_of<'a>(request: &Request<'a>) -> Option<&'a str>
 }
 
 /// The path of the configuration.
-pub(crate) fn config_of<'a>(request: &Request<'a>) -> Option<&'a str> {
+pub(crate) fn config_of<'a>(request: &Request<'a>) -> Option<&'a str>
+    ensures { option_copied result ≡ config_of request.now }
+{
     match request {
         Request::Run { config, .. } | Request::Serve { config, .. } => Some(*config),
         _ => None,
@@ -286,7 +288,9 @@ pub(crate) fn config_of<'a>(request: &Request<'a>) -> Option<&'a str> {
 }
 
 /// The path of the script.
-pub(crate) fn script_of<'a>(request: &Request<'a>) -> Option<&'a str> {
+pub(crate) fn script_of<'a>(request: &Request<'a>) -> Option<&'a str>
+    ensures { option_copied result ≡ script_of request.now }
+{
     match request {
         Request::Run { script, .. } => Some(*script),
         _ => None,
@@ -294,7 +298,9 @@ pub(crate) fn script_of<'a>(request: &Request<'a>) -> Option<&'a str> {
 }
 
 /// The path of the log.
-pub(crate) fn log_of<'a>(request: &Request<'a>) -> Option<&'a str> {
+pub(crate) fn log_of<'a>(request: &Request<'a>) -> Option<&'a str>
+    ensures { option_copied result ≡ log_of request.now }
+{
     match request {
         Request::Serve { log, .. } => *log,
         _ => None,
@@ -302,7 +308,9 @@ pub(crate) fn log_of<'a>(request: &Request<'a>) -> Option<&'a str> {
 }
 
 /// The path of the ledger.
-pub(crate) fn ledger_of<'a>(request: &Request<'a>) -> Option<&'a str> {
+pub(crate) fn ledger_of<'a>(request: &Request<'a>) -> Option<&'a str>
+    ensures { option_copied result ≡ ledger_of request.now }
+{
     match request {
         Request::Issue { ledger, .. } => Some(*ledger),
         _ => None,

@@ -4,6 +4,7 @@ ghost use Rattle.std.specs.Prelude.{◌≡◌, ◌≤◌, length};
 ghost use Rattle.duk_explain.specs.Told.{row};
 
 use crate::argument::Argument;
+use crate::files::File;
 use crate::kind::Kind;
 use crate::told::Told;
 
@@ -14,12 +15,14 @@ pub(crate) enum Found {
     Text(Argument, Kind),
     /// Words.
     Words,
-    /// What the system says of a file.
-    Reason,
+    /// What the system says of a file that is read.
+    Reason(File),
+    /// What the system says of a file that is opened to be written and locked.
+    Locking(File),
     /// What the system says of a secret's file, or words of standard input.
     Reference,
-    /// The damaged record of a log, or words where it is not known.
-    Record,
+    /// The damaged record of a log or a ledger, or words where it is not known.
+    Record(File),
     /// The line of a configuration, or words where it is not known.
     Line,
     /// The measure of a key serial number, and what helps.
@@ -184,16 +187,16 @@ impl Told {
             | Told::ImageRegisters
             | Told::ImagePast => Found::Stopped,
             Told::LogDamaged | Told::NotAnEvent => Found::Before,
-            Told::LogUnread
-            | Told::PaddingUnread
-            | Told::LedgerUnopened
-            | Told::ConfigUnread
-            | Told::ScriptUnread
-            | Told::LogUnopened => Found::Reason,
-            Told::LedgerDamaged | Told::LogFailed => Found::Record,
+            Told::LogUnread => Found::Reason(File::What),
+            Told::PaddingUnread => Found::Reason(File::Padding),
+            Told::ConfigUnread => Found::Reason(File::Config),
+            Told::ScriptUnread => Found::Reason(File::Script),
+            Told::LedgerUnopened => Found::Locking(File::Ledger),
+            Told::LogUnopened => Found::Locking(File::Log),
+            Told::LedgerDamaged => Found::Record(File::Ledger),
+            Told::LogFailed => Found::Record(File::Log),
             Told::Issued => Found::After,
-            Told::NotToml
-            | Told::BadLmk
+            Told::BadLmk
             | Told::BadZone
             | Told::BadLoading
             | Told::BadTerminals
@@ -220,8 +223,10 @@ impl Told {
             Told::Payload => "no such key",
             Told::LogDamaged => "record ",
             Told::LogTooLong | Told::ConfigTooLong | Told::ScriptTooLong => "a longer file",
-            Told::LedgerDamaged | Told::SecretNotUtf8 => "other bytes",
-            Told::LedgerFailed | Told::LogFailed => "a step of its device failed",
+            Told::LedgerDamaged => "numbers that no ledger has",
+            Told::SecretNotUtf8 => "other bytes",
+            Told::LedgerFailed => "a step of its device failed",
+            Told::LogFailed => "wrong records, or a step that failed",
             Told::Issued => " stands in the ledger",
             Told::LedgerFull => "too little room",
             Told::NotToml => "other text",
@@ -234,7 +239,7 @@ impl Told {
             | Told::BadBdk
             | Told::BadCard
             | Told::BadBdkEntry
-            | Told::BadCardEntry => "no such line",
+            | Told::BadCardEntry => "the line was not found",
             Told::NotAnEvent => "line ",
             Told::ServeUnread | Told::BatchUnread => "a read failed",
             Told::ServeCut => "a part of a frame",
@@ -286,7 +291,7 @@ impl Told {
             Told::FrameVersion => "01",
             Told::FrameKind => "01 to 03",
             Told::FrameSize => "the size of its kind",
-            Told::FramePanLength => "0C to 13",
+            Told::FramePanLength => "0C to 13, and 35 less than the frame has bytes",
             Told::FramePanDigit => "decimal digits",
             Told::FrameCode => "00, 14, 30, 51 or 55",
             Told::FrameReason => "01 to 06",

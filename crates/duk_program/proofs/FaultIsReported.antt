@@ -23,7 +23,7 @@ use Rattle.duk_program.specs.Commands.{command_for}
 use Rattle.duk_program.specs.Configured.{IsConfigFaultReported}
 use Rattle.duk_program.specs.Files.{FileKnown}
 use Rattle.duk_program.specs.LogFiles.{DiskKnown}
-use Rattle.duk_program.specs.IssueFiles.{HasNotIssuedFiles, IsNotIssuedOver, Issuing}
+use Rattle.duk_program.specs.IssueFiles.{HasNotIssuedFiles, IsNotIssuedOver, IssueFilesKnown, Issuing}
 use Rattle.duk_program.specs.Items.{LineItems, command_of_line, items_of}
 use Rattle.duk_program.specs.Meant.{HasLostLines, IsMeantNotDone, IsNotAnswered, IsNotDoneAlone, IsOverItemsNotDone}
 use Rattle.duk_program.specs.RunFiles.{FileRun, HasReportedFault, script_line}
@@ -139,7 +139,7 @@ over_ledger_reported meaning job i (inl stopped) = elim stopped.ended [
 ]
 over_ledger_reported meaning job i (inr lost) = issue_reported i.streams.fault_before i.streams.fault_after issue.WriteFailed lost.reported.line
 
-unissued_reported : {D : Type 0} (meaning : DiskMeaning D) (known : DiskKnown D) (arguments : IssueArguments) (s : Streams)
+unissued_reported : {D : Type 0} (meaning : DiskMeaning D) (known : IssueFilesKnown D) (arguments : IssueArguments) (s : Streams)
     → HasNotIssuedFiles meaning known arguments s → IsLineReported s.fault_before s.fault_after
 unissued_reported meaning known arguments s (inl none) = issue_reported s.fault_before s.fault_after none.why none.reported.line
 unissued_reported meaning known arguments s (inr (inl none)) = issue_reported s.fault_before s.fault_after none.why none.reported.line

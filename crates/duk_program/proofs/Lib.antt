@@ -7,3 +7,4 @@ mod Endings
 mod Told
 mod Words
 mod ShownLogs
+mod ToldSecrets

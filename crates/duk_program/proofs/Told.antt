@@ -9,6 +9,7 @@ use Rattle.duk_io.specs.Sink.{IsUntouched}
 use Rattle.duk_program.specs.Explained.{HasExplained, IsHeardDone, IsMeantFailed, IsNotDoneOf, IsTold, heard_in, holding}
 use Rattle.duk_program.proofs.Answered.{meant_done}
 use Rattle.duk_program.specs.Files.{FileKnown}
+use Rattle.duk_program.specs.Inquiry.{Inquiry}
 use Rattle.duk_program.specs.Meant.{AreSecretsRead, HasUnreadSecret, IsAnswered, IsNotAnswered}
 use Rattle.duk_program.specs.Program.{run_in}
 use Rattle.duk_program.specs.RunFiles.{HasReportedFault}
@@ -26,9 +27,9 @@ not_done_of meaning s (request.Serve config log) about over failed = absurd over
 not_done_of meaning s asked about over failed = failed
 
 -- a secret that is not read is explained of the request as it is written
-pub unread_explained : {D : Type 0} (meaning : DiskMeaning D) (s : Scene D) (asked : Request) (why : SecretFault) → IsOverSecrets asked
+pub unread_explained : {D : Type 0} {q : Inquiry} (meaning : DiskMeaning D) (s : Scene D) (asked : Request) (why : SecretFault) → IsOverSecrets asked
     → IsSecretFault s.held asked why → IsUntouched s.streams.output_before s.streams.output_after
-    → IsTold (secret_line why) asked s.fault_before s.fault_after → HasExplained meaning s asked
+    → IsTold q (secret_line why) asked s.fault_before s.fault_after → HasExplained meaning q s asked
 unread_explained meaning s asked why over cause quiet told = record {
   line = secret_line why;
   about = asked;
@@ -50,8 +51,8 @@ pub each_means_of : (held : List ℕ → FileKnown) (written texts keys : List (
 each_means_of held written texts keys same means = rw (same) means
 
 -- the same line is told
-pub told_of : (line heard : List ℕ) (about : Request) (old new : Known) → line ≡ heard → IsTold line about old new
-    → IsTold heard about old new
+pub told_of : {q : Inquiry} (line heard : List ℕ) (about : Request) (old new : Known) → line ≡ heard → IsTold q line about old new
+    → IsTold q heard about old new
 told_of line heard about old new same told = rw (← same) told
 
 -- the scene in which faults are written to memory, which holds this before and this at the end
@@ -59,9 +60,9 @@ abbrev pub heard_from : {D : Type 0} → Scene D → List ℕ → List ℕ → S
 heard_from s empty line = scene s.held s.disks s.streams (holding empty) (holding line)
 
 -- what is answered of a request over what its secrets stand for, with a line that is told
-pub meant_explained : {D : Type 0} (meaning : DiskMeaning D) (s : Scene D) (asked meant : Request) (input : Supply) (empty line : List ℕ) → empty ≡ [] → IsOverSecrets asked
+pub meant_explained : {D : Type 0} {q : Inquiry} (meaning : DiskMeaning D) (s : Scene D) (asked meant : Request) (input : Supply) (empty line : List ℕ) → empty ≡ [] → IsOverSecrets asked
     → AreSecretsRead s asked input → HasMeaning s.held asked meant → IsNotAnswered meaning (reading_on (heard_from s empty line) input) meant
-    → IsTold line meant s.fault_before s.fault_after → HasExplained meaning s asked
+    → IsTold q line meant s.fault_before s.fault_after → HasExplained meaning q s asked
 meant_explained meaning s asked meant input empty line none over read means not_done told = record {
   line = line;
   about = meant;
@@ -90,9 +91,9 @@ meant_heard meaning s asked meant input empty heard none over read means done = 
 }
 
 -- a script that is not run is told of the request itself
-run_explained : {D : Type 0} (meaning : DiskMeaning D) (s : Scene D) (config script : Bor (List ℕ)) (empty line : List ℕ) → empty ≡ []
-    → HasReportedFault (run_in (heard_from s empty line) config.now script.now) → IsTold line (request.Run config script) s.fault_before s.fault_after
-    → HasExplained meaning s (request.Run config script)
+run_explained : {D : Type 0} {q : Inquiry} (meaning : DiskMeaning D) (s : Scene D) (config script : Bor (List ℕ)) (empty line : List ℕ) → empty ≡ []
+    → HasReportedFault (run_in (heard_from s empty line) config.now script.now) → IsTold q line (request.Run config script) s.fault_before s.fault_after
+    → HasExplained meaning q s (request.Run config script)
 run_explained meaning s config script empty line none failed told = record {
   line = line;
   about = request.Run config script;
@@ -100,7 +101,7 @@ run_explained meaning s config script empty line none failed told = record {
   told = told;
 }
 
-pub run_not_done : {D : Type 0} (meaning : DiskMeaning D) (s : Scene D) (asked : Request) (config script : Bor (List ℕ)) (empty line : List ℕ) → asked ≡ request.Run config script
-    → empty ≡ [] → HasReportedFault (run_in (heard_from s empty line) config.now script.now) → IsTold line (request.Run config script) s.fault_before s.fault_after
-    → HasExplained meaning s asked
+pub run_not_done : {D : Type 0} {q : Inquiry} (meaning : DiskMeaning D) (s : Scene D) (asked : Request) (config script : Bor (List ℕ)) (empty line : List ℕ) → asked ≡ request.Run config script
+    → empty ≡ [] → HasReportedFault (run_in (heard_from s empty line) config.now script.now) → IsTold q line (request.Run config script) s.fault_before s.fault_after
+    → HasExplained meaning q s asked
 run_not_done meaning s asked config script empty line is none failed told = rw (is) (run_explained meaning s config script empty line none failed told)

@@ -10,6 +10,7 @@ use Rattle.duk_host.specs.Serve.{Supply}
 use Rattle.duk_io.specs.Known.{Known}
 use Rattle.duk_io.specs.Sink.{IsTried}
 use Rattle.duk_program.specs.Commands.{HasLostCommandOutput, HasShown, IsNotShown}
+use Rattle.duk_program.specs.Inquiry.{AreFacts, Inquiry}
 use Rattle.duk_program.specs.Meant.{AreSecretsRead, HasUnreadSecret, IsNotAnswered}
 use Rattle.duk_program.specs.Program.{IsProgramDone, IsProgramNotDone, IsRequestDone, IsRequestNotDone}
 use Rattle.duk_program.specs.Scene.{Scene, reading_on, scene, writers_of}
@@ -25,11 +26,12 @@ abbrev pub heard_in : {D : Type 0} → Scene D → List ℕ → Scene D
 heard_in s line = scene s.held s.disks s.streams (holding []) (holding line)
 
 -- the line of a fault was written, but for what a failed write cut off, and behind it the line that
--- explains it of this request; what the system says of files is as it says
-pub record IsTold (line : List ℕ) (about : Request) (old new : Known) : Type 0 where
+-- explains it of this request, with what is found of the files that it is about
+pub record IsTold (q : Inquiry) (line : List ℕ) (about : Request) (old new : Known) : Type 0 where
   pub between : Known
   pub line_told : IsTried old between line
   pub facts : Facts
+  pub found : AreFacts q about line facts
   pub text : List ℕ
   pub explains : IsExplanation about line facts text
   pub text_told : IsTried between new text
@@ -61,12 +63,12 @@ IsNotDoneOf meaning s asked about =
     ⊎ ((about ≡ asked) × HasUnreadSecret s.held asked (writers_of s))
 
 -- a request is not done, and its fault is told and explained
-pub record HasExplained {D : Type 0} (meaning : DiskMeaning D) (s : Scene D) (asked : Request)
-    : Type 0 where
+pub record HasExplained {D : Type 0} (meaning : DiskMeaning D) (q : Inquiry) (s : Scene D)
+    (asked : Request) : Type 0 where
   pub line : List ℕ
   pub about : Request
   pub not_done : IsNotDoneOf meaning (heard_in s line) asked about
-  pub told : IsTold line about s.fault_before s.fault_after
+  pub told : IsTold q line about s.fault_before s.fault_after
 
 -- the arguments ask for a request that is done
 pub record HasDoneHeard {D : Type 0} (meaning : DiskMeaning D) (arguments : List (List ℕ))
@@ -81,15 +83,16 @@ IsExplainedDone meaning arguments s =
     HasDoneHeard meaning arguments s ⊎ HasShown arguments (writers_of s)
 
 -- the arguments ask for a request that is not done, and its fault is explained
-pub record HasNotDoneExplained {D : Type 0} (meaning : DiskMeaning D) (arguments : List (List ℕ))
-    (s : Scene D) : Type 0 where
+pub record HasNotDoneExplained {D : Type 0} (meaning : DiskMeaning D) (q : Inquiry)
+    (arguments : List (List ℕ)) (s : Scene D) : Type 0 where
   pub request : Request
   pub asked : Asks arguments request
-  pub explained : HasExplained meaning s request
+  pub explained : HasExplained meaning q s request
 
 -- status 1
-abbrev pub IsExplainedNotDone : {D : Type 0} → DiskMeaning D → List (List ℕ) → Scene D → Type 0
-IsExplainedNotDone meaning arguments s = HasNotDoneExplained meaning arguments s
+abbrev pub IsExplainedNotDone : {D : Type 0} → DiskMeaning D → Inquiry → List (List ℕ) → Scene D
+    → Type 0
+IsExplainedNotDone meaning q arguments s = HasNotDoneExplained meaning q arguments s
     ⊎ IsNotShown arguments (writers_of s) ⊎ HasLostCommandOutput arguments (writers_of s)
 
 -- status 0 of a run with `--explain` or without it
@@ -98,6 +101,7 @@ IsRunDone false = IsProgramDone
 IsRunDone true = IsExplainedDone
 
 -- status 1
-abbrev pub IsRunNotDone : {D : Type 0} → Bool → DiskMeaning D → List (List ℕ) → Scene D → Type 0
-IsRunNotDone false = IsProgramNotDone
-IsRunNotDone true = IsExplainedNotDone
+abbrev pub IsRunNotDone : {D : Type 0} → Bool → DiskMeaning D → Inquiry → List (List ℕ) → Scene D
+    → Type 0
+IsRunNotDone false meaning q = IsProgramNotDone meaning
+IsRunNotDone true meaning q = IsExplainedNotDone meaning q

@@ -45,6 +45,28 @@ IsFileUnread held most fault.CannotRead = IsUnreadableFile held
 IsFileUnread held most fault.TooLong = IsLongerThan most held
 IsFileUnread held most fault.NoMemory = IsReadableFile held
 
+-- the file begins with these bytes, so many
+abbrev pub BeginsWith : FileKnown → ℕ → List ℕ → Type 0
+BeginsWith None count bytes = ⊤
+BeginsWith (Some None) count bytes = ⊥
+BeginsWith (Some (Some held)) count bytes = bytes ≡ take count held
+
+pub record IsFrontRead (held : FileKnown) (count : ℕ) (bytes : List ℕ) : Type 0 where
+  pub bytes_are : BeginsWith held count bytes
+  pub length_is : length bytes ≡ count
+
+-- there is no file that can be read, or it has fewer bytes than this
+abbrev pub IsShorterThan : ℕ → FileKnown → Type 0
+IsShorterThan count None = ⊤
+IsShorterThan count (Some None) = ⊤
+IsShorterThan count (Some (Some held)) = length held < count
+
+-- why the first bytes of a file are not read; memory is refused only where the file can be read
+abbrev pub IsFrontUnread : FileKnown → ℕ → FileFault → Type 0
+IsFrontUnread held count fault.CannotRead = IsShorterThan count held
+IsFrontUnread held count fault.TooLong = ⊥
+IsFrontUnread held count fault.NoMemory = IsReadableFile held
+
 -- a line without its last byte, where that is CR (13)
 abbrev pub without_return : List ℕ → List ℕ
 without_return line =

@@ -1,6 +1,6 @@
 -- What `issue` does over the file of its ledger (this project's own, over what it does with a
 -- ledger).
-use Rattle.std.specs.Prelude.{◌≡◌, ◌⊎◌, ◌*◌, ◌≤◌, ℕ, Bool, List, length}
+use Rattle.std.specs.Prelude.{◌⊎◌, ◌*◌, ⊤, ℕ, Bool, List, codes}
 use Rattle.std.specs.Borrow.{Bor}
 use Rattle.duk_commands.specs.Answer.{Streams}
 use Rattle.duk_io.specs.Known.{Known}
@@ -11,6 +11,7 @@ use Rattle.duk_issue.specs.Order.{IsOrderOf, IsOrderRefused, OrderArguments, ord
 use Rattle.duk_issue.specs.declared.fault.IssueFault.{IssueFault}
 use Rattle.duk_issue.specs.declared.fault.IssueFault.TheVariants as fault
 use Rattle.duk_issue.specs.declared.order.Order.{Order}
+use Rattle.duk_program.specs.Files.{FileKnown, IsFrontRead, IsShorterThan}
 use Rattle.duk_program.specs.HandedOn.{IsFlushReported, IsReportedAfter}
 use Rattle.duk_program.specs.LogFiles.{DiskKnown, IsDisk, IsNoDisk}
 use Rattle.duk_program.specs.declared.issue_files.IssueArguments.{IssueArguments}
@@ -69,20 +70,33 @@ pub record HasLostOver {L : Type 0} (meaning : LogMeaning L) (job : Job) (i : Is
 abbrev pub IsNotIssuedOver : {L : Type 0} → LogMeaning L → Job → Issuing L → Type 0
 IsNotIssuedOver meaning job i = HasStoppedOver meaning job i ⊎ HasLostOver meaning job i
 
--- the arguments are read; there is padding, six bytes for each key; and the disk of the ledger's
--- file is opened
-pub record IsBegun {D : Type 0} (known : DiskKnown D) (arguments : IssueArguments)
+-- the system's random device
+abbrev pub random_device : List ℕ
+random_device = codes "/dev/urandom"
+
+-- what files make known of what `issue` needs of them: the system's random device, and the disk of
+-- the ledger
+pub record IssueFilesKnown (D : Type 0) : Type 0 where
+  pub random : FileKnown
+  pub ledger : DiskKnown D
+
+abbrev pub issue_files_known : {D : Type 0} → (List ℕ → FileKnown) → DiskKnown D → IssueFilesKnown D
+issue_files_known held ledger = record { random = held random_device; ledger = ledger }
+
+-- the arguments are read; there is padding of the system's random device, six bytes for each key;
+-- and the disk of the ledger's file is opened
+pub record IsBegun {D : Type 0} (known : IssueFilesKnown D) (arguments : IssueArguments)
     (Ends : Job → D → Type 0) : Type 0 where
   pub order : Order
   pub read : IsOrderOf (order_in arguments) order
   pub padding : List ℕ
-  pub enough : 6 * order.count ≤ length padding
+  pub padding_read : IsFrontRead known.random (6 * order.count) padding
   pub disk : D
-  pub opened : IsDisk known disk
+  pub opened : IsDisk known.ledger disk
   pub end : Ends (job order arguments.skip_issued padding) disk
 
 -- status 0: all keys are issued over the ledger of the file
-abbrev pub HasIssuedFiles : {D : Type 0} → DiskMeaning D → DiskKnown D → IssueArguments → Streams
+abbrev pub HasIssuedFiles : {D : Type 0} → DiskMeaning D → IssueFilesKnown D → IssueArguments → Streams
     → Type 0
 HasIssuedFiles meaning known arguments s = IsBegun known arguments
     (λ job disk. IsIssuedOver (disk_log_meaning meaning) job (issuing (new_disk_log disk) s))
@@ -98,12 +112,18 @@ pub record HasNoOrder (arguments : IssueArguments) (s : Streams) : Type 0 where
   pub cause : IsOrderRefused (order_in arguments) why
   pub reported : HasReportedIssue why s
 
+-- why there is no padding for so many keys; memory may be refused at any time
+abbrev pub IsPaddingRefused : FileKnown → ℕ → IssueFault → Type 0
+IsPaddingRefused random count fault.PaddingUnread = IsShorterThan (6 * count) random
+IsPaddingRefused random count fault.OutOfMemory = ⊤
+IsPaddingRefused random count why = ⊥
+
 -- there is an order, and no padding for it, and that is reported
-pub record HasNoPadding (arguments : IssueArguments) (s : Streams) : Type 0 where
+pub record HasNoPadding (random : FileKnown) (arguments : IssueArguments) (s : Streams) : Type 0 where
   pub order : Order
   pub read : IsOrderOf (order_in arguments) order
   pub why : IssueFault
-  pub cause : (why ≡ fault.PaddingUnread) ⊎ (why ≡ fault.OutOfMemory)
+  pub cause : IsPaddingRefused random order.count why
   pub reported : HasReportedIssue why s
 
 -- there is an order, and no disk can be opened for the ledger's file, and that is reported
@@ -115,9 +135,10 @@ pub record HasNoLedger {D : Type 0} (known : DiskKnown D) (arguments : IssueArgu
   pub reported : HasReportedIssue fault.LedgerUnopened s
 
 -- status 1: the first of these
-abbrev pub HasNotIssuedFiles : {D : Type 0} → DiskMeaning D → DiskKnown D → IssueArguments → Streams
+abbrev pub HasNotIssuedFiles : {D : Type 0} → DiskMeaning D → IssueFilesKnown D → IssueArguments → Streams
     → Type 0
 HasNotIssuedFiles meaning known arguments s =
-    HasNoOrder arguments s ⊎ HasNoPadding arguments s ⊎ HasNoLedger known arguments s
+    HasNoOrder arguments s ⊎ HasNoPadding known.random arguments s
+    ⊎ HasNoLedger known.ledger arguments s
     ⊎ IsBegun known arguments
     (λ job disk. IsNotIssuedOver (disk_log_meaning meaning) job (issuing (new_disk_log disk) s))

@@ -5,6 +5,7 @@ pub mod Explained
 pub mod Files
 pub mod HandedOn
 pub mod HostSize
+pub mod Inquiry
 pub mod IssueFiles
 pub mod Items
 pub mod LogFiles

@@ -14,7 +14,7 @@ use Rattle.duk_io.specs.Sink.{IsTried, IsUntouched}
 use Rattle.duk_program.specs.Commands.{command_for}
 use Rattle.duk_program.specs.Files.{FileKnown}
 use Rattle.duk_program.specs.HandedOn.{IsFlushLost}
-use Rattle.duk_program.specs.IssueFiles.{HasIssuedFiles, HasNotIssuedFiles, issue_arguments}
+use Rattle.duk_program.specs.IssueFiles.{HasIssuedFiles, HasNotIssuedFiles, issue_arguments, issue_files_known}
 use Rattle.duk_program.specs.Items.{LineItems, command_of_line, items_of}
 use Rattle.duk_program.specs.LogFiles.{DiskKnown}
 use Rattle.duk_program.specs.Scene.{Scene, input_in, reading_on, writers_of}
@@ -37,7 +37,7 @@ abbrev pub IsDoneAlone : {D : Type 0} → DiskMeaning D → (List ℕ → FileKn
 IsDoneAlone meaning held disks s (request.Show kind what show) =
     HasShownText (show_arguments kind.now what.now show (held what.now)) s
 IsDoneAlone meaning held disks s (request.Issue bdk loading iksn count ledger skip) =
-    HasIssuedFiles meaning (disks ledger.now) (issue_arguments bdk loading iksn count skip) s
+    HasIssuedFiles meaning (issue_files_known held (disks ledger.now)) (issue_arguments bdk loading iksn count skip) s
 IsDoneAlone meaning held disks s asked = IsDone (command_for asked) s
 
 -- it is not done
@@ -46,7 +46,7 @@ abbrev pub IsNotDoneAlone : {D : Type 0} → DiskMeaning D → (List ℕ → Fil
 IsNotDoneAlone meaning held disks s (request.Show kind what show) =
     HasNotShownText (show_arguments kind.now what.now show (held what.now)) s
 IsNotDoneAlone meaning held disks s (request.Issue bdk loading iksn count ledger skip) =
-    HasNotIssuedFiles meaning (disks ledger.now) (issue_arguments bdk loading iksn count skip) s
+    HasNotIssuedFiles meaning (issue_files_known held (disks ledger.now)) (issue_arguments bdk loading iksn count skip) s
 IsNotDoneAlone meaning held disks s asked =
     IsNotDone (command_for asked) s ⊎ HasLostLines (command_for asked) s
 

@@ -5,6 +5,7 @@ ghost use Rattle.std.specs.Io.KnownBytes.{Keeps};
 ghost use Rattle.duk_arguments.specs.Asked.{AreRefused, texts_of};
 ghost use Rattle.duk_io.specs.Sink.{IsTried, IsUntouched};
 ghost use Rattle.duk_program.specs.Explained.{HasExplained, IsExplainedDone, IsExplainedNotDone, IsHeardDone, IsTold};
+ghost use Rattle.duk_program.specs.Inquiry.{inquiry};
 ghost use Rattle.duk_program.specs.Scene.{scene};
 ghost use Rattle.duk_program.specs.Secrets.{IsOverSecrets, secret_line};
 ghost use Rattle.duk_program.specs.Serve.{serving_of};
@@ -47,7 +48,7 @@ where
     ensures done { result ≡ 0 → IsExplainedDone S.Disk.meaning (texts_of arguments.now) (scene
         (S.held files.now) (S.disks files.now) (serving_of R.known R.reads W.known input.old
         input.new output.old output.new) (F.known fault.old) (F.known fault.new)) }
-    ensures not_done { result ≡ 1 → IsExplainedNotDone S.Disk.meaning (texts_of arguments.now)
+    ensures not_done { result ≡ 1 → IsExplainedNotDone S.Disk.meaning (inquiry (S.held files.now) (S.reading files.now) (S.opening files.now)) (texts_of arguments.now)
         (scene (S.held files.now) (S.disks files.now) (serving_of R.known R.reads W.known
         input.old input.new output.old output.new) (F.known fault.old) (F.known fault.new)) }
 {
@@ -74,7 +75,7 @@ where
     ensures done { result ≡ 0 → IsHeardDone S.Disk.meaning (scene (S.held files.now)
         (S.disks files.now) (serving_of R.known R.reads W.known input.old input.new output.old
         output.new) (F.known fault.old) (F.known fault.new)) request.entry }
-    ensures not_done { result ≡ 1 → HasExplained S.Disk.meaning (scene (S.held files.now)
+    ensures not_done { result ≡ 1 → HasExplained S.Disk.meaning (inquiry (S.held files.now) (S.reading files.now) (S.opening files.now)) (scene (S.held files.now)
         (S.disks files.now) (serving_of R.known R.reads W.known input.old input.new output.old
         output.new) (F.known fault.old) (F.known fault.new)) request.entry }
 {
@@ -111,7 +112,7 @@ where
     ensures done { result ≡ 0 → IsHeardDone S.Disk.meaning (scene (S.held files.now)
         (S.disks files.now) (serving_of R.known R.reads W.known input.old input.new output.old
         output.new) (F.known fault.old) (F.known fault.new)) request.entry }
-    ensures not_done { result ≡ 1 → HasExplained S.Disk.meaning (scene (S.held files.now)
+    ensures not_done { result ≡ 1 → HasExplained S.Disk.meaning (inquiry (S.held files.now) (S.reading files.now) (S.opening files.now)) (scene (S.held files.now)
         (S.disks files.now) (serving_of R.known R.reads W.known input.old input.new output.old
         output.new) (F.known fault.old) (F.known fault.new)) request.entry }
 {
@@ -139,7 +140,7 @@ fn tell_unread<S: FileSystem + LogFiles, F: Sink>(
     fault: &mut F,
 ) -> u8
     ensures status { result ≡ 1 }
-    ensures told { IsTold (secret_line why) request.now (F.known fault.old) (F.known fault.new) }
+    ensures told { IsTold (inquiry (S.held files.now) (S.reading files.now) (S.opening files.now)) (secret_line why) request.now (F.known fault.old) (F.known fault.new) }
 {
     let line = why.line();
     tell(alloc, files, request, 1, line.as_slice(), fault)
@@ -158,7 +159,7 @@ fn tell<S: FileSystem + LogFiles, F: Sink>(
     ensures status { result ≡ status }
     ensures silent { status ≢ 1 → F.known fault.new ≡ F.known fault.old }
     ensures told { status ≡ 1
-        → IsTold line.now about.now (F.known fault.old) (F.known fault.new) }
+        → IsTold (inquiry (S.held files.now) (S.reading files.now) (S.opening files.now)) line.now about.now (F.known fault.old) (F.known fault.new) }
 {
     if status == 1 {
         let facts = facts_of(alloc, files, about, line);

@@ -1,8 +1,9 @@
 //! Reads whole files, first lines and first bytes of files, through a trait by which a contract can
 //! say what a file holds.
 
-ghost use Rattle.std.specs.Prelude.{◌≡◌, ℕ, List, None, IfOk, IfErr, length};
-ghost use Rattle.duk_program.specs.Files.{FileKnown, IsFileRead, IsFileUnread, IsLineRead, IsLineUnread};
+ghost use Rattle.std.specs.Prelude.{ℕ, List, None, IfOk, IfErr, IfSome};
+ghost use Rattle.duk_program.specs.Files.{FileKnown, IsFileRead, IsFileUnread, IsFrontRead, IsFrontUnread, IsLineRead, IsLineUnread};
+ghost use Rattle.duk_program.specs.Inquiry.{IsReason, ReasonKnown};
 
 use duk_explain::Reason;
 use std::alloc::Global;
@@ -30,15 +31,20 @@ pub trait FileSystem {
     /// can be read.
     ghost held: { Self → List ℕ → FileKnown };
 
+    /// Why the system refuses to read what there is under a path, where the files make it known.
+    ghost reading: { Self → List ℕ → ReasonKnown };
+
     /// All bytes of the file under a path, where they are at most so many.
     fn read_file(&self, alloc: Global, path: &str, most: usize) -> Result<Vec<u8>, FileFault>
         ensures read { IfOk result
             (λ bytes. IsFileRead (held self.now path.now) most bytes.items) }
         ensures refused { IfErr result (IsFileUnread (held self.now path.now) most) };
 
-    /// The first bytes of the file under a path, exactly so many. No clause says which they are.
+    /// The first bytes of the file under a path, exactly so many.
     fn read_front(&self, alloc: Global, path: &str, count: usize) -> Result<Vec<u8>, FileFault>
-        ensures { IfOk result (λ bytes. length bytes.items ≡ count) };
+        ensures read { IfOk result
+            (λ bytes. IsFrontRead (held self.now path.now) count bytes.items) }
+        ensures refused { IfErr result (IsFrontUnread (held self.now path.now) count) };
 
     /// The first line of the file under a path without its end, LF or CR LF, where it has at most
     /// so many bytes. No more is read than a piece that has the line's end.
@@ -48,16 +54,20 @@ pub trait FileSystem {
         ensures refused { IfErr result (IsLineUnread (held self.now path.now) most) };
 
     /// Why the file under a path cannot be read, as the system tells who asks once more. None where
-    /// it can be read, and of a pipe or a device, since to open one may wait. No clause says more.
-    fn reading_reason(&self, path: &str) -> Option<Reason>;
+    /// it can be read, and of a pipe or a device, since to open one may wait.
+    fn reading_reason(&self, path: &str) -> Option<Reason>
+        ensures { IsReason (reading self.now path.now) result };
 
     /// All bytes of the file under a path, read once more, where they are at most so many. None where
-    /// it cannot be read, and of a pipe, a device or a folder. No clause says more.
-    fn read_again(&self, alloc: Global, path: &str, most: usize) -> Option<Vec<u8>>;
+    /// it cannot be read, and of a pipe, a device or a folder.
+    fn read_again(&self, alloc: Global, path: &str, most: usize) -> Option<Vec<u8>>
+        ensures { IfSome result (λ bytes. IsFileRead (held self.now path.now) most bytes.items) };
 }
 
 impl<R: Files> FileSystem for R {
     ghost held = { λ _ _. None };
+
+    ghost reading = { λ _ _. None };
 
     fn read_file(&self, alloc: Global, path: &str, most: usize) -> Result<Vec<u8>, FileFault> {
         match read_at_most(self, alloc, path, (most as u64).saturating_add(1)) {

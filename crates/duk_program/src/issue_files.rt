@@ -5,8 +5,8 @@ ghost use Rattle.duk_commands.specs.Answer.{streams};
 ghost use Rattle.duk_issue.specs.Fault.{issue_line};
 ghost use Rattle.duk_issue.specs.Issue.{job};
 ghost use Rattle.duk_issue.specs.Order.{IsOrderOf, IsOrderRefused};
-ghost use Rattle.duk_issue.specs.declared.fault.IssueFault.TheVariants as fault;
-ghost use Rattle.duk_program.specs.IssueFiles.{HasIssuedFiles, HasNotIssuedFiles, IsIssuedOver, IsNotIssuedOver, issuing, order_in};
+ghost use Rattle.duk_program.specs.Files.{IsFrontRead};
+ghost use Rattle.duk_program.specs.IssueFiles.{HasIssuedFiles, HasNotIssuedFiles, IsIssuedOver, IsNotIssuedOver, IsPaddingRefused, issue_files_known, issuing, order_in, random_device};
 
 use crate::ending::{EndingFault, hand_on, report_after};
 use crate::file_system::{FileFault, FileSystem};
@@ -54,11 +54,11 @@ pub(crate) fn issue_files<S: FileSystem + LogFiles, W: Sink, F: Sink>(
 where
     S::Disk: Disk,
     ensures status { (result ≡ 0) ⊎ (result ≡ 1) }
-    ensures done { result ≡ 0 → HasIssuedFiles S.Disk.meaning (S.disks files.now ledger.now)
-        arguments.now (streams (W.known output.old) (W.known output.new)
+    ensures done { result ≡ 0 → HasIssuedFiles S.Disk.meaning (issue_files_known (S.held files.now)
+        (S.disks files.now ledger.now)) arguments.now (streams (W.known output.old) (W.known output.new)
         (F.known fault.old) (F.known fault.new)) }
     ensures not_done { result ≡ 1 → HasNotIssuedFiles S.Disk.meaning
-        (S.disks files.now ledger.now) arguments.now
+        (issue_files_known (S.held files.now) (S.disks files.now ledger.now)) arguments.now
         (streams (W.known output.old) (W.known output.new)
         (F.known fault.old) (F.known fault.new)) }
 {
@@ -105,9 +105,10 @@ fn read_order(arguments: &IssueArguments<'_>) -> Result<Order, IssueFault>
 /// Random bytes of the system, for the key blocks of so many terminals.
 fn read_padding<S: FileSystem>(alloc: Global, files: &S, count: u32) -> Result<Vec<u8>, IssueFault>
     requires { count ≤ 1048576 }
-    ensures read { IfOk result (λ bytes. 6 * count ≤ length bytes.items) }
+    ensures read { IfOk result
+        (λ bytes. IsFrontRead (S.held files.now random_device) (6 * count) bytes.items) }
     ensures refused { IfErr result
-        (λ why. (why ≡ fault.PaddingUnread) ⊎ (why ≡ fault.OutOfMemory)) }
+        (IsPaddingRefused (S.held files.now random_device) count) }
 {
     match files.read_front(alloc, RANDOM, PADDING_LENGTH * count as usize) {
         Ok(bytes) => Ok(bytes),

@@ -5,8 +5,9 @@
 //! is a generic type.
 
 ghost use Rattle.std.proofs.Common.{rules};
-ghost use Rattle.std.specs.Prelude.{ℕ, List, None, IfOk, OnErr};
+ghost use Rattle.std.specs.Prelude.{ℕ, List, None, Some, IfOk, OnErr};
 ghost use Rattle.duk_program.specs.HostSize.{IsSmall};
+ghost use Rattle.duk_program.specs.Inquiry.{IsReason, ReasonKnown};
 ghost use Rattle.duk_program.specs.LogFiles.{DiskKnown, IsDisk, IsNoDisk};
 
 use crate::file_system::reason_of;
@@ -28,6 +29,10 @@ pub trait LogFiles {
     /// opened.
     ghost disks: { Self → List ℕ → DiskKnown Self.Disk };
 
+    /// Why the system refuses to open and lock what there is under a path, where the files make it
+    /// known.
+    ghost opening: { Self → List ℕ → ReasonKnown };
+
     /// The disk over the file under a path, which is never made, of the size that it has. Refused
     /// with `Device` where it cannot be opened, or is locked.
     fn open_disk(&self, path: &str) -> Result<Self::Disk, StoreFault>
@@ -35,8 +40,8 @@ pub trait LogFiles {
         ensures refused { OnErr result (IsNoDisk (disks self.now path.now)) };
 
     /// Why the file under a path cannot be opened as a disk, as the system tells who asks once more.
-    /// No clause says more.
-    fn opening_reason(&self, path: &str) -> Reason;
+    fn opening_reason(&self, path: &str) -> Reason
+        ensures { IsReason (opening self.now path.now) (Some result) };
 
     /// Such a disk takes little memory.
     ghost small: { IsSmall Self.Disk.row };
@@ -46,6 +51,8 @@ impl<R: Files<File = File>> LogFiles for R {
     type Disk = FileDisk;
 
     ghost disks = { λ _ _. None };
+
+    ghost opening = { λ _ _. None };
 
     ghost small = { Prim.search rules };
 

@@ -5,6 +5,7 @@ ghost use Rattle.std.specs.Io.KnownBytes.{Keeps};
 ghost use Rattle.duk_io.specs.Sink.{IsUntouched};
 ghost use Rattle.duk_program.specs.Explain.{is_marked, without_explain};
 ghost use Rattle.duk_program.specs.Explained.{IsRunDone, IsRunNotDone};
+ghost use Rattle.duk_program.specs.Inquiry.{inquiry};
 ghost use Rattle.duk_program.specs.Program.{IsProgramDone, IsProgramNotDone};
 ghost use Rattle.duk_program.specs.Scene.{scene};
 ghost use Rattle.duk_program.specs.Serve.{serving_of};
@@ -92,7 +93,7 @@ where
         (S.held files.now) (S.disks files.now) (serving_of R.known R.reads W.known input.old
         input.new output.old output.new) (F.known fault.old) (F.known fault.new)) }
     ensures not_done { result ≡ 1 → IsRunNotDone (is_marked (texts_of arguments.old.items))
-        S.Disk.meaning (without_explain (texts_of arguments.old.items)) (scene
+        S.Disk.meaning (inquiry (S.held files.now) (S.reading files.now) (S.opening files.now)) (without_explain (texts_of arguments.old.items)) (scene
         (S.held files.now) (S.disks files.now) (serving_of R.known R.reads W.known input.old
         input.new output.old output.new) (F.known fault.old) (F.known fault.new)) }
 {

@@ -1,6 +1,13 @@
 //! What can be told of a file after a fault: why the system refuses it, the damaged record of a log,
 //! and the line of a configuration.
 
+ghost use Rattle.std.specs.Prelude.{◌≡◌, IfSome, IsTrue, Some, map};
+ghost use Rattle.duk_explain.specs.Subject.{subject_of};
+ghost use Rattle.duk_program.specs.Inquiry.{AreFacts, AreFactsOf, IsReasonOfSecrets, IsRecordOf, IsReferenceReason, inquiry};
+ghost use Rattle.duk_program.specs.Secrets.{secret_line, secrets_of};
+ghost use Rattle.duk_program.specs.declared.secrets.SecretFault.TheVariants as fault;
+ghost use Rattle.duk_program.specs.declared.secrets.Unread.TheVariants as unread;
+
 use crate::file_system::FileSystem;
 use crate::log_files::LogFiles;
 use crate::references::path_in;
@@ -19,48 +26,93 @@ pub(crate) fn facts_of<S: FileSystem + LogFiles>(
     files: &S,
     about: &Request<'_>,
     line: &[u8],
-) -> Facts {
+) -> Facts
+    ensures { AreFacts (inquiry (S.held files.now) (S.reading files.now) (S.opening files.now))
+        about.now line.now result }
+{
+    match blamed_file(about, line) {
+        Some(blamed) => facts_by(alloc, files, about, line, blamed),
+        None => Facts {
+            reason: None,
+            place: None,
+        },
+    }
+}
+
+/// What is found of a file, by what is looked for.
+fn facts_by<S: FileSystem + LogFiles>(
+    alloc: Global,
+    files: &S,
+    about: &Request<'_>,
+    line: &[u8],
+    blamed: Blamed<'_>,
+) -> Facts
+    ensures { AreFactsOf (inquiry (S.held files.now) (S.reading files.now) (S.opening files.now))
+        about.now line.now (Some (subject_of blamed.entry)) result }
+{
     let mut facts = Facts {
         reason: None,
         place: None,
     };
-    match blamed_file(about, line) {
-        Some(Blamed::Secrets) => facts.reason = unread_reason(files, about, line),
-        Some(Blamed::Readable(path)) => facts.reason = files.reading_reason(path),
-        Some(Blamed::Lockable(path)) => facts.reason = Some(files.opening_reason(path)),
-        Some(Blamed::Log(path)) => facts.place = damaged_record(alloc, files, path),
-        Some(Blamed::Config(path)) => facts.place = faulty_line(alloc, files, path, line),
-        None => {}
+    match blamed {
+        Blamed::Secrets => facts.reason = unread_reason(files, about, line),
+        Blamed::Readable(path) => facts.reason = files.reading_reason(path),
+        Blamed::Lockable(path) => facts.reason = Some(files.opening_reason(path)),
+        Blamed::Log(path) => facts.place = damaged_record(alloc, files, path),
+        Blamed::Config(path) => facts.place = faulty_line(alloc, files, path, line),
     }
     facts
 }
 
 /// Why the secret is not read of which the line tells: why its file is refused; or none, where it is
 /// standard input, read before for another; or else the system's own refusal.
-fn unread_reason<S: FileSystem>(files: &S, about: &Request<'_>, line: &[u8]) -> Option<Reason> {
-    let secrets = secrets_of(about)?;
-    let texts = secrets.texts();
+fn unread_reason<S: FileSystem>(files: &S, about: &Request<'_>, line: &[u8]) -> Option<Reason>
+    ensures { IsReasonOfSecrets (S.reading files.now) about.now line.now result }
+{
+    match secrets_of(about) {
+        Some(secrets) => reason_among(files, about, secrets.texts().as_slice(), line),
+        None => Some(Reason::Other),
+    }
+}
+
+/// The same of these secrets, as they are written.
+fn reason_among<S: FileSystem>(
+    files: &S,
+    about: &Request<'_>,
+    written: &[&str],
+    line: &[u8],
+) -> Option<Reason>
+    requires { map (λ text. text.now) written.now ≡ secrets_of about.now }
+    ensures { IsReasonOfSecrets (S.reading files.now) about.now line.now result }
+{
     let mut input_is_read = false;
-    for (place, text) in texts.as_slice().iter().enumerate() {
-        let text = *text;
-        let is_told = is_told(secret_at(about, place), line);
-        match reference_reason(files, text) {
-            reason if is_told && reason.is_some() => return reason,
-            _ if is_told && input_is_read && text == "@-" => return None,
-            _ => input_is_read = input_is_read || text == "@-",
+    for place in 0..written.len() {
+        let text = written[place];
+        if is_told(secret_at(about, place), line) {
+            if let Some(reason) = reference_reason(files, text) {
+                return Some(reason);
+            }
+            if input_is_read && text == "@-" {
+                return None;
+            }
         }
+        input_is_read = input_is_read || text == "@-";
     }
     Some(Reason::Other)
 }
 
 /// Whether the line tells that this secret cannot be read.
-fn is_told(secret: Secret, line: &[u8]) -> bool {
+fn is_told(secret: Secret, line: &[u8]) -> bool
+    ensures { IsTrue result → line.now ≡ secret_line (fault.Unread secret unread.CannotRead) }
+{
     let told = SecretFault::Unread(secret, Unread::CannotRead).line();
     told.as_slice() == line
 }
 
 /// Why the file that a text refers to is refused, where it is.
-fn reference_reason<S: FileSystem>(files: &S, text: &str) -> Option<Reason> {
+fn reference_reason<S: FileSystem>(files: &S, text: &str) -> Option<Reason>
+    ensures { IfSome result (IsReferenceReason (S.reading files.now) text.now) }
+{
     match path_in(text)? {
         "-" => None,
         path => files.reading_reason(path),
@@ -68,7 +120,9 @@ fn reference_reason<S: FileSystem>(files: &S, text: &str) -> Option<Reason> {
 }
 
 /// The first record of a log that is damaged, where the log can be read.
-fn damaged_record<S: FileSystem>(alloc: Global, files: &S, path: &str) -> Option<u64> {
+fn damaged_record<S: FileSystem>(alloc: Global, files: &S, path: &str) -> Option<u64>
+    ensures { IsRecordOf (S.held files.now path.now) result }
+{
     let bytes = files.read_again(alloc, path, LONGEST_LOG)?;
     match log_lines(alloc, bytes.as_slice()) {
         Err(ShowFault::LogRefused { place }) => Some(place as u64),

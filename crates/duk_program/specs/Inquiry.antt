@@ -1,0 +1,89 @@
+-- What is asked of files after a fault, and what is found (this project's own).
+use Rattle.std.specs.Prelude.{◌≡◌, ◌⊎◌, ◌<◌, ⊤, ℕ, List, Option, Some, None, [], codes, get_or, length}
+use Rattle.duk_arguments.specs.declared.request.Request.{Request}
+use Rattle.duk_explain.specs.Subject.{IsSubject, Subject, config, lockable, log, readable, secrets}
+use Rattle.duk_explain.specs.declared.found.Facts.{Facts}
+use Rattle.duk_explain.specs.declared.found.Reason.{Reason}
+use Rattle.duk_explain.specs.declared.found.Reason.TheVariants.{Other}
+use Rattle.duk_program.specs.Files.{FileKnown}
+use Rattle.duk_program.specs.Secrets.{reference_in, secret_at, secret_line, secrets_of}
+use Rattle.duk_program.specs.Show.{HasNoLog}
+use Rattle.duk_program.specs.declared.secrets.SecretFault.TheVariants.{Unread}
+use Rattle.duk_program.specs.declared.secrets.Unread.TheVariants.{CannotRead}
+use Rattle.duk_show.specs.declared.fault.ShowFault.TheVariants.{LogRefused}
+
+-- what files make known of why the system refuses what there is under a path: nothing, or a reason,
+-- or that there is none
+abbrev pub ReasonKnown : Type 0
+ReasonKnown = Option (Option Reason)
+
+-- the system refuses it for this reason, or does not refuse it
+abbrev pub IsReason : ReasonKnown → Option Reason → Type 0
+IsReason None reason = ⊤
+IsReason (Some known) reason = reason ≡ known
+
+-- what files make known of each path: what it holds, why it cannot be read, and why it cannot be
+-- opened to be written and locked
+pub record Inquiry : Type 0 where
+  pub held : List ℕ → FileKnown
+  pub reading : List ℕ → ReasonKnown
+  pub opening : List ℕ → ReasonKnown
+
+abbrev pub inquiry : (List ℕ → FileKnown) → (List ℕ → ReasonKnown) → (List ℕ → ReasonKnown) → Inquiry
+inquiry held reading opening = record { held = held; reading = reading; opening = opening }
+
+-- the line tells that the secret at this place cannot be read
+pub record IsToldUnread (asked : Request) (line : List ℕ) (place : ℕ) : Type 0 where
+  pub is_there : place < length (secrets_of asked)
+  pub line_is : line ≡ secret_line (Unread (secret_at asked place) CannotRead)
+
+-- the file to which a text refers is refused for this reason
+pub record IsReferenceReason (reading : List ℕ → ReasonKnown) (text : List ℕ) (reason : Reason)
+    : Type 0 where
+  pub path : List ℕ
+  pub refers : reference_in text ≡ Some path
+  pub reason_is : IsReason (reading path) (Some reason)
+
+-- the file of a secret of which the line tells is refused for this reason
+pub record IsReasonOfSecret (reading : List ℕ → ReasonKnown) (asked : Request) (line : List ℕ)
+    (reason : Reason) : Type 0 where
+  pub place : ℕ
+  pub is_told : IsToldUnread asked line place
+  pub refused : IsReferenceReason reading (get_or (secrets_of asked) place []) reason
+
+-- the line tells of standard input
+pub record IsInputTold (asked : Request) (line : List ℕ) : Type 0 where
+  pub place : ℕ
+  pub is_told : IsToldUnread asked line place
+  pub input : get_or (secrets_of asked) place [] ≡ codes "@-"
+
+-- why a secret of which the line tells is not read: a reason of its file, or another; none is known
+-- of standard input, which was read before
+abbrev pub IsReasonOfSecrets : (List ℕ → ReasonKnown) → Request → List ℕ → Option Reason → Type 0
+IsReasonOfSecrets reading asked line (Some reason) =
+    IsReasonOfSecret reading asked line reason ⊎ (reason ≡ Other)
+IsReasonOfSecrets reading asked line None = IsInputTold asked line
+
+-- the record of a log that is damaged, where one is known
+abbrev pub IsRecordOf : FileKnown → Option ℕ → Type 0
+IsRecordOf held None = ⊤
+IsRecordOf held (Some place) = HasNoLog held (LogRefused place)
+
+-- what is found after a fault of a request with this line, by what is looked for
+abbrev pub AreFactsOf : Inquiry → Request → List ℕ → Option Subject → Facts → Type 0
+AreFactsOf q asked line None facts = (facts.reason ≡ None) × (facts.place ≡ None)
+AreFactsOf q asked line (Some secrets) facts =
+    IsReasonOfSecrets q.reading asked line facts.reason × (facts.place ≡ None)
+AreFactsOf q asked line (Some (readable path)) facts =
+    IsReason (q.reading path) facts.reason × (facts.place ≡ None)
+AreFactsOf q asked line (Some (lockable path)) facts =
+    IsReason (q.opening path) facts.reason × (facts.place ≡ None)
+AreFactsOf q asked line (Some (log path)) facts =
+    (facts.reason ≡ None) × IsRecordOf (q.held path) facts.place
+AreFactsOf q asked line (Some (config path)) facts = facts.reason ≡ None
+
+-- what is found after a fault of a request with this line
+pub record AreFacts (q : Inquiry) (asked : Request) (line : List ℕ) (facts : Facts) : Type 0 where
+  pub subject : Option Subject
+  pub is_subject : IsSubject asked line subject
+  pub found : AreFactsOf q asked line subject facts
