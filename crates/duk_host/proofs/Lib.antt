@@ -1,5 +1,6 @@
 mod Exchanges
-mod UsedNumberSet
+mod NumbersOfRanges
+mod RangeWithOneMore
 mod OneNumberMore
 mod NumbersAreRead
 mod AcceptedIsAnswered

@@ -15,6 +15,7 @@ mod issuer;
 mod judge;
 pub mod laws;
 mod payment;
+mod ranges;
 mod reading;
 mod reason;
 mod recent;

@@ -5,29 +5,31 @@
 
 ghost use Rattle.std.specs.Prelude.{◌≡◌, ◌↔◌, [], IsTrue, IfOk, OnErr};
 ghost use Rattle.std.specs.Bool.{MatchBool};
-ghost use Rattle.duk_tree.specs.Serial.{IsSerial};
-ghost use Rattle.duk_host.specs.inner.Index.{serial_number};
+ghost use Rattle.duk_tree.specs.Path.{IsUsable};
 ghost use Rattle.duk_host.specs.Used.{IsOneMore, IsUsed};
 
-use byteorder::{BigEndian, ByteOrder};
+use crate::ranges;
 use duk_tree::Ksn;
 use std::alloc::{AllocError, Global};
-use std::collections::BTreeSet;
+use std::collections::BTreeMap;
 use std::marker::Model;
 
-/// The used key serial numbers, which are found by the number that their ten bytes spell.
+/// The used key serial numbers, in ranges: each is under the number that it begins at, with the
+/// counter that it ends at.
 #[derive(Drop)]
 pub(crate) struct UsedNumbers {
-    numbers: BTreeSet<u128>,
+    ranges: BTreeMap<u128, u32>,
 }
 
 impl Model for UsedNumbers {
-    ghost use Rattle.duk_host.specs.inner.Index.{members_of};
+    ghost use Rattle.duk_host.specs.inner.Index.{AreRanges, numbers_in};
     ghost use Rattle.duk_store.specs.Log.{Numbers};
 
     ghost Value = { Numbers };
 
-    ghost view = { λ used. members_of used.numbers };
+    ghost view = { λ used. numbers_in used.ranges };
+
+    ghost invariant = { λ used. AreRanges used.ranges };
 }
 
 impl UsedNumbers {
@@ -36,7 +38,7 @@ impl UsedNumbers {
         ensures { result ≡ [] }
     {
         UsedNumbers {
-            numbers: BTreeSet::new(alloc),
+            ranges: BTreeMap::new(alloc),
         }
     }
 
@@ -44,27 +46,19 @@ impl UsedNumbers {
     pub(crate) fn contains(&self, ksn: Ksn) -> bool
         ensures { IsTrue result ↔ IsUsed self.now ksn }
     {
-        duk_tree::laws::serials();
-        self.numbers.contains(&number(ksn))
+        duk_tree::laws::paths();
+        ranges::contains(&self.ranges, ksn)
     }
 
     /// Adds a key serial number, and reports whether it was not used before.
     pub(crate) fn insert(&mut self, ksn: Ksn) -> Result<bool, AllocError>
+        requires usable { IsUsable ksn.counter }
         ensures added { IfOk result (λ _. IsOneMore self.old ksn self.new) }
         ensures fresh { IfOk result
             (λ fresh. MatchBool fresh (¬ IsUsed self.old ksn) (IsUsed self.old ksn)) }
         ensures same { OnErr result (self.new ≡ self.old) }
     {
-        duk_tree::laws::serials();
-        Ok(self.numbers.insert(number(ksn))?)
+        duk_tree::laws::paths();
+        ranges::insert(&mut self.ranges, ksn)
     }
-}
-
-/// The number that the ten bytes of a key serial number spell.
-#[tactic(auto, unfolding(crate::specs::inner::Index::serial_number))]
-fn number(ksn: Ksn) -> u128
-    ensures value { result ≡ serial_number ksn }
-    ensures serial { IsSerial ksn }
-{
-    BigEndian::read_uint128(&ksn.bytes(), 10)
 }

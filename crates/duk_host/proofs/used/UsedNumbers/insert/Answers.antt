@@ -1,24 +1,39 @@
-use Rattle.std.proofs.Common.{◌≡◌, ℕ, true, cond, not, subst}
-use Rattle.std.specs.BTreeSet.{contains}
-use Rattle.std.specs.Ordering.{eq_by_cmp, nat_cmp}
-use Rattle.duk_host.specs.inner.Index.{members_of, serial_number}
-use Rattle.duk_host.specs.Used.{IsUsed}
-use Rattle.duk_host.proofs.UsedNumberSet.{index_has, match_fresh, set_one_more}
+use Rattle.std.proofs.Common.{Bool, true, false, ◌↔◌, MatchBool}
+use Rattle.std.proofs.lemmas.Result.{IfOk-weaker}
+use Rattle.duk_host.specs.inner.Index.{HoldsOneMore, IsHeld, numbers_in}
+use Rattle.duk_host.specs.Used.{IsOneMore, IsUsed}
+use Rattle.duk_host.proofs.NumbersOfRanges.{HaveOnePath, used_iff_held, used_one_more}
 use Rattle.duk_host.proofs.used.UsedNumbers.insert.Goals as goal
+use Rattle.duk_host.proofs.used.UsedNumbers.insert.Goals.{After-insert}
+
+paths : After-insert → HaveOnePath
+paths c = record {
+  path_of_counter = c.paths.ensures.path_of_counter;
+  value = c.paths.ensures.value;
+  counter_of_path = c.paths.ensures.counter_of_path;
+  only = c.paths.ensures.only;
+}
+
+-- a number that was in no range was not used
+fresh_is_unused : {P Q : Type 0} (fresh : Bool) → Q ↔ P → MatchBool fresh (¬ P) P → MatchBool fresh (¬ Q) Q
+fresh_is_unused true iff none = λ q. none (iff.0 q)
+fresh_is_unused false iff one = iff.1 one
 
 pub returns-clause-added : goal.returns-clause-added
 returns-clause-added c =
-    let old = c.self.inside.numbers in
-    let new = c.insert.new.self in
-    let updates =
-    subst (λ n. (number : ℕ) → contains nat_cmp new number ≡ cond (eq_by_cmp nat_cmp n number) true (contains nat_cmp old number)) c.number.ensures.value
-    c.in_ok-insert.ensures.updates.0 in
-    rw (← c.self.view_is) (set_one_more c.serials.ensures.found old new c.args.ksn c.number.ensures.serial updates)
+    let old = c.self.inside.ranges in
+    let new = c.insert.new.ranges in
+    let ksn = c.args.ksn in
+    rw (← c.self.view_is)
+    (IfOk-weaker c.insert.result (λ _. HoldsOneMore old ksn new) (λ _. IsOneMore (numbers_in old) ksn (numbers_in new))
+    (λ _ more. used_one_more (paths c) old new c.insert.ensures.was_ordered c.insert.ensures.ordered ksn more) c.insert.ensures.added)
 
 pub returns-clause-fresh : goal.returns-clause-fresh
 returns-clause-fresh c =
-    let old = c.self.inside.numbers in
+    let old = c.self.inside.ranges in
     let ksn = c.args.ksn in
-    let added : c.in_ok-insert.field-0 ≡ not (contains nat_cmp old (serial_number ksn)) =
-    subst (λ n. c.in_ok-insert.field-0 ≡ not (contains nat_cmp old n)) c.number.ensures.value c.in_ok-insert.ensures.added in
-    rw (← c.self.view_is, added) (match_fresh (contains nat_cmp old (serial_number ksn)) (IsUsed (members_of old) ksn) (index_has c.serials.ensures.found old ksn c.number.ensures.serial))
+    let used = used_iff_held (paths c) old c.insert.ensures.was_ordered ksn in
+    rw (← c.self.view_is)
+    (IfOk-weaker c.insert.result (λ fresh. MatchBool fresh (¬ IsHeld old ksn) (IsHeld old ksn))
+    (λ fresh. MatchBool fresh (¬ IsUsed (numbers_in old) ksn) (IsUsed (numbers_in old) ksn))
+    (λ fresh held. fresh_is_unused fresh used held) c.insert.ensures.fresh)
