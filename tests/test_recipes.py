@@ -2,8 +2,9 @@
 
 A recipe is a part of the document below a heading of the second level. Of its indented lines `$ `
 begins a command and `> ` goes on with it, and what stands after a command is what it prints. The
-commands of a recipe are run in one bash, in a folder that has the program as `dukpt` beside `tests`
-and `examples`. Each ends with status 0, and nothing is on standard error.
+commands of a recipe are run in one bash, behind those that stand before the first recipe, in a folder
+that has the program as `dukpt` beside `tests` and `examples`. Each ends with status 0, and nothing is
+on standard error.
 """
 from __future__ import annotations
 
@@ -28,12 +29,12 @@ class Command:
 
 
 def recipes() -> list[tuple[str, list[Command]]]:
-    """The title of each recipe, and its commands."""
-    found: list[tuple[str, list[Command]]] = []
+    """The title of each recipe, and its commands. The first one is what all begin with."""
+    found: list[tuple[str, list[Command]]] = [("what each begins with", [])]
     for number, line in enumerate(RECIPES.read_text(encoding="utf-8").splitlines(), 1):
         if line.startswith("## "):
             found.append((line[3:], []))
-        elif line.startswith("    ") and found:
+        elif line.startswith("    "):
             read_line(found[-1][1], line[4:], number)
     return found
 
@@ -55,14 +56,15 @@ class Recipes(ProgramCase):
     weight = 6
 
     def run_recipe(self, place: int) -> None:
-        title, commands = recipes()[place]
+        (_, front), (title, own) = recipes()[0], recipes()[place]
+        commands = [*front, *own]
         printed, faults = self.play(commands)
         self.assertEqual(faults, "", title)
         self.assertEqual(len(printed), len(commands), title)
         for command, found in zip(commands, printed):
             self.assertEqual(found, (command.printed, "0"), f"{title}: `{command.text}`")
-        self.assertTrue(commands, f"{title} has no command")
-        self.tells(f"{title}: {len(commands)} commands")
+        self.assertTrue(front and own, f"{title} has no command")
+        self.tells(f"{title}: {len(own)} commands")
 
     def play(self, commands: list[Command]) -> tuple[list[tuple[str, str]], str]:
         """What each command printed, with its status, as far as they came, and the faults."""
@@ -79,35 +81,38 @@ class Recipes(ProgramCase):
         return list(zip(parts[::2], parts[1::2])), done.stderr.decode(errors="replace")
 
     def test_loading_blocks(self) -> None:
-        self.run_recipe(0)
-
-    def test_components(self) -> None:
         self.run_recipe(1)
 
-    def test_secrets_by_reference(self) -> None:
+    def test_components(self) -> None:
         self.run_recipe(2)
 
-    def test_a_refused_argument(self) -> None:
+    def test_secrets_by_reference(self) -> None:
         self.run_recipe(3)
 
-    def test_many_items(self) -> None:
+    def test_a_refused_argument(self) -> None:
         self.run_recipe(4)
 
-    def test_a_frame(self) -> None:
+    def test_many_items(self) -> None:
         self.run_recipe(5)
 
-    def test_a_trace(self) -> None:
+    def test_a_frame(self) -> None:
         self.run_recipe(6)
 
-    def test_a_translated_pin_block(self) -> None:
+    def test_a_trace(self) -> None:
         self.run_recipe(7)
 
-    def test_a_walk(self) -> None:
+    def test_a_translated_pin_block(self) -> None:
         self.run_recipe(8)
 
-    def test_a_file_of_frames(self) -> None:
+    def test_a_walk(self) -> None:
         self.run_recipe(9)
+
+    def test_a_request_and_its_answer(self) -> None:
+        self.run_recipe(10)
+
+    def test_a_file_of_frames(self) -> None:
+        self.run_recipe(11)
 
     def test_there_are_no_others(self) -> None:
         """The last one is of the page, and has no command."""
-        self.assertEqual([bool(commands) for _, commands in recipes()], [True] * 10 + [False])
+        self.assertEqual([bool(commands) for _, commands in recipes()], [True] * 12 + [False])

@@ -30,12 +30,12 @@ complete -c dukpt -n '__fish_seen_subcommand_from walk' -l initial -d 'Take BDK 
 complete -c dukpt -n '__fish_seen_subcommand_from walk' -l explain -d 'Say more of a fault'
 complete -c dukpt -n '__fish_seen_subcommand_from walk' -s h -l help -d 'Print help'
 
-complete -c dukpt -n __fish_use_subcommand -a initial -d 'BDK IKSN: print the initial key of a terminal'
+complete -c dukpt -n __fish_use_subcommand -a initial -d 'BDK IKSN: print the initial key (IPEK) of a terminal'
 complete -c dukpt -n '__fish_seen_subcommand_from initial' -a '(__dukpt_secret)'
 complete -c dukpt -n '__fish_seen_subcommand_from initial' -l explain -d 'Say more of a fault'
 complete -c dukpt -n '__fish_seen_subcommand_from initial' -s h -l help -d 'Print help'
 
-complete -c dukpt -n __fish_use_subcommand -a issue -d 'BDK LOADING IKSN COUNT: issue the initial keys of terminals'
+complete -c dukpt -n __fish_use_subcommand -a issue -d 'BDK LOADING IKSN COUNT: issue the initial keys (IPEK) of terminals'
 complete -c dukpt -n '__fish_seen_subcommand_from issue' -a '(__dukpt_secret)'
 complete -c dukpt -n '__fish_seen_subcommand_from issue' -l ledger -r -F -d 'FILE: keep the issued numbers in FILE'
 complete -c dukpt -n '__fish_seen_subcommand_from issue' -l skip-issued -d 'Pass over the numbers that are issued'

@@ -93,7 +93,7 @@ pub(super) fn wrap<'a>() -> Usage<'a>
 {
     Usage {
         name: "wrap",
-        about: "Prints the key block of a key",
+        about: "Prints the key block (TR-31) of a key",
         after_help: help::WRAP,
         arguments: &[
             KBPK,
@@ -113,7 +113,7 @@ pub(super) fn unwrap<'a>() -> Usage<'a>
 {
     Usage {
         name: "unwrap",
-        about: "Prints the header fields and the key of a key block",
+        about: "Prints the header fields and the key of a key block (TR-31)",
         after_help: help::UNWRAP,
         arguments: &[KBPK, Argument::Needed("BLOCK", "The key block")],
     }

@@ -53,7 +53,7 @@ pub(super) fn initial<'a>() -> Usage<'a>
 {
     Usage {
         name: "initial",
-        about: "Prints the initial key of a terminal, and its check value",
+        about: "Prints the initial key (IPEK) of a terminal, and its check value",
         after_help: help::INITIAL,
         arguments: &[BDK, IKSN],
     }
@@ -65,7 +65,7 @@ pub(super) fn issue<'a>() -> Usage<'a>
 {
     Usage {
         name: "issue",
-        about: "Issues the initial keys of terminals as loading blocks, each once",
+        about: "Issues the initial keys (IPEK) of terminals as loading blocks, each once",
         after_help: help::ISSUE,
         arguments: &[
             BDK,
@@ -117,7 +117,10 @@ pub(super) fn kcv<'a>() -> Usage<'a>
                 "components",
                 "The keys are components of one key, whose check values come last",
             ),
-            Argument::Flag("show", "Prints the key that the components make"),
+            Argument::Flag(
+                "show",
+                "Prints the key that the components make; changes nothing without --components",
+            ),
         ],
     }
 }

@@ -9,9 +9,10 @@ KEY is better written as @FILE (the first line of a file) or @- (of standard inp
 the machine sees the words of a process.
 
 Examples:
-  $ dukpt mac 042666B4918430A368DE9628D03984C9 4012345678909
+  $ echo 042666B4918430A368DE9628D03984C9 >key.txt
+  $ dukpt mac @key.txt 4012345678909
   mac 38842EFB38B0AA13
-  $ dukpt mac 042666B4918430A368DE9628D03984C9 34303132333435363738393039 --cmac --hex
+  $ dukpt mac @key.txt 34303132333435363738393039 --cmac --hex
   mac DBACB76230ADE923
 
 Faults, on standard error with status 1, the first alone; --explain says more:
@@ -31,7 +32,9 @@ PIN, PAN and KEY are better written as @FILE (the first line of a file) or @- (o
 every user of the machine sees the words of a process.
 
 Example:
-  $ dukpt pin 1234 4012345678909 --key 042666B49184CF5C68DE9628D0397B36
+  $ echo 4012345678909 >pan.txt
+  $ echo 042666B49184CF5C68DE9628D0397B36 >key.txt
+  $ echo 1234 | dukpt pin @- @pan.txt --key @key.txt
   block 041274EDCBA9876F
   enciphered 1B9C1845EB993A7A
 
@@ -57,9 +60,11 @@ BLOCK, PAN and KEY are better written as @FILE (the first line of a file) or @- 
 every user of the machine sees the words of a process.
 
 Examples:
-  $ dukpt unpin 1B9C1845EB993A7A 4012345678909 --key 042666B49184CF5C68DE9628D0397B36
+  $ echo 4012345678909 >pan.txt
+  $ echo 042666B49184CF5C68DE9628D0397B36 >key.txt
+  $ dukpt unpin 1B9C1845EB993A7A @pan.txt --key @key.txt
   block valid
-  $ dukpt unpin 041274EDCBA9876F 4012345678909 --show
+  $ echo 041274EDCBA9876F | dukpt unpin @- @pan.txt --show
   pin 1234
 
 Faults, on standard error with status 1, the first alone; --explain says more:
@@ -82,7 +87,10 @@ BLOCK, PAN, BDK and ZONE are better written as @FILE (the first line of a file) 
 input): every user of the machine sees the words of a process.
 
 Example:
-  $ dukpt translate 1B9C1845EB993A7A 4012345678909 0123456789ABCDEFFEDCBA9876543210 FFFF9876543210E00001 89E88CF7931444F334BD7547FC3F380C
+  $ echo 4012345678909 >pan.txt
+  $ echo 0123456789ABCDEFFEDCBA9876543210 >bdk.txt
+  $ echo 89E88CF7931444F334BD7547FC3F380C >zone.txt
+  $ dukpt translate 1B9C1845EB993A7A @pan.txt @bdk.txt FFFF9876543210E00001 @zone.txt
   translated 8856DB66D89E9EFF
 
 Faults, on standard error with status 1, the first alone; --explain says more:
@@ -111,7 +119,9 @@ KBPK and KEY are better written as @FILE (the first line of a file) or @- (of st
 user of the machine sees the words of a process.
 
 Example:
-  $ dukpt wrap DD7515F2BFC17F85CE48F3CA25CB21F6 P0TE00E 3F419E1CB7079442AA37474C2EFBF8B8 A5A5A5A5A5A5
+  $ echo DD7515F2BFC17F85CE48F3CA25CB21F6 >kbpk.txt
+  $ echo 3F419E1CB7079442AA37474C2EFBF8B8 >key.txt
+  $ dukpt wrap @kbpk.txt P0TE00E @key.txt A5A5A5A5A5A5
   B0080P0TE00E0000E7EA8C782E7641E7CE775995E04329A4A0870CA20BF8F6E92E580F2E81EC0BA5
 
 Faults, on standard error with status 1, the first alone; --explain says more:
@@ -134,7 +144,8 @@ KBPK is better written as @FILE (the first line of a file) or @- (of standard in
 the machine sees the words of a process.
 
 Example:
-  $ dukpt unwrap DD7515F2BFC17F85CE48F3CA25CB21F6 B0080P0TE00E000094B420079CC80BA3461F86FE26EFC4A3B8E4FA4C5F5341176EED7B727B8A248E
+  $ echo DD7515F2BFC17F85CE48F3CA25CB21F6 >kbpk.txt
+  $ dukpt unwrap @kbpk.txt B0080P0TE00E000094B420079CC80BA3461F86FE26EFC4A3B8E4FA4C5F5341176EED7B727B8A248E
   fields P0TE00E
   key 3F419E1CB7079442AA37474C2EFBF8B8
 
@@ -159,11 +170,13 @@ numbers. Nothing is deciphered and no MAC is tested. --show prints the keys of a
 With - for WHAT of the first three, texts of KIND are read from standard input, one a line; one that
 is refused has the line of its fault in its place.
 
-WHAT of an image is better written as @FILE (the first line of a file) or @- (of standard input):
-every user of the machine sees the words of a process.
+WHAT is better written as @FILE (the first line of a file) or @- (of standard input): every user of
+the machine sees the words of a process, of a frame the PAN and of an image the keys. WHAT of a log is
+its path, with ./ before one that begins with @.
 
-Examples:
-  $ dukpt show frame 002E0101FFFF9876543210E000010D34303132333435363738393039000003E81B9C1845EB993A7A25ECC2EEB37FB551
+Example:
+  $ echo 002E0101FFFF9876543210E000010D34303132333435363738393039000003E81B9C1845EB993A7A25ECC2EEB37FB551 >frame.txt
+  $ dukpt show frame @frame.txt
   frame request
   ksn FFFF9876543210E00001
   pan 4012345678909

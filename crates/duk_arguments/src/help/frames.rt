@@ -8,7 +8,9 @@ BDK, PAN and PIN are better written as @FILE (the first line of a file) or @- (o
 every user of the machine sees the words of a process.
 
 Example:
-  $ dukpt request 0123456789ABCDEFFEDCBA9876543210 FFFF9876543210E00001 4012345678909 1234 1000
+  $ echo 0123456789ABCDEFFEDCBA9876543210 >bdk.txt
+  $ echo 4012345678909 >pan.txt
+  $ echo 1234 | dukpt request @bdk.txt FFFF9876543210E00001 @pan.txt @- 1000
   request 002E0101FFFF9876543210E000010D34303132333435363738393039000003E81B9C1845EB993A7A25ECC2EEB37FB551
 
 Faults, on standard error with status 1, the first alone; --explain says more:
@@ -36,7 +38,8 @@ BDK is better written as @FILE (the first line of a file) or @- (of standard inp
 the machine sees the words of a process.
 
 Example:
-  $ dukpt reply 0123456789ABCDEFFEDCBA9876543210 002E0101FFFF9876543210E000010D34303132333435363738393039000003E81B9C1845EB993A7A25ECC2EEB37FB551 00160102FFFF9876543210E000013030591B50E0CA98FE70
+  $ echo 0123456789ABCDEFFEDCBA9876543210 >bdk.txt
+  $ dukpt reply @bdk.txt 002E0101FFFF9876543210E000010D34303132333435363738393039000003E81B9C1845EB993A7A25ECC2EEB37FB551 00160102FFFF9876543210E000013030591B50E0CA98FE70
   accepted FFFF9876543210E00001 00
 
 Faults, on standard error with status 1, the first alone; --explain says more:

@@ -16,7 +16,8 @@ Examples:
   initial 6AC292FAA1315B4D858AB3A3D7D5933A
   key 042666B49184CFA368DE9628D0397BC9
   pin 042666B49184CF5C68DE9628D0397B36
-  $ dukpt derive 6AC292FAA1315B4D858AB3A3D7D5933A FFFF9876543210E00003 --initial --trace --all
+  $ echo 6AC292FAA1315B4D858AB3A3D7D5933A >initial.txt
+  $ dukpt derive @initial.txt FFFF9876543210E00003 --initial --trace --all
   step FFFF9876543210E00002 C46551CEF9FD24B0AA9AD834130D3BC7
   step FFFF9876543210E00003 0DF3D9422ACA56E547676D07AD6BADFA
   initial 6AC292FAA1315B4D858AB3A3D7D5933A
@@ -45,9 +46,10 @@ BDK is better written as @FILE (the first line of a file) or @- (of standard inp
 the machine sees the words of a process.
 
 Examples:
-  $ dukpt walk 0123456789ABCDEFFEDCBA9876543210 FFFF9876543210E00000 1
+  $ echo 0123456789ABCDEFFEDCBA9876543210 >bdk.txt
+  $ dukpt walk @bdk.txt FFFF9876543210E00000 1
   FFFF9876543210E00001 042666B49184CFA368DE9628D0397BC9
-  $ dukpt walk 0123456789ABCDEFFEDCBA9876543210 FFFF9876543210E00000 2 --skip 1048574 --ksn
+  $ dukpt walk @bdk.txt FFFF9876543210E00000 2 --skip 1048574 --ksn
   FFFF9876543210FFF800
   spent
 
@@ -123,7 +125,8 @@ BDK is better written as @FILE (the first line of a file) or @- (of standard inp
 the machine sees the words of a process.
 
 Example:
-  $ dukpt registers 0123456789ABCDEFFEDCBA9876543210 FFFF9876543210E00002 | sed -n 1,3p
+  $ echo 0123456789ABCDEFFEDCBA9876543210 >bdk.txt
+  $ dukpt registers @bdk.txt FFFF9876543210E00002 | sed -n 1,3p
   register 0 21 empty
   register 1 20 FFFF9876543210E00002 C46551CEF9FD24B0AA9AD834130D3BC7
   register 2 19 FFFF9876543210E00004 279C0F6AEED0BE652B2C733E1383AE91
@@ -141,17 +144,21 @@ Faults, on standard error with status 1, the first alone; --explain says more:
 pub(crate) const KCV: &str = "\
 `kcv` is the first three bytes of zeros enciphered under a key, `cmac` the first five of the CMAC of
 zeros. With --components the keys are combined by exclusive or, and the values of the components
-come first. --show prints a key with --components alone. With - for KEY, and no option, keys are read
-from standard input, one a line; one that is refused has the line of its fault in its place.
+come first; --show prints the key that they make, and without --components it changes nothing.
+With - for KEY keys are read from standard input, one a line; one that is refused has the line of its
+fault in its place. Beside an option or another KEY - is a key as any other word, and is refused.
 
 KEY is better written as @FILE (the first line of a file) or @- (of standard input): every user of
 the machine sees the words of a process.
 
 Examples:
-  $ dukpt kcv 0123456789ABCDEFFEDCBA9876543210
+  $ echo 0123456789ABCDEFFEDCBA9876543210 >key.txt
+  $ dukpt kcv @key.txt
   kcv 08D7B4
   cmac 0A82458664
-  $ dukpt kcv 67E092EFE36BCE10A2F1D9F1B6DA6B2C 66C3D7886AC003FF5C2D6369C08E593C --components
+  $ echo 67E092EFE36BCE10A2F1D9F1B6DA6B2C >one.txt
+  $ echo 66C3D7886AC003FF5C2D6369C08E593C >two.txt
+  $ dukpt kcv @one.txt @two.txt --components
   component-kcv 0AAAEB
   component-cmac C984D8CF44
   component-kcv 7B7B4B
