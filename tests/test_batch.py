@@ -15,6 +15,7 @@ from .support.everyday_rows import (
     BASE, INITIAL, KEY_BLOCK, PAN, PIN, PIN_KEY, REPLY, REQUEST, SERIAL, ZONE)
 from .support.everyday_words import expected
 from .support.images import RECORD
+from .support.leaks import leaks_of_batch
 from .support.program import SECONDS, Ended, Limits, spoken
 from .support.service import PACKETS, Service, cuts
 from .test_show import (
@@ -40,6 +41,8 @@ KINDS = (
 WRONG = (Batch("derive", ("x", "-")), Batch("derive", ("x", "-"), ("initial",)),
          Batch("pin", ("-", "x")), Batch("pin", ("x", "-")),
          Batch("pin", ("-", PAN), (), {"key": "x"}))
+# So many of each kind at random, on all programs that are tried.
+ITEMS = 10_000
 COUNT = 100_000
 # How long they may take on a machine that has other work too.
 MOST_SECONDS = 10
@@ -208,6 +211,19 @@ class Secrets(BatchCase):
             ended = self.program.run(*words, given=data.encode(), folder=self.home)
             self.assert_ended(ended, 1, b"", f"{line}\n".encode(), spoken(words))
 
+    def test_a_reference_to_items(self) -> None:
+        """A text that was read is as one that was written: of `-` there are items."""
+        (self.home / "it").write_text("-\n")
+        for batch, right, wrong in KINDS:
+            if batch.command == "derive":
+                # KSN is no secret.
+                continue
+            data = f"{right}\n{wrong[0]}\n{right}".encode()
+            words = [*batch.options, *("@it" if it == "-" else it for it in batch.values)]
+            found = self.program.run(*words, given=data, folder=self.home)
+            wanted = batch.ended(data)
+            self.assert_ended(found, wanted.status, wanted.output, wanted.faults, spoken(words))
+
     def test_a_file(self) -> None:
         (self.home / "bdk").write_text(f"{BASE}\r\nmore\n")
         wanted = DERIVE.ended(f"{SERIAL}\nx".encode())
@@ -216,9 +232,9 @@ class Secrets(BatchCase):
 
 
 class Random(BatchCase):
-    """Inputs of random items, right ones and wrong ones."""
+    """Inputs of random items, right ones and wrong ones: each answer, and no secret in it."""
 
-    weight = 6
+    weight = 12
 
     def items_of(self, command: str, draw: Draw, count: int) -> tuple[Batch, list[str]]:
         """A batch with arguments at random, and items for it."""
@@ -235,21 +251,22 @@ class Random(BatchCase):
         pans = [draw.pan()[1] for _ in range(count)]
         return Batch("pin", (draw.pin()[1], "-"), (), valued), pans
 
-    def play(self, command: str, count: int) -> None:
-        draw, tally = Draw(self.chance, str(self.home)), Counter[str]()
-        for _ in range(count * self.times):
-            batch, items = self.items_of(command, draw, self.chance.choice((1, 3, 20)))
+    def play(self, command: str) -> None:
+        draw, tally = Draw(self.own_chance(), str(self.home)), Counter[str]()
+        while tally["lines"] < self.share_of(ITEMS):
+            batch, items = self.items_of(command, draw, draw.chance.choice((1, 3, 20, 100)))
             if any(word.startswith("@") for word in batch.words):
                 # It is spoiled so that it is a reference.
                 continue
             data = b"".join(item.encode() + self.end_of_line() for item in items)
-            if self.chance.random() < 0.3:
+            if draw.one_in(3):
                 data = data.removesuffix(b"\n")
             words = [*batch.options, "--", *batch.values]
             wanted = batch.ended(data)
             ended = self.program.run(*words, given=data)
             self.assert_ended(ended, wanted.status, wanted.output, wanted.faults,
                               f"{spoken(words)} {data!r}")
+            self.assertEqual(leaks_of_batch(batch, data, ended), [], f"{spoken(words)} {data!r}")
             tally["refused" if wanted.status else "done"] += 1
             tally["lines"] += len(lines_in(data))
         self.assertGreater(tally["done"], 0)
@@ -263,31 +280,33 @@ class Random(BatchCase):
             (b"\n", b"\n", b"\n", b"\r\n", b"\n\n", b"\n\xff\n", b" \n", b"\n@-\n"))
 
     def test_derive(self) -> None:
-        self.play("derive", 150)
+        self.play("derive")
 
     def test_kcv(self) -> None:
-        self.play("kcv", 200)
+        self.play("kcv")
 
     def test_pins(self) -> None:
-        self.play("PINs", 200)
+        self.play("PINs")
 
     def test_pans(self) -> None:
-        self.play("PANs", 200)
+        self.play("PANs")
 
 
 class Shown(BatchCase):
     """Inputs of texts of one kind, whole ones and damaged ones."""
 
-    weight = 6
-    batches = 100
+    weight = 12
 
     def play(self, kind: str, draw: Callable[[Damaged], str], faults: set[str]) -> None:
-        damaged, tally = Damaged(self.chance), Counter[str]()
-        for _ in range(self.batches * self.times):
+        damaged, tally = Damaged(self.own_chance()), Counter[str]()
+        while tally.total() < self.share_of(ITEMS):
             batch = Batch("show", (kind, "-"), ["show"] if damaged.one_in(2) else [])
-            texts = [draw(damaged) for _ in range(self.chance.choice((1, 3, 100)))]
-            data = b"".join(text.encode() + self.chance.choice((b"\n", b"\r\n")) for text in texts)
-            wanted = self.check(batch, data.removesuffix(b"\n") if damaged.one_in(3) else data)
+            texts = [draw(damaged) for _ in range(damaged.chance.choice((1, 3, 100)))]
+            data = b"".join(text.encode() + damaged.chance.choice((b"\n", b"\r\n"))
+                            for text in texts)
+            data = data.removesuffix(b"\n") if damaged.one_in(3) else data
+            wanted = self.check(batch, data)
+            self.assertEqual(leaks_of_batch(batch, data, wanted), [], repr(data))
             found = [it[3].decode() for it in PLACES.finditer(wanted.output)]
             tally.update(found)
             tally["done"] += len(texts) - len(found)

@@ -16,6 +16,8 @@ NUMBER_FAULTS = ("KSN refused", "counter refused")
 BASE_FAULTS = ("BDK refused", "initial refused")
 PAN_FAULTS = ("PanLength", "PanDigit")
 READS = ("cannot read", "too long", "not UTF-8")
+# So many of each command, on all programs that are tried.
+CASES = 10_000
 
 
 def kind_of(ended: Ended) -> str:
@@ -28,14 +30,14 @@ def kind_of(ended: Ended) -> str:
 class TestEveryday(ProgramCase):
     """A command is tried by thousands, and a tally counts what came of it."""
 
-    weight = 7
+    weight = 30
 
-    def play(self, command: str, count: int, *kinds: str) -> None:
-        """So many cases of a command, of which each of these kinds has to come."""
+    def play(self, command: str, *kinds: str, count: int = CASES) -> None:
+        """Cases of a command, of which each of these kinds has to come."""
         home, tally = self.folder(), Counter[str]()
-        draw = Draw(self.chance, str(home))
+        draw = Draw(self.own_chance(), str(home))
         with QuickRuns(self.program) as runs:
-            for _ in range(count * self.times):
+            for _ in range(self.share_of(count)):
                 case = DRAWS[command](draw)
                 tally[kind_of(self.check(runs, case))] += 1
         missing = [it for it in ("done", "arguments refused", *kinds) if not tally[it]]
@@ -57,39 +59,43 @@ class TestEveryday(ProgramCase):
         return ended
 
     def test_derive(self) -> None:
-        self.play("derive", 1200, *BASE_FAULTS, *NUMBER_FAULTS, *(f"BDK: {it}" for it in READS))
+        self.play("derive", *BASE_FAULTS, *NUMBER_FAULTS, *(f"BDK: {it}" for it in READS))
 
     def test_walk(self) -> None:
-        self.play("walk", 700, *BASE_FAULTS, "IKSN refused", "count refused")
+        self.play("walk", *BASE_FAULTS, "IKSN refused", "count refused")
 
     def test_initial(self) -> None:
-        self.play("initial", 500, "BDK refused", "IKSN refused")
+        self.play("initial", "BDK refused", "IKSN refused")
 
     def test_registers(self) -> None:
-        self.play("registers", 700, *BASE_FAULTS, *NUMBER_FAULTS)
+        self.play("registers", *BASE_FAULTS, *NUMBER_FAULTS)
 
     def test_kcv(self) -> None:
-        self.play("kcv", 1300, "key refused", *(f"KEY: {it}" for it in READS))
+        self.play("kcv", "key refused", *(f"KEY: {it}" for it in READS))
 
     def test_mac(self) -> None:
-        self.play("mac", 1300, "key refused", "text refused", *(f"KEY: {it}" for it in READS))
+        self.play("mac", "key refused", "text refused", *(f"KEY: {it}" for it in READS))
+
+    def test_pin(self) -> None:
+        self.play("pin", "PinLength", "PinDigit", *PAN_FAULTS, "key refused", "PIN: cannot read",
+                  *(f"{it}: {why}" for why in READS for it in ("PIN", "PAN")))
 
     def test_unpin(self) -> None:
-        self.play("unpin", 1300, "block refused", *PAN_FAULTS, "key refused", "NotAPinBlock",
+        self.play("unpin", "block refused", *PAN_FAULTS, "key refused", "NotAPinBlock",
                   "KEY: cannot read", *(f"{it}: {why}" for why in READS for it in ("BLOCK", "PAN")))
 
     def test_translate(self) -> None:
-        self.play("translate", 1200, "block refused", *PAN_FAULTS, *BASE_FAULTS, *NUMBER_FAULTS,
+        self.play("translate", "block refused", *PAN_FAULTS, *BASE_FAULTS, *NUMBER_FAULTS,
                   "zone refused", "NotAPinBlock", "ZONE: cannot read", "BLOCK: cannot read")
 
     def test_request(self) -> None:
-        self.play("request", 1000, *BASE_FAULTS, *NUMBER_FAULTS, *PAN_FAULTS, "PinLength",
+        self.play("request", *BASE_FAULTS, *NUMBER_FAULTS, *PAN_FAULTS, "PinLength",
                   "PinDigit", "amount refused", "PIN: cannot read")
 
     def test_reply(self) -> None:
-        self.play("reply", 1300, *BASE_FAULTS, "request refused", "answer refused", "NotMine",
+        self.play("reply", *BASE_FAULTS, "request refused", "answer refused", "NotMine",
                   "BadMac")
 
     def test_others(self) -> None:
-        """`pin`, `wrap` and `unwrap`, whose secrets may be references too."""
-        self.play("others", 700, "KBPK refused", "Hex")
+        """`wrap` and `unwrap`, whose secrets may be references too."""
+        self.play("others", "KBPK refused", "Hex", count=2000)

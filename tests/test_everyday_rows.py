@@ -5,6 +5,7 @@ from __future__ import annotations
 from .support.case import ProgramCase
 from .support.everyday_rows import BASE, INITIAL, rows
 from .support.everyday_words import COMMANDS, MOST_KEYS, expected
+from .support.leaks import SEARCHES_REFUSED_ARGUMENTS
 from .support.program import spoken
 
 NEW = ("initial", "registers", "kcv", "mac", "unpin", "translate", "request", "reply")
@@ -61,7 +62,7 @@ class Rows(ProgramCase):
             self.assertEqual(self.program.run("kcv", *options, *keys[:-1]).status, 0)
             words = ["kcv", *options, *keys]
             self.refused(expected(words).faults, *words)
-            for key in keys[:-1]:
+            for key in keys if SEARCHES_REFUSED_ARGUMENTS else keys[:-1]:
                 self.assertNotIn(key.encode(), self.program.run(*words).faults, "a key is shown")
 
     def test_keys_that_stand_apart(self) -> None:

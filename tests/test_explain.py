@@ -164,7 +164,7 @@ class Random(ExplainCase):
         self.play(1600, "derive", "walk", "initial", "registers", "kcv", "mac")
 
     def test_blocks_and_frames(self) -> None:
-        self.play(1600, "unpin", "translate", "request", "reply", "others")
+        self.play(1600, "pin", "unpin", "translate", "request", "reply", "others")
 
     def play(self, count: int, *commands: str) -> None:
         draw, tally = Wrong(self.chance, str(self.folder())), Counter[int]()

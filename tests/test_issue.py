@@ -13,15 +13,21 @@ from pathlib import Path
 from typing import Optional, Sequence
 
 from .support.case import ProgramCase
+from .support.commands import Refused as Fault
 from .support.cut_disk import Lies, Place, Plan, Stop
 from .support.cut_file import CutFile
 from .support.dukpt import SPENT, serial_text
+from .support.everyday_cases import Case, Draw
 from .support.everyday_rows import BASE, FIRST, SERIAL
+from .support.everyday_words import COMMANDS as WORDS
+from .support.everyday_words import ArgumentsRefused, References, read, resolve
 from .support.issuing import (
-    BEGUN, MOST_COUNT, NUMBERS, Issued, Keys, Ledger, bytes_of, numbers_from, read_line, read_lines,
-    whole_lines)
+    BEGUN, MOST_COUNT, NUMBERS, Issued, Keys, Ledger, asked, bytes_of, numbers_from, read_line,
+    read_lines, whole_lines)
+from .support.leaks import leaked, leaks
 from .support.log_file import RECORD, DamagedLog, log_image, numbers_in, record
 from .support.program import COMMANDS, SECONDS, Ended, Limits, Program, Word, spoken
+from .support.quick import QuickRuns
 from .support.service import Service
 from .test_service_log_calls import STEPS, acceptance, start, steps_of
 
@@ -42,6 +48,12 @@ NO_LEDGERS = {
     "the last counter": record(bytes.fromhex("FFFF9876543210FFF800")) + bytes(RECORD),
     "no usable counter": record(bytes.fromhex("FFFF9876543210FFFFFF")) + bytes(RECORD),
 }
+# So many runs at random, on all programs that are tried, and so many of them on one ledger.
+RUNS, ON_ONE = 10_000, 12
+KINDS_OF_RUNS = ("issued", "nothing", "there", "ledger: full", "arguments refused", "BDK refused",
+                 "loading refused", "IKSN refused", "count refused",
+                 *(f"{name}: {why}" for name in ("BDK", "LOADING")
+                   for why in ("cannot read", "too long", "not UTF-8")))
 KILLS = 100
 # So many losses of power each of some tests has, and within so many a file system that lies is found.
 CUTS, MOST_CUTS = 400, 5000
@@ -88,8 +100,8 @@ class IssueCase(ProgramCase):
         issued = read_lines(ended.output, keys)
         self.assertEqual([it.number for it in issued], numbers, what)
         self.assertEqual(self.path.read_bytes(), ledger.image, what)
-        for secret in (keys.base, keys.loading, *(it.key for it in issued)):
-            self.assertNotIn(secret.hex().upper().encode(), ended.output, "a key is printed")
+        secrets = {it.hex() for it in (keys.base, keys.loading, *(it.key for it in issued))}
+        self.assertEqual(leaked(ended, secrets), [], "a key is printed")
         return issued
 
     def refused(self, words: Sequence[Word], fault: str) -> None:
@@ -199,6 +211,74 @@ class Lines(IssueCase):
         self.assertEqual((ended.status, issued), (0, numbers_from(FIRST_NUMBER, 4)[2:]))
         self.assertEqual(self.path.read_bytes(),
                          log_image(bytes_of(numbers_from(FIRST_NUMBER, 4)), 4) + junk[2])
+
+
+class Random(IssueCase):
+    """Runs with arguments at random, right ones and wrong ones, over ledgers that they share."""
+
+    weight = 25
+
+    def test_runs(self) -> None:
+        draw, tally = Draw(self.own_chance(), str(self.home)), Counter[str]()
+        with QuickRuns(self.program) as runs:
+            for at in range(self.share_of(RUNS)):
+                if at % ON_ONE == 0:
+                    ledger = self.begin(draw.chance.randint(1, 12))
+                    first = self.first_of(draw)
+                case = self.drawn(draw, first + draw.chance.randrange(4) * SPENT)
+                tally[self.play(runs, ledger, case)] += 1
+        missing = [it for it in KINDS_OF_RUNS if not tally[it]]
+        self.assertFalse(missing, f"this never came: {missing}, but {dict(tally)}")
+        self.tells(f"{tally.total()} runs, {tally['issued']} issued keys")
+
+    def first_of(self, draw: Draw) -> int:
+        """Behind it there are numbers enough for most runs; now and then hardly any."""
+        last = NUMBERS - 8 * SPENT
+        return last if draw.one_in(8) else min(last, draw.iksn())
+
+    def drawn(self, draw: Draw, first: int) -> Case:
+        iksn = serial_text(first + (draw.chance.choice((1, 0x1FF800)) if draw.one_in(16) else 0))
+        return draw.case("issue", draw.key(16)[1], draw.key(16, 24)[1], draw.written(iksn),
+                         draw.count(6, 1_048_577), ledger=str(self.path))
+
+    def play(self, runs: QuickRuns, ledger: Ledger, case: Case) -> str:
+        """What kind of an end a run has, where it is the right one."""
+        for path, data in case.files.items():
+            Path(path).write_bytes(data)
+        ended = runs.run([word.encode() for word in case.words], case.given)
+        what = f"{spoken(case.words)} with {case.files} and {case.given!r}"
+        issued, fault, keys = self.wanted(case, ledger)
+        if fault.startswith("error: "):
+            self.assertTrue(ended.faults.startswith(f"{fault}\n".encode()), f"{what}: {ended}")
+            self.assert_ended(ended, 2, b"", ended.faults, what)
+        else:
+            faults = f"{fault}\n".encode() if fault else b""
+            self.assert_ended(ended, int(bool(fault)), ended.output, faults, what)
+        found = [] if keys is None else read_lines(ended.output, keys)
+        self.assertEqual([it.number for it in found], issued, what)
+        self.assertEqual(self.path.read_bytes(), ledger.image, what)
+        self.assertEqual(leaks(case, ended), [], what)
+        return self.kind_of(fault, issued)
+
+    def wanted(self, case: Case, ledger: Ledger) -> tuple[list[int], str, Optional[Keys]]:
+        """The numbers that are issued, the fault, and the keys where they are right."""
+        about = WORDS["issue"]
+        try:
+            given = read(case.words[1:], about)
+            resolve("issue", about, given, References(case.files, case.given))
+            keys, first, count = asked(*given.values)
+        except ArgumentsRefused as why:
+            return [], f"error: {why}", None
+        except Fault as why:
+            return [], str(why), None
+        return *ledger.issue(first, count, "skip-issued" in given.flags), keys
+
+    def kind_of(self, fault: str, issued: list[int]) -> str:
+        if not fault:
+            return "issued" if issued else "nothing"
+        if fault.endswith(": issued"):
+            return "there"
+        return "arguments refused" if fault.startswith("error: ") else fault
 
 
 class Refused(IssueCase):

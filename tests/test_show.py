@@ -6,24 +6,30 @@ import fcntl
 import os
 import random
 import re
+import threading
 from collections import Counter
+from pathlib import Path
 from typing import Callable, Optional
 
 from .support.case import ProgramCase
 from .support.commands import shown
 from .support.dukpt import SPENT, Registers, initial_key, key_of, registers_at
 from .support.everyday import NUMBERS, nth_counter
+from .support.everyday_cases import Case
 from .support.everyday_rows import FIRST, INITIAL, KEY_BLOCK, REPLY, REQUEST
 from .support.frames import (
     CODES, NO_NUMBER, REASONS, write_refusal, write_reply, write_request)
 from .support.images import IMAGE_1, IMAGE_2, RECORD, image_of, log_disk
 from .support.key_blocks import header, sealed
-from .support.program import COMMANDS, Ended, spoken
+from .support.leaks import leaks
+from .support.program import COMMANDS, SECONDS, Ended, spoken
 from .support.quick import QuickRuns
 from .support.shown import ALGORITHMS, EXPORTABILITIES, MODES, USAGES, ended, log_ended
 from .support.worlds import digits
 
 IKSN = int(FIRST, 16)
+# So many of each kind, on all programs that are tried.
+CASES = 10_000
 PLACES = re.compile(rb"(\w+) refused at (\d+): (\w+)\n")
 FRAME_FAULTS = {"Hex", "Length", "Version", "Kind", "Size", "PanLength", "PanDigit", "Code", "Reason"}
 BLOCK_FAULTS = {"Length", "Version", "HeaderField", "OptionalBlock", "Hex"}
@@ -112,6 +118,13 @@ BLOCK_REFUSALS = (
     (KEY_BLOCK[:16] + "g" + KEY_BLOCK[17:], 16, "Hex"), (KEY_BLOCK[:79] + "/", 79, "Hex"),
     (KEY_BLOCK[:70] + "\u00e9" + KEY_BLOCK[72:], 70, "Hex"),
 )
+
+
+def write_bytes(path: Path, data: bytes) -> None:
+    """Into a pipe, a byte at a time, once somebody reads it."""
+    with open(path, "wb", buffering=0) as it:
+        for byte in data:
+            it.write(bytes([byte]))
 
 
 class ShowCase(ProgramCase):
@@ -244,6 +257,22 @@ class Rows(ShowCase):
         for name in ("missing", "folder", "", ".", "missing/log"):
             self.refuses("log: cannot read", "log", name)
         self.refuses("log refused at 0: Damaged", "log", "/dev/null")
+
+    def test_logs_without_an_end(self) -> None:
+        """What never ends is too long; one that fails before that cannot be read."""
+        self.refuses("log: too long", "log", "/dev/zero")
+        self.refuses("log: cannot read", "log", "/proc/self/mem")
+
+    def test_a_pipe_as_a_log(self) -> None:
+        """It is read to its end, however its bytes come."""
+        os.mkfifo(self.home / "pipe")
+        for data in (log_disk([IKSN + 1, IKSN + 2], 3), log_disk([IKSN], 1)[:-1], b""):
+            writer = threading.Thread(target=write_bytes, args=(self.home / "pipe", data))
+            writer.start()
+            wanted = log_ended(data)
+            found = self.program.run("show", "log", "pipe", folder=self.home)
+            writer.join(SECONDS)
+            self.assert_ended(found, wanted.status, wanted.output, wanted.faults, data.hex())
 
     def test_stored_logs(self) -> None:
         """The logs that `serve` is tried on: as a reader of their format has them."""
@@ -394,21 +423,23 @@ class Damaged:
 
 
 class Random(ShowCase):
-    """As a reader of the formats has them: each line, each fault and each place."""
+    """As a reader of the formats has them: each line, each fault and each place; and no secret that
+    is not asked for."""
 
-    weight = 5
+    weight = 25
 
-    def play(self, kind: str, count: int, draw: Callable[[Damaged], str], faults: set[str]) -> None:
-        tally = Counter[str]()
+    def play(self, kind: str, draw: Callable[[Damaged], str], faults: set[str]) -> None:
+        tally, damaged = Counter[str](), Damaged(self.own_chance())
         with QuickRuns(self.program) as runs:
-            for _ in range(count * self.times):
-                what, show = draw(Damaged(self.chance)), self.chance.random() < 0.5
+            for _ in range(self.share_of(CASES)):
+                what, show = draw(damaged), damaged.one_in(2)
                 if what.startswith(("-", "@")):
                     continue
                 wanted = ended(kind, what, show)
-                words = [b"show", kind.encode(), what.encode(), *([b"--show"] if show else [])]
-                found = runs.run(words)
+                words = ["show", kind, what, *(["--show"] if show else [])]
+                found = runs.run([word.encode() for word in words])
                 self.assert_ended(found, wanted.status, wanted.output, wanted.faults, spoken(words))
+                self.assertEqual(leaks(Case(words), found), [], spoken(words))
                 tally[self.fault_of(found, kind) or "done"] += 1
         self.assertEqual(set(tally), faults | {"done"}, dict(tally))
         self.tells(", ".join(f"{name} {tally[name]}" for name in sorted(tally)))
@@ -421,20 +452,20 @@ class Random(ShowCase):
         return line[3].decode() if line else None
 
     def test_frames(self) -> None:
-        self.play("frame", 1500, Damaged.frame, FRAME_FAULTS)
+        self.play("frame", Damaged.frame, FRAME_FAULTS)
 
     def test_blocks(self) -> None:
-        self.play("block", 2000, Damaged.block, BLOCK_FAULTS)
+        self.play("block", Damaged.block, BLOCK_FAULTS)
 
     def test_images(self) -> None:
-        self.play("image", 2000, Damaged.image, IMAGE_FAULTS)
+        self.play("image", Damaged.image, IMAGE_FAULTS)
 
     def test_logs(self) -> None:
         """Damaged or not, the file is as before."""
-        path, tally = self.home / "log", Counter[str]()
+        path, tally, damaged = self.home / "log", Counter[str](), Damaged(self.own_chance())
         with QuickRuns(self.program) as runs:
-            for _ in range(1000 * self.times):
-                data = Damaged(self.chance).log()
+            for _ in range(self.share_of(CASES)):
+                data = damaged.log()
                 path.write_bytes(data)
                 wanted, found = log_ended(data), runs.run([b"show", b"log", os.fsencode(path)])
                 self.assert_ended(found, wanted.status, wanted.output, wanted.faults, data.hex())

@@ -38,6 +38,16 @@ class ProgramCase(Case):
     """A test of a built program: it runs once for each program that is tried."""
 
     program: Program
+    # How many programs are tried, this one among them.
+    programs: ClassVar[int] = 1
+
+    def share_of(self, count: int) -> int:
+        """How many of so many random cases are this program's, where each is tried on one alone."""
+        return -(-count * self.times // self.programs)
+
+    def own_chance(self) -> random.Random:
+        """What is drawn for this program alone: of another one it is something else."""
+        return random.Random(f"{self.seed} {self.id()} {self.program.name}")
 
     def assert_ended(
         self,

@@ -254,8 +254,8 @@ class Draw:
         return self.written(frame.hex() or "00")
 
     def others(self) -> Case:
-        """`pin`, `wrap` or `unwrap`."""
-        return self.chance.choice((self.pin_case, self.wrap_case, self.unwrap_case))()
+        """`wrap` or `unwrap`."""
+        return self.chance.choice((self.wrap_case, self.unwrap_case))()
 
     def pin_case(self) -> Case:
         return self.case("pin", self.pin()[1], self.pan()[1],
@@ -272,6 +272,7 @@ class Draw:
 
 
 DRAWS: dict[str, Callable[[Draw], Case]] = {
-    name: getattr(Draw, name) for name in (
+    "pin": Draw.pin_case,
+    **{name: getattr(Draw, name) for name in (
         "derive", "walk", "initial", "registers", "kcv", "mac", "unpin", "translate", "request",
-        "reply", "others")}
+        "reply", "others")}}

@@ -24,7 +24,7 @@ Lines = Callable[..., list[str]]
 MOST_BYTES = 4096
 MOST_KEYS = 16
 # Arguments and values of options that are secrets.
-SECRETS = {"BDK", "KBPK", "PIN", "PAN", "ZONE"}
+SECRETS = {"BDK", "KBPK", "LOADING", "PIN", "PAN", "ZONE"}
 OF_COMMANDS = {"wrap": {"KEY"}, "kcv": {"KEY"}, "mac": {"KEY"}, "pin": {"KEY"},
                "unpin": {"KEY", "BLOCK"}, "translate": {"BLOCK"}, "show": {"WHAT"}}
 
@@ -42,6 +42,10 @@ class Command:
     is_many: bool = False
 
 
+def no_lines(*_values: object, **_options: object) -> list[str]:
+    raise NotImplementedError("what it writes does not follow from its arguments")
+
+
 INITIAL = ("initial",)
 COMMANDS = {
     "derive": Command(derive_lines, ("BDK", "KSN"), ("initial", "trace", "all")),
@@ -55,6 +59,9 @@ COMMANDS = {
     "mac": Command(mac_lines, ("KEY", "TEXT"), ("cmac", "hex")),
     "unpin": Command(unpin_lines, ("BLOCK", "PAN"), ("show",), {"key": "KEY"}),
     "translate": Command(translate_lines, ("BLOCK", "PAN", "BDK", "KSN", "ZONE"), INITIAL),
+    # Its lines are random: `issuing` reads them.
+    "issue": Command(no_lines, ("BDK", "LOADING", "IKSN", "COUNT"), ("skip-issued",),
+                     {"ledger": "FILE"}),
     # A text; the logs are files.
     "show": Command(show_lines, ("KIND", "WHAT"), ("show",)),
     "request": Command(request_lines, ("BDK", "KSN", "PAN", "PIN", "AMOUNT"), INITIAL),

@@ -6,9 +6,10 @@ import re
 from dataclasses import dataclass
 from typing import Iterable, Sequence
 
-from .commands import shown
+from .commands import DOUBLE, DOUBLE_OR_TRIPLE, Refused, count_in, hexadecimal, shown
 from .des import cbc_decrypt, encrypt_block
 from .dukpt import SPENT, initial_key, serial_text
+from .everyday import iksn_in
 from .key_blocks import ENCRYPTION, derived, unwrap
 from .log_file import log_image
 
@@ -41,6 +42,15 @@ class Issued:
 
 class WrongLine(AssertionError):
     """That an output has what is no right line."""
+
+
+def asked(base: str, loading: str, iksn: str, count: str) -> tuple[Keys, int, int]:
+    """What these arguments ask for: the keys, the first number, and how many."""
+    keys = Keys(hexadecimal(base, DOUBLE, "BDK"), hexadecimal(loading, DOUBLE_OR_TRIPLE, "loading"))
+    first, numbers = iksn_in(iksn), count_in(count)
+    if not numbers or first + (numbers - 1) * SPENT >= NUMBERS:
+        raise Refused("count refused")
+    return keys, first, numbers
 
 
 def numbers_from(first: int, count: int) -> list[int]:

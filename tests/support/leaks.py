@@ -3,20 +3,27 @@ asked to show them."""
 from __future__ import annotations
 
 import re
+from typing import Iterable
 
+from .batches import MOST_ITEM, Batch, lines_in
 from .commands import Refused, shown
 from .des import decrypt_block
-from .dukpt import derive, initial_key, iksn_of, key_of, pin_key
+from .dukpt import SPENT, derive, initial_key, iksn_of, key_of, pin_key
 from .everyday_cases import Case
 from .everyday_words import (
-    COMMANDS, ArgumentsRefused, Given, References, is_secret, read, resolve)
+    COMMANDS, ArgumentsRefused, Given, References, is_secret, lines_of, read, resolve)
+from .images import IMAGE_1
 from .pin_blocks import pin_block, pin_in
 from .program import Ended
 
+# Whether the text of refused arguments is searched too: no word of a user stands there then.
+SEARCHES_REFUSED_ARGUMENTS = False
 # A shorter word is in any text by chance.
 LEAST = 4
-# So long a word is nowhere by chance, and is looked for within others.
+# So long a word is nowhere by chance. It is looked for within others, and so are its parts so long.
 LONG = 16
+# A part with fewer characters, as of zeros alone, is in texts by chance.
+FEW = 4
 
 
 def leaks(case: Case, ended: Ended) -> list[str]:
@@ -27,26 +34,57 @@ def leaks(case: Case, ended: Ended) -> list[str]:
         given = read(rest, command)
         resolve(name, command, given, References(case.files, case.given))
     except ArgumentsRefused:
-        return []
+        return leaked(ended, refused_words(rest)) if SEARCHES_REFUSED_ARGUMENTS else []
     except Refused:
         # Some are references yet; what they name is searched for as far as it was read.
         pass
-    secrets = {word for word in given_secrets(name, given) if len(word) >= LEAST}
-    found = [it for it in secrets if is_in(it, ended.faults)]
-    if ended.status == 0:
-        secrets |= made_secrets(name, given)
-        shown_ones = {it.upper() for it in asked_for(name, given)}
-        found += [it for it in secrets if it.upper() not in shown_ones and is_in(it, ended.output)]
-    return found
+    secrets = given_secrets(name, given)
+    if ended.status:
+        return leaked(ended, secrets)
+    return leaked(ended, secrets | made_secrets(name, given), asked_for(name, given))
 
 
-def is_in(secret: str, text: bytes) -> bool:
+def leaks_of_batch(batch: Batch, data: bytes, ended: Ended) -> list[str]:
+    """The same of items, each with the other arguments."""
+    secrets: set[str] = set()
+    asked: set[str] = set()
+    for line in lines_in(data):
+        try:
+            given = batch.alone(line.decode() if len(line) <= MOST_ITEM else "")
+            secrets |= given_secrets(batch.command, given)
+            lines_of(batch.command, given)
+        except (UnicodeDecodeError, Refused):
+            continue
+        secrets |= made_secrets(batch.command, given)
+        asked |= asked_for(batch.command, given)
+    return leaked(ended, secrets, asked)
+
+
+def leaked(ended: Ended, secrets: Iterable[str], asked: Iterable[str] = ()) -> list[str]:
+    """Those of these secrets that stand on standard error, or unasked on standard output."""
+    output, faults = (it.decode(errors="replace").upper() for it in (ended.output, ended.faults))
+    shown_ones = {it.upper() for it in asked}
+    return [it for it in {it.upper() for it in secrets if len(it) >= LEAST}
+            if is_in(it, faults) or it not in shown_ones and is_in(it, output)]
+
+
+def is_in(secret: str, text: str) -> bool:
+    if not text:
+        return False
+    if len(secret) >= LONG:
+        return any(it in text for it in (secret, *parts_of(secret)))
     # A short one has to stand by itself: digits of a key may be a PIN's by chance.
-    around = "" if len(secret) >= LONG else "[0-9A-Za-z]"
-    pattern = re.escape(secret)
-    if around:
-        pattern = f"(?<!{around}){pattern}(?!{around})"
-    return re.search(pattern, text.decode(errors="replace"), re.I) is not None
+    return re.search(f"(?<![0-9A-Z]){re.escape(secret)}(?![0-9A-Z])", text) is not None
+
+
+def parts_of(secret: str) -> list[str]:
+    parts = [secret[at : at + LONG] for at in range(0, len(secret) - LONG + 1, LONG)]
+    return [it for it in parts if len(set(it)) >= FEW]
+
+
+def refused_words(words: list[str]) -> set[str]:
+    """All that stands behind a command but for the names of options: any of it may be a secret."""
+    return {it.partition("=")[2] if it.startswith("--") else it for it in words}
 
 
 def given_secrets(name: str, given: Given) -> set[str]:
@@ -80,6 +118,12 @@ def made_secrets(name: str, given: Given) -> set[str]:
         serial = int(values[1][8:28], 16)
         base = bytes.fromhex(values[0])
         return {shown((key_of if "initial" in given.flags else derive)(base, serial))}
+    if name == "issue":
+        base, first = bytes.fromhex(values[0]), int(values[2], 16)
+        return {shown(initial_key(base, first + at * SPENT)) for at in range(int(values[3]))}
+    if name == "show" and values[0] == "image" and "show" not in given.flags:
+        image = bytes.fromhex(values[1])
+        return {shown(image[at : at + 16]) for at in range(14, IMAGE_1, 16)} - {"0" * 32}
     return set()
 
 
@@ -103,4 +147,6 @@ def asked_for(name: str, given: Given) -> set[str]:
         return {combined(given.values)}
     if name == "unpin" and "show" in given.flags:
         return {pin for pin in made_secrets(name, given) if len(pin) < LONG}
+    if name == "show":
+        return {given.values[1]}
     return set()

@@ -38,6 +38,8 @@ class Job:
     program: Optional[Program]
     # How long it may take, for the order in which they begin.
     weight: int
+    # How many programs are tried.
+    programs: int = 1
 
     @property
     def name(self) -> str:
@@ -79,7 +81,7 @@ def jobs(names: list[str], given: list[str]) -> list[Job]:
                 found.append(job)
                 continue
             tried = programs(given) if tried is None else tried
-            found += [Job(module, case.__name__, test, it, weight) for it in tried]
+            found += [Job(module, case.__name__, test, it, weight, len(tried)) for it in tried]
     return sorted(found, key=lambda it: -it.weight)
 
 
@@ -90,7 +92,7 @@ def run(job: Job, seed: int, times: int) -> Outcome:
     Case.seed, Case.times = seed, times
     test = case(job.test)
     if job.program:
-        test.program = job.program
+        test.program, test.programs = job.program, job.programs
     result = unittest.TestResult()
     said, sys.stderr = sys.stderr, io.StringIO()
     try:
