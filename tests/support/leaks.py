@@ -22,7 +22,7 @@ SEARCHES_REFUSED_ARGUMENTS = False
 LEAST = 4
 # So long a word is nowhere by chance. It is looked for within others, and so are its parts so long.
 LONG = 16
-# A part with fewer characters, as of zeros alone, is in texts by chance.
+# One with fewer characters, as of zeros alone, is in texts by chance.
 FEW = 4
 
 
@@ -72,14 +72,13 @@ def is_in(secret: str, text: str) -> bool:
     if not text:
         return False
     if len(secret) >= LONG:
-        return any(it in text for it in (secret, *parts_of(secret)))
+        return any(it in text for it in (secret, *parts_of(secret)) if len(set(it)) >= FEW)
     # A short one has to stand by itself: digits of a key may be a PIN's by chance.
     return re.search(f"(?<![0-9A-Z]){re.escape(secret)}(?![0-9A-Z])", text) is not None
 
 
 def parts_of(secret: str) -> list[str]:
-    parts = [secret[at : at + LONG] for at in range(0, len(secret) - LONG + 1, LONG)]
-    return [it for it in parts if len(set(it)) >= FEW]
+    return [secret[at : at + LONG] for at in range(0, len(secret) - LONG + 1, LONG)]
 
 
 def refused_words(words: list[str]) -> set[str]:
