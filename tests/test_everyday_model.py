@@ -4,14 +4,25 @@ from __future__ import annotations
 import subprocess
 from typing import Optional
 
+from .support.batches import Batch
 from .support.case import Case
-from .support.commands import Refused, derive_lines as lines_of_three
-from .support.dukpt import next_counter, registers_at, serial_text
+from .support.commands import Refused, derive_lines as lines_of_three, shown
+from .support.dukpt import (
+    COUNTER_BITS, KEY_MASK, SPENT, masked, next_counter, registers_at, serial_text)
 from .support.everyday import (
     NUMBERS, derive_lines, kcv_lines, mac_lines, nth_counter, registers_lines, translate_lines,
     unpin_lines)
-from .support.everyday_rows import BASE, IKSN, INITIAL, rows
+from .support.everyday_cases import Case as Words
+from .support.everyday_rows import BASE, IKSN, INITIAL, PAN, PIN, RIGHT, rows
 from .support.everyday_words import expected
+from .support.leaks import leaked, leaks, leaks_of_batch
+from .support.program import Ended
+from .test_everyday_references import secrets_of
+from .test_show import NEW_IMAGE
+
+
+def mixed(one: bytes, other: bytes) -> bytes:
+    return bytes(a ^ b for a, b in zip(one, other))
 
 
 class Model(Case):
@@ -64,6 +75,52 @@ class Model(Case):
         self.assertEqual(unpin_lines(block, words[1], one_length, show=True), ["pin 1234"])
 
 
+class Search(Case):
+    """The search for secrets finds them."""
+
+    def test_found(self) -> None:
+        for secret, text in ((BASE, f"BDK {BASE.lower()} refused"), (BASE, BASE[:16]),
+                             (BASE, f"00{BASE[16:]}00"), ("1234", "PIN 1234 refused"),
+                             ("\u00e9\u00e9\u00e9\u00e9", "'\u00c9\u00e9\u00e9\u00e9' is no key")):
+            for ended in (Ended(1, b"", text.encode()), Ended(0, text.encode(), b"")):
+                self.assertEqual(leaked(ended, {secret}), [secret.upper()], text)
+                asked = [] if ended.output else [secret.upper()]
+                self.assertEqual(leaked(ended, {secret}, {secret}), asked, text)
+
+    def test_by_chance(self) -> None:
+        for secret, text in ((BASE, BASE[:15]), ("1234", "12345 01234"), ("123", "123"),
+                             ("0" * 32, "0" * 40), (BASE, "")):
+            self.assertEqual(leaked(Ended(1, text.encode(), text.encode()), {secret}), [], text)
+
+    def test_of_commands(self) -> None:
+        """Each secret of each command, written and read."""
+        for command, words in RIGHT.items():
+            for at, _ in secrets_of(command):
+                ended = Ended(1, b"", f"it is {words[at]}".encode())
+                referred = Words([*words[:at], "@it", *words[at + 1 :]], {"it": words[at].encode()})
+                for case in (Words(words), referred):
+                    self.assertIn(words[at].upper(), leaks(case, ended), words)
+
+    def test_of_items(self) -> None:
+        image = NEW_IMAGE.hex()
+        for batch, item in ((Batch("kcv", ("-",)), INITIAL), (Batch("pin", ("-", PAN)), "123456"),
+                            (Batch("pin", (PIN, "-")), "401234567890"),
+                            (Batch("show", ("image", "-")), image[:-1])):
+            data = f"x\n{item}\n".encode()
+            for ended in (Ended(1, b"", item.encode()), Ended(1, f"x\n{item}\n".encode(), b"")):
+                self.assertEqual(leaks_of_batch(batch, data, ended), [item.upper()], item)
+        ended = Ended(0, f"register 0 21 {image[28:60]}\n".encode(), b"")
+        for flags, found in (((), [image[28:60].upper()]), (("show",), [])):
+            batch = Batch("show", ("image", "-"), flags)
+            self.assertEqual(leaks_of_batch(batch, image.encode(), ended), found)
+
+
+# What the masks of ANSI X9.24-1:2009 annex A make of a transaction key.
+VARIANTS = {"pin": bytes.fromhex("00000000000000FF" * 2),
+            "mac-request": bytes.fromhex("000000000000FF00" * 2),
+            "mac-response": bytes.fromhex("00000000FF000000" * 2)}
+
+
 class OpenSsl(Case):
     """Values at random, as OpenSSL has them."""
 
@@ -87,11 +144,10 @@ class OpenSsl(Case):
         """All blocks but the last in CBC under the left key alone, the last one under both."""
         text = message + bytes(-len(message) % 8)
         state = self.enciphered(key[:8], text[:-8], bytes(8))[-8:] if text[8:] else bytes(8)
-        mixed = bytes(one ^ other for one, other in zip(state, text[-8:]))
-        return self.enciphered(key, mixed).hex().upper()
+        return self.enciphered(key, mixed(state, text[-8:])).hex().upper()
 
     def test_check_values(self) -> None:
-        for size in (16, 16, 24, 24):
+        for size in (16, 24) * 10:
             keys = [self.chance.randbytes(size) for _ in range(3)]
             both = bytes(a ^ b ^ c for a, b, c in zip(*keys))
             wanted: list[str] = []
@@ -102,8 +158,36 @@ class OpenSsl(Case):
                            f"{front}cmac {self.cmac(key, bytes(8))[:10]}"]
             self.assertEqual(kcv_lines([key.hex() for key in keys], True, True), wanted)
 
+    def key_below(self, key: bytes, register: bytes) -> bytes:
+        """The key of a node of the tree, from that of its parent."""
+        halves = []
+        for it in (masked(key, KEY_MASK), key):
+            made = self.enciphered(it[:8], mixed(register, it[8:]))
+            halves.append(mixed(made, it[8:]))
+        return b"".join(halves)
+
+    def test_keys_of_numbers(self) -> None:
+        """Each step to a number, and the keys of it."""
+        for _ in range(6):
+            base, place = self.chance.randbytes(16), self.chance.randrange(NUMBERS)
+            reached = self.chance.randrange(1 << 59) * SPENT
+            number = serial_text(reached + nth_counter(place))
+            key = b"".join(self.enciphered(it, (reached >> 16).to_bytes(8, "big"))
+                           for it in (base, masked(base, KEY_MASK)))
+            wanted, lines = [], [f"initial {shown(key)}"]
+            for place in reversed(range(COUNTER_BITS)):
+                if int(number, 16) >> place & 1:
+                    reached |= 1 << place
+                    key = self.key_below(key, reached.to_bytes(10, "big")[2:])
+                    wanted.append(f"step {serial_text(reached)} {shown(key)}")
+            lines.append(f"key {shown(key)}")
+            for name, mask in VARIANTS.items():
+                lines.append(f"{name} {shown(masked(key, mask))}")
+            found = derive_lines(base.hex(), number, trace=True, all_=True)
+            self.assertEqual(found, wanted + lines)
+
     def test_macs(self) -> None:
-        for size in (0, 1, 8, 9, 40):
+        for size in (0, 1, 7, 8, 9, 15, 16, 17, 40, 600):
             message = self.chance.randbytes(size)
             for length in (16, 24):
                 key = self.chance.randbytes(length)
