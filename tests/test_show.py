@@ -20,7 +20,7 @@ from .support.everyday_rows import FIRST, INITIAL, KEY_BLOCK, REPLY, REQUEST
 from .support.frames import (
     CODES, NO_NUMBER, REASONS, write_refusal, write_reply, write_request)
 from .support.images import IMAGE_1, IMAGE_2, RECORD, image_of, log_disk
-from .support.key_blocks import header, sealed
+from .support.key_blocks import header
 from .support.leaks import leaks
 from .support.program import COMMANDS, SECONDS, Ended, spoken
 from .support.quick import QuickRuns
@@ -371,10 +371,9 @@ class Damaged:
             short += 16 if short < 4 else 0
             blocks.append(b"PB%02X" % short + b"0" * (short - 4))
         before = b"".join(blocks)
-        payload = b"\x00\x80" + chance.randbytes(16) + chance.randbytes(chance.choice((6, 14)))
-        length = 16 + len(before) + 2 * len(payload) + 16
-        front = header(fields, length, len(blocks)) + before
-        text = sealed(chance.randbytes(16), front, payload)
+        # Ciphertext and MAC, of which nothing is asked but that they are digits.
+        rest = chance.randbytes(chance.choice((24, 32)) + 8).hex().upper().encode()
+        text = header(fields, 16 + len(before) + len(rest), len(blocks)) + before + rest
         if self.one_in(2):
             at = chance.randrange(chance.choice((16, 40, len(text))))
             text = text[:at] + chance.choice((b"\x1f", b"0", b"9", b"g", b" ", b"F")) + text[at + 1 :]

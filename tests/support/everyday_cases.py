@@ -136,7 +136,7 @@ class Draw:
     def refused_words(self, case: Case) -> Case:
         """Now and then a word is missing, or there is one more."""
         if self.one_in(60):
-            case.words.append("extra")
+            case.words.append(self.chance.choice(("extra", self.chance.randbytes(16).hex())))
         elif self.one_in(60):
             case.words = case.words[:1]
         return case
