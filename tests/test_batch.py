@@ -45,7 +45,7 @@ WRONG = (Batch("derive", ("x", "-")), Batch("derive", ("x", "-"), ("initial",)),
 # So many of each kind at random, on all programs that are tried.
 ITEMS = 10_000
 COUNT = 100_000
-# How much processor time they may take: five times that of docs/PERFORMANCE.md.
+# How much processor time they may take: five times what docs/PERFORMANCE.md has.
 MOST_SECONDS = 3
 
 
