@@ -1,5 +1,5 @@
 -- A key serial number that comes into ranges: they stay ranges, and hold it and what they held.
-use Rattle.std.proofs.Common.{◌≡◌, ◌≢◌, ◌⊎◌, ◌↔◌, ℕ, ◌+◌, ◌*◌, ◌/◌, ◌%◌, ◌^◌, ◌<◌, ◌≤◌, Option, Some, None, MatchOption, sym, ap, ◌∙◌, subst, ap₂, arith, inl, inr}
+use Rattle.std.proofs.Common.{◌≡◌, ◌≢◌, ◌⊎◌, ◌↔◌, ℕ, ◌+◌, ◌%◌, ◌^◌, ◌<◌, ◌≤◌, Option, Some, None, MatchOption, sym, ap, ◌∙◌, subst, ap₂, arith, inl, inr}
 use Rattle.std.specs.BTreeMap.{IsUnchanged, is_at}
 use Rattle.std.specs.Map.{lookup}
 use Rattle.std.specs.Ordering.{nat_cmp}
@@ -8,17 +8,12 @@ use Rattle.duk_tree.specs.Next.{IsLast, IsNextUsable}
 use Rattle.duk_tree.specs.Path.{IsUsable}
 use Rattle.duk_tree.specs.Serial.{Serial, IsSerial}
 use Rattle.duk_host.specs.declared.ranges.Range.{Range}
-use Rattle.duk_host.specs.inner.Index.{AreApart, AreRanges, BeginsBefore, BeginsWith, EndsWith, HasNoneBefore, HasRange, HoldsOneMore, IsHeld, IsInRange, IsLastBefore, IsNextNumber, IsPut, IsRange, Ranges, Reaches, counter_of, iksn_of, serial_number}
+use Rattle.duk_host.specs.inner.Index.{AreApart, AreRanges, BeginsAfter, BeginsAt, BeginsBefore, BeginsWith, EndsWith, HasNoneAfter, HasNoneBefore, HasRange, HoldsOneMore, IsHeld, IsInRange, IsLastBefore, IsLastUpTo, IsNextNumber, IsOfTerminal, IsPut, IsRange, IsRangeAfter, Ranges, Reaches, counter_of, iksn_of, serial_number}
 use Rattle.duk_host.proofs.NumbersOfRanges.{HaveOnePath, usable_fits}
 
 -- a range has one end
 one_end : (ranges : Ranges) (first a b : ℕ) → HasRange ranges first a → HasRange ranges first b → a ≡ b
 one_end ranges first a b has_a has_b = cc
-
--- a range that begins at this number begins right after a key serial number
-pub record BeginsAfter (ksn : Serial) (first : ℕ) : Type 0 where
-  pub same_terminal : iksn_of first ≡ ksn.iksn
-  pub is_next : IsNextUsable ksn.counter (counter_of first)
 
 -- a key serial number is that of its terminal with its counter
 pub record IsSplit (ksn : Serial) : Type 0 where
@@ -81,8 +76,9 @@ one_next counter a b is_a is_b =
 below_of_one : (a b counter : ℕ) → iksn_of a ≡ iksn_of b → a ≤ b → counter_of b ≡ counter → counter_of a ≤ counter
 below_of_one a b counter same below is = omega (arith, same, below, is)
 
-same_shifted : (a b : ℕ) → iksn_of a ≡ iksn_of b → a / 2 ^ 21 ≡ b / 2 ^ 21
-same_shifted a b same = omega (arith, same)
+-- a range of its terminal that begins at or below a key serial number begins at or below its number
+before_number : (ksn : Serial) (first : ℕ) → BeginsBefore first ksn → first ≤ serial_number ksn
+before_number ksn first begins = omega (arith, begins.same_terminal, begins.at_or_below)
 
 of_one_between : (a b c : ℕ) → iksn_of a ≡ iksn_of c → a ≤ b → b ≤ c → iksn_of b ≡ iksn_of c
 of_one_between a b c same below above = omega (arith, same, below, above)
@@ -95,7 +91,7 @@ pub record IsJoined (old new : Ranges) (ksn : Serial) (range : Range) : Type 0 w
   pub fresh : (first last : ℕ) → HasRange old first last → BeginsBefore first ksn → last < ksn.counter
   pub below : ((range.first ≡ serial_number ksn) × ((first last : ℕ) → HasRange old first last → BeginsBefore first ksn → AreApart last ksn.counter))
       ⊎ ((last : ℕ) × HasRange old range.first last × BeginsBefore range.first ksn × IsNextUsable last ksn.counter)
-  pub above : ((range.last ≡ ksn.counter) × ((first last : ℕ) → HasRange old first last → iksn_of first ≡ ksn.iksn → ksn.counter < counter_of first → AreApart ksn.counter (counter_of first)))
+  pub above : ((range.last ≡ ksn.counter) × HasNoneAfter old ksn)
       ⊎ ((first : ℕ) × HasRange old first range.last × BeginsAfter ksn first)
   pub here : HasRange new range.first range.last
   pub only : (first last : ℕ) → HasRange new first last
@@ -374,76 +370,122 @@ next_begins_after paths ksn serial next is_next =
       is_next = subst (λ counter. IsNextUsable ksn.counter counter) (sym (ap (λ number. counter_of number) is_next.number_is ∙ parts.1)) is_next.is_next;
     }
 
--- a range that begins right after begins at the next number, and that one does
-pub next_iff_after : HaveOnePath → (ksn : Serial) → IsSerial ksn → (next : Option ℕ) → MatchOption next (IsLast ksn.counter) (IsNextNumber ksn)
-    → (first : ℕ) → (next ≡ Some first) ↔ BeginsAfter ksn first
-next_iff_after paths ksn serial None is_last first = (
-  λ is. absurd cc,
-  λ after. let below = is_last (counter_of first) after.is_next.is_usable in absurd (omega (arith, below, after.is_next.is_above)),
-)
-next_iff_after paths ksn serial (Some next) is_next first =
-    let next_after = next_begins_after paths ksn serial next is_next in (
-      λ is. let same : next ≡ first = cc in subst (λ first. BeginsAfter ksn first) same next_after,
-      λ after.
-          let terminals = same_terminal next first ksn.iksn next_after.same_terminal after.same_terminal in
-          ap Some (same_number next first terminals (one_next ksn.counter (counter_of next) (counter_of first) next_after.is_next after.is_next)),
-    )
+-- where none begins right after, none does
+none_begins_after : (ranges : Ranges) (ksn : Serial) → HasNoneAfter ranges ksn → (first last : ℕ) → HasRange ranges first last → ¬ BeginsAfter ksn first
+none_begins_after ranges ksn none first last has after =
+    let gap = none first last has after.same_terminal after.is_next.is_above in
+    let least = after.is_next.is_least gap.between gap.is_usable gap.is_above in omega (arith, least, gap.is_below)
 
-pub joins_above : HaveOnePath → (ranges : Ranges) (ksn : Serial) → IsSerial ksn → (next : Option ℕ) (end : ℕ) → AreRanges ranges
-    → MatchOption next (IsLast ksn.counter) (IsNextNumber ksn) → EndsWith ranges ksn.counter next end
-    → ((end ≡ ksn.counter) × ((first last : ℕ) → HasRange ranges first last → iksn_of first ≡ ksn.iksn → ksn.counter < counter_of first → AreApart ksn.counter (counter_of first)))
-    ⊎ ((first : ℕ) × HasRange ranges first end × BeginsAfter ksn first)
-joins_above paths ranges ksn serial None end are is_last with = inl (
-  with,
-  λ first last has terminal above.
-      let below = is_last (counter_of first) (are.each first last has).begins_usable in absurd (omega (arith, below, above)),
+-- of a terminal that has used all its numbers no range begins above
+pub none_above_last : (ranges : Ranges) (ksn : Serial) → AreRanges ranges → IsLast ksn.counter → HasNoneAfter ranges ksn
+none_above_last ranges ksn are is_last first last has terminal above =
+    let below = is_last (counter_of first) (are.each first last has).begins_usable in absurd (omega (arith, below, above))
+
+-- where no range begins at the next number, that lies before each that begins above
+none_at_next : HaveOnePath → (ranges : Ranges) (ksn : Serial) → IsSerial ksn → (next : ℕ) → AreRanges ranges → IsNextNumber ksn next
+    → ((last : ℕ) → ¬ HasRange ranges next last) → HasNoneAfter ranges ksn
+none_at_next paths ranges ksn serial next are is_next none first last has terminal above =
+    let after = next_begins_after paths ksn serial next is_next in
+    let least = after.is_next.is_least (counter_of first) (are.each first last has).begins_usable above in
+    let differ : counter_of next ≢ counter_of first =
+    λ same.
+    let is : next ≡ first = same_number next first (same_terminal next first ksn.iksn after.same_terminal terminal) same in
+    none last (subst (λ first. HasRange ranges first last) (sym is) has) in
+    record {
+      between = counter_of next;
+      is_usable = after.is_next.is_usable;
+      is_above = after.is_next.is_above;
+      is_below = omega (arith, least, differ);
+    }
+
+-- the last range up to a number of its terminal from a key serial number on is the last before that one, unless it begins above it
+before_up_to : (ranges : Ranges) (ksn : Serial) (until : ℕ) (range : Range) (found : Option Range)
+    → iksn_of until ≡ ksn.iksn → serial_number ksn ≤ until → IsLastUpTo ranges until range
+    → (iksn_of range.first ≡ ksn.iksn → counter_of range.first ≤ ksn.counter)
+    → MatchOption found (iksn_of range.first ≢ ksn.iksn) (IsOfTerminal range ksn)
+    → MatchOption found (HasNoneBefore ranges ksn) (IsLastBefore ranges ksn)
+before_up_to ranges ksn until range None of_ksn below greatest within differ = λ first last has is_before.
+    let first_below : first ≤ until = omega (arith, below, before_number ksn first is_before) in
+    let same = same_terminal first until ksn.iksn is_before.same_terminal of_ksn in
+    differ (of_one_between first range.first until same (greatest.is_last first last has first_below) greatest.is_up_to ∙ of_ksn)
+before_up_to ranges ksn until range (Some found) of_ksn below greatest within is_of =
+    let is_last_before : IsLastBefore ranges ksn range = record {
+      is_range = greatest.is_range;
+      begins = record { same_terminal = is_of.same_terminal; at_or_below = within is_of.same_terminal };
+      is_last = λ first last has is_before. greatest.is_last first last has (omega (arith, below, before_number ksn first is_before));
+    } in subst (λ range. IsLastBefore ranges ksn range) (sym is_of.is_same) is_last_before
+
+next_above : (ksn : Serial) (next : ℕ) (is_next : IsNextNumber ksn next) → serial_number ksn < next
+next_above ksn next is_next = omega (arith, is_next.number_is, is_next.is_next.is_above)
+
+module _ (paths : HaveOnePath) (ranges : Ranges) (ksn : Serial) (serial : IsSerial ksn) (next : ℕ) (are : AreRanges ranges) (is_next : IsNextNumber ksn next) where
+  -- up to the next number, where another range than one that begins there is the last
+  pub before_next : (range : Range) (found : Option Range) → IsLastUpTo ranges next range → range.first ≢ next
+      → MatchOption found (iksn_of range.first ≢ ksn.iksn) (IsOfTerminal range ksn)
+      → MatchOption found (HasNoneBefore ranges ksn) (IsLastBefore ranges ksn)
+  before_next range found greatest differ is_of =
+      let after = next_begins_after paths ksn serial next is_next in
+      let above = next_above ksn next is_next in
+      let within : iksn_of range.first ≡ ksn.iksn → counter_of range.first ≤ ksn.counter = λ same.
+      let lower : range.first < next = omega (arith, greatest.is_up_to, differ) in
+      let terminals = same_terminal range.first next ksn.iksn same after.same_terminal in
+      let below = counters_in_order range.first next terminals lower in
+      up_to ksn.counter (counter_of range.first) (counter_of next) (are.each range.first range.last greatest.is_range).begins_usable after.is_next below in
+      before_up_to ranges ksn next range found after.same_terminal (omega (arith, above)) greatest within is_of
+
+  -- and then none begins there
+  pub none_after_other : (range : Range) → IsLastUpTo ranges next range → range.first ≢ next → HasNoneAfter ranges ksn
+  none_after_other range up_to differ =
+      none_at_next paths ranges ksn serial next are is_next
+      (λ last has. let least = up_to.is_last next last has (omega arith) in differ (omega (arith, least, up_to.is_up_to)))
+
+joins_above : (ranges : Ranges) (ksn : Serial) (after : Option Range) (end : ℕ)
+    → MatchOption after (HasNoneAfter ranges ksn) (IsRangeAfter ranges ksn) → EndsWith ksn.counter after end
+    → ((end ≡ ksn.counter) × HasNoneAfter ranges ksn) ⊎ ((first : ℕ) × HasRange ranges first end × BeginsAfter ksn first)
+joins_above ranges ksn None end none ends = inl (ends, none)
+joins_above ranges ksn (Some after) end is_after ends = inr (
+  after.first,
+  subst (λ last. HasRange ranges after.first last) (sym ends) is_after.is_range,
+  is_after.begins,
 )
-joins_above paths ranges ksn serial (Some next) end are is_next (inl joins) = inr (next, joins, next_begins_after paths ksn serial next is_next)
-joins_above paths ranges ksn serial (Some next) end are is_next (inr alone) =
-    let next_after = next_begins_after paths ksn serial next is_next in
-    inl (
-      alone.1,
-      λ first last has terminal above.
-          let least = next_after.is_next.is_least (counter_of first) (are.each first last has).begins_usable above in
-          let terminals = same_terminal next first ksn.iksn next_after.same_terminal terminal in
-          let differ : counter_of next ≢ counter_of first =
-          λ same.
-          let is : next ≡ first = same_number next first terminals same in
-          let found : HasRange ranges next last = subst (λ first. HasRange ranges first last) (sym is) has in absurd (cc (alone.0, found)) in
-          record {
-            between = counter_of next;
-            is_usable = next_after.is_next.is_usable;
-            is_above = next_after.is_next.is_above;
-            is_below = omega (arith, least, differ);
-          },
-    )
+
+-- the range after a key serial number is the one that begins right after it
+begins_at_after : (ranges : Ranges) (ksn : Serial) (after : Option Range) → MatchOption after (HasNoneAfter ranges ksn) (IsRangeAfter ranges ksn)
+    → (first : ℕ) → BeginsAt after first → BeginsAfter ksn first
+begins_at_after ranges ksn None none first at = absurd at
+begins_at_after ranges ksn (Some after) is_after first at = subst (λ first. BeginsAfter ksn first) (sym at) is_after.begins
+
+after_begins_at : (ranges : Ranges) (ksn : Serial) (after : Option Range) → MatchOption after (HasNoneAfter ranges ksn) (IsRangeAfter ranges ksn)
+    → (first last : ℕ) → HasRange ranges first last → BeginsAfter ksn first → BeginsAt after first
+after_begins_at ranges ksn None none first last has begins = none_begins_after ranges ksn none first last has begins
+after_begins_at ranges ksn (Some after) is_after first last has begins =
+    let terminals = same_terminal first after.first ksn.iksn begins.same_terminal is_after.begins.same_terminal in
+    same_number first after.first terminals (one_next ksn.counter (counter_of first) (counter_of after.first) begins.is_next is_after.begins.is_next)
 
 -- what the functions found and did is what is known as a key serial number comes
-pub is_joined : HaveOnePath → (old new : Ranges) (ksn : Serial) (range : Range) (before : Option Range) (next : Option ℕ)
+pub is_joined : (old new : Ranges) (ksn : Serial) (range : Range) (before after : Option Range)
     → AreRanges old → IsSerial ksn → IsUsable ksn.counter
     → MatchOption before (HasNoneBefore old ksn) (IsLastBefore old ksn) → (¬ Reaches before ksn.counter) → BeginsWith ksn before range.first
-    → MatchOption next (IsLast ksn.counter) (IsNextNumber ksn) → EndsWith old ksn.counter next range.last
-    → IsPut old new range next → IsJoined old new ksn range
-is_joined paths old new ksn range before next are serial usable found unreached begins_with is_next ends_with put =
-    let iff = next_iff_after paths ksn serial next is_next in
-    record {
-      are = are;
-      serial = serial;
-      usable = usable;
-      fresh = ends_before old ksn before are found unreached;
-      below = joins_below old ksn before range.first are found begins_with;
-      above = joins_above paths old ksn serial next range.last are is_next ends_with;
-      here = put.here;
-      only = λ first last has. elim (put.only first last has) [
-        | inl same ↦ inl same
-        | inr was ↦ inr (was.0, was.1, λ after. was.2 ((iff first).1 after))
-      ];
-      kept = λ first last has. elim (put.kept first last has) [
-        | inl stays ↦ inl stays
-        | inr (inl same) ↦ inr (inl same)
-        | inr (inr joins) ↦ inr (inr ((iff first).0 joins))
-      ];
-    }
+    → MatchOption after (HasNoneAfter old ksn) (IsRangeAfter old ksn) → EndsWith ksn.counter after range.last
+    → IsPut old new range after → IsJoined old new ksn range
+is_joined old new ksn range before after are serial usable found unreached begins_with is_after ends_with put = record {
+  are = are;
+  serial = serial;
+  usable = usable;
+  fresh = ends_before old ksn before are found unreached;
+  below = joins_below old ksn before range.first are found begins_with;
+  above = joins_above old ksn after range.last is_after ends_with;
+  here = put.here;
+  only = λ first last has. elim (put.only first last has) [
+    | inl same ↦ inl same
+    | inr was ↦ inr (was.0, was.1, λ begins. was.2 (after_begins_at old ksn after is_after first last was.0 begins))
+  ];
+  kept = λ first last has. elim (put.kept first last has) [
+    | inl stays ↦ inl stays
+    | inr (inl same) ↦ inr (inl same)
+    | inr (inr joins) ↦ inr (inr (begins_at_after old ksn after is_after first joins))
+  ];
+}
 
 -- a key serial number that the range before it reaches is in that one; in none before it or where that one does not reach, it is in none
 pub held_iff_reached : (ranges : Ranges) (ksn : Serial) (before : Option Range) → AreRanges ranges
@@ -476,43 +518,6 @@ held_iff_reached ranges ksn (Some before) are found = (
         held.is_in.is_usable,
       ),
 )
-
--- the greatest range that begins at or below a number
-pub record IsGreatestFrom (ranges : Ranges) (number first last : ℕ) : Type 0 where
-  pub is_range : HasRange ranges first last
-  pub is_below : first ≤ number
-  pub is_greatest : (other end : ℕ) → HasRange ranges other end → other ≤ number → other ≤ first
-
--- a range of its terminal that begins at or below a key serial number begins at or below its number
-before_number : (ksn : Serial) (first : ℕ) → BeginsBefore first ksn → first ≤ serial_number ksn
-before_number ksn first begins = omega (arith, begins.same_terminal, begins.at_or_below)
-
--- it is the last before a key serial number, if it is of its terminal
-pub last_before : (ranges : Ranges) (ksn : Serial) → IsSerial ksn → (number : ℕ) (range : Range) → number ≡ serial_number ksn
-    → IsGreatestFrom ranges number range.first range.last → range.first / 2 ^ 21 ≡ number / 2 ^ 21 → IsLastBefore ranges ksn range
-last_before ranges ksn serial number range is greatest same_high =
-    let same : iksn_of range.first ≡ iksn_of number = ap (λ high. high * 2 ^ 21) same_high in
-    let parts = split ksn serial in
-    let of_ksn : iksn_of number ≡ ksn.iksn = ap (λ number. iksn_of number) is ∙ parts.terminal in
-    let counter : counter_of number ≡ ksn.counter = ap (λ number. counter_of number) is ∙ parts.counter in
-    record {
-      is_range = greatest.is_range;
-      begins = record {
-        same_terminal = of_same_terminal range.first number ksn.iksn same of_ksn;
-        at_or_below = below_of_one range.first number ksn.counter same greatest.is_below counter;
-      };
-      is_last = λ first last has begins. greatest.is_greatest first last has (omega (arith, is, before_number ksn first begins));
-    }
-
--- if it is of another terminal, none begins before
-pub none_before : (ranges : Ranges) (ksn : Serial) → IsSerial ksn → (number here end : ℕ) → number ≡ serial_number ksn
-    → IsGreatestFrom ranges number here end → here / 2 ^ 21 ≢ number / 2 ^ 21 → HasNoneBefore ranges ksn
-none_before ranges ksn serial number here end is greatest differ first last has begins =
-    let parts = split ksn serial in
-    let of_ksn : iksn_of number ≡ ksn.iksn = ap (λ number. iksn_of number) is ∙ parts.terminal in
-    let below : first ≤ number = omega (arith, is, before_number ksn first begins) in
-    let same = same_terminal first number ksn.iksn begins.same_terminal of_ksn in
-    differ (same_shifted here number (of_one_between first here number same (greatest.is_greatest first last has below) greatest.is_below))
 
 -- ranges with the entries of others are as those are
 pub ranges_unchanged : (old new : Ranges) → IsUnchanged old new → AreRanges old → AreRanges new

@@ -4,14 +4,14 @@
 //! touch. So a terminal that uses its numbers in order has one range, however many it used, and a
 //! number that is left out splits it in two until it comes.
 
-ghost use Rattle.std.specs.Prelude.{◌≡◌, ◌<◌, ◌↔◌, IsTrue, IfOk, IfSome, OnOk, OnErr, MatchOption};
+ghost use Rattle.std.specs.Prelude.{◌≡◌, ◌≢◌, ◌<◌, ◌↔◌, IsTrue, IfOk, IfSome, OnOk, OnErr, MatchOption};
 ghost use Rattle.std.specs.Bool.{MatchBool};
 ghost use Rattle.std.specs.BTreeMap.{IsOrdered, IsUnchanged};
 ghost use Rattle.std.specs.Ordering.{nat_cmp};
 ghost use Rattle.duk_tree.specs.Next.{IsLast, IsNextUsable};
 ghost use Rattle.duk_tree.specs.Path.{IsUsable};
 ghost use Rattle.duk_tree.specs.Serial.{IsSerial};
-ghost use Rattle.duk_host.specs.inner.Index.{AreApart, AreRanges, BeginsWith, EndsWith, HasNoneBefore, HoldsOneMore, IsHeld, IsLastBefore, IsNextNumber, IsPut, Reaches, serial_number};
+ghost use Rattle.duk_host.specs.inner.Index.{AreApart, AreRanges, BeginsWith, EndsWith, HasNoneAfter, HasNoneBefore, HasNoneUpTo, HoldsOneMore, IsHeld, IsLastBefore, IsLastUpTo, IsNextNumber, IsOfTerminal, IsPut, IsRangeAfter, Reaches, iksn_of, serial_number};
 
 use byteorder::{BigEndian, ByteOrder};
 use duk_tree::{Ksn, next_usable, usable};
@@ -51,18 +51,41 @@ pub(crate) fn insert(ranges: &mut BTreeMap<u128, u32>, ksn: Ksn) -> Result<bool,
     ensures was_ordered { IsOrdered nat_cmp ranges.old }
     ensures ordered { IsOrdered nat_cmp ranges.new }
 {
-    duk_tree::laws::paths();
-    let before = range_before(ranges, ksn);
+    let (before, after) = neighbours(ranges, ksn);
     if reaches(before, ksn.counter()) {
         return Ok(false);
     }
-    let next = next_number(ksn);
     let range = Range {
         first: first_with(ksn, before),
-        last: last_with(ranges, ksn.counter(), next),
+        last: last_with(ksn.counter(), after),
     };
-    put(ranges, range, next)?;
+    put(ranges, range, after)?;
     Ok(true)
+}
+
+/// The ranges that a key serial number may join: the last of its terminal that begins at or below
+/// it, and the one that begins right after it.
+fn neighbours(ranges: &BTreeMap<u128, u32>, ksn: Ksn) -> (Option<Range>, Option<Range>)
+    requires ranges { AreRanges ranges.now }
+    ensures before { MatchOption result.0
+        (HasNoneBefore ranges.now ksn) (IsLastBefore ranges.now ksn) }
+    ensures after { MatchOption result.1
+        (HasNoneAfter ranges.now ksn) (IsRangeAfter ranges.now ksn) }
+    ensures ordered { IsOrdered nat_cmp ranges.now }
+{
+    duk_tree::laws::paths();
+    let Some(next) = next_number(ksn) else {
+        return (range_before(ranges, ksn), None);
+    };
+    // Where no range begins at the next number, one search finds the range before.
+    let Some(range) = last_up_to(ranges, next) else {
+        return (None, None);
+    };
+    if range.first == next {
+        (range_before(ranges, ksn), Some(range))
+    } else {
+        (of_terminal(range, ksn), None)
+    }
 }
 
 /// The last range of its terminal that begins at or below a key serial number.
@@ -71,15 +94,35 @@ fn range_before(ranges: &BTreeMap<u128, u32>, ksn: Ksn) -> Option<Range>
         (HasNoneBefore ranges.now ksn) (IsLastBefore ranges.now ksn) }
     ensures ordered { IsOrdered nat_cmp ranges.now }
 {
-    let number = number_of(ksn);
-    let (first, last) = ranges.range(..=number).next_back()?;
-    if *first >> COUNTER_BITS != number >> COUNTER_BITS {
-        return None;
+    match last_up_to(ranges, number_of(ksn)) {
+        Some(range) => of_terminal(range, ksn),
+        None => None,
     }
+}
+
+/// The last range that begins at or below a number, of whichever terminal.
+fn last_up_to(ranges: &BTreeMap<u128, u32>, number: u128) -> Option<Range>
+    ensures found { MatchOption result
+        (HasNoneUpTo ranges.now number) (IsLastUpTo ranges.now number) }
+    ensures ordered { IsOrdered nat_cmp ranges.now }
+{
+    let (first, last) = ranges.range(..=number).next_back()?;
     Some(Range {
         first: *first,
         last: *last,
     })
+}
+
+/// A range, if it is of the terminal of a key serial number.
+fn of_terminal(range: Range, ksn: Ksn) -> Option<Range>
+    ensures { MatchOption result
+        (iksn_of range.first ≢ ksn.iksn) (IsOfTerminal range ksn) }
+{
+    if range.first >> COUNTER_BITS == number_of(ksn) >> COUNTER_BITS {
+        Some(range)
+    } else {
+        None
+    }
 }
 
 /// Whether a range was found, and reaches a counter.
@@ -117,22 +160,20 @@ fn comes_right_after(last: u32, counter: u32) -> bool
     next_usable(last) == Some(counter)
 }
 
-/// Where the range ends that a number with this counter comes into, before the next number.
-fn last_with(ranges: &BTreeMap<u128, u32>, counter: u32, next: Option<u128>) -> u32
-    ensures { EndsWith ranges.now counter next result }
+/// Where the range ends that a number with this counter comes into, before the range after it.
+fn last_with(counter: u32, after: Option<Range>) -> u32
+    ensures { EndsWith counter after result }
 {
-    let Some(next) = next else {
-        return counter;
-    };
-    match ranges.get(&next) {
-        Some(last) => *last,
+    match after {
+        Some(after) => after.last,
         None => counter,
     }
 }
 
 /// The number that the terminal uses after a key serial number, if it has one.
 fn next_number(ksn: Ksn) -> Option<u128>
-    ensures { MatchOption result (IsLast ksn.counter) (IsNextNumber ksn) }
+    ensures next { MatchOption result (IsLast ksn.counter) (IsNextNumber ksn) }
+    ensures serial { IsSerial ksn }
 {
     duk_tree::laws::bits();
     match next_usable(ksn.counter()) {
@@ -141,17 +182,21 @@ fn next_number(ksn: Ksn) -> Option<u128>
     }
 }
 
-/// Puts a range in, and takes out the one that begins at the next number. If there is no memory,
-/// all ranges stay as they were.
-fn put(ranges: &mut BTreeMap<u128, u32>, range: Range, next: Option<u128>) -> Result<(), AllocError>
-    requires above { IfSome next (λ next. range.first < next) }
-    ensures put { OnOk result (IsPut ranges.old ranges.new range next) }
+/// Puts a range in, and takes out the one after, which it ends with. If there is no memory, all
+/// ranges stay as they were.
+fn put(
+    ranges: &mut BTreeMap<u128, u32>,
+    range: Range,
+    after: Option<Range>,
+) -> Result<(), AllocError>
+    requires above { IfSome after (λ after. range.first < after.first) }
+    ensures put { OnOk result (IsPut ranges.old ranges.new range after) }
     ensures same { OnErr result (IsUnchanged ranges.old ranges.new) }
     ensures ordered { IsOrdered nat_cmp ranges.new }
 {
     ranges.insert(range.first, range.last)?;
-    if let Some(next) = next {
-        ranges.remove(&next);
+    if let Some(after) = after {
+        ranges.remove(&after.first);
     }
     Ok(())
 }

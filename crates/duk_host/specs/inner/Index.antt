@@ -107,6 +107,39 @@ pub record IsLastBefore (ranges : Ranges) (ksn : Serial) (range : Range) : Type 
   pub is_last : (first last : ℕ) → HasRange ranges first last → BeginsBefore first ksn
       → first ≤ range.first
 
+-- the last range that begins at or below a number
+pub record IsLastUpTo (ranges : Ranges) (number : ℕ) (range : Range) : Type 0 where
+  pub is_range : HasRange ranges range.first range.last
+  pub is_up_to : range.first ≤ number
+  pub is_last : (first last : ℕ) → HasRange ranges first last → first ≤ number
+      → first ≤ range.first
+
+-- no range begins so
+abbrev pub HasNoneUpTo : Ranges → ℕ → Type 0
+HasNoneUpTo ranges number = (first last : ℕ) → HasRange ranges first last → ¬ (first ≤ number)
+
+-- a range is this one, and of the terminal of a key serial number
+pub record IsOfTerminal (range : Range) (ksn : Serial) (found : Range) : Type 0 where
+  pub is_same : found ≡ range
+  pub same_terminal : iksn_of range.first ≡ ksn.iksn
+
+-- a range that begins at this number begins with the number that the terminal of a key serial
+-- number uses after that
+pub record BeginsAfter (ksn : Serial) (first : ℕ) : Type 0 where
+  pub same_terminal : iksn_of first ≡ ksn.iksn
+  pub is_next : IsNextUsable ksn.counter (counter_of first)
+
+-- the range that begins so
+pub record IsRangeAfter (ranges : Ranges) (ksn : Serial) (range : Range) : Type 0 where
+  pub is_range : HasRange ranges range.first range.last
+  pub begins : BeginsAfter ksn range.first
+
+-- none begins so: a usable number lies before each that begins above
+abbrev pub HasNoneAfter : Ranges → Serial → Type 0
+HasNoneAfter ranges ksn =
+    (first last : ℕ) → HasRange ranges first last → iksn_of first ≡ ksn.iksn
+    → ksn.counter < counter_of first → AreApart ksn.counter (counter_of first)
+
 -- a range is found that reaches this counter
 abbrev pub Reaches : Option Range → ℕ → Type 0
 Reaches None counter = ⊥
@@ -126,18 +159,21 @@ pub record IsNextNumber (ksn : Serial) (next : ℕ) : Type 0 where
   pub is_next : IsNextUsable ksn.counter counter
   pub number_is : next ≡ ksn.iksn + counter
 
--- where that range ends: with the range that begins at the next number, if one does, and else with
--- the key serial number
-abbrev pub EndsWith : Ranges → ℕ → Option ℕ → ℕ → Type 0
-EndsWith ranges counter None last = last ≡ counter
-EndsWith ranges counter (Some next) last =
-    HasRange ranges next last ⊎ ((get nat_cmp ranges next ≡ None) × (last ≡ counter))
+-- where that range ends: with the range after it, if there is one, and else with its counter
+abbrev pub EndsWith : ℕ → Option Range → ℕ → Type 0
+EndsWith counter None last = last ≡ counter
+EndsWith counter (Some after) last = last ≡ after.last
 
--- a range was put in, and the one that began at the next number was taken out
-pub record IsPut (old new : Ranges) (range : Range) (next : Option ℕ) : Type 0 where
+-- this range begins at a number
+abbrev pub BeginsAt : Option Range → ℕ → Type 0
+BeginsAt None first = ⊥
+BeginsAt (Some range) first = first ≡ range.first
+
+-- a range was put in, and the one after it was taken out
+pub record IsPut (old new : Ranges) (range : Range) (after : Option Range) : Type 0 where
   pub here : HasRange new range.first range.last
   pub only : (first last : ℕ) → HasRange new first last
       → ((first ≡ range.first) × (last ≡ range.last))
-      ⊎ (HasRange old first last × (first ≢ range.first) × (next ≢ Some first))
+      ⊎ (HasRange old first last × (first ≢ range.first) × (¬ BeginsAt after first))
   pub kept : (first last : ℕ) → HasRange old first last
-      → HasRange new first last ⊎ ((first ≡ range.first) ⊎ (next ≡ Some first))
+      → HasRange new first last ⊎ ((first ≡ range.first) ⊎ BeginsAt after first)

@@ -1,7 +1,6 @@
 use Rattle.std.proofs.Common.{sym, ◌∙◌, subst, true≢false}
-use Rattle.duk_host.specs.inner.Index.{EndsWith, Reaches}
 use Rattle.duk_host.specs.declared.ranges.Range.{Range}
-use Rattle.duk_host.proofs.NumbersOfRanges.{HaveOnePath}
+use Rattle.duk_host.specs.inner.Index.{EndsWith, Reaches}
 use Rattle.duk_host.proofs.RangeWithOneMore.{IsJoined, holds_one_more, is_joined, ranges_unchanged, still_ranges, was_fresh}
 use Rattle.duk_host.proofs.ranges.insert.Goals as goal
 use Rattle.duk_host.proofs.ranges.insert.Goals.{In_ok-put}
@@ -13,18 +12,14 @@ whole c = record { first = c.first_with.result; last = c.last_with.result }
 joined : (c : In_ok-put) → IsJoined c.args.ranges.now c.put.new.ranges c.args.ksn (whole c)
 joined c =
     let ksn = c.args.ksn in
-    let paths : HaveOnePath = record {
-      path_of_counter = c.paths.ensures.path_of_counter;
-      value = c.paths.ensures.value;
-      counter_of_path = c.paths.ensures.counter_of_path;
-      only = c.paths.ensures.only;
-    } in
-    let unreached = λ (reached : Reaches c.range_before-before.result ksn.counter).
-    let found = subst (λ counter. Reaches c.range_before-before.result counter) (sym c.counter.ensures.value) reached in
+    let before = c.neighbours-before.result.0 in
+    let after = c.neighbours-before.result.1 in
+    let unreached = λ (reached : Reaches before ksn.counter).
+    let found = subst (λ counter. Reaches before counter) (sym c.counter.ensures.value) reached in
     true≢false (sym (c.reaches.ensures.1 found) ∙ c.if-reaches.false) in
-    let ends = subst (λ counter. EndsWith c.args.ranges.now counter c.next_number-next.result c.last_with.result) c.counter-2.ensures.value c.last_with.ensures in
-    is_joined paths c.args.ranges.now c.put.new.ranges ksn (whole c) c.range_before-before.result c.next_number-next.result c.requires.ranges c.counter.ensures.serial
-    c.requires.usable c.range_before-before.ensures.found unreached c.first_with.ensures c.next_number-next.ensures ends c.in_ok-put.ensures.put
+    let ends = subst (λ counter. EndsWith counter after c.last_with.result) c.counter-2.ensures.value c.last_with.ensures in
+    is_joined c.args.ranges.now c.put.new.ranges ksn (whole c) before after c.requires.ranges c.counter.ensures.serial c.requires.usable c.neighbours-before.ensures.before
+    unreached c.first_with.ensures c.neighbours-before.ensures.after ends c.in_ok-put.ensures.put
 
 pub returns-clause-ranges : goal.returns-clause-ranges
 returns-clause-ranges c = still_ranges c.args.ranges.now c.put.new.ranges c.args.ksn (whole c) (joined c)
