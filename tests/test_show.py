@@ -30,6 +30,8 @@ from .support.worlds import digits
 IKSN = int(FIRST, 16)
 # So many of each kind, on all programs that are tried.
 CASES = 10_000
+# The characters of one byte that an item of a batch may have.
+ONE_BYTE = [byte for byte in range(0x01, 0x80) if byte not in b"\r\n"]
 PLACES = re.compile(rb"(\w+) refused at (\d+): (\w+)\n")
 FRAME_FAULTS = {"Hex", "Length", "Version", "Kind", "Size", "PanLength", "PanDigit", "Code", "Reason"}
 BLOCK_FAULTS = {"Length", "Version", "HeaderField", "OptionalBlock", "Hex"}
@@ -96,9 +98,15 @@ BLOCKS = (
      "version B\nlength 96\nusage P0 PIN encryption\nalgorithm T TDEA\nmode E encrypt or wrap only\n"
      "key-version 00\nexportability E exportable under a trusted key, in a form of ANSI X9.24\n"
      "optional-blocks 2\nreserved 00\noptional-block KS04\n"
-     "optional-block ab0C\u00e9\u00e9\u00e9\u00e9\n"
+     "optional-block ab0C\\xC3\\xA9\\xC3\\xA9\\xC3\\xA9\\xC3\\xA9\n"
      "ciphertext 94B420079CC80BA3461F86FE26EFC4A3B8E4FA4C5F534117\nmac 6EED7B727B8A248E\n"),
 )
+# What is no printable character of ASCII is escaped, so that each field keeps to its line.
+BLOCKS += tuple(
+    (KEY_BLOCK[:14] + reserved + KEY_BLOCK[16:], BLOCKS[0][1].replace("reserved 00", f"reserved {line}"))
+    for reserved, line in (
+        ("\n\\", r"\x0A\\"), ("\x1b[", r"\x1B["), ("~\x7f", r"~\x7F"), (" \x1f", r" \x1F"),
+        ("\u00e9", r"\xC3\xA9"), ("\t\"", r"\x09" + '"')))
 BLOCK_REFUSALS = (
     ("", 1, "Length"), ("B", 1, "Length"), (KEY_BLOCK[:-1], 1, "Length"),
     (KEY_BLOCK + "0", 1, "Length"), (KEY_BLOCK[:-8], 1, "Length"),
@@ -356,7 +364,7 @@ class Damaged:
 
     def optional(self) -> bytes:
         size = self.chance.choice((4, 5, 8, 20, 60))
-        content = bytes(self.chance.choice(range(0x20, 0x7F)) for _ in range(size - 4))
+        content = bytes(self.chance.choice(ONE_BYTE) for _ in range(size - 4))
         return b"%c%c%02X" % (self.chance.choice(b"KPT"), self.chance.choice(b"SBV"), size) + content
 
     def block(self) -> str:

@@ -136,14 +136,16 @@ def block_lines(text: str) -> list[str]:
         "version B", f"length {len(data)}", worded("usage", text[5:7], USAGES),
         worded("algorithm", text[7], ALGORITHMS), worded("mode", text[8], MODES),
         f"key-version {text[9:11]}", worded("exportability", text[11], EXPORTABILITIES),
-        f"optional-blocks {int(text[12:14])}", f"reserved {as_it_is(data[14:16])}",
-        *(f"optional-block {as_it_is(it)}" for it in blocks),
-        f"ciphertext {as_it_is(data[at:-16])}", f"mac {as_it_is(data[-16:])}"]
+        f"optional-blocks {int(text[12:14])}", f"reserved {escaped(data[14:16])}",
+        *(f"optional-block {escaped(it)}" for it in blocks),
+        f"ciphertext {data[at:-16].decode()}", f"mac {data[-16:].decode()}"]
 
 
-def as_it_is(data: bytes) -> str:
-    """A part of a text, which may begin or end within a character."""
-    return data.decode(errors="surrogateescape")
+def escaped(data: bytes) -> str:
+    """A part of a text on one line: what is no printable character of ASCII stands as its digits."""
+    return "".join(
+        "\\\\" if byte == 0x5C else chr(byte) if byte in PRINTED else f"\\x{byte:02X}"
+        for byte in data)
 
 
 def optional_blocks(data: bytes) -> tuple[list[bytes], int]:

@@ -8,5 +8,5 @@ mod ImageParts
 mod ImageStops
 mod LinesAppended
 mod LogRecords
-mod TerminalsInTurn
+mod TerminalTallies
 mod Texts

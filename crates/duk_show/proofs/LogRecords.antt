@@ -1,11 +1,11 @@
 -- The records of a log, one after another.
-use Rattle.std.proofs.Common.{◌≡◌, ◌+◌, ◌*◌, ◌/◌, ◌≤◌, ◌∷◌, ◌++◌, [], inl, inr, ℕ, suc, List, Result, Ok, Err, IfErr, length, take, ap, sym, subst, ◌∙◌, length-append, arith}
+use Rattle.std.proofs.Common.{◌≡◌, ◌+◌, ◌*◌, ◌/◌, ◌≤◌, ◌∷◌, ◌++◌, [], inl, inr, ℕ, zero, suc, List, Result, Ok, Err, IfErr, length, take, refl, ap, sym, subst, ◌∙◌, length-append, arith}
 use Rattle.std.proofs.lemmas.Bool.{cases_lt}
 use Rattle.std.proofs.lemmas.List.{drop_all}
 use Rattle.duk_store.specs.RecordFormat.{HasRecordNumber, IsLog, IsLogSize, KeepsNumbers, number_in, numbers_in, record_at}
 use Rattle.duk_store.specs.SlotFormat.{IsOpen}
 use Rattle.duk_tree.specs.Serial.{Serial}
-use Rattle.duk_show.specs.Log.{BeginsLog, IsLogRefused, IsWrongRecord}
+use Rattle.duk_show.specs.Log.{BeginsLog, IsLogRefused, IsSomeLog, IsWrongRecord}
 use Rattle.duk_show.specs.declared.fault.ShowFault.{ShowFault}
 use Rattle.duk_show.specs.declared.fault.ShowFault.TheVariants.{BlockRefused, FrameRefused, ImageRefused, KindRefused, LogRefused, LogTooLong, LogUnread, OutOfMemory}
 use Rattle.duk_show.specs.inner.Log.{AreFirstNumbers, IsNextRecord, IsRecordRefused}
@@ -99,3 +99,20 @@ whole bytes numbers size first =
       },
       first.numbers_are,
     )
+
+numbers_length : (count : ℕ) (bytes : List ℕ) → length (numbers_in count bytes) ≡ count
+numbers_length zero bytes = refl
+numbers_length (suc count) bytes =
+    let more = length-append (numbers_in count bytes) (number_in (record_at count bytes) ∷ []) in
+    omega (arith, more, numbers_length count bytes)
+
+-- where all records are those of a log, the bytes are
+pub some_log : (bytes : List ℕ) (count : ℕ) → IsLogSize (length bytes) → BeginsLog (length bytes / 16) count bytes → IsSomeLog bytes
+some_log bytes count size begins =
+    let numbers : List Serial = numbers_in count bytes in
+    let same : length numbers ≡ count = numbers_length count bytes in
+    let first : AreFirstNumbers (length bytes / 16) bytes numbers = record {
+      begins = subst (λ (n : ℕ). BeginsLog (length bytes / 16) n bytes) (sym same) begins;
+      numbers_are = ap (λ (n : ℕ). numbers_in n bytes) (sym same);
+    } in
+    record { numbers = numbers; size = size; keeps = whole bytes numbers size first }

@@ -14,6 +14,7 @@ use Rattle.duk_commands.specs.Lines.{text_line}
 use Rattle.duk_io.specs.FirstFault.{AllBefore}
 use Rattle.duk_show.specs.Hexadecimal.{IsNoDigitAt}
 use Rattle.duk_show.specs.KeyNames.{algorithm_name, exportability_name, mode_name, usage_name}
+use Rattle.duk_show.specs.ShownText.{shown_text}
 use Rattle.duk_show.specs.declared.fault.ShowFault.{ShowFault}
 use Rattle.duk_show.specs.declared.fault.ShowFault.TheVariants.{BlockRefused}
 
@@ -47,9 +48,9 @@ header_lines header =
     ++ worded_line (codes "exportability") (header.exportability ∷ [])
     (exportability_name header.exportability)
 
--- the line of an optional block, as it stands
+-- the line of an optional block, whose content may be any bytes
 abbrev pub optional_line : List ℕ → List ℕ
-optional_line block = text_line (codes "optional-block") block
+optional_line block = text_line (codes "optional-block") (shown_text block)
 
 -- the lines of the ciphertext and of the MAC, its last 16 digits, as they stand
 abbrev pub sealed_lines : List ℕ → List ℕ
@@ -64,7 +65,7 @@ block_lines size parts =
     ++ text_line (codes "length") (decimal size)
     ++ header_lines parts.header
     ++ text_line (codes "optional-blocks") (decimal (length parts.optional_blocks))
-    ++ text_line (codes "reserved") parts.reserved
+    ++ text_line (codes "reserved") (shown_text parts.reserved)
     ++ flat_map optional_line parts.optional_blocks
     ++ sealed_lines parts.sealed_part
 

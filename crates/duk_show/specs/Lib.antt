@@ -7,4 +7,5 @@ pub mod Block
 pub mod ImageFault
 pub mod Image
 pub mod Log
+pub mod ShownText
 pub mod inner

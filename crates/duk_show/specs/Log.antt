@@ -79,6 +79,12 @@ pub record IsDamagedAt (bytes : List ℕ) (place : ℕ) : Type 0 where
   pub begins : BeginsLog place count bytes
   pub wrong : IsCutRecord place bytes ⊎ IsWrongRecord place count bytes
 
+-- the bytes are those of a log
+pub record IsSomeLog (bytes : List ℕ) : Type 0 where
+  pub numbers : List Serial
+  pub size : IsLogSize (length bytes)
+  pub keeps : KeepsNumbers bytes numbers
+
 -- why bytes are not shown as a log: the first record that is in none; memory may be refused
 abbrev pub IsLogRefused : List ℕ → ShowFault → Type 0
 IsLogRefused bytes (LogRefused place) =

@@ -2,3 +2,4 @@ pub mod Block
 pub mod Hexadecimal
 pub mod Image
 pub mod Log
+pub mod Tallies

@@ -1,6 +1,6 @@
 //! The command `show block`.
 
-ghost use Rattle.std.specs.Prelude.{◌≡◌, ◌<◌, ◌≤◌, ◌+◌, ◌++◌, ◌∷◌, [], ℕ, List, IfErr, IfOk, MatchBool, MatchOption, OnOk, decimal, drop, length, slice_index};
+ghost use Rattle.std.specs.Prelude.{◌≡◌, ◌<◌, ◌≤◌, ◌+◌, ◌*◌, ◌++◌, ◌∷◌, [], ℕ, List, IfErr, IfOk, MatchBool, MatchOption, OnOk, decimal, drop, length, slice_index};
 ghost use Rattle.std.specs.List.{AllPass};
 ghost use Rattle.arrayvec.specs.ArrayVec.{array_vec_len};
 ghost use Rattle.duk_block.specs.Digits.{four_digits};
@@ -16,6 +16,7 @@ use crate::decimal::push_number_line;
 use crate::fault::ShowFault;
 use crate::hexadecimal::first_no_digit;
 use crate::key_names::{MOST_NAME, algorithm_name, exportability_name, mode_name, usage_name};
+use crate::shown_text::push_shown_line;
 use duk_block::{BlockFault, Header, MAX_TEXT};
 use duk_commands::{LINES_ROOM, Lines, push_end, push_text, push_text_line};
 use duk_tdes::array_of;
@@ -40,7 +41,8 @@ enum SealedFault {
 }
 
 /// The lines of a key block of version B: its header in words, its optional blocks, the ciphertext
-/// and the MAC as they stand. No key is needed, and so the MAC is not tested.
+/// and the MAC as they stand. No key is needed, and so the MAC is not tested. Bytes of the reserved
+/// field and of optional blocks that are no printable characters are escaped.
 ///
 /// Refused with `BlockRefused`: the first fault from `Length` to `Hex` that the text has, whatever
 /// the key is, and its place.
@@ -94,15 +96,15 @@ fn read_header(text: &[u8]) -> Result<u8, ShowFault>
 fn push_front(lines: &mut Lines, text: &[u8], header: &Header, count: u8)
     requires size { 16 ≤ length text.now }
     requires most { length text.now ≤ MAX_TEXT }
-    requires room { array_vec_len lines.old + 800 ≤ LINES_ROOM }
+    requires room { array_vec_len lines.old + 520 ≤ LINES_ROOM }
     ensures lines { lines.new.items ≡ lines.old.items ++ front_lines text.now header.now count }
-    ensures len { array_vec_len lines.new ≤ array_vec_len lines.old + 800 }
+    ensures len { array_vec_len lines.new ≤ array_vec_len lines.old + 520 }
 {
     push_text_line(lines, b"version", b"B");
     push_number_line(lines, b"length", text.len());
     push_header(lines, header);
     push_number_line(lines, b"optional-blocks", usize::from(count));
-    push_text_line(lines, b"reserved", &text[14..16]);
+    push_shown_line(lines, b"reserved", &text[14..16]);
 }
 
 /// Appends the lines of the optional blocks, the ciphertext and the MAC.
@@ -110,7 +112,7 @@ fn push_parts(lines: &mut Lines, text: &[u8], count: u8) -> Result<(), ShowFault
     requires length { HasLength text.now }
     requires count { HasCount text.now count }
     requires met { MetBefore text.now BlockFault.OptionalBlock }
-    requires room { array_vec_len lines.old + 2700 ≤ LINES_ROOM }
+    requires room { array_vec_len lines.old + 3570 ≤ LINES_ROOM }
     ensures parts { OnOk result (HasPushedParts text.now count lines.old.items lines.new.items) }
     ensures met { OnOk result (MetBefore text.now BlockFault.Mac) }
     ensures refused { IfErr result (IsBlockRefused text.now) }
@@ -227,10 +229,11 @@ fn push_optional(lines: &mut Lines, text: &[u8], count: u8) -> Result<usize, usi
     requires size { 16 ≤ length text.now }
     requires most { length text.now ≤ MAX_TEXT }
     requires count { count < 100 }
-    requires room { array_vec_len lines.old + 2100 ≤ LINES_ROOM }
+    requires room { array_vec_len lines.old + 3570 ≤ LINES_ROOM }
     ensures passed { IfOk result (λ place. (blocks : List (List ℕ)) × (length blocks ≡ count)
         × ArePassed text.now blocks place lines.old.items lines.new.items) }
-    ensures len { IfOk result (λ place. array_vec_len lines.new ≤ array_vec_len lines.old + 2100) }
+    ensures len { IfOk result
+        (λ place. array_vec_len lines.new ≤ array_vec_len lines.old + 1540 + 4 * place) }
     ensures stops { IfErr result (StopsAfterBlocks text.now count) }
     ensures none { IfErr result
         (λ _. (rest : List ℕ) → ¬ Leaves count (drop 16 text.now) rest) }
@@ -241,7 +244,7 @@ fn push_optional(lines: &mut Lines, text: &[u8], count: u8) -> Result<usize, usi
         let Some(length) = optional_length(&text[place..]) else {
             return Err(place);
         };
-        push_text_line(lines, b"optional-block", &text[place..place + length]);
+        push_shown_line(lines, b"optional-block", &text[place..place + length]);
         place += length;
         left -= 1;
     }
@@ -251,8 +254,8 @@ fn push_optional(lines: &mut Lines, text: &[u8], count: u8) -> Result<usize, usi
 /// Appends the lines of the ciphertext and the MAC, where what stands after the optional blocks is
 /// so long; else its fault.
 fn push_sealed(lines: &mut Lines, sealed_part: &[u8]) -> Result<(), SealedFault>
-    requires most { length sealed_part.now ≤ MAX_TEXT }
-    requires room { array_vec_len lines.old + 600 ≤ LINES_ROOM }
+    requires room { 64 ≤ length sealed_part.now
+        → array_vec_len lines.old + length sealed_part.now + 20 ≤ LINES_ROOM }
     ensures lines { OnOk result
         (lines.new.items ≡ lines.old.items ++ sealed_lines sealed_part.now) }
     ensures is { OnOk result (IsSealedPart sealed_part.now × AllPass is_hex_digit sealed_part.now) }
@@ -289,9 +292,9 @@ fn push_worded(lines: &mut Lines, name: &[u8], value: &[u8], words: &str)
 
 /// Appends the lines of a header's fields.
 fn push_header(lines: &mut Lines, header: &Header)
-    requires room { array_vec_len lines.old + 600 ≤ LINES_ROOM }
+    requires room { array_vec_len lines.old + 420 ≤ LINES_ROOM }
     ensures lines { lines.new.items ≡ lines.old.items ++ header_lines header.now }
-    ensures len { array_vec_len lines.new ≤ array_vec_len lines.old + 600 }
+    ensures len { array_vec_len lines.new ≤ array_vec_len lines.old + 420 }
 {
     push_worded(lines, b"usage", &header.usage, usage_name(header.usage));
     push_worded(

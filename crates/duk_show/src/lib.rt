@@ -13,6 +13,8 @@ mod image;
 mod image_fault;
 mod key_names;
 mod log;
+mod shown_text;
+mod tallies;
 
 pub use block::block_lines;
 pub use fault::{ShowFault, report};
@@ -20,4 +22,4 @@ pub use frame::frame_lines;
 pub use frame_fault::FrameFault;
 pub use image::image_lines;
 pub use image_fault::ImageFault;
-pub use log::log_lines;
+pub use log::{damaged_record, log_lines};

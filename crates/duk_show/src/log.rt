@@ -1,26 +1,28 @@
 //! The command `show log`.
 
-ghost use Rattle.std.specs.List.{filter, list_any};
-ghost use Rattle.std.specs.Prelude.{◌≡◌, ◌≤◌, ◌/◌, ◌++◌, [], IfErr, IfOk, OnOk, codes, decimal, length};
+ghost use Rattle.std.specs.Prelude.{◌≡◌, ◌<◌, ◌≤◌, ◌/◌, ◌^◌, ◌++◌, [], IfErr, IfOk, MatchOption, OnOk, codes, decimal, flat_map, length};
 ghost use Rattle.duk_commands.specs.Lines.{text_line};
-ghost use Rattle.duk_show.specs.Log.{IsLogRefused, IsLogText, is_of, last_after, lines_if_first, terminal_line, terminal_lines};
+ghost use Rattle.duk_show.specs.Log.{IsDamagedAt, IsLogRefused, IsLogText, IsSomeLog, terminal_lines};
 ghost use Rattle.duk_show.specs.declared.fault.ShowFault.TheVariants.{OutOfMemory};
-ghost use Rattle.duk_show.specs.inner.Log.{AreFirstNumbers, IsNextRecord, IsRecordRefused};
+ghost use Rattle.duk_show.specs.inner.Log.{AreFirstNumbers, CountsRecord, IsNextRecord, IsOutOfPlace, IsRecordRefused};
+ghost use Rattle.duk_show.specs.inner.Tallies.{tally_line};
 ghost use Rattle.duk_store.specs.RecordFormat.{IsLogSize};
 
 use crate::decimal::{push_decimal, push_number_line};
 use crate::fault::ShowFault;
+use crate::tallies::{Tally, tallies_of};
 use duk_commands::{Lines, push_end, push_text};
 use duk_io::append_hex;
 use duk_regs::are_zeros;
 use duk_store::RECORD_LENGTH;
 use duk_tdes::array_of;
-use duk_tree::{Iksn, Ksn};
+use duk_tree::Ksn;
 use std::alloc::Global;
 
 /// The lines of the bytes of a log of used numbers: how many it keeps, for how many more it has
 /// room, and for each initial key serial number, in the order of their first records, how many
-/// numbers it has, the first and the last. The time is that of the numbers times the terminals.
+/// numbers it has, the first and the last. The time grows with the numbers alone, however many
+/// terminals they are of.
 ///
 /// Refused with `LogRefused` and the place of the first record that is in no log, counted in
 /// records. Memory for numbers and lines may be refused.
@@ -31,6 +33,44 @@ pub fn log_lines(alloc: Global, bytes: &[u8]) -> Result<Vec<u8>, ShowFault>
     let numbers = read_numbers(alloc, bytes)?;
     let room = bytes.len() / RECORD_LENGTH - numbers.len();
     lines_of_numbers(alloc, numbers.as_slice(), room)
+}
+
+/// The place of the first record that is in no log, counted in records; `None` where the bytes are
+/// those of a log. This takes no memory.
+pub fn damaged_record(bytes: &[u8]) -> Option<u64>
+    ensures { MatchOption result (IsSomeLog bytes.now) (IsDamagedAt bytes.now) }
+{
+    let mut count = 0;
+    let whole = bytes.len() / RECORD_LENGTH;
+    for place in 0..whole {
+        let start = RECORD_LENGTH * place;
+        match count_record(&bytes[start..start + RECORD_LENGTH], place, count) {
+            Some(next) => count = next,
+            None => return Some(place as u64),
+        }
+    }
+    if whole == 0 || bytes.len() % RECORD_LENGTH != 0 {
+        return Some(whole as u64);
+    }
+    None
+}
+
+/// How many records have numbers, with that at a place, before which so many have; `None` where it
+/// is in no log.
+fn count_record(bytes: &[u8], place: usize, count: usize) -> Option<usize>
+    requires size { length bytes.now ≡ 16 }
+    requires within { count ≤ place }
+    requires fits { place < 2 ^ 63 }
+    ensures { MatchOption result (IsOutOfPlace bytes.now place count)
+        (CountsRecord bytes.now place count) }
+{
+    if bytes[0] != 1 {
+        return Some(count);
+    }
+    if count < place || !are_zeros(&bytes[11..]) {
+        return None;
+    }
+    Some(count + 1)
 }
 
 /// The numbers that a log keeps.
@@ -85,7 +125,7 @@ fn lines_of_numbers(alloc: Global, numbers: &[Ksn], room: usize) -> Result<Vec<u
     push_number_line(&mut counts, b"room", room);
     let mut text = Vec::new(alloc);
     push_lines(&mut text, &counts)?;
-    push_terminals(&mut text, numbers)?;
+    push_terminals(alloc, &mut text, numbers)?;
     Ok(text)
 }
 
@@ -101,78 +141,39 @@ fn push_lines(text: &mut Vec<u8>, lines: &Lines) -> Result<(), ShowFault>
 }
 
 /// Appends the lines of the terminals of these numbers.
-fn push_terminals(text: &mut Vec<u8>, numbers: &[Ksn]) -> Result<(), ShowFault>
+fn push_terminals(alloc: Global, text: &mut Vec<u8>, numbers: &[Ksn]) -> Result<(), ShowFault>
     ensures lines { OnOk result (text.new.items ≡ text.old.items ++ terminal_lines [] numbers.now) }
     ensures refused { IfErr result (λ why. why ≡ OutOfMemory) }
 {
-    for place in 0..numbers.len() {
-        let (before, from) = (&numbers[..place], &numbers[place..]);
-        push_if_first(text, before, numbers[place], from)?;
+    let tallies = tallies_of(alloc, numbers)?;
+    push_tallies(text, tallies.values().as_slice())
+}
+
+/// Appends the lines of tallies.
+fn push_tallies(text: &mut Vec<u8>, tallies: &[Tally]) -> Result<(), ShowFault>
+    ensures lines { OnOk result
+        (text.new.items ≡ text.old.items ++ flat_map tally_line tallies.now) }
+    ensures refused { IfErr result (λ why. why ≡ OutOfMemory) }
+{
+    for tally in tallies {
+        push_lines(text, &line_of_tally(tally))?;
     }
     Ok(())
 }
 
-/// Appends the line of the terminal of a number, where none before it is of that terminal; `from`
-/// begins with the number.
-fn push_if_first(
-    text: &mut Vec<u8>,
-    before: &[Ksn],
-    number: Ksn,
-    from: &[Ksn],
-) -> Result<(), ShowFault>
-    ensures lines { OnOk result (text.new.items ≡ text.old.items
-        ++ lines_if_first before.now number from.now) }
-    ensures refused { IfErr result (λ why. why ≡ OutOfMemory) }
+/// The line of a tally.
+fn line_of_tally(tally: &Tally) -> Lines
+    ensures { result.items ≡ tally_line tally.now }
 {
-    if has_terminal(before, number.iksn()) {
-        return Ok(());
-    }
-    push_lines(text, &line_of_terminal(number, from))
-}
-
-/// Whether one of these numbers is of a terminal.
-fn has_terminal(numbers: &[Ksn], iksn: Iksn) -> bool
-    ensures { result ≡ list_any (is_of iksn) numbers.now }
-{
-    for number in numbers {
-        if number.iksn() == iksn {
-            return true;
-        }
-    }
-    false
-}
-
-/// The line of the terminal of a number, the first of these.
-fn line_of_terminal(first: Ksn, numbers: &[Ksn]) -> Lines
-    ensures { result.items ≡ terminal_line first numbers.now }
-{
-    let (count, last) = count_own(first, numbers);
     let mut line = Lines::new();
     push_text(&mut line, b"terminal ");
-    append_hex(&mut line, &first.iksn().bytes());
+    append_hex(&mut line, &tally.first.iksn().bytes());
     push_text(&mut line, b" ");
-    push_decimal(&mut line, count);
+    push_decimal(&mut line, tally.count);
     push_text(&mut line, b" ");
-    append_hex(&mut line, &first.bytes());
+    append_hex(&mut line, &tally.first.bytes());
     push_text(&mut line, b" ");
-    append_hex(&mut line, &last.bytes());
+    append_hex(&mut line, &tally.last.bytes());
     push_end(&mut line);
     line
-}
-
-/// How many of these numbers are of the terminal of the first one, and the last of them.
-fn count_own(first: Ksn, numbers: &[Ksn]) -> (usize, Ksn)
-    ensures count { result.0 ≡ length (filter (is_of first.iksn) numbers.now) }
-    ensures last { result.1 ≡ last_after first (filter (is_of first.iksn) numbers.now) }
-{
-    let iksn = first.iksn();
-    let mut count = 0;
-    let mut last = first;
-    for number in numbers {
-        if number.iksn() == iksn {
-            count += 1;
-            last = *number;
-        }
-    }
-    (count, last)
 }

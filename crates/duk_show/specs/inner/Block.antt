@@ -9,6 +9,7 @@ use Rattle.duk_commands.specs.Lines.{text_line}
 use Rattle.duk_io.specs.FirstFault.{AllBefore}
 use Rattle.duk_show.specs.Block.{BeginsWithNoBlock, header_lines, optional_line, sealed_lines}
 use Rattle.duk_show.specs.Hexadecimal.{IsNoDigitAt}
+use Rattle.duk_show.specs.ShownText.{shown_text}
 use Rattle.duk_show.specs.declared.block.SealedFault.{SealedFault}
 use Rattle.duk_show.specs.declared.block.SealedFault.TheVariants as sealed
 
@@ -65,7 +66,7 @@ front_lines block header count =
     ++ text_line (codes "length") (decimal (length block))
     ++ header_lines header
     ++ text_line (codes "optional-blocks") (decimal count)
-    ++ text_line (codes "reserved") (take 2 (drop 14 block))
+    ++ text_line (codes "reserved") (shown_text (take 2 (drop 14 block)))
 
 -- the lines of the parts after the header were appended
 pub record HasPushedParts (block : List ℕ) (count : ℕ) (before after : List ℕ) : Type 0 where

@@ -1,5 +1,5 @@
 -- What only private functions and proofs say beside `Log.antt`: this project's own.
-use Rattle.std.specs.Prelude.{◌≡◌, ◌⊎◌, ◌<◌, ℕ, List, [], ◌∷◌, ◌++◌, ⊤, length, replicate}
+use Rattle.std.specs.Prelude.{◌≡◌, ◌⊎◌, ◌<◌, ◌+◌, ℕ, List, [], ◌∷◌, ◌++◌, ⊤, length, replicate}
 use Rattle.duk_store.specs.RecordFormat.{HasRecordNumber, after_number, number_in, numbers_in}
 use Rattle.duk_store.specs.SlotFormat.{IsOpen}
 use Rattle.duk_tree.specs.Serial.{Serial}
@@ -20,6 +20,17 @@ IsRecordRefused bytes place count (LogRefused refused) =
     × ((count < place) ⊎ ¬ (after_number bytes ≡ replicate 5 0))
 IsRecordRefused bytes place count OutOfMemory = ⊤
 IsRecordRefused bytes place count why = ⊥
+
+-- a record that is open after a closed one, where so many have numbers, or lacks its zeros
+abbrev pub IsOutOfPlace : List ℕ → ℕ → ℕ → Type 0
+IsOutOfPlace bytes place count =
+    IsOpen bytes × ((count < place) ⊎ ¬ (after_number bytes ≡ replicate 5 0))
+
+-- a record that is closed leaves the count of those with numbers; one that has a number is one more
+abbrev pub CountsRecord : List ℕ → ℕ → ℕ → ℕ → Type 0
+CountsRecord bytes place count next =
+    (¬ IsOpen bytes × (next ≡ count))
+    ⊎ (HasRecordNumber bytes × (count ≡ place) × (next ≡ count + 1))
 
 -- these are the numbers of the first records
 pub record AreFirstNumbers (records : ℕ) (bytes : List ℕ) (numbers : List Serial) : Type 0 where

@@ -39,14 +39,14 @@ loop-left-preserved c =
     let same : (place + size) - place ≡ size = omega arith in
     let width : length (take ((place + size) - place) (drop place text)) ≡ size =
     ap (λ (n : ℕ). length (take n (drop place text))) same ∙ length-take-le size (drop place text) begins.within in
-    let line = c.push_text_line.ensures.line ∙ ap (λ (n : ℕ). c.loop-left.lines.items ++ optional_line (take n (drop place text))) same in
-    let more = passed_more text now.blocks place size c.args.lines.now.items c.loop-left.lines.items c.push_text_line.new.lines.items now.passed begins line in
+    let line = c.push_shown_line.ensures.line ∙ ap (λ (n : ℕ). c.loop-left.lines.items ++ optional_line (take n (drop place text))) same in
+    let more = passed_more text now.blocks place size c.args.lines.now.items c.loop-left.lines.items c.push_shown_line.new.lines.items now.passed begins line in
     let one_more : c.loop-left.left ≡ suc (c.loop-left.left - 1) = omega (arith, c.loop-left-test.true) in
     record {
       blocks = now.blocks ++ take size (drop place text) ∷ [];
       passed = more;
       count = omega (arith, now.count, length-append now.blocks (take size (drop place text) ∷ []), c.loop-left-test.true);
-      room = omega (arith, now.room, c.push_text_line.ensures.len, width, c.loop-left-test.true);
+      room = omega (arith, now.room, c.push_shown_line.ensures.len, width, c.loop-left-test.true);
       back = λ rest all.
           subst (λ (after : List ℕ). Leaves (c.loop-left.left - 1) after rest) (drop-drop size place text)
           (leaves_rest (c.loop-left.left - 1) (drop place text) (drop size (drop place text)) rest (one_of (drop place text) size begins)

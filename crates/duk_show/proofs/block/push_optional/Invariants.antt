@@ -10,7 +10,7 @@ invariant-loop-left l = record {
   blocks : List (List ℕ);
   passed : ArePassed l.text blocks l.place l.fn.lines.items l.lines.items;
   count : length blocks + l.left ≡ l.fn.count;
-  room : array_vec_len l.lines + 16 * l.left + 16 ≤ array_vec_len l.fn.lines + 16 * l.fn.count + l.place;
+  room : array_vec_len l.lines + 16 * l.left + 64 ≤ array_vec_len l.fn.lines + 16 * l.fn.count + 4 * l.place;
   back : (rest : List ℕ) → Leaves l.fn.count (drop 16 l.text) rest → Leaves l.left (drop l.place l.text) rest;
 }
 
