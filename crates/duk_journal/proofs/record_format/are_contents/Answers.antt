@@ -1,0 +1,22 @@
+use Rattle.std.proofs.Common.{◌∙◌, sym}
+use Rattle.std.specs.Cmp.Lexicographic.{bytes_decides, same_text}
+use Rattle.duk_journal.proofs.record_format.are_contents.Goals as goal
+
+pub returns : goal.returns
+returns c =
+    let bytes = c.args.bytes.now in
+    let fields = c.bytes-written.ensures.fields in
+    let written = c.as_slice.ensures.value ∙ c.bytes-written.ensures.bytes in
+    (
+      (λ is. record {
+        payment_is = record {
+          serial = fields.serial;
+          usable = c.has_usable_number.ensures.0 c.if-not-has_usable_number.false;
+          amount_fits = fields.amount_fits;
+          mac_length = fields.mac_length;
+        };
+        followers_fit = c.bytes-written.ensures.followers;
+        written = same_text bytes c.as_slice.result.now (sym is ∙ c.eq.ensures) ∙ written;
+      }),
+      (λ are. c.eq.ensures ∙ (bytes_decides bytes c.as_slice.result.now).1 (are.written ∙ sym written)),
+    )

@@ -1,0 +1,3 @@
+pub mod Payment
+pub mod RecordFormat
+pub mod inner

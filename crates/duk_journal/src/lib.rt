@@ -1,0 +1,12 @@
+//! What a host has decided, kept beyond every stop: a journal of payments.
+//!
+//! A journal keeps a list of payments. They are appended in groups: after a stop in the midst of an
+//! append a restart finds the old list, or the old list and the whole group, and nothing else. It is
+//! a store, as the log of used numbers is, and its meaning is of the same words.
+#![tactic(auto)]
+
+mod payment;
+mod record_format;
+
+pub use payment::Payment;
+pub use record_format::RECORD_LENGTH;
