@@ -1,1 +1,2 @@
 mod FieldPlaces
+mod KeptPayments

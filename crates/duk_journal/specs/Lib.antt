@@ -1,3 +1,4 @@
 pub mod Payment
 pub mod RecordFormat
+pub mod Groups
 pub mod inner
