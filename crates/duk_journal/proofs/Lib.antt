@@ -1,2 +1,3 @@
 mod FieldPlaces
 mod KeptPayments
+mod WrittenBytes
