@@ -1,3 +1,5 @@
 mod FieldPlaces
+mod GroupWritten
 mod KeptPayments
+mod StepsInTurn
 mod WrittenBytes

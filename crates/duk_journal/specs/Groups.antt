@@ -1,7 +1,9 @@
 -- Which payments the bytes of a journal keep: a format of this project's own. Groups stand one after
 -- the other from the first record on, and all records behind the last group are closed. The first
 -- record of a group is open and says how many follow; these are closed, and say zero.
-use Rattle.std.specs.Prelude.{◌≡◌, ◌≤◌, ◌+◌, ℕ, zero, suc, List, [], ◌∷◌}
+use Rattle.std.specs.Prelude.{◌≡◌, ◌≤◌, ◌+◌, ℕ, zero, suc, List, [], ◌∷◌, length}
+use Rattle.std.specs.List.{All}
+use Rattle.duk_tree.specs.Path.{IsUsable}
 use Rattle.duk_journal.specs.Payment.{IsPayment}
 use Rattle.duk_journal.specs.RecordFormat.{IsOpen, after_gate, contents_of, record_at}
 use Rattle.duk_journal.specs.declared.payment.Payment.{Payment}
@@ -13,6 +15,12 @@ Payments = List Payment
 -- the most payments of a group
 abbrev pub most_of_group : ℕ
 most_of_group = 4096
+
+-- payments that may be appended together: at least one, and their numbers are usable
+pub record IsGroup (group : Payments) : Type 0 where
+  pub some : 1 ≤ length group
+  pub most : length group ≤ most_of_group
+  pub usable : All (λ payment. IsUsable payment.number.counter) group
 
 -- a record with this payment, after which so many of its group follow
 pub record HasContents (followers : ℕ) (payment : Payment) (record_bytes : List ℕ) : Type 0 where

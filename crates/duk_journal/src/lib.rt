@@ -5,6 +5,7 @@
 //! a store, as the log of used numbers is, and its meaning is of the same words.
 #![tactic(auto)]
 
+mod group_steps;
 mod payment;
 mod record_format;
 

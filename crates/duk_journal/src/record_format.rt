@@ -15,6 +15,9 @@ use duk_tree::{Ksn, usable};
 /// The bytes of a record: its gate, and its contents.
 pub const RECORD_LENGTH: usize = 32;
 
+/// The gate of an open record. Every other value is closed.
+pub const OPEN: u8 = 1;
+
 /// The bytes of a record after its gate.
 pub const CONTENTS_LENGTH: usize = 31;
 

@@ -50,3 +50,56 @@ pub record ContentsFailed (group : Payments) (place : ℕ) (old new : DiskState)
   pub nature : PreservesDisk old new
   pub failed : HasFailed old new fault
   pub torn : MayLeaveChanged (LeavesGates place (length group)) old new
+
+-- a group is written and open: nothing else is changed
+pub record IsGroupWritten (group : Payments) (place : ℕ) (before after : List ℕ) : Type 0 where
+  pub same_length : length after ≡ length before
+  pub is_open : IsOpen (record_at place after)
+  pub contents : AreWritten (length group) group place after
+  pub gates : (other : ℕ) → other ≢ place
+      → gate_of (record_at other after) ≡ gate_of (record_at other before)
+  pub beside : (other : ℕ) → (other < place) ⊎ (place + length group ≤ other)
+      → record_at other after ≡ record_at other before
+
+-- it is written in part: all gates are as they were, or all contents are written, and any byte
+-- stands in the gate of the first record
+pub record IsGroupTorn (group : Payments) (place : ℕ) (before after : List ℕ) : Type 0 where
+  pub same_length : length after ≡ length before
+  pub torn : (gate_of (record_at place after) ≡ gate_of (record_at place before))
+      ⊎ AreWritten (length group) group place after
+  pub gates : (other : ℕ) → other ≢ place
+      → gate_of (record_at other after) ≡ gate_of (record_at other before)
+  pub beside : (other : ℕ) → (other < place) ⊎ (place + length group ≤ other)
+      → record_at other after ≡ record_at other before
+
+pub record WritesGroup (group : Payments) (place : ℕ) (old new : DiskState) : Type 0 where
+  pub nature : PreservesDisk old new
+  pub no_failure : new.failures ≡ old.failures
+  pub leaves : old.honest → LeavesReads new
+  pub written : old.honest → IsGroupWritten group place old.reads new.reads
+
+pub record GroupFailed (group : Payments) (place : ℕ) (old new : DiskState) (fault : StoreFault) : Type 0 where
+  pub nature : PreservesDisk old new
+  pub failed : HasFailed old new fault
+  pub torn : MayLeaveChanged (IsGroupTorn group place) old new
+
+-- the contents of a group are written and synced
+pub record SyncsContents (group : Payments) (place : ℕ) (old new : DiskState) : Type 0 where
+  pub nature : PreservesDisk old new
+  pub no_failure : new.failures ≡ old.failures
+  pub leaves : old.honest → LeavesReads new
+  pub written : old.honest → AreContentsWritten (length group) group place old.reads new.reads
+
+-- the gate of a record is opened and synced
+pub record OpensGate (place : ℕ) (old new : DiskState) : Type 0 where
+  pub nature : PreservesDisk old new
+  pub no_failure : new.failures ≡ old.failures
+  pub leaves : old.honest → LeavesReads new
+  pub is_open : old.honest → IsOpen (record_at place new.reads)
+  pub all_but : old.honest → LeavesAllButGate place old.reads new.reads
+
+-- a device call failed in it
+pub record GateFailed (place : ℕ) (old new : DiskState) (fault : StoreFault) : Type 0 where
+  pub nature : PreservesDisk old new
+  pub failed : HasFailed old new fault
+  pub all_but : MayLeaveChanged (LeavesAllButGate place) old new
