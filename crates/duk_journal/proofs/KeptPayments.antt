@@ -23,6 +23,10 @@ one_code OverLimit OverLimit same = refl
 one_code Unreadable Unreadable same = refl
 one_code _ _ same = absurd (omega (arith, same))
 
+-- the contents of a record
+pub contents_are : (followers : ℕ) (payment : Payment) (r : List ℕ) → HasContents followers payment r → AreContents (after_gate r) (record { followers = followers; payment = payment })
+contents_are followers payment r has = record { payment_is = has.payment_is; followers_fit = omega (arith, has.followers_fit); written = has.written }
+
 module _ (ten : (serial : Serial) → length (serial_bytes serial) ≡ 10) (found : (serial : Serial) → IsSerial serial → serial_of_bytes (serial_bytes serial) ≡ serial) where
   -- bytes are the contents of one payment
   pub one_contents : (bytes : List ℕ) (a b : Contents) → AreContents bytes a → AreContents bytes b → a ≡ b
@@ -35,9 +39,6 @@ module _ (ten : (serial : Serial) → length (serial_bytes serial) ≡ 10) (foun
       (sym x.amount_is ∙ y.amount_is)
       (one_code a.payment.code b.payment.code (sym x.code_is ∙ y.code_is))
       (sym x.mac_is ∙ y.mac_is)
-
-  pub contents_are : (followers : ℕ) (payment : Payment) (r : List ℕ) → HasContents followers payment r → AreContents (after_gate r) (record { followers = followers; payment = payment })
-  contents_are followers payment r has = record { payment_is = has.payment_is; followers_fit = omega (arith, has.followers_fit); written = has.written }
 
   pub same_followers : (f g : ℕ) (p q : Payment) (r : List ℕ) → HasContents f p r → HasContents g q r → f ≡ g
   same_followers f g p q r one two = ap (λ (c : Contents). c.followers) (one_contents (after_gate r) (record { followers = f; payment = p }) (record { followers = g; payment = q }) (contents_are f p r one) (contents_are g q r two))

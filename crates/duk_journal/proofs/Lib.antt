@@ -1,5 +1,6 @@
 mod FieldPlaces
 mod GroupWritten
 mod KeptPayments
+mod RecordsRead
 mod StepsInTurn
 mod WrittenBytes

@@ -1,4 +1,6 @@
 pub mod Payment
 pub mod RecordFormat
 pub mod Groups
+pub mod Journal
+pub mod DiskJournal
 pub mod inner

@@ -6,8 +6,11 @@
 #![tactic(auto)]
 
 mod group_steps;
+mod journal;
 mod payment;
+mod reading;
 mod record_format;
 
+pub use journal::Journal;
 pub use payment::Payment;
 pub use record_format::RECORD_LENGTH;

@@ -1,0 +1,173 @@
+//! The records of a journal, read one after the other.
+
+ghost use Rattle.std.specs.Prelude.{◌≡◌, ◌≢◌, ◌+◌, ◌*◌, ◌<◌, ◌≤◌, ◌/◌, ◌^◌, ℕ, List, length, IfErr, IfOk};
+ghost use Rattle.duk_journal.specs.Groups.{HasContents};
+ghost use Rattle.duk_journal.specs.inner.Reading.{Breaks, BreaksIn, Continues, ContinuesBy, HasCount, HasNoContents, KeepsNone, HasRead, kept_in};
+ghost use Rattle.duk_journal.specs.declared.payment.Payment.{Payment};
+ghost use Rattle.duk_journal.specs.declared.reading.Reading.TheVariants.{Behind, Groups};
+
+use crate::record_format::{Contents, OPEN, RECORD_LENGTH};
+use duk_store::StoreFault;
+
+/// The most payments of a group.
+pub const MOST_OF_GROUP: usize = 4096;
+
+/// How far the records of a journal were read.
+#[derive(Clone, Copy)]
+pub enum Reading {
+    /// Among the groups.
+    Groups {
+        /// How many payments were read.
+        kept: u64,
+        /// How many of the present group follow.
+        left: u16,
+    },
+    /// Behind them.
+    Behind {
+        /// How many payments are kept.
+        kept: u64,
+    },
+}
+
+/// Reads the records of a piece.
+///
+/// Refused with `Damaged` where no list of payments goes on so.
+pub fn read_piece(reading: Reading, piece: &[u8]) -> Result<Reading, StoreFault>
+    requires whole { (count : ℕ) × (length piece.now ≡ 32 * count) }
+    requires fits { kept_in reading + length piece.now ≤ 2 ^ 64 }
+    ensures read { IfOk result (ContinuesBy reading piece.now) }
+    ensures kept { IfOk result (λ after. kept_in after ≤ kept_in reading + length piece.now / 32) }
+    ensures refused { IfErr result (λ fault. (fault ≡ StoreFault.Damaged)
+        × BreaksIn reading piece.now) }
+{
+    let mut reading = reading;
+    for index in 0..piece.len() / RECORD_LENGTH {
+        let at = RECORD_LENGTH * index;
+        reading = read_next(reading, &piece[at..at + RECORD_LENGTH])?;
+    }
+    Ok(reading)
+}
+
+/// Reads one more record.
+fn read_next(reading: Reading, bytes: &[u8]) -> Result<Reading, StoreFault>
+    requires whole { length bytes.now ≡ 32 }
+    requires fits { kept_in reading + 1 < 2 ^ 64 }
+    ensures read { IfOk result (Continues reading bytes.now) }
+    ensures kept { IfOk result (λ after. kept_in after ≤ kept_in reading + 1) }
+    ensures refused { IfErr result (λ fault. (fault ≡ StoreFault.Damaged)
+        × Breaks reading bytes.now) }
+{
+    match reading {
+        Reading::Behind { kept } => read_behind(kept, bytes),
+        Reading::Groups { kept, left } => {
+            if left == 0 {
+                read_first(kept, bytes)
+            } else {
+                read_follower(kept, left, bytes)
+            }
+        }
+    }
+}
+
+/// Reads a record behind the groups, which is closed.
+fn read_behind(kept: u64, bytes: &[u8]) -> Result<Reading, StoreFault>
+    requires whole { length bytes.now ≡ 32 }
+    ensures read { IfOk result (Continues (Behind kept) bytes.now) }
+    ensures kept { IfOk result (λ after. kept_in after ≤ kept + 1) }
+    ensures refused { IfErr result (λ fault. (fault ≡ StoreFault.Damaged)
+        × Breaks (Behind kept) bytes.now) }
+{
+    if bytes[0] == OPEN {
+        Err(StoreFault::Damaged)
+    } else {
+        Ok(Reading::Behind { kept })
+    }
+}
+
+/// Reads a record in a group's place: the first of a group, or the first behind all.
+fn read_first(kept: u64, bytes: &[u8]) -> Result<Reading, StoreFault>
+    requires whole { length bytes.now ≡ 32 }
+    requires fits { kept + 1 < 2 ^ 64 }
+    ensures read { IfOk result (Continues (Groups kept 0) bytes.now) }
+    ensures kept { IfOk result (λ after. kept_in after ≤ kept + 1) }
+    ensures refused { IfErr result (λ fault. (fault ≡ StoreFault.Damaged)
+        × Breaks (Groups kept 0) bytes.now) }
+{
+    duk_tree::laws::serials();
+    if bytes[0] != OPEN {
+        return Ok(Reading::Behind { kept });
+    }
+    let left = read_contents(bytes)?;
+    Ok(Reading::Groups {
+        kept: kept + 1,
+        left,
+    })
+}
+
+/// Reads a record inside a group, of which so many are left: it is closed, and says that none
+/// follows.
+fn read_follower(kept: u64, left: u16, bytes: &[u8]) -> Result<Reading, StoreFault>
+    requires whole { length bytes.now ≡ 32 }
+    requires fits { kept + 1 < 2 ^ 64 }
+    requires some { 1 ≤ left }
+    ensures read { IfOk result (Continues (Groups kept left) bytes.now) }
+    ensures kept { IfOk result (λ after. kept_in after ≤ kept + 1) }
+    ensures refused { IfErr result (λ fault. (fault ≡ StoreFault.Damaged)
+        × Breaks (Groups kept left) bytes.now) }
+{
+    duk_tree::laws::serials();
+    if bytes[0] == OPEN {
+        return Err(StoreFault::Damaged);
+    }
+    let followers = read_contents(bytes)?;
+    if followers != 0 {
+        return Err(StoreFault::Damaged);
+    }
+    Ok(Reading::Groups {
+        kept: kept + 1,
+        left: left - 1,
+    })
+}
+
+/// How many records follow, as the contents of a record say.
+///
+/// Refused with `Damaged` where these are no contents.
+fn read_contents(bytes: &[u8]) -> Result<u16, StoreFault>
+    requires { length bytes.now ≡ 32 }
+    ensures found { IfOk result (λ followers. (payment : Payment)
+        × HasContents followers payment bytes.now) }
+    ensures none { IfErr result (λ fault. (fault ≡ StoreFault.Damaged)
+        × HasNoContents bytes.now) }
+{
+    let Some(contents) = Contents::of_bytes(&bytes[1..]) else {
+        return Err(StoreFault::Damaged);
+    };
+    if contents.followers as usize >= MOST_OF_GROUP {
+        return Err(StoreFault::Damaged);
+    }
+    Ok(contents.followers)
+}
+
+/// How many payments are kept, where all records were read.
+///
+/// Refused with `Damaged` where the last group goes past the end.
+pub fn finish_reading(reading: Reading) -> Result<u64, StoreFault>
+    ensures kept { IfOk result (λ kept. kept ≡ kept_in reading) }
+    ensures whole { IfOk result (λ _. (records : ℕ) (bytes : List ℕ)
+        → length bytes ≡ 32 * records → HasRead reading records bytes
+        → HasCount (kept_in reading) bytes) }
+    ensures refused { IfErr result (λ fault. (fault ≡ StoreFault.Damaged)
+        × ((records : ℕ) (bytes : List ℕ) → length bytes ≡ 32 * records
+        → HasRead reading records bytes → KeepsNone bytes)) }
+{
+    match reading {
+        Reading::Behind { kept } => Ok(kept),
+        Reading::Groups { kept, left } => {
+            if left == 0 {
+                Ok(kept)
+            } else {
+                Err(StoreFault::Damaged)
+            }
+        }
+    }
+}
