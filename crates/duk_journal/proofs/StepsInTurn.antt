@@ -1,6 +1,6 @@
 -- One device call after another.
 use Rattle.std.proofs.Common.{◌≡◌, Ok, Err, Result, OnOk, ◌∙◌, sym}
-use Rattle.duk_store.specs.Disk.{DiskState, HasFailed, PreservesDisk}
+use Rattle.duk_store.specs.Disk.{DiskState, HasFailed, PreservesBytes, PreservesDisk}
 use Rattle.duk_store.specs.declared.fault.StoreFault.{StoreFault}
 
 pub keeps_on : (old mid new : DiskState) → PreservesDisk old mid → PreservesDisk mid new → PreservesDisk old new
@@ -23,3 +23,13 @@ fails_later old mid new fault keeps none fails = record {
 pub both_ok : {T E P Q R : Type 0} (result : Result T E) → OnOk result P → OnOk result Q → (P → Q → R) → OnOk result R
 both_ok (Ok value) one two join = join one two
 both_ok (Err fault) one two join = tt
+
+-- bytes that stay, and stay again
+pub bytes_on : (old mid new : DiskState) → PreservesBytes old mid → PreservesBytes mid new → PreservesBytes old new
+bytes_on old mid new first second = record {
+  reads = second.reads ∙ first.reads;
+  may_leave = λ bytes. (
+    (λ left. (first.may_leave bytes).0 ((second.may_leave bytes).0 left)),
+    (λ left. (second.may_leave bytes).1 ((first.may_leave bytes).1 left)),
+  );
+}

@@ -1,3 +1,4 @@
+pub mod DiskJournal
 pub mod Groups
 pub mod GroupSteps
 pub mod Reading

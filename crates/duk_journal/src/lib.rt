@@ -7,6 +7,7 @@
 
 mod group_steps;
 mod journal;
+mod journal_steps;
 mod payment;
 mod reading;
 mod record_format;
