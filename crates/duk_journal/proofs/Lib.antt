@@ -1,5 +1,6 @@
 mod FieldPlaces
 mod GroupWritten
+mod JournalOnDisk
 mod KeptPayments
 mod RecordsRead
 mod StepsInTurn

@@ -1,6 +1,5 @@
 -- What a journal of payments means, and what its calls do to that: this project's own.
 use Rattle.std.specs.Prelude.{◌≡◌, ◌≢◌, ◌⊎◌, ◌-◌, true, false, ℕ, ◌++◌, take, drop, length, if◌then◌else◌}
-use Rattle.duk_store.specs.Restart.{Restarted}
 use Rattle.duk_store.specs.StoreState.{FindsAsBefore, FindsOnly, IsAlreadyStopped, PreservesNature, Stays, StoreState, Stops}
 use Rattle.duk_store.specs.declared.fault.StoreFault.{StoreFault}
 use Rattle.duk_store.specs.declared.fault.StoreFault.TheVariants.{Damaged, Device, Stopped}
@@ -31,12 +30,21 @@ room_of meaning journal =
     then meaning.capacity journal - meaning.count journal
     else 0
 
+-- the list that a restart found: what it would find now, and could find before
+pub record IsListFound
+    (old new : StoreState Payments) (count : ℕ) (payments : Payments) : Type 0 where
+  pub finds : FindsOnly new payments
+  pub was_found : old.found payments
+  pub counted : length payments ≡ count
+
 -- a restart that found this many payments
 pub record JournalRestarted
-    {J : Type 0} (meaning : JournalMeaning J) (old new : J) (found : ℕ) : Type 0 where
-  pub payments : Payments
-  pub restarted : Restarted (meaning.state_of old) (meaning.state_of new) payments
-  pub counted : (meaning.state_of old).honest → length payments ≡ found
+    {J : Type 0} (meaning : JournalMeaning J) (old new : J) (count : ℕ) : Type 0 where
+  pub nature : PreservesNature (meaning.state_of old) (meaning.state_of new)
+  pub no_failure : (meaning.state_of new).failures ≡ (meaning.state_of old).failures
+  pub runs : (meaning.state_of new).running ≡ true
+  pub found : (meaning.state_of old).honest → (payments : Payments)
+      × IsListFound (meaning.state_of old) (meaning.state_of new) count payments
 
 -- these lists, each with the whole group at its end
 abbrev pub WithGroup : (Payments → Type 0) → Payments → Payments → Type 0

@@ -1,0 +1,236 @@
+-- The meaning of a journal on a disk, from what its disk may leave.
+use Rattle.std.proofs.Common.{◌≡◌, ◌≢◌, ◌⊎◌, ◌↔◌, inl, inr, ℕ, zero, suc, ◌+◌, ◌*◌, ◌<◌, ◌≤◌, List, [], ◌∷◌, ◌++◌, false, Some, None, Option, length, get_or, take, drop, replicate, refl, sym, ◌∙◌, ap, subst, arith, length-append}
+use Rattle.std.proofs.lemmas.Bool.{cases_eq, cases_lt}
+use Rattle.std.proofs.lemmas.List.{append-nil, get_or-drop, get_or-replicate, get_or-take, get_or_past, length-replicate}
+use Rattle.duk_tree.specs.Serial.{IsSerial, Serial, serial_bytes, serial_of_bytes}
+use Rattle.duk_store.specs.Disk.{DiskMeaning, DiskState, LeavesItsSize, LeavesReads, LeavesWithin, PreservesDisk, ReadsMayStay}
+use Rattle.duk_store.specs.Restart.{RestartFailed}
+use Rattle.duk_store.specs.StoreState.{IsNew, KeepsNothing}
+use Rattle.duk_store.specs.declared.fault.StoreFault.{StoreFault}
+use Rattle.duk_store.specs.declared.fault.StoreFault.TheVariants as fault
+use Rattle.duk_journal.specs.DiskJournal.{DiskJournalOf, IsBlankJournalDisk, IsSoundJournalDisk, IsZeroJournalDisk, MayFindPayments, disk_journal_meaning, disk_journal_state, is_journal_running}
+use Rattle.duk_journal.specs.Groups.{AreClosedFrom, AreKeptFrom, IsGroup, KeepsPayments, Payments}
+use Rattle.duk_journal.specs.Journal.{GroupAppendFailed, IsGroupAppended, JournalRestarted, OldOrWithGroup}
+use Rattle.duk_journal.specs.RecordFormat.{IsJournalSize, IsOpen, gate_of, record_at}
+use Rattle.duk_journal.specs.inner.DiskJournal.{IsDamagedJournal, IsJournalUp, JournalUpFailed, KnowsCount, KnowsJournal}
+use Rattle.duk_journal.specs.inner.GroupSteps.{GroupFailed, IsGroupTorn, IsGroupWritten, WritesGroup}
+use Rattle.duk_journal.specs.inner.Groups.{AreWritten}
+use Rattle.duk_journal.specs.inner.Reading.{HasCount}
+use Rattle.duk_journal.proofs.KeptPayments.{closed_behind, group_kept, kept_once, kept_onto}
+
+-- zeros keep no payment
+zeros_closed : (size place : ℕ) → ¬ IsOpen (record_at place (replicate size 0))
+zeros_closed size place is_open = elim (cases_lt (32 * place) size) [
+  | inl inside ↦
+      let gate : gate_of (record_at place (replicate size 0)) ≡ 0 =
+      get_or-take 32 (drop (32 * place) (replicate size 0)) 0 0 (omega arith) ∙ get_or-drop (32 * place) (replicate size 0) 0 0 ∙ get_or-replicate size (32 * place + 0) 0 0 (omega (arith, inside)) in
+      absurd (omega (arith, is_open, gate))
+  | inr past ↦
+      let gate : gate_of (record_at place (replicate size 0)) ≡ 0 =
+      get_or-take 32 (drop (32 * place) (replicate size 0)) 0 0 (omega arith) ∙ get_or-drop (32 * place) (replicate size 0) 0 0
+      ∙ get_or_past (replicate size 0) (32 * place + 0) 0 (omega (arith, past, length-replicate {A = ℕ} size 0)) in
+      absurd (omega (arith, is_open, gate))
+]
+
+zeros_keep : (size : ℕ) → KeepsPayments (replicate size 0) []
+zeros_keep size later past = zeros_closed size later
+
+-- what a new disk keeps
+sound_one : (disk : DiskState) (image : List ℕ) (payments : Payments) → IsJournalSize disk.size → ((bytes : List ℕ) → disk.may_leave bytes ↔ (bytes ≡ image)) → KeepsPayments image payments → IsSoundJournalDisk disk
+sound_one disk image payments size leaves keeps = record { size = size; each_keeps = λ bytes left. (payments, subst (λ (bytes : List ℕ). KeepsPayments bytes payments) (sym ((leaves bytes).0 left)) keeps) }
+
+module _ (ten : (serial : Serial) → length (serial_bytes serial) ≡ 10) (found : (serial : Serial) → IsSerial serial → serial_of_bytes (serial_bytes serial) ≡ serial) where
+  -- a stop that leaves one image leaves its list
+  finds_list : (disk : DiskState) (image : List ℕ) (payments : Payments) → ((bytes : List ℕ) → disk.may_leave bytes ↔ (bytes ≡ image)) → KeepsPayments image payments → (other : Payments) → MayFindPayments disk other ↔ (other ≡ payments)
+  finds_list disk image payments leaves keeps other = (
+    (λ finds. kept_once ten found other payments 0 0 image (subst (λ (bytes : List ℕ). KeepsPayments bytes other) ((leaves finds.0).0 finds.1) finds.2) keeps),
+    (λ is. (image, (leaves image).1 refl, subst (λ (l : Payments). KeepsPayments image l) (sym is) keeps)),
+  )
+
+  pub zero_journal_is : (disk : DiskState) → IsZeroJournalDisk disk → KeepsNothing (disk_journal_state disk None) []
+  zero_journal_is disk left = record {
+    sound = sound_one disk (replicate disk.size 0) [] left.size left.zeros (zeros_keep disk.size);
+    finds = finds_list disk (replicate disk.size 0) [] left.zeros (zeros_keep disk.size);
+  }
+
+  pub new_journal_is : (disk : DiskState) → IsBlankJournalDisk disk → IsNew (disk_journal_state disk None) []
+  new_journal_is disk blank = record {
+    honest = blank.honest;
+    sound = (zero_journal_is disk blank.zero).sound;
+    calm = blank.calm;
+    stopped = refl;
+    finds = (zero_journal_is disk blank.zero).finds;
+  }
+
+module _ {D : Type 0} (meaning : DiskMeaning D) (old new : DiskJournalOf D) where
+  abbrev before : DiskState
+  before = meaning.state_of old.disk
+
+  abbrev after : DiskState
+  after = meaning.state_of new.disk
+
+  module _ (ten : (serial : Serial) → length (serial_bytes serial) ≡ 10) (found : (serial : Serial) → IsSerial serial → serial_of_bytes (serial_bytes serial) ≡ serial) where
+    pub journal_restarted : (count : ℕ) → new.kept ≡ Some count → IsJournalUp before after count → JournalRestarted (disk_journal_meaning meaning) old new count
+    journal_restarted count kept up = record {
+      nature = record {
+        honest = up.nature.honest;
+        sound = λ h sound. let holds = up.knows.holds (up.nature.honest.0 h) in sound_one after after.reads holds.has.0 up.knows.size holds.leaves holds.has.1;
+        calm = up.nature.calm;
+      };
+      no_failure = up.no_failure;
+      runs = ap is_journal_running kept;
+      found = λ h.
+          let holds = up.knows.holds (up.nature.honest.0 h) in
+          (holds.has.0, record {
+            finds = finds_list ten found after after.reads holds.has.0 holds.leaves holds.has.1;
+            was_found = (after.reads, up.found h, holds.has.1);
+            counted = holds.has.2;
+          });
+    }
+
+  journal_unsound : IsSoundJournalDisk before → IsDamagedJournal before → ⊥
+  journal_unsound sound (inl size) = size sound.size
+  journal_unsound sound (inr bad) = let kept = sound.each_keeps bad.0 bad.1 in bad.2 kept.0 kept.1
+
+  pub journal_sound : PreservesDisk before after → LeavesWithin before after → before.honest → IsSoundJournalDisk before → IsSoundJournalDisk after
+  journal_sound nature within h sound = record { size = rw nature.size sound.size; each_keeps = λ bytes left. sound.each_keeps bytes (within h bytes left) }
+
+  journal_some : ReadsMayStay after → PreservesDisk before after → LeavesWithin before after → before.honest → IsSoundJournalDisk before → (payments : Payments) × MayFindPayments after payments
+  journal_some stays nature within h sound =
+      let left = stays (nature.honest.0 h) in
+      let kept = sound.each_keeps after.reads (within h after.reads left) in
+      (kept.0, (after.reads, left, kept.1))
+
+  pub journal_restart_failed : ReadsMayStay after → new.kept ≡ None → (why : StoreFault) → JournalUpFailed before after why → RestartFailed (disk_journal_state before old.kept) (disk_journal_state after new.kept) why
+  journal_restart_failed stays kept fault.Device failed = record {
+    stops = record {
+      nature = record { honest = failed.nature.honest; sound = journal_sound failed.nature failed.within; calm = failed.nature.calm };
+      quiet = λ calm. absurd (failed.cause.not_calm calm);
+      stopped = ap is_journal_running kept;
+      within = λ h value finds. (finds.0, failed.within h finds.0 finds.1, finds.2);
+      some = journal_some stays failed.nature failed.within;
+    };
+    fault_is = failed.cause.failure;
+  }
+  journal_restart_failed stays kept fault.Damaged failed = record {
+    stops = record {
+      nature = record { honest = failed.nature.honest; sound = journal_sound failed.nature failed.within; calm = failed.nature.calm };
+      quiet = λ calm. failed.cause.no_failure;
+      stopped = ap is_journal_running kept;
+      within = λ h value finds. (finds.0, failed.within h finds.0 finds.1, finds.2);
+      some = journal_some stays failed.nature failed.within;
+    };
+    fault_is = record { unsound = λ h sound. journal_unsound sound (failed.cause.damage h); no_failure = failed.cause.no_failure };
+  }
+  journal_restart_failed stays kept fault.Stopped failed = absurd failed.cause
+  journal_restart_failed stays kept fault.Worn failed = absurd failed.cause
+  journal_restart_failed stays kept fault.NoMemory failed = absurd failed.cause
+
+-- ---- a group that is written behind what is kept
+
+module _ (payments group : Payments) (count : ℕ) (x y : List ℕ) (keeps : KeepsPayments x payments) (counted : length payments ≡ count) (some : 1 ≤ length group) where
+  was_closed : AreClosedFrom count x
+  was_closed later past = closed_behind payments 0 0 x keeps later (omega (arith, past, counted))
+
+  still_closed : ((other : ℕ) → other ≢ count → gate_of (record_at other y) ≡ gate_of (record_at other x)) → AreClosedFrom (count + 1) y
+  still_closed gates later past is_open = was_closed later (omega (arith, past)) (sym (gates later (omega (arith, past))) ∙ is_open)
+
+  with_group : ((other : ℕ) → other ≢ count → gate_of (record_at other y) ≡ gate_of (record_at other x)) → ((other : ℕ) → (other < count) ⊎ (count + length group ≤ other) → record_at other y ≡ record_at other x)
+      → AreWritten (length group) group count y → IsOpen (record_at count y) → KeepsPayments y (payments ++ group)
+  with_group gates beside written is_open =
+      kept_onto payments group 0 0 count x y (omega (arith, counted)) keeps (λ place from to. beside place (inl to))
+      (group_kept group count y some written is_open (still_closed gates))
+
+  pub group_appended : IsGroupWritten group count x y → KeepsPayments y (payments ++ group)
+  group_appended written = with_group written.gates written.beside written.contents written.is_open
+
+  as_before : ((other : ℕ) → other ≢ count → gate_of (record_at other y) ≡ gate_of (record_at other x)) → ((other : ℕ) → (other < count) ⊎ (count + length group ≤ other) → record_at other y ≡ record_at other x)
+      → ¬ IsOpen (record_at count y) → KeepsPayments y payments
+  as_before gates beside closed = subst (KeepsPayments y) (append-nil payments)
+      (kept_onto payments [] 0 0 count x y (omega (arith, counted)) keeps (λ place from to. beside place (inl to)) all_closed)
+    where
+      all_closed : AreClosedFrom count y
+      all_closed later past = elim (cases_eq later count) [
+        | inl is ↦ subst (λ (at : ℕ). ¬ IsOpen (record_at at y)) (sym is) closed
+        | inr other ↦ still_closed gates later (omega (arith, past, other))
+      ]
+
+  pub group_old_or_new : IsGroupTorn group count x y → KeepsPayments y payments ⊎ KeepsPayments y (payments ++ group)
+  group_old_or_new torn = elim (cases_eq (gate_of (record_at count y)) 1) [
+    | inl is_open ↦ elim torn.torn [
+      | inl same ↦ absurd (was_closed count (omega arith) (sym same ∙ is_open))
+      | inr written ↦ inr (with_group torn.gates torn.beside written is_open)
+    ]
+    | inr closed ↦ inl (as_before torn.gates torn.beside closed)
+  ]
+
+module _ (ten : (serial : Serial) → length (serial_bytes serial) ≡ 10) (found : (serial : Serial) → IsSerial serial → serial_of_bytes (serial_bytes serial) ≡ serial) {D : Type 0} (meaning : DiskMeaning D) (old new : DiskJournalOf D) (group : Payments) (count : ℕ) (some : 1 ≤ length group) (kept : old.kept ≡ Some count) (knows : KnowsCount count (meaning.state_of old.disk)) where
+  abbrev disk_before : DiskState
+  disk_before = meaning.state_of old.disk
+
+  abbrev disk_after : DiskState
+  disk_after = meaning.state_of new.disk
+
+  appended_list : WritesGroup group count disk_before disk_after → (h : disk_before.honest) → KeepsPayments disk_after.reads ((knows.holds h).has.0 ++ group)
+  appended_list done h = let has = (knows.holds h).has in group_appended has.0 group count disk_before.reads disk_after.reads has.1 has.2 some (done.written h)
+
+  pub knows_group : 32 * (count + length group) ≤ disk_before.size → WritesGroup group count disk_before disk_after → KnowsCount (count + length group) disk_after
+  knows_group inside done = record {
+    size = rw done.nature.size knows.size;
+    size_fits = rw done.nature.size knows.size_fits;
+    fits = omega (arith, inside, done.nature.size);
+    holds = λ honest.
+        let h = done.nature.honest.1 honest in
+        let has = (knows.holds h).has in
+        record { leaves = done.leaves h; has = (has.0 ++ group, appended_list done h, length-append has.0 group ∙ ap (λ (n : ℕ). n + length group) has.2) };
+  }
+
+  pub journal_appended : new.kept ≡ Some (count + length group) → WritesGroup group count disk_before disk_after → IsGroupAppended (disk_journal_meaning meaning) old new group
+  journal_appended kept_then done = record {
+    was_running = ap is_journal_running kept;
+    nature = record {
+      honest = done.nature.honest;
+      sound = λ h sound. sound_one disk_after disk_after.reads ((knows.holds h).has.0 ++ group) (rw done.nature.size knows.size) (done.leaves h) (appended_list done h);
+      calm = done.nature.calm;
+    };
+    no_failure = done.no_failure;
+    runs = ap is_journal_running kept_then;
+    finds = λ h payments only other.
+        let holds = knows.holds h in
+        let is : holds.has.0 ≡ payments = (only holds.has.0).0 (disk_before.reads, (holds.leaves disk_before.reads).1 refl, holds.has.1) in
+        let list : holds.has.0 ++ group ≡ payments ++ group = ap (λ (l : Payments). l ++ group) is in
+        let finds = finds_list ten found disk_after disk_after.reads (holds.has.0 ++ group) (done.leaves h) (appended_list done h) other in
+        ((λ could. finds.0 could ∙ list), (λ is. finds.1 (is ∙ sym list)));
+  }
+
+  -- each image that a stop could leave keeps the list, or the list with the whole group
+  each_list : (why : StoreFault) → GroupFailed group count disk_before disk_after why → (h : disk_before.honest) → (bytes : List ℕ) → disk_after.may_leave bytes
+      → (payments : Payments) × KeepsPayments bytes payments × OldOrWithGroup (disk_journal_state disk_before old.kept) group payments
+  each_list why failed h bytes left =
+      let holds = knows.holds h in
+      let old_list : MayFindPayments disk_before holds.has.0 = (disk_before.reads, (holds.leaves disk_before.reads).1 refl, holds.has.1) in
+      elim (group_old_or_new holds.has.0 group count disk_before.reads bytes holds.has.1 holds.has.2 some (failed.torn h bytes left)) [
+        | inl keeps ↦ (holds.has.0, keeps, inl old_list)
+        | inr keeps ↦ (holds.has.0 ++ group, keeps, inr (holds.has.0, old_list, refl))
+      ]
+
+  pub journal_append_failed : ReadsMayStay disk_after → new.kept ≡ None → (why : StoreFault) → GroupFailed group count disk_before disk_after why → GroupAppendFailed (disk_journal_meaning meaning) old new group why
+  journal_append_failed stays_then kept_then why failed = subst (λ why. GroupAppendFailed (disk_journal_meaning meaning) old new group why) (sym failed.failed.fault_is) (record {
+    was_running = ap is_journal_running kept;
+    stops = record {
+      nature = record { honest = failed.nature.honest; sound = sound_then; calm = failed.nature.calm };
+      quiet = λ calm. absurd (failed.failed.not_calm calm);
+      stopped = ap is_journal_running kept_then;
+      within = λ h value finds.
+          let list = each_list why failed h finds.0 finds.1 in
+          subst (λ (payments : Payments). OldOrWithGroup (disk_journal_state disk_before old.kept) group payments) (kept_once ten found list.0 value 0 0 finds.0 list.1 finds.2) list.2;
+      some = λ h sound.
+          let left = stays_then (failed.nature.honest.0 h) in
+          let list = each_list why failed h disk_after.reads left in
+          (list.0, (disk_after.reads, left, list.1));
+    };
+    failure = failed.failed.failure;
+  })
+    where
+      sound_then : disk_before.honest → IsSoundJournalDisk disk_before → IsSoundJournalDisk disk_after
+      sound_then h sound = record { size = rw failed.nature.size sound.size; each_keeps = λ bytes left. let list = each_list why failed h bytes left in (list.0, list.1) }
