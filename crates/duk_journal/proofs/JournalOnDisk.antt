@@ -3,20 +3,20 @@ use Rattle.std.proofs.Common.{◌≡◌, ◌≢◌, ◌⊎◌, ◌↔◌, inl, i
 use Rattle.std.proofs.lemmas.Bool.{cases_eq, cases_lt}
 use Rattle.std.proofs.lemmas.List.{append-nil, get_or-drop, get_or-replicate, get_or-take, get_or_past, length-replicate}
 use Rattle.duk_tree.specs.Serial.{IsSerial, Serial, serial_bytes, serial_of_bytes}
-use Rattle.duk_store.specs.Disk.{DiskMeaning, DiskState, LeavesItsSize, LeavesReads, LeavesWithin, PreservesDisk, ReadsMayStay}
+use Rattle.duk_store.specs.Disk.{DiskMeaning, DiskState, LeavesItsSize, LeavesWithin, PreservesBytes, PreservesDisk, ReadsMayStay}
 use Rattle.duk_store.specs.Restart.{RestartFailed}
-use Rattle.duk_store.specs.StoreState.{IsNew, KeepsNothing}
+use Rattle.duk_store.specs.StoreState.{FindsAsBefore, IsNew, KeepsNothing, PreservesNature}
 use Rattle.duk_store.specs.declared.fault.StoreFault.{StoreFault}
 use Rattle.duk_store.specs.declared.fault.StoreFault.TheVariants as fault
 use Rattle.duk_journal.specs.DiskJournal.{DiskJournalOf, IsBlankJournalDisk, IsSoundJournalDisk, IsZeroJournalDisk, MayFindPayments, disk_journal_meaning, disk_journal_state, is_journal_running}
 use Rattle.duk_journal.specs.Groups.{AreClosedFrom, AreKeptFrom, IsGroup, KeepsPayments, Payments}
-use Rattle.duk_journal.specs.Journal.{GroupAppendFailed, IsGroupAppended, JournalRestarted, OldOrWithGroup}
+use Rattle.duk_journal.specs.Journal.{ArePaymentsRead, GroupAppendFailed, IsGroupAppended, IsReadStopped, JournalRestarted, OldOrWithGroup, PaymentsUnread}
 use Rattle.duk_journal.specs.RecordFormat.{IsJournalSize, IsOpen, gate_of, record_at}
-use Rattle.duk_journal.specs.inner.DiskJournal.{IsDamagedJournal, IsJournalUp, JournalUpFailed, KnowsCount, KnowsJournal}
+use Rattle.duk_journal.specs.inner.DiskJournal.{IsDamagedJournal, IsJournalUp, IsKeptRead, JournalUpFailed, KeptUnread, KnowsCount}
 use Rattle.duk_journal.specs.inner.GroupSteps.{GroupFailed, IsGroupTorn, IsGroupWritten, WritesGroup}
 use Rattle.duk_journal.specs.inner.Groups.{AreWritten}
-use Rattle.duk_journal.specs.inner.Reading.{HasCount}
 use Rattle.duk_journal.proofs.KeptPayments.{closed_behind, group_kept, kept_once, kept_onto}
+use Rattle.duk_journal.proofs.PaymentsRead.{are_kept, none_lacks}
 
 -- zeros keep no payment
 zeros_closed : (size place : ℕ) → ¬ IsOpen (record_at place (replicate size 0))
@@ -234,3 +234,64 @@ module _ (ten : (serial : Serial) → length (serial_bytes serial) ≡ 10) (foun
     where
       sound_then : disk_before.honest → IsSoundJournalDisk disk_before → IsSoundJournalDisk disk_after
       sound_then h sound = record { size = rw failed.nature.size sound.size; each_keeps = λ bytes left. let list = each_list why failed h bytes left in (list.0, list.1) }
+
+-- ---- payments that are read
+
+module _ (ten : (serial : Serial) → length (serial_bytes serial) ≡ 10) (found : (serial : Serial) → IsSerial serial → serial_of_bytes (serial_bytes serial) ≡ serial) {D : Type 0} (meaning : DiskMeaning D) (old new : DiskJournalOf D) (count place : ℕ) (kept : old.kept ≡ Some count) (knows : KnowsCount count (meaning.state_of old.disk)) (lengths : LeavesItsSize (meaning.state_of old.disk)) (stays : ReadsMayStay (meaning.state_of old.disk)) where
+  abbrev read_before : DiskState
+  read_before = meaning.state_of old.disk
+
+  abbrev read_after : DiskState
+  read_after = meaning.state_of new.disk
+
+  read_inside : (n : ℕ) → place + n ≤ count → read_before.honest → 32 * (place + n) ≤ length read_before.reads
+  read_inside n within h = omega (arith, within, knows.fits, lengths h read_before.reads (stays h))
+
+  found_as_before : PreservesBytes read_before read_after → FindsAsBefore (disk_journal_state read_before old.kept) (disk_journal_state read_after new.kept)
+  found_as_before bytes h value = (
+    (λ finds. (finds.0, (bytes.may_leave finds.0).0 finds.1, finds.2)),
+    (λ finds. (finds.0, (bytes.may_leave finds.0).1 finds.1, finds.2)),
+  )
+
+  read_nature : PreservesDisk read_before read_after → PreservesBytes read_before read_after → PreservesNature (disk_journal_state read_before old.kept) (disk_journal_state read_after new.kept)
+  read_nature nature bytes = record {
+    honest = nature.honest;
+    sound = λ h sound. record { size = rw nature.size sound.size; each_keeps = λ left could. sound.each_keeps left ((bytes.may_leave left).0 could) };
+    calm = nature.calm;
+  }
+
+  pub journal_read : (payments : Payments) → new.kept ≡ old.kept → place + length payments ≤ count → IsKeptRead place payments read_before read_after → ArePaymentsRead (disk_journal_meaning meaning) old new place payments
+  journal_read payments kept_then within read = record {
+    was_running = ap is_journal_running kept;
+    stays = record {
+      nature = read_nature read.nature read.bytes;
+      no_failure = read.no_failure;
+      running = ap is_journal_running kept_then;
+      found = found_as_before read.bytes;
+    };
+    payments_are = λ h list finds.
+        let holds = knows.holds h in
+        let is : list ≡ holds.has.0 = kept_once ten found list holds.has.0 0 0 read_before.reads (subst (λ (bytes : List ℕ). KeepsPayments bytes list) ((holds.leaves finds.0).0 finds.1) finds.2) holds.has.1 in
+        ap (λ (l : Payments). take (length payments) (drop place l)) is
+        ∙ are_kept ten found holds.has.0 read_before.reads place (length payments) holds.has.1 (omega (arith, within, holds.has.2)) (read_inside (length payments) within h) payments refl (read.read h);
+  }
+
+  read_stopped : (why : StoreFault) (n : ℕ) → new.kept ≡ None → KeptUnread place n read_before read_after why → IsReadStopped (disk_journal_meaning meaning) old new
+  read_stopped why n kept_then failed = record {
+    was_running = ap is_journal_running kept;
+    nature = read_nature failed.nature failed.bytes;
+    stopped = ap is_journal_running kept_then;
+    found = found_as_before failed.bytes;
+  }
+
+  pub journal_unread : (n : ℕ) → new.kept ≡ None → place + n ≤ count → (why : StoreFault) → KeptUnread place n read_before read_after why → PaymentsUnread (disk_journal_meaning meaning) old new why
+  journal_unread n kept_then within fault.Device failed = (read_stopped fault.Device n kept_then failed, failed.cause.failure, failed.cause.not_calm)
+  journal_unread n kept_then within fault.Damaged failed = (
+    read_stopped fault.Damaged n kept_then failed,
+    failed.cause.no_failure,
+    (λ h. let holds = knows.holds h in
+    none_lacks ten found holds.has.0 read_before.reads place n holds.has.1 (omega (arith, within, holds.has.2)) (read_inside n within h) (failed.cause.lacks h)),
+  )
+  journal_unread n kept_then within fault.Stopped failed = absurd failed.cause
+  journal_unread n kept_then within fault.Worn failed = absurd failed.cause
+  journal_unread n kept_then within fault.NoMemory failed = absurd failed.cause

@@ -1,11 +1,13 @@
 //! The device calls that bring a journal's disk up and read it by pieces.
 
 ghost use Rattle.std.specs.Prelude.{◌≡◌, ◌*◌, ◌+◌, ◌<◌, ◌≤◌, ◌^◌, ◌↔◌, ℕ, true, length, IfErr, IfOk, OnOk};
+ghost use Rattle.duk_store.specs.Disk.{StaysArmed};
 ghost use Rattle.duk_journal.specs.RecordFormat.{IsJournalSize};
-ghost use Rattle.duk_journal.specs.inner.DiskJournal.{AreRecordsRead, CountFailed, IsCounted, IsJournalOpen, IsJournalUp, JournalUpFailed, OpenFailed, RecordsUnread};
+ghost use Rattle.duk_journal.specs.inner.DiskJournal.{AreRecordsRead, CountFailed, IsCounted, IsJournalOpen, IsJournalUp, IsKeptRead, JournalUpFailed, KeptUnread, OpenFailed, RecordsUnread};
 ghost use Rattle.duk_journal.specs.inner.Reading.{kept_in};
 
-use crate::reading::{Reading, finish_reading, read_piece};
+use crate::payment::Payment;
+use crate::reading::{Reading, finish_reading, read_payments, read_piece};
 use crate::record_format::RECORD_LENGTH;
 use duk_store::{Disk, StoreFault};
 
@@ -101,4 +103,29 @@ fn read_records<D: Disk>(
 {
     disk.read_at(RECORD_LENGTH as u64 * place, piece)?;
     read_piece(reading, piece)
+}
+
+/// Reads the payments of the records from a place on into all of `payments`, by way of `piece`.
+///
+/// Refused with `Device` where the device step failed, and with `Damaged` where a record has no
+/// payment.
+pub fn read_kept<D: Disk>(
+    disk: &mut D,
+    place: u64,
+    piece: &mut [u8],
+    payments: &mut [Payment],
+) -> Result<(), StoreFault>
+    requires whole { length piece.old ≡ 32 * length payments.old }
+    requires inside { 32 * (place + length payments.old) ≤ (D.meaning.state_of disk.old).size }
+    requires fits { (D.meaning.state_of disk.old).size < 2 ^ 64 }
+    ensures read { OnOk result (IsKeptRead place payments.new
+        (D.meaning.state_of disk.old) (D.meaning.state_of disk.new)) }
+    ensures failed { IfErr result (KeptUnread place (length payments.old)
+        (D.meaning.state_of disk.old) (D.meaning.state_of disk.new)) }
+    ensures payments_length { length payments.new ≡ length payments.old }
+    ensures piece_length { length piece.new ≡ length piece.old }
+    ensures arming { StaysArmed (D.meaning.state_of disk.old) (D.meaning.state_of disk.new) }
+{
+    disk.read_at(RECORD_LENGTH as u64 * place, piece)?;
+    read_payments(piece, payments)
 }

@@ -1,11 +1,11 @@
 //! The records of a journal, read one after the other.
 
-ghost use Rattle.std.specs.Prelude.{◌≡◌, ◌≢◌, ◌+◌, ◌*◌, ◌<◌, ◌≤◌, ◌/◌, ◌^◌, ℕ, List, length, IfErr, IfOk};
+ghost use Rattle.std.specs.Prelude.{◌≡◌, ◌≢◌, ◌+◌, ◌*◌, ◌<◌, ◌≤◌, ◌/◌, ◌^◌, ℕ, List, length, IfErr, IfOk, OnOk};
 ghost use Rattle.duk_journal.specs.Groups.{HasContents};
-ghost use Rattle.duk_journal.specs.inner.Reading.{Breaks, BreaksIn, Continues, ContinuesBy, HasCount, HasNoContents, KeepsNone, HasRead, kept_in};
-ghost use Rattle.duk_journal.specs.declared.payment.Payment.{Payment};
+ghost use Rattle.duk_journal.specs.inner.Reading.{Breaks, BreaksIn, Continues, ContinuesBy, HasCount, HasNoContents, HasRead, HavePayments, KeepsNone, LacksPayment, kept_in};
 ghost use Rattle.duk_journal.specs.declared.reading.Reading.TheVariants.{Behind, Groups};
 
+use crate::payment::Payment;
 use crate::record_format::{Contents, OPEN, RECORD_LENGTH};
 use duk_store::StoreFault;
 
@@ -97,10 +97,10 @@ fn read_first(kept: u64, bytes: &[u8]) -> Result<Reading, StoreFault>
     if bytes[0] != OPEN {
         return Ok(Reading::Behind { kept });
     }
-    let left = read_contents(bytes)?;
+    let contents = contents_in(bytes)?;
     Ok(Reading::Groups {
         kept: kept + 1,
-        left,
+        left: contents.followers,
     })
 }
 
@@ -119,8 +119,8 @@ fn read_follower(kept: u64, left: u16, bytes: &[u8]) -> Result<Reading, StoreFau
     if bytes[0] == OPEN {
         return Err(StoreFault::Damaged);
     }
-    let followers = read_contents(bytes)?;
-    if followers != 0 {
+    let contents = contents_in(bytes)?;
+    if contents.followers != 0 {
         return Err(StoreFault::Damaged);
     }
     Ok(Reading::Groups {
@@ -129,13 +129,13 @@ fn read_follower(kept: u64, left: u16, bytes: &[u8]) -> Result<Reading, StoreFau
     })
 }
 
-/// How many records follow, as the contents of a record say.
+/// The contents of a record.
 ///
 /// Refused with `Damaged` where these are no contents.
-fn read_contents(bytes: &[u8]) -> Result<u16, StoreFault>
+fn contents_in(bytes: &[u8]) -> Result<Contents, StoreFault>
     requires { length bytes.now ≡ 32 }
-    ensures found { IfOk result (λ followers. (payment : Payment)
-        × HasContents followers payment bytes.now) }
+    ensures found { IfOk result (λ contents.
+        HasContents contents.followers contents.payment bytes.now) }
     ensures none { IfErr result (λ fault. (fault ≡ StoreFault.Damaged)
         × HasNoContents bytes.now) }
 {
@@ -145,7 +145,25 @@ fn read_contents(bytes: &[u8]) -> Result<u16, StoreFault>
     if contents.followers as usize >= MOST_OF_GROUP {
         return Err(StoreFault::Damaged);
     }
-    Ok(contents.followers)
+    Ok(contents)
+}
+
+/// Reads the payments of a piece's records into all of `payments`.
+///
+/// Refused with `Damaged` where a record has none.
+pub fn read_payments(piece: &[u8], payments: &mut [Payment]) -> Result<(), StoreFault>
+    requires { length piece.now ≡ 32 * length payments.old }
+    ensures read { OnOk result (HavePayments (length payments.new) payments.new piece.now) }
+    ensures length { length payments.new ≡ length payments.old }
+    ensures refused { IfErr result (λ fault. (fault ≡ StoreFault.Damaged)
+        × LacksPayment (length payments.old) piece.now) }
+{
+    for index in 0..payments.len() {
+        let at = RECORD_LENGTH * index;
+        let contents = contents_in(&piece[at..at + RECORD_LENGTH])?;
+        payments[index] = contents.payment;
+    }
+    Ok(())
 }
 
 /// How many payments are kept, where all records were read.

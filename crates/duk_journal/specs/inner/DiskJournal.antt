@@ -1,10 +1,11 @@
 -- What only private functions and proofs say beside `DiskJournal.antt`: this project's own.
 use Rattle.std.specs.Prelude.{◌≡◌, ◌≢◌, ◌⊎◌, ◌<◌, ◌≤◌, ◌+◌, ◌*◌, ◌/◌, ◌^◌, ℕ, List, length, Option, Some, None}
-use Rattle.duk_store.specs.Disk.{DiskState, HasFailed, LeavesReads, LeavesWithin, PreservesBytes, PreservesDisk}
+use Rattle.duk_store.specs.Disk.{DiskState, HasFailed, LeavesReads, LeavesWithin, PreservesBytes, PreservesDisk, range_of}
 use Rattle.duk_store.specs.declared.fault.StoreFault.{StoreFault}
 use Rattle.duk_store.specs.declared.fault.StoreFault.TheVariants.{Damaged, Device}
 use Rattle.duk_journal.specs.RecordFormat.{IsJournalSize, record_length}
-use Rattle.duk_journal.specs.inner.Reading.{HasCount, HasRead, KeepsNone, kept_in}
+use Rattle.duk_journal.specs.inner.Reading.{HasCount, HasRead, HavePayments, KeepsNone, LacksPayment, kept_in}
+use Rattle.duk_journal.specs.Groups.{Payments}
 use Rattle.duk_journal.specs.declared.reading.Reading.{Reading}
 
 -- the disk has one image, in which so many payments are kept
@@ -134,3 +135,27 @@ pub record JournalUpFailed (old new : DiskState) (fault : StoreFault) : Type 0 w
   pub disarmed : new.disarmed
   pub within : LeavesWithin old new
   pub cause : IsJournalUpFault old new fault
+
+-- payments are read, and nothing changes
+pub record IsKeptRead (place : ℕ) (payments : Payments) (old new : DiskState) : Type 0 where
+  pub nature : PreservesDisk old new
+  pub no_failure : new.failures ≡ old.failures
+  pub bytes : PreservesBytes old new
+  pub read : old.honest → HavePayments (length payments) payments
+      (range_of (record_length * place) (record_length * length payments) old.reads)
+
+-- why they are not: a device step failed, or a record has no payment
+pub record FoundNoPayment (place count : ℕ) (old new : DiskState) : Type 0 where
+  pub no_failure : new.failures ≡ old.failures
+  pub lacks : old.honest → LacksPayment count
+      (range_of (record_length * place) (record_length * count) old.reads)
+
+abbrev pub IsKeptFault : ℕ → ℕ → DiskState → DiskState → StoreFault → Type 0
+IsKeptFault place count old new Device = HasFailed old new Device
+IsKeptFault place count old new Damaged = FoundNoPayment place count old new
+IsKeptFault place count old new _ = ⊥
+
+pub record KeptUnread (place count : ℕ) (old new : DiskState) (fault : StoreFault) : Type 0 where
+  pub nature : PreservesDisk old new
+  pub bytes : PreservesBytes old new
+  pub cause : IsKeptFault place count old new fault

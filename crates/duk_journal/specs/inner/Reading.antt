@@ -1,5 +1,5 @@
 -- How the records of a journal are read, one after the other: this project's own.
-use Rattle.std.specs.Prelude.{◌≡◌, ◌<◌, ◌≤◌, ◌+◌, ◌*◌, ◌/◌, ℕ, List, length}
+use Rattle.std.specs.Prelude.{◌≡◌, ◌<◌, ◌≤◌, ◌+◌, ◌*◌, ◌/◌, ℕ, List, length, slice_index_or}
 use Rattle.duk_store.specs.Disk.{range_of}
 use Rattle.duk_journal.specs.Groups.{AreClosedFrom, AreKeptFrom, HasContents, KeepsPayments, Payments}
 use Rattle.duk_journal.specs.RecordFormat.{IsOpen, record_at, record_length}
@@ -67,3 +67,12 @@ ContinuesBy before piece after = (place : ℕ) (bytes : List ℕ)
 abbrev pub BreaksIn : Reading → List ℕ → Type 0
 BreaksIn before piece = (place : ℕ) (bytes : List ℕ)
     → StandsAt place piece bytes → HasRead before place bytes → KeepsNone bytes
+
+-- the first of these payments stand in the records of a piece
+abbrev pub HavePayments : ℕ → Payments → List ℕ → Type 0
+HavePayments count payments piece = (index : ℕ) (other : Payment) → index < count
+    → (followers : ℕ) × HasContents followers (slice_index_or payments index other) (record_at index piece)
+
+-- one of the first records of a piece has no payment
+abbrev pub LacksPayment : ℕ → List ℕ → Type 0
+LacksPayment count piece = (index : ℕ) × (index < count) × HasNoContents (record_at index piece)

@@ -10,15 +10,14 @@ pub returns-then-bytes-ne-OPEN-clause-read : goal.returns-then-bytes-ne-OPEN-cla
 returns-then-bytes-ne-OPEN-clause-read c = λ place bytes is was.
     end_read c.args.kept place bytes was (subst (λ (r : List ℕ). ¬ IsOpen r) (sym is) c.if-bytes-ne-OPEN.true)
 
-pub returns-in_err-left-clause-refused : goal.returns-in_err-left-clause-refused
-returns-in_err-left-clause-refused c =
+pub returns-in_err-contents-clause-refused : goal.returns-in_err-contents-clause-refused
+returns-in_err-contents-clause-refused c =
     let p = err_from_is_err_and c.from_residual.result c.from_residual.ensures.1 in
-    let none = c.in_err-left.ensures.none in
+    let none = c.in_err-contents.ensures.none in
     rw (p.1, p.2) (none.0, λ place bytes is was.
     no_first c.args.kept place bytes c.serials.ensures.ten c.serials.ensures.found was (subst IsOpen (sym is) c.if-bytes-ne-OPEN.false) (subst HasNoContents (sym is) none.1))
 
 pub returns-clause-read : goal.returns-clause-read
 returns-clause-read c = λ place bytes is was.
-    let found = c.in_ok-left.ensures.found in
-    first_read c.args.kept place bytes c.serials.ensures.ten c.serials.ensures.found c.in_ok-left.left found.0 was (subst IsOpen (sym is) c.if-bytes-ne-OPEN.false)
-    (subst (HasContents c.in_ok-left.left found.0) (sym is) found.1)
+    first_read c.args.kept place bytes c.serials.ensures.ten c.serials.ensures.found c.in_ok-contents.contents.followers c.in_ok-contents.contents.payment was (subst IsOpen (sym is) c.if-bytes-ne-OPEN.false)
+    (subst (HasContents c.in_ok-contents.contents.followers c.in_ok-contents.contents.payment) (sym is) c.in_ok-contents.ensures.found)

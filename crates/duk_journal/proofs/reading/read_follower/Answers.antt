@@ -10,21 +10,23 @@ pub returns-then-bytes-eq-OPEN-clause-refused : goal.returns-then-bytes-eq-OPEN-
 returns-then-bytes-eq-OPEN-clause-refused c = (refl, λ place bytes is was.
     no_follower c.args.kept place bytes c.serials.ensures.ten c.serials.ensures.found c.args.left c.requires.some was (inl (subst IsOpen (sym is) c.if-bytes-eq-OPEN.true)))
 
-pub returns-in_err-followers-clause-refused : goal.returns-in_err-followers-clause-refused
-returns-in_err-followers-clause-refused c =
+pub returns-in_err-contents-clause-refused : goal.returns-in_err-contents-clause-refused
+returns-in_err-contents-clause-refused c =
     let p = err_from_is_err_and c.from_residual.result c.from_residual.ensures.1 in
-    let none = c.in_err-followers.ensures.none in
+    let none = c.in_err-contents.ensures.none in
     rw (p.1, p.2) (none.0, λ place bytes is was.
     no_follower c.args.kept place bytes c.serials.ensures.ten c.serials.ensures.found c.args.left c.requires.some was (inr (λ payment has. none.1 0 payment (subst (HasContents 0 payment) is has))))
 
-pub returns-then-followers-ne0-clause-refused : goal.returns-then-followers-ne0-clause-refused
-returns-then-followers-ne0-clause-refused c = (refl, λ place bytes is was.
-    let found = c.in_ok-followers.ensures.found in
+pub returns-then-contents-ne0-clause-refused : goal.returns-then-contents-ne0-clause-refused
+returns-then-contents-ne0-clause-refused c = (refl, λ place bytes is was.
+    let contents = c.in_ok-contents.contents in
+    let found = c.in_ok-contents.ensures.found in
     no_follower c.args.kept place bytes c.serials.ensures.ten c.serials.ensures.found c.args.left c.requires.some was
-    (inr (λ payment has. c.if-followers-ne0.true (same_followers c.serials.ensures.ten c.serials.ensures.found c.in_ok-followers.followers 0 found.0 payment c.args.bytes.now found.1 (subst (HasContents 0 payment) is has)))))
+    (inr (λ payment has. c.if-contents-ne0.true (same_followers c.serials.ensures.ten c.serials.ensures.found contents.followers 0 contents.payment payment c.args.bytes.now found (subst (HasContents 0 payment) is has)))))
 
 pub returns-clause-read : goal.returns-clause-read
 returns-clause-read c = λ place bytes is was.
-    let found = c.in_ok-followers.ensures.found in
-    follower_read c.args.kept place bytes c.serials.ensures.ten c.serials.ensures.found c.args.left found.0 c.requires.some was (subst (λ (r : List ℕ). ¬ IsOpen r) (sym is) c.if-bytes-eq-OPEN.false)
-    (subst (HasContents 0 found.0) (sym is) (subst (λ (f : ℕ). HasContents f found.0 c.args.bytes.now) c.if-followers-ne0.false found.1))
+    let contents = c.in_ok-contents.contents in
+    let found = c.in_ok-contents.ensures.found in
+    follower_read c.args.kept place bytes c.serials.ensures.ten c.serials.ensures.found c.args.left contents.payment c.requires.some was (subst (λ (r : List ℕ). ¬ IsOpen r) (sym is) c.if-bytes-eq-OPEN.false)
+    (subst (HasContents 0 contents.payment) (sym is) (subst (λ (f : ℕ). HasContents f contents.payment c.args.bytes.now) c.if-contents-ne0.false found))

@@ -4,7 +4,7 @@ use Rattle.duk_journal.specs.inner.RecordFormat.{AreContents}
 use Rattle.duk_journal.specs.declared.record_format.Contents.{Contents}
 use Rattle.duk_journal.proofs.FieldPlaces.{same_some}
 use Rattle.duk_journal.proofs.KeptPayments.{contents_are}
-use Rattle.duk_journal.proofs.reading.read_contents.Goals as goal
+use Rattle.duk_journal.proofs.reading.contents_in.Goals as goal
 
 pub returns-in_default-clause-none : goal.returns-in_default-clause-none
 returns-in_default-clause-none c = (refl, λ followers payment has.
