@@ -7,7 +7,6 @@ use Rattle.duk_tree.specs.Serial.{Serial, serial_bytes}
 use Rattle.duk_journal.specs.Payment.{number_of_code}
 use Rattle.duk_journal.specs.RecordFormat.{contents_of}
 use Rattle.duk_journal.specs.inner.RecordFormat.{AreContents}
-use Rattle.duk_journal.specs.declared.payment.Payment.{Payment}
 use Rattle.duk_journal.specs.declared.record_format.Contents.{Contents}
 
 -- what stands where contents have their fields

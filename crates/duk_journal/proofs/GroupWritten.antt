@@ -1,11 +1,10 @@
 -- What is written of a group, one record after the other.
 use Rattle.std.proofs.Common.{◌≡◌, ◌≢◌, ◌⊎◌, inl, inr, ℕ, zero, suc, ◌+◌, ◌-◌, ◌*◌, ◌<◌, ◌≤◌, List, [], ◌∷◌, Some, length, get_or, refl, sym, ◌∙◌, ap, subst, arith}
 use Rattle.std.proofs.lemmas.Bool.{cases_eq, cases_lt}
-use Rattle.std.specs.List.{All, slice_get}
-use Rattle.duk_tree.specs.Path.{IsUsable}
-use Rattle.duk_store.specs.Disk.{DiffersWithin, DiskState, LeavesChanged, PreservesDisk, written}
-use Rattle.duk_journal.specs.Groups.{HasContents, IsGroup, Payments}
-use Rattle.duk_journal.specs.RecordFormat.{IsOpen, after_gate, contents_of, gate_of, record_at}
+use Rattle.std.specs.List.{slice_get}
+use Rattle.duk_store.specs.Disk.{DiffersWithin, DiskState, LeavesChanged, written}
+use Rattle.duk_journal.specs.Groups.{HasContents, Payments}
+use Rattle.duk_journal.specs.RecordFormat.{IsOpen, after_gate, gate_of, record_at}
 use Rattle.duk_journal.specs.inner.Groups.{AreWritten, followers_at}
 use Rattle.duk_journal.specs.inner.GroupSteps.{AreContentsWritten, IsGroupTorn, IsGroupWritten, LeavesAllButGate, LeavesGates, LeavesOne, MayLeaveChanged}
 use Rattle.duk_journal.specs.declared.payment.Payment.{Payment}

@@ -1,5 +1,5 @@
 -- The meaning of a journal on a disk, from what its disk may leave.
-use Rattle.std.proofs.Common.{◌≡◌, ◌≢◌, ◌⊎◌, ◌↔◌, inl, inr, ℕ, zero, suc, ◌+◌, ◌*◌, ◌<◌, ◌≤◌, List, [], ◌∷◌, ◌++◌, false, Some, None, Option, length, get_or, take, drop, replicate, refl, sym, ◌∙◌, ap, subst, arith, length-append}
+use Rattle.std.proofs.Common.{◌≡◌, ◌≢◌, ◌⊎◌, ◌↔◌, inl, inr, ℕ, ◌+◌, ◌*◌, ◌<◌, ◌≤◌, List, [], ◌++◌, Some, None, length, take, drop, replicate, refl, sym, ◌∙◌, ap, subst, arith, length-append}
 use Rattle.std.proofs.lemmas.Bool.{cases_eq, cases_lt}
 use Rattle.std.proofs.lemmas.List.{append-nil, get_or-drop, get_or-replicate, get_or-take, get_or_past, length-replicate}
 use Rattle.duk_tree.specs.Serial.{IsSerial, Serial, serial_bytes, serial_of_bytes}
@@ -9,7 +9,7 @@ use Rattle.duk_store.specs.StoreState.{FindsAsBefore, IsNew, KeepsNothing, Prese
 use Rattle.duk_store.specs.declared.fault.StoreFault.{StoreFault}
 use Rattle.duk_store.specs.declared.fault.StoreFault.TheVariants as fault
 use Rattle.duk_journal.specs.DiskJournal.{DiskJournalOf, IsBlankJournalDisk, IsSoundJournalDisk, IsZeroJournalDisk, MayFindPayments, disk_journal_meaning, disk_journal_state, is_journal_running}
-use Rattle.duk_journal.specs.Groups.{AreClosedFrom, AreKeptFrom, IsGroup, KeepsPayments, Payments}
+use Rattle.duk_journal.specs.Groups.{AreClosedFrom, KeepsPayments, Payments}
 use Rattle.duk_journal.specs.Journal.{ArePaymentsRead, GroupAppendFailed, IsGroupAppended, IsReadStopped, JournalRestarted, OldOrWithGroup, PaymentsUnread}
 use Rattle.duk_journal.specs.RecordFormat.{IsJournalSize, IsOpen, gate_of, record_at}
 use Rattle.duk_journal.specs.inner.DiskJournal.{IsDamagedJournal, IsJournalUp, IsKeptRead, JournalUpFailed, KeptUnread, KnowsCount}
@@ -80,12 +80,14 @@ module _ {D : Type 0} (meaning : DiskMeaning D) (old new : DiskJournalOf D) wher
       no_failure = up.no_failure;
       runs = ap is_journal_running kept;
       found = λ h.
-          let holds = up.knows.holds (up.nature.honest.0 h) in
-          (holds.has.0, record {
-            finds = finds_list ten found after after.reads holds.has.0 holds.leaves holds.has.1;
-            was_found = (after.reads, up.found h, holds.has.1);
-            counted = holds.has.2;
-          });
+          let holds = up.knows.holds (up.nature.honest.0 h) in (
+            holds.has.0,
+            record {
+              finds = finds_list ten found after after.reads holds.has.0 holds.leaves holds.has.1;
+              was_found = (after.reads, up.found h, holds.has.1);
+              counted = holds.has.2;
+            },
+          );
     }
 
   journal_unsound : IsSoundJournalDisk before → IsDamagedJournal before → ⊥
@@ -290,7 +292,7 @@ module _ (ten : (serial : Serial) → length (serial_bytes serial) ≡ 10) (foun
     read_stopped fault.Damaged n kept_then failed,
     failed.cause.no_failure,
     (λ h. let holds = knows.holds h in
-    none_lacks ten found holds.has.0 read_before.reads place n holds.has.1 (omega (arith, within, holds.has.2)) (read_inside n within h) (failed.cause.lacks h)),
+        none_lacks ten found holds.has.0 read_before.reads place n holds.has.1 (omega (arith, within, holds.has.2)) (read_inside n within h) (failed.cause.lacks h)),
   )
   journal_unread n kept_then within fault.Stopped failed = absurd failed.cause
   journal_unread n kept_then within fault.Worn failed = absurd failed.cause

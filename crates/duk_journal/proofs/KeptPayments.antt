@@ -1,14 +1,13 @@
 -- Which payments the bytes of a journal keep, before and after a group is written.
-use Rattle.std.proofs.Common.{◌≡◌, ◌⊎◌, inl, inr, ℕ, zero, suc, ◌+◌, ◌-◌, ◌<◌, ◌≤◌, List, [], ◌∷◌, ◌++◌, Some, length, refl, sym, ◌∙◌, ap, subst, arith, rules}
-use Rattle.std.proofs.lemmas.Bool.{cases_lt}
+use Rattle.std.proofs.Common.{◌≡◌, ℕ, zero, suc, ◌+◌, ◌-◌, ◌<◌, ◌≤◌, List, [], ◌∷◌, ◌++◌, Some, length, refl, sym, ◌∙◌, ap, subst, arith}
 use Rattle.std.specs.List.{slice_get}
 use Rattle.duk_frame.specs.declared.code.Code.{Code}
 use Rattle.duk_frame.specs.declared.code.Code.TheVariants.{Approved, NoCard, WrongPin, OverLimit, Unreadable}
 use Rattle.duk_tree.specs.Serial.{IsSerial, Serial, serial_bytes, serial_of_bytes}
-use Rattle.duk_journal.specs.Groups.{AreClosedFrom, AreKeptFrom, HasContents, KeepsPayments, Payments}
+use Rattle.duk_journal.specs.Groups.{AreClosedFrom, AreKeptFrom, HasContents, Payments}
 use Rattle.duk_journal.specs.Payment.{number_of_code}
-use Rattle.duk_journal.specs.RecordFormat.{IsOpen, after_gate, contents_of, record_at}
-use Rattle.duk_journal.specs.inner.Groups.{AreWritten, SameRecords, followers_at}
+use Rattle.duk_journal.specs.RecordFormat.{IsOpen, after_gate, record_at}
+use Rattle.duk_journal.specs.inner.Groups.{AreWritten, SameRecords}
 use Rattle.duk_journal.specs.inner.RecordFormat.{AreContents}
 use Rattle.duk_journal.specs.declared.payment.Payment.{Payment}
 use Rattle.duk_journal.specs.declared.record_format.Contents.{Contents}
@@ -85,22 +84,27 @@ followers_kept : (rest : Payments) (place : ℕ) (bytes : List ℕ)
     → ((index : ℕ) (payment : Payment) → index < length rest → slice_get rest index ≡ Some payment → HasContents 0 payment (record_at (place + index) bytes))
     → AreClosedFrom place bytes → AreKeptFrom rest (length rest) place bytes
 followers_kept [] place bytes written closed = closed
-followers_kept (p ∷ rest) place bytes written closed =
-    (closed place (omega arith), subst (λ (n : ℕ). HasContents 0 p (record_at n bytes)) (omega arith) (written 0 p (omega arith) refl),
-    followers_kept rest (place + 1) bytes
-    (λ index payment less is. subst (λ (n : ℕ). HasContents 0 payment (record_at n bytes)) (omega arith) (written (suc index) payment (omega (arith, less)) is))
-    (λ later past. closed later (omega (arith, past))))
+followers_kept (p ∷ rest) place bytes written closed = (
+  closed place (omega arith),
+  subst (λ (n : ℕ). HasContents 0 p (record_at n bytes)) (omega arith) (written 0 p (omega arith) refl),
+  followers_kept rest (place + 1) bytes
+      (λ index payment less is. subst (λ (n : ℕ). HasContents 0 payment (record_at n bytes)) (omega arith) (written (suc index) payment (omega (arith, less)) is))
+      (λ later past. closed later (omega (arith, past))),
+)
 
 -- a group that is written and open is kept
 pub group_kept : (group : Payments) (place : ℕ) (bytes : List ℕ) → 1 ≤ length group → AreWritten (length group) group place bytes → IsOpen (record_at place bytes) → AreClosedFrom (place + 1) bytes → AreKeptFrom group 0 place bytes
 group_kept [] place bytes some written is_open closed = absurd (omega (arith, some))
 group_kept (p ∷ rest) place bytes some written is_open closed =
     let here : place + 0 ≡ place = omega arith in
-    let followers : length (p ∷ rest) - 1 ≡ length rest = omega arith in
-    (length rest, is_open, subst (λ (n : ℕ). HasContents (length rest) p (record_at n bytes)) here (subst (λ (f : ℕ). HasContents f p (record_at (place + 0) bytes)) followers (written 0 p (omega arith) refl)),
-    followers_kept rest (place + 1) bytes
-    (λ index payment less is. subst (λ (n : ℕ). HasContents 0 payment (record_at n bytes)) (omega arith) (written (suc index) payment (omega (arith, less)) is))
-    closed)
+    let followers : length (p ∷ rest) - 1 ≡ length rest = omega arith in (
+      length rest,
+      is_open,
+      subst (λ (n : ℕ). HasContents (length rest) p (record_at n bytes)) here (subst (λ (f : ℕ). HasContents f p (record_at (place + 0) bytes)) followers (written 0 p (omega arith) refl)),
+      followers_kept rest (place + 1) bytes
+          (λ index payment less is. subst (λ (n : ℕ). HasContents 0 payment (record_at n bytes)) (omega arith) (written (suc index) payment (omega (arith, less)) is))
+          closed,
+    )
 
 -- what stands in the record of a payment that is kept
 pub kept_at : (kept : Payments) (left place : ℕ) (bytes : List ℕ) (index : ℕ) → AreKeptFrom kept left place bytes → index < length kept

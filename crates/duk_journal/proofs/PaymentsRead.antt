@@ -8,7 +8,7 @@ use Rattle.duk_tree.specs.Serial.{IsSerial, Serial, serial_bytes, serial_of_byte
 use Rattle.duk_store.specs.Disk.{range_of}
 use Rattle.duk_journal.specs.Groups.{HasContents, KeepsPayments, Payments}
 use Rattle.duk_journal.specs.RecordFormat.{record_at}
-use Rattle.duk_journal.specs.inner.Reading.{HasNoContents, HavePayments, LacksPayment, StandsAt}
+use Rattle.duk_journal.specs.inner.Reading.{HavePayments, LacksPayment, StandsAt}
 use Rattle.duk_journal.specs.declared.payment.Payment.{Payment}
 use Rattle.duk_journal.proofs.GroupWritten.{payment_got}
 use Rattle.duk_journal.proofs.KeptPayments.{kept_at, same_payment}

@@ -1,11 +1,10 @@
 -- What each record that is read says of the payments that are kept.
-use Rattle.std.proofs.Common.{◌≡◌, ◌≢◌, ◌⊎◌, inl, inr, ℕ, zero, suc, ◌+◌, ◌-◌, ◌*◌, ◌/◌, ◌<◌, ◌≤◌, List, [], ◌∷◌, length, drop, take, refl, sym, ◌∙◌, ap, subst, arith}
-use Rattle.std.proofs.lemmas.Bool.{cases_eq, cases_lt}
-use Rattle.std.proofs.lemmas.List.{drop-drop, drop-take, drop_all, length-drop, length-take, take-take}
+use Rattle.std.proofs.Common.{◌≡◌, ◌⊎◌, inl, inr, ℕ, zero, suc, ◌+◌, ◌-◌, ◌*◌, ◌≤◌, List, [], ◌∷◌, length, drop, take, refl, sym, ◌∙◌, ap, subst, arith}
+use Rattle.std.proofs.lemmas.Bool.{cases_lt}
+use Rattle.std.proofs.lemmas.List.{drop-drop, drop-take, drop_all, take-take}
 use Rattle.duk_tree.specs.Serial.{IsSerial, Serial, serial_bytes, serial_of_bytes}
-use Rattle.duk_store.specs.Disk.{range_of}
-use Rattle.duk_journal.specs.Groups.{AreClosedFrom, AreKeptFrom, HasContents, KeepsPayments, Payments}
-use Rattle.duk_journal.specs.RecordFormat.{IsOpen, after_gate, contents_of, record_at}
+use Rattle.duk_journal.specs.Groups.{AreClosedFrom, AreKeptFrom, HasContents, Payments}
+use Rattle.duk_journal.specs.RecordFormat.{IsOpen, contents_of, record_at}
 use Rattle.duk_journal.specs.inner.Reading.{HasCount, HasNoContents, HasReadBehind, HasReadGroups, KeepsNone, StandsAt}
 use Rattle.duk_journal.specs.declared.payment.Payment.{Payment}
 use Rattle.duk_journal.proofs.KeptPayments.{same_followers}

@@ -115,7 +115,8 @@ pub fn read_kept<D: Disk>(
     piece: &mut [u8],
     payments: &mut [Payment],
 ) -> Result<(), StoreFault>
-    requires whole { length piece.old ≡ 32 * length payments.old }
+    requires most { length payments.old ≤ 2048 }
+    requires piece { length piece.old ≡ 65536 }
     requires inside { 32 * (place + length payments.old) ≤ (D.meaning.state_of disk.old).size }
     requires fits { (D.meaning.state_of disk.old).size < 2 ^ 64 }
     ensures read { OnOk result (IsKeptRead place payments.new
@@ -123,9 +124,9 @@ pub fn read_kept<D: Disk>(
     ensures failed { IfErr result (KeptUnread place (length payments.old)
         (D.meaning.state_of disk.old) (D.meaning.state_of disk.new)) }
     ensures payments_length { length payments.new ≡ length payments.old }
-    ensures piece_length { length piece.new ≡ length piece.old }
     ensures arming { StaysArmed (D.meaning.state_of disk.old) (D.meaning.state_of disk.new) }
 {
-    disk.read_at(RECORD_LENGTH as u64 * place, piece)?;
-    read_payments(piece, payments)
+    let bytes = &mut piece[..RECORD_LENGTH * payments.len()];
+    disk.read_at(RECORD_LENGTH as u64 * place, bytes)?;
+    read_payments(bytes, payments)
 }

@@ -5,6 +5,7 @@
 //! a store, as the log of used numbers is, and its meaning is of the same words.
 #![tactic(auto)]
 
+mod disk_journal;
 mod group_steps;
 mod journal;
 mod journal_steps;
@@ -12,6 +13,7 @@ mod payment;
 mod reading;
 mod record_format;
 
+pub use disk_journal::DiskJournal;
 pub use journal::Journal;
 pub use payment::Payment;
 pub use record_format::RECORD_LENGTH;

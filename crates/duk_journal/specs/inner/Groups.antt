@@ -1,7 +1,7 @@
 -- What only private functions and proofs say beside `Groups.antt`: this project's own.
 use Rattle.std.specs.Prelude.{◌≡◌, ◌≤◌, ◌<◌, ◌+◌, ◌-◌, ℕ, zero, suc, List, length, slice_get, Some}
-use Rattle.duk_journal.specs.Groups.{AreClosedFrom, AreKeptFrom, HasContents, KeepsPayments, Payments}
-use Rattle.duk_journal.specs.RecordFormat.{IsOpen, after_gate, contents_of, record_at}
+use Rattle.duk_journal.specs.Groups.{HasContents, Payments}
+use Rattle.duk_journal.specs.RecordFormat.{record_at}
 use Rattle.duk_journal.specs.declared.payment.Payment.{Payment}
 
 -- the records of this range are the same

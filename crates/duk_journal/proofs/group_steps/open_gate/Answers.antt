@@ -1,4 +1,4 @@
-use Rattle.std.proofs.Common.{◌≡◌, ◌∙◌, ◌+◌, ◌*◌, ◌≤◌, length, arith}
+use Rattle.std.proofs.Common.{◌∙◌, arith}
 use Rattle.std.proofs.lemmas.Result.{IfErr-weaker, err_from_is_err_and}
 use Rattle.duk_journal.specs.RecordFormat.{IsOpen, record_at}
 use Rattle.duk_journal.specs.inner.GroupSteps.{LeavesAllButGate}

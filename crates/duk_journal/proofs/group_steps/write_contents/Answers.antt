@@ -39,12 +39,16 @@ loop-index-preserved g c =
             let size = g.D.Disk.leaves_its_size c.loop-index.disk honest mid.reads (g.D.Disk.reads_may_stay c.loop-index.disk honest) in
             next_written c.args.group.now c.args.place c.loop-index.index c.index-group-index.result c.as_slice.result.now c.loop-index-test.true c.index-group-index.is
             old.reads mid.reads new.reads whole (omega (arith, size, i.nature.size, c.requires.room.inside)) (c.in_ok-write_at.ensures.written honest)
-            (λ r contents. record { payment_is = record {
+            (λ r contents. record {
+              payment_is = record {
                 serial = c.bytes.ensures.fields.serial;
                 usable = subst (λ (p : Payment). IsUsable p.number.counter) (sym c.index-group-index.is) (c.requires.group.usable c.loop-index.index payment c.loop-index-test.true);
                 amount_fits = c.bytes.ensures.fields.amount_fits;
                 mac_length = c.bytes.ensures.fields.mac_length;
-              }; followers_fit = omega (arith, c.followers_of.ensures.most); written = contents ∙ c.as_slice.ensures.value ∙ c.bytes.ensures.bytes ∙ ap (λ (f : ℕ). contents_of f payment) (c.followers_of.ensures.followers c.args.group.now refl) }) (i.reads h);
+              };
+              followers_fit = omega (arith, c.followers_of.ensures.most);
+              written = contents ∙ c.as_slice.ensures.value ∙ c.bytes.ensures.bytes ∙ ap (λ (f : ℕ). contents_of f payment) (c.followers_of.ensures.followers c.args.group.now refl);
+            }) (i.reads h);
       };
       arming = λ disarmed. c.loop-index.invariant.arming (c.write_at.ensures.arming disarmed);
     }

@@ -1,4 +1,3 @@
-use Rattle.std.proofs.Common.{◌≡◌, length}
 use Rattle.duk_store.specs.Disk.{StaysArmed}
 use Rattle.duk_journal.specs.inner.GroupSteps.{WritesContents}
 use Rattle.duk_journal.proofs.group_steps.write_contents.Given as goal

@@ -1,4 +1,4 @@
-use Rattle.std.proofs.Common.{◌≡◌, ◌∙◌}
+use Rattle.std.proofs.Common.{◌∙◌}
 use Rattle.std.proofs.lemmas.Result.{IfErr-weaker, on_ok_weaker}
 use Rattle.duk_journal.proofs.GroupWritten.{group_torn, group_written}
 use Rattle.duk_journal.proofs.StepsInTurn.{fails_later, keeps_on}

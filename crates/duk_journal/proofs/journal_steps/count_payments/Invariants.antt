@@ -1,4 +1,4 @@
-use Rattle.std.proofs.Common.{◌≡◌, ◌≤◌, ◌*◌, ◌-◌, ◌<◌, ◌^◌, length}
+use Rattle.std.proofs.Common.{◌≡◌, ◌≤◌, ◌-◌, ◌<◌, ◌^◌, length}
 use Rattle.duk_store.specs.Disk.{PreservesBytes, PreservesDisk}
 use Rattle.duk_journal.specs.inner.Reading.{HasRead, kept_in}
 use Rattle.duk_journal.proofs.journal_steps.count_payments.Given as goal

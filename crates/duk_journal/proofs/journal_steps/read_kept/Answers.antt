@@ -1,4 +1,5 @@
-use Rattle.std.proofs.Common.{◌≡◌, ◌*◌, ◌∙◌, ℕ, List, length, ap, subst, sym}
+use Rattle.std.proofs.Common.{◌≡◌, ◌*◌, ◌∙◌, ℕ, List, length, ap, arith, subst, sym, take}
+use Rattle.std.proofs.lemmas.List.{length-take-le}
 use Rattle.std.proofs.lemmas.Result.{on_ok_weaker}
 use Rattle.duk_store.specs.Disk.{range_of}
 use Rattle.duk_journal.specs.inner.Reading.{HavePayments}
@@ -8,7 +9,8 @@ pub returns-clause-read : goal.returns-clause-read
 returns-clause-read g c =
     let old = g.D.Disk.meaning.state_of c.args.disk.now in
     let payments = c.read_payments.new.payments in
-    let whole : length c.args.piece.now ≡ 32 * length payments = c.requires.whole ∙ ap (λ (n : ℕ). 32 * n) (sym c.read_payments.ensures.length) in
+    let whole : length (take (32 * length c.args.payments.now) c.args.piece.now) ≡ 32 * length payments =
+    length-take-le (32 * length c.args.payments.now) c.args.piece.now (omega (arith, c.requires.most, c.requires.piece)) ∙ ap (λ (n : ℕ). 32 * n) (sym c.read_payments.ensures.length) in
     on_ok_weaker c.read_payments.result
     (λ have. record {
       nature = c.read_at.ensures.nature;

@@ -1,4 +1,4 @@
-use Rattle.std.proofs.Common.{ℕ, ◌≢◌, arith, refl, subst}
+use Rattle.std.proofs.Common.{ℕ, arith, refl, subst}
 use Rattle.duk_journal.specs.inner.Reading.{HasReadGroups}
 use Rattle.duk_journal.proofs.RecordsRead.{all_behind, all_read, cut_group}
 use Rattle.duk_journal.proofs.reading.finish_reading.Goals as goal

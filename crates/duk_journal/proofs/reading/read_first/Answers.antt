@@ -1,4 +1,4 @@
-use Rattle.std.proofs.Common.{◌≡◌, List, ℕ, refl, subst, sym}
+use Rattle.std.proofs.Common.{List, ℕ, subst, sym}
 use Rattle.std.proofs.lemmas.Result.{err_from_is_err_and}
 use Rattle.duk_journal.specs.Groups.{HasContents}
 use Rattle.duk_journal.specs.RecordFormat.{IsOpen}
@@ -14,8 +14,11 @@ pub returns-in_err-contents-clause-refused : goal.returns-in_err-contents-clause
 returns-in_err-contents-clause-refused c =
     let p = err_from_is_err_and c.from_residual.result c.from_residual.ensures.1 in
     let none = c.in_err-contents.ensures.none in
-    rw (p.1, p.2) (none.0, λ place bytes is was.
-    no_first c.args.kept place bytes c.serials.ensures.ten c.serials.ensures.found was (subst IsOpen (sym is) c.if-bytes-ne-OPEN.false) (subst HasNoContents (sym is) none.1))
+    rw (p.1, p.2) (
+      none.0,
+      λ place bytes is was.
+          no_first c.args.kept place bytes c.serials.ensures.ten c.serials.ensures.found was (subst IsOpen (sym is) c.if-bytes-ne-OPEN.false) (subst HasNoContents (sym is) none.1),
+    )
 
 pub returns-clause-read : goal.returns-clause-read
 returns-clause-read c = λ place bytes is was.

@@ -1,4 +1,4 @@
-use Rattle.std.proofs.Common.{ℕ, ◌≡◌, List, subst, sym}
+use Rattle.std.proofs.Common.{ℕ, subst, sym}
 use Rattle.std.proofs.lemmas.Result.{IfErr-weaker}
 use Rattle.duk_journal.specs.inner.Reading.{Breaks}
 use Rattle.duk_journal.specs.declared.reading.Reading.{Reading}
@@ -8,8 +8,11 @@ use Rattle.duk_journal.proofs.reading.read_next.Goals as goal
 pub returns-then-left-eq0-clause-refused : goal.returns-then-left-eq0-clause-refused
 returns-then-left-eq0-clause-refused c =
     IfErr-weaker c.read_first.result _ _
-    (λ fault refused. (refused.0, subst (λ (reading : Reading). Breaks reading c.args.bytes.now) (sym c.in-Groups.is)
-    (subst (λ (left : ℕ). Breaks (Groups c.in-Groups.kept left) c.args.bytes.now) (sym c.if-left-eq0.true) refused.1)))
+    (λ fault refused. (
+      refused.0,
+      subst (λ (reading : Reading). Breaks reading c.args.bytes.now) (sym c.in-Groups.is)
+          (subst (λ (left : ℕ). Breaks (Groups c.in-Groups.kept left) c.args.bytes.now) (sym c.if-left-eq0.true) refused.1),
+    ))
     c.read_first.ensures.refused
 
 pub returns-else-left-eq0-clause-refused : goal.returns-else-left-eq0-clause-refused

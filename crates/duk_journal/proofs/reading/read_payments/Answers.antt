@@ -1,4 +1,4 @@
-use Rattle.std.proofs.Common.{◌≡◌, ◌<◌, ◌≤◌, ◌+◌, ◌*◌, ◌∙◌, inl, inr, ℕ, List, length, get_or, arith, subst, sym}
+use Rattle.std.proofs.Common.{◌<◌, ◌∙◌, length, arith, subst, sym}
 use Rattle.std.proofs.lemmas.List.{length-set}
 use Rattle.std.proofs.lemmas.Result.{err_from_is_err_and}
 use Rattle.duk_journal.specs.Groups.{HasContents}

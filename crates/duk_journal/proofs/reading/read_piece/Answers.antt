@@ -11,8 +11,11 @@ returns-in_err-reading-clause-refused c =
     let index = c.loop-index.index in
     let piece = c.args.piece.now in
     let inside : 32 * index + 32 ≤ length piece = omega (arith, c.loop-index-test.true) in
-    rw (p.1, p.2) (refused.0, λ place bytes stands was.
-    refused.1 (place + index) bytes (record_in_piece place index piece bytes stands inside ∙ record_slice index piece) (c.loop-index.invariant.read place bytes stands was))
+    rw (p.1, p.2) (
+      refused.0,
+      λ place bytes stands was.
+          refused.1 (place + index) bytes (record_in_piece place index piece bytes stands inside ∙ record_slice index piece) (c.loop-index.invariant.read place bytes stands was),
+    )
 
 pub loop-index-preserved : goal.loop-index-preserved
 loop-index-preserved c =

@@ -1,4 +1,4 @@
-use Rattle.std.proofs.Common.{◌≡◌, ◌≤◌, ◌+◌, ℕ, List}
+use Rattle.std.proofs.Common.{◌≤◌, ◌+◌, ℕ, List}
 use Rattle.duk_journal.specs.inner.Reading.{HasRead, StandsAt, kept_in}
 use Rattle.duk_journal.proofs.reading.read_piece.Given as goal
 

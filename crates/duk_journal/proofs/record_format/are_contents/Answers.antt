@@ -6,8 +6,7 @@ pub returns : goal.returns
 returns c =
     let bytes = c.args.bytes.now in
     let fields = c.bytes-written.ensures.fields in
-    let written = c.as_slice.ensures.value ∙ c.bytes-written.ensures.bytes in
-    (
+    let written = c.as_slice.ensures.value ∙ c.bytes-written.ensures.bytes in (
       (λ is. record {
         payment_is = record {
           serial = fields.serial;
