@@ -1,5 +1,7 @@
 -- The meaning of a journal on a disk, from what its disk may leave.
-use Rattle.std.proofs.Common.{◌≡◌, ◌≢◌, ◌⊎◌, ◌↔◌, inl, inr, ℕ, ◌+◌, ◌*◌, ◌<◌, ◌≤◌, List, [], ◌++◌, Some, None, length, take, drop, replicate, refl, sym, ◌∙◌, ap, subst, arith, length-append}
+use Rattle.std.proofs.Common.{◌≡◌, ◌≢◌, ◌⊎◌, ◌↔◌, inl, inr, ℕ, ◌+◌, ◌*◌, ◌<◌, ◌≤◌, List, [], ◌++◌, Some, None, length, take, drop, replicate, refl, sym, ◌∙◌, ap, subst, arith, length-append, false, get_or}
+use Rattle.std.proofs.lemmas.Grind.{same_number_lists}
+use Rattle.duk_store.specs.MemoryDisk.{memory_disk_state, new_disk}
 use Rattle.std.proofs.lemmas.Bool.{cases_eq, cases_lt}
 use Rattle.std.proofs.lemmas.List.{append-nil, get_or-drop, get_or-replicate, get_or-take, get_or_past, length-replicate}
 use Rattle.duk_tree.specs.Serial.{IsSerial, Serial, serial_bytes, serial_of_bytes}
@@ -297,3 +299,26 @@ module _ (ten : (serial : Serial) → length (serial_bytes serial) ≡ 10) (foun
   journal_unread n kept_then within fault.Stopped failed = absurd failed.cause
   journal_unread n kept_then within fault.Worn failed = absurd failed.cause
   journal_unread n kept_then within fault.NoMemory failed = absurd failed.cause
+
+-- a new disk in memory, of so many records, is blank
+pub new_records_are_blank : (records : ℕ) → 1 ≤ records → IsBlankJournalDisk (memory_disk_state (new_disk (32 * records)))
+new_records_are_blank records some =
+    let size : length (replicate (32 * records) 0) ≡ 32 * records = length-replicate (32 * records) 0 in
+    record {
+      honest = record {
+        synced_length = refl;
+        wanted_length = refl;
+        unsynced_length = length-replicate (32 * records) false ∙ sym size;
+        reads_synced = λ place none. refl;
+        wanted_synced = λ place none. refl;
+      };
+      calm = record { not_armed = refl; no_single_failure = refl };
+      zero = record {
+        size = (records, some, size);
+        zeros = λ bytes. (
+          (λ could. same_number_lists bytes (replicate (length (replicate (32 * records) 0)) 0) (could.same_length ∙ sym (length-replicate (length (replicate (32 * records) 0)) 0))
+              (λ place less. could.as_synced place (get_or-replicate (32 * records) place false false (omega (arith, less, could.same_length, size))) ∙ ap (λ (count : ℕ). get_or (replicate count 0) place 0) (sym size))),
+          (λ is. record { same_length = ap length is ∙ length-replicate (length (replicate (32 * records) 0)) 0; as_synced = λ place none. ap (λ (l : List ℕ). get_or l place 0) (is ∙ ap (λ (count : ℕ). replicate count 0) size) }),
+        );
+      };
+    }

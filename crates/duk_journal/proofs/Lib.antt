@@ -2,6 +2,7 @@ mod FieldPlaces
 mod GroupWritten
 mod JournalOnDisk
 mod KeptPayments
+mod MemoryJournalMeaning
 mod PaymentsRead
 mod RecordsRead
 mod StepsInTurn

@@ -3,4 +3,5 @@ pub mod RecordFormat
 pub mod Groups
 pub mod Journal
 pub mod DiskJournal
+pub mod MemoryJournal
 pub mod inner

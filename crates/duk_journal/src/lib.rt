@@ -9,11 +9,14 @@ mod disk_journal;
 mod group_steps;
 mod journal;
 mod journal_steps;
+pub mod laws;
+mod memory_journal;
 mod payment;
 mod reading;
 mod record_format;
 
 pub use disk_journal::DiskJournal;
 pub use journal::Journal;
+pub use memory_journal::MemJournal;
 pub use payment::Payment;
 pub use record_format::RECORD_LENGTH;

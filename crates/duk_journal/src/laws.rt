@@ -1,0 +1,25 @@
+//! Laws of journals, each the contract of a function that does nothing.
+
+ghost use Rattle.std.specs.Prelude.{◌≡◌, ◌≤◌, ◌*◌, ℕ, List, []};
+ghost use Rattle.duk_store.specs.MemoryDisk.{memory_disk_meaning, new_disk};
+ghost use Rattle.duk_store.specs.StoreState.{IsNew};
+ghost use Rattle.duk_journal.specs.DiskJournal.{disk_journal_meaning, new_disk_journal};
+ghost use Rattle.duk_journal.specs.Groups.{KeepsPayments, Payments};
+
+/// The bytes of a journal's disk keep one list of payments at most.
+pub fn one_list()
+    ensures { (bytes : List ℕ) (one two : Payments) → KeepsPayments bytes one
+        → KeepsPayments bytes two → one ≡ two }
+{
+    duk_tree::laws::serials();
+}
+
+/// A journal over a new disk in memory of 32 bytes for each of one or more records is a new journal:
+/// it keeps nothing, and is honest, sound and calm.
+pub fn new_disk_journal()
+    ensures { (records : ℕ) → 1 ≤ records
+        → IsNew ((disk_journal_meaning memory_disk_meaning).state_of
+        (new_disk_journal (new_disk (32 * records)))) [] }
+{
+    duk_tree::laws::serials();
+}

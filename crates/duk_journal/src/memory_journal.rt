@@ -1,0 +1,162 @@
+//! A journal of payments in memory.
+
+ghost use Rattle.std.specs.Prelude.{◌≡◌, ◌+◌, ◌≤◌, [], true, Ok, length, IfErr, IfOk, OnOk};
+ghost use Rattle.duk_store.specs.Restart.{RestartFailed};
+ghost use Rattle.duk_store.specs.StoreState.{IsNew, StaysButCalm};
+ghost use Rattle.duk_journal.specs.Groups.{IsGroup};
+ghost use Rattle.duk_journal.specs.Journal.{ArePaymentsRead, GroupAppendFailed, IsGroupAppended, JournalRestarted, PaymentsUnread};
+ghost use Rattle.duk_journal.specs.MemoryJournal.{IsJournalStopped, IsMemoryGroupAppended, memory_journal_meaning, memory_journal_state, new_journal, restarted_journal};
+
+use crate::journal::Journal;
+use crate::payment::Payment;
+use duk_frame::Code;
+use duk_store::StoreFault;
+use duk_tree::Ksn;
+use std::alloc::Global;
+use std::marker::Model;
+
+/// A journal in memory. It has no device: once it runs, nothing stops it, and arming it changes
+/// nothing. Only `new` takes memory.
+#[derive(Drop)]
+pub struct MemJournal {
+    /// The payments kept, and after them places that are free.
+    places: Vec<Payment>,
+    len: usize,
+    running: bool,
+}
+
+impl Model for MemJournal {
+    ghost use Rattle.std.specs.Prelude.{◌≤◌, length, take};
+    ghost use Rattle.duk_journal.specs.MemoryJournal.{MemoryJournal};
+
+    ghost Value = { MemoryJournal };
+
+    ghost view = { λ journal. record {
+      payments = take journal.len journal.places.items;
+      capacity = length journal.places.items;
+      running = journal.running;
+    } };
+
+    ghost invariant = { λ journal. journal.len ≤ length journal.places.items };
+}
+
+impl MemJournal {
+    /// A journal with no payment kept and room for `capacity`, stopped.
+    ///
+    /// Refused with `NoMemory` where the memory for all of them is.
+    pub fn new(alloc: Global, capacity: usize) -> Result<MemJournal, StoreFault>
+        ensures journal { IfOk result (λ journal. journal ≡ new_journal capacity) }
+        ensures new { IfOk result (λ journal. IsNew (memory_journal_state journal) []) }
+        ensures refused { IfErr result (λ fault. fault ≡ StoreFault.NoMemory) }
+    {
+        let free = Payment {
+            number: Ksn::from_bytes([0; 10]),
+            amount: 0,
+            code: Code::Approved,
+            mac: [0; 8],
+        };
+        let places = vec![in alloc; free; capacity]?;
+        Ok(MemJournal {
+            places,
+            len: 0,
+            running: false,
+        })
+    }
+
+    /// Appends a group, where the journal runs.
+    fn push(&mut self, group: &[Payment]) -> Result<(), StoreFault>
+        requires { self.old.running ≡ true
+            → length self.old.payments + length group.now ≤ self.old.capacity }
+        ensures done { OnOk result (IsMemoryGroupAppended self.old self.new group.now) }
+        ensures refused { IfErr result (λ fault. (fault ≡ StoreFault.Stopped)
+            × IsJournalStopped self.old self.new) }
+    {
+        if !self.running {
+            return Err(StoreFault::Stopped);
+        }
+        let end = self.len + group.len();
+        self.places[self.len..end].copy_from_slice(group);
+        self.len = end;
+        Ok(())
+    }
+}
+
+impl Journal for MemJournal {
+    ghost meaning = { memory_journal_meaning };
+
+    fn restart(&mut self) -> Result<u64, StoreFault>
+        ensures found { IfOk result (JournalRestarted memory_journal_meaning self.old self.new) }
+        ensures counted { IfOk result (λ found. length self.new.payments ≡ found) }
+        ensures capacity { self.new.capacity ≡ self.old.capacity }
+        ensures failed { IfErr result
+            (RestartFailed (memory_journal_state self.old) (memory_journal_state self.new)) }
+        ensures disarmed { memory_journal_meaning.disarmed self.new }
+        ensures kept { result ≡ Ok (length self.old.payments) }
+        ensures journal { self.new ≡ restarted_journal self.old }
+    {
+        self.running = true;
+        Ok(self.len as u64)
+    }
+
+    fn len(&self) -> u64 {
+        if self.running { self.len as u64 } else { 0 }
+    }
+
+    fn room(&self) -> u64 {
+        if self.running {
+            (self.places.len() - self.len) as u64
+        } else {
+            0
+        }
+    }
+
+    /// The payments from a place of the list on. It is refused with `Stopped` alone.
+    fn read(&mut self, place: u64, payments: &mut [Payment]) -> Result<(), StoreFault>
+        requires most { length payments.old ≤ 2048 }
+        requires inside { self.old.running ≡ true
+            → place + length payments.old ≤ length self.old.payments }
+        ensures read { OnOk result
+            (ArePaymentsRead memory_journal_meaning self.old self.new place payments.new) }
+        ensures length { length payments.new ≡ length payments.old }
+        ensures counted { OnOk result (length self.new.payments ≡ length self.old.payments) }
+        ensures capacity { self.new.capacity ≡ self.old.capacity }
+        ensures disarmed { memory_journal_meaning.disarmed self.old
+            → memory_journal_meaning.disarmed self.new }
+        ensures failed { IfErr result (PaymentsUnread memory_journal_meaning self.old self.new) }
+        ensures stopped { IfErr result (λ fault. fault ≡ StoreFault.Stopped) }
+        ensures same { self.new ≡ self.old }
+    {
+        if !self.running {
+            return Err(StoreFault::Stopped);
+        }
+        let from = place as usize;
+        payments.copy_from_slice(&self.places[from..from + payments.len()]);
+        Ok(())
+    }
+
+    /// Appends a group. It is refused with `Stopped` alone.
+    fn append(&mut self, group: &[Payment]) -> Result<(), StoreFault>
+        requires group { IsGroup group.now }
+        requires room { self.old.running ≡ true
+            → length self.old.payments + length group.now ≤ self.old.capacity }
+        ensures appended { OnOk result
+            (IsGroupAppended memory_journal_meaning self.old self.new group.now) }
+        ensures counted { OnOk result
+            (length self.new.payments ≡ length self.old.payments + length group.now) }
+        ensures capacity { self.new.capacity ≡ self.old.capacity }
+        ensures failed { IfErr result
+            (GroupAppendFailed memory_journal_meaning self.old self.new group.now) }
+        ensures done { OnOk result (IsMemoryGroupAppended self.old self.new group.now) }
+        ensures stopped { IfErr result (λ fault. fault ≡ StoreFault.Stopped) }
+    {
+        self.push(group)
+    }
+
+    fn arm(&mut self, _steps: u32)
+        ensures stays { StaysButCalm (memory_journal_state self.old)
+            (memory_journal_state self.new) }
+        ensures counted { length self.new.payments ≡ length self.old.payments }
+        ensures capacity { self.new.capacity ≡ self.old.capacity }
+        ensures armed { self.new ≡ self.old }
+    {}
+}
