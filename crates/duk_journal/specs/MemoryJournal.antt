@@ -44,8 +44,3 @@ memory_journal_meaning = record {
 pub record IsMemoryGroupAppended (old new : MemoryJournal) (group : Payments) : Type 0 where
   pub runs : old.running ≡ true
   pub kept : new ≡ record old { payments = old.payments ++ group }
-
--- a call is refused: the journal is stopped
-pub record IsJournalStopped (old new : MemoryJournal) : Type 0 where
-  pub stopped : old.running ≡ false
-  pub same : new ≡ old

@@ -1,5 +1,6 @@
 pub mod DiskJournal
 pub mod Groups
 pub mod GroupSteps
+pub mod MemoryJournal
 pub mod Reading
 pub mod RecordFormat

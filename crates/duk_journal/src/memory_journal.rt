@@ -5,7 +5,8 @@ ghost use Rattle.duk_store.specs.Restart.{RestartFailed};
 ghost use Rattle.duk_store.specs.StoreState.{IsNew, StaysButCalm};
 ghost use Rattle.duk_journal.specs.Groups.{IsGroup};
 ghost use Rattle.duk_journal.specs.Journal.{ArePaymentsRead, GroupAppendFailed, IsGroupAppended, JournalRestarted, PaymentsUnread};
-ghost use Rattle.duk_journal.specs.MemoryJournal.{IsJournalStopped, IsMemoryGroupAppended, memory_journal_meaning, memory_journal_state, new_journal, restarted_journal};
+ghost use Rattle.duk_journal.specs.inner.MemoryJournal.{IsJournalStopped};
+ghost use Rattle.duk_journal.specs.MemoryJournal.{IsMemoryGroupAppended, memory_journal_meaning, memory_journal_state, new_journal, restarted_journal};
 
 use crate::journal::Journal;
 use crate::payment::Payment;
