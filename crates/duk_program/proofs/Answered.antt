@@ -8,16 +8,16 @@ use Rattle.duk_arguments.specs.declared.request.Request.TheVariants as request
 use Rattle.duk_commands.specs.Answer.{Command, IsDone, IsNotDone, Streams, streams}
 use Rattle.duk_io.specs.Known.{Known}
 use Rattle.duk_io.specs.Sink.{IsUntouched}
-use Rattle.duk_program.proofs.Words.{words_have_meaning}
+use Rattle.duk_program.proofs.Words.{words_have_meaning, words_untouched}
 use Rattle.duk_program.proofs.WrittenStaysWritten.{untouched_still, written_still}
 use Rattle.duk_program.specs.Commands.{HasShown, IsCommandLineDone, IsCommandLineFailed, command_for}
 use Rattle.duk_program.specs.Files.{FileKnown}
 use Rattle.duk_program.specs.Items.{IsAtOnce, LineItems, items_of}
 use Rattle.duk_program.specs.LogFiles.{DiskKnown}
-use Rattle.duk_program.specs.Meant.{HasLostLines, HasMeantDone, IsDoneAlone, IsMeantNotDone, IsNotDoneAlone, IsOverItemsDone, IsOverItemsNotDone}
+use Rattle.duk_program.specs.Meant.{HasLostLines, HasMeantDone, IsDoneAlone, IsMeantNotDone, IsNotDoneAlone, IsOverItemsDone, IsOverItemsNotDone, referred_in}
 use Rattle.duk_program.specs.Program.{IsProgramDone, IsProgramNotDone, IsRequestDone, IsRequestNotDone}
 use Rattle.duk_program.specs.Scene.{Scene, writers_of}
-use Rattle.duk_program.specs.Secrets.{IsOverSecrets}
+use Rattle.duk_program.specs.Secrets.{IsOverSecrets, secrets_of}
 use Rattle.duk_program.specs.inner.Commands.{NeedsNoFile}
 use Rattle.duk_store.specs.Disk.{DiskMeaning}
 
@@ -75,9 +75,9 @@ request_done meaning s (request.Show kind what show) at_once done = absurd done.
 request_done meaning s (request.Issue bdk loading iksn count ledger skip) at_once done = absurd done.asked
 request_done meaning s asked at_once done = record {
   input = s.streams.input_before;
-  read = record { untouched = λ _. refl };
+  read = words_untouched s.streams.input_before (secrets_of asked) at_once.words;
   meant = asked;
-  means = words_have_meaning s.held asked tt at_once.words;
+  means = words_have_meaning (referred_in s) asked tt at_once.words;
   done = at_once_done (items_of asked) s (IsDoneAlone meaning s.held s.disks (writers_of s) asked) at_once.no_items done;
 }
 
@@ -103,9 +103,9 @@ request_not_done meaning s (request.Issue bdk loading iksn count ledger skip) at
 request_not_done meaning s (request.Issue bdk loading iksn count ledger skip) at_once (inr short) = absurd short.asked
 request_not_done meaning s asked at_once not_done = inl (record {
   input = s.streams.input_before;
-  read = record { untouched = λ _. refl };
+  read = words_untouched s.streams.input_before (secrets_of asked) at_once.words;
   meant = asked;
-  means = words_have_meaning s.held asked tt at_once.words;
+  means = words_have_meaning (referred_in s) asked tt at_once.words;
   not_done = at_once_not_done (items_of asked) s (IsNotDoneAlone meaning s.held s.disks (writers_of s) asked) at_once.no_items (inl not_done);
 })
 

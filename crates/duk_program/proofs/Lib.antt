@@ -4,6 +4,7 @@ mod Marked
 mod Results
 mod WrittenStaysWritten
 mod Endings
+mod InputRead
 mod Told
 mod Words
 mod ShownLogs

@@ -10,17 +10,17 @@ use Rattle.duk_program.specs.Explained.{HasExplained, IsHeardDone, IsMeantFailed
 use Rattle.duk_program.proofs.Answered.{meant_done}
 use Rattle.duk_program.specs.Files.{FileKnown}
 use Rattle.duk_program.specs.Inquiry.{Inquiry}
-use Rattle.duk_program.specs.Meant.{AreSecretsRead, HasUnreadSecret, IsAnswered, IsNotAnswered}
+use Rattle.duk_program.specs.Meant.{AreSecretsRead, HasUnreadSecret, IsAnswered, IsNotAnswered, referred_in}
 use Rattle.duk_program.specs.Program.{run_in}
 use Rattle.duk_program.specs.RunFiles.{HasReportedFault}
-use Rattle.duk_program.specs.Scene.{Scene, reading_on, scene, writers_of}
+use Rattle.duk_program.specs.Scene.{Scene, reading_on, scene}
 use Rattle.duk_program.specs.Secrets.{EachMeans, HasMeaning, IsOverSecrets, IsSecretFault, secret_line}
 use Rattle.duk_program.specs.declared.secrets.SecretFault.{SecretFault}
 use Rattle.duk_store.specs.Disk.{DiskMeaning}
 
 -- a request over secrets is not done over what these stand for, or one of them is not read
 pub not_done_of : {D : Type 0} (meaning : DiskMeaning D) (s : Scene D) (asked about : Request) → IsOverSecrets asked
-    → IsMeantFailed meaning s asked about ⊎ ((about ≡ asked) × HasUnreadSecret s.held asked (writers_of s))
+    → IsMeantFailed meaning s asked about ⊎ ((about ≡ asked) × HasUnreadSecret s asked)
     → IsNotDoneOf meaning s asked about
 not_done_of meaning s (request.Run config script) about over failed = absurd over
 not_done_of meaning s (request.Serve config log) about over failed = absurd over
@@ -28,7 +28,7 @@ not_done_of meaning s asked about over failed = failed
 
 -- a secret that is not read is explained of the request as it is written
 pub unread_explained : {D : Type 0} {q : Inquiry} (meaning : DiskMeaning D) (s : Scene D) (asked : Request) (why : SecretFault) → IsOverSecrets asked
-    → IsSecretFault s.held asked why → IsUntouched s.streams.output_before s.streams.output_after
+    → IsSecretFault s.held s.streams.input_before s.streams.input_after asked why → IsUntouched s.streams.output_before s.streams.output_after
     → IsTold q (secret_line why) asked s.fault_before s.fault_after → HasExplained meaning q s asked
 unread_explained meaning s asked why over cause quiet told = record {
   line = secret_line why;
@@ -61,14 +61,14 @@ heard_from s empty line = scene s.held s.disks s.streams (holding empty) (holdin
 
 -- what is answered of a request over what its secrets stand for, with a line that is told
 pub meant_explained : {D : Type 0} {q : Inquiry} (meaning : DiskMeaning D) (s : Scene D) (asked meant : Request) (input : Supply) (empty line : List ℕ) → empty ≡ [] → IsOverSecrets asked
-    → AreSecretsRead s asked input → HasMeaning s.held asked meant → IsNotAnswered meaning (reading_on (heard_from s empty line) input) meant
+    → AreSecretsRead s asked input → HasMeaning (referred_in s) asked meant → IsNotAnswered meaning (reading_on (heard_from s empty line) input) meant
     → IsTold q line meant s.fault_before s.fault_after → HasExplained meaning q s asked
 meant_explained meaning s asked meant input empty line none over read means not_done told = record {
   line = line;
   about = meant;
   not_done = not_done_of meaning (heard_in s line) asked meant over (inl (record {
     input = input;
-    read = record { untouched = read.untouched };
+    read = read;
     means = means;
     not_done = rw (← none) not_done;
   }));
@@ -77,13 +77,13 @@ meant_explained meaning s asked meant input empty line none over read means not_
 
 -- so is what is done
 pub meant_heard : {D : Type 0} (meaning : DiskMeaning D) (s : Scene D) (asked meant : Request) (input : Supply) (empty heard : List ℕ) → empty ≡ [] → IsOverSecrets asked
-    → AreSecretsRead s asked input → HasMeaning s.held asked meant → IsAnswered meaning (reading_on (heard_from s empty heard) input) meant
+    → AreSecretsRead s asked input → HasMeaning (referred_in s) asked meant → IsAnswered meaning (reading_on (heard_from s empty heard) input) meant
     → IsHeardDone meaning s asked
 meant_heard meaning s asked meant input empty heard none over read means done = record {
   heard = heard;
   done = meant_done meaning (heard_in s heard) asked over (record {
     input = input;
-    read = record { untouched = read.untouched };
+    read = read;
     meant = meant;
     means = means;
     done = rw (← none) done;

@@ -1,20 +1,17 @@
 -- Texts of which each is a word, and what is meant by texts.
-use Rattle.std.proofs.Common.{◌≡◌, ◌≢◌, ◌+◌, ◌<◌, ℕ, zero, suc, List, [], ◌∷◌, ◌++◌, Option, Some, None, map, take, get_or, length, option_map, sym, subst, ap, codes, refl, ◌∙◌, arith}
+use Rattle.std.proofs.Common.{◌≡◌, ◌==◌, ◌+◌, ◌<◌, ℕ, zero, suc, Bool, true, false, List, [], ◌∷◌, ◌++◌, Option, Some, None, map, take, get_or, length, option_map, sym, subst, ap, refl, arith}
 use Rattle.std.specs.Borrow.{Bor}
 use Rattle.std.specs.Option.{option_copied}
-use Rattle.std.specs.Prelude.{option_to_list}
-use Rattle.std.proofs.lemmas.List.{get_or-map, length-map, map_more, take-map}
+use Rattle.std.specs.Prelude.{option_to_list, if◌then◌else◌}
+use Rattle.std.proofs.lemmas.List.{map_more}
+use Rattle.std.proofs.lemmas.Option.{none-some}
 use Rattle.duk_arguments.specs.Given.{Each}
 use Rattle.duk_arguments.specs.Keys.{texts_of_keys}
 use Rattle.duk_arguments.specs.declared.request.Request.{Request}
 use Rattle.duk_arguments.specs.declared.request.Request.TheVariants as request
+use Rattle.duk_host.specs.Serve.{Supply}
 use Rattle.duk_program.specs.Files.{FileKnown}
-use Rattle.duk_program.specs.Meant.{IsOfFiles}
-use Rattle.duk_program.specs.Secrets.{EachMeans, HasMeaning, HasWordsAlone, IsOverSecrets, IsSecretFault, IsUnread, IsWord, Means, OptionMeans, reference_in, secret_at, secrets_of}
-use Rattle.duk_program.specs.declared.secrets.Secret.{Secret}
-use Rattle.duk_program.specs.inner.Secrets.{IsSecretRefused}
-use Rattle.duk_program.specs.declared.secrets.SecretFault.{SecretFault}
-use Rattle.duk_program.specs.declared.secrets.SecretFault.TheVariants.{NoMemory, Unread}
+use Rattle.duk_program.specs.Secrets.{EachMeans, HasMeaning, HasWordsAlone, IsInputTaken, IsOverSecrets, IsWord, Means, OptionMeans, inputs_in, is_input_reference, secrets_of}
 
 pub each_push : {A : Type 0} (P : A → Type 0) (xs : List A) (x : A) → Each P xs → P x → Each P (xs ++ x ∷ [])
 each_push P [] x each one = (one, tt)
@@ -65,6 +62,22 @@ pub option_means : (held : List ℕ → FileKnown) (first second : List ℕ) (th
 option_means held first second None texts each = tt
 option_means held first second (Some key) texts each = means_at held (first ∷ second ∷ key.now ∷ []) texts 2 each (omega arith)
 
+no_sign : (b : Bool) (first : ℕ) (rest : List ℕ) → (first == 64) ≡ b → (if b then Some rest else None) ≡ None → is_input_reference (first ∷ rest) ≡ false
+no_sign true first rest is none = absurd (none-some rest (sym none))
+no_sign false first rest is none = rw is refl
+
+-- a word does not refer to the input, and so nothing is read of it for words
+word_no_input : (text : List ℕ) → IsWord text → is_input_reference text ≡ false
+word_no_input [] word = refl
+word_no_input (first ∷ rest) word = no_sign (first == 64) first rest refl word
+
+words_no_input : (texts : List (List ℕ)) → Each IsWord texts → inputs_in texts ≡ 0
+words_no_input [] words = refl
+words_no_input (text ∷ texts) words = rw (word_no_input text words.0) (words_no_input texts words.1)
+
+pub words_untouched : (now : Supply) (texts : List (List ℕ)) → Each IsWord texts → IsInputTaken (inputs_in texts) now now
+words_untouched now texts words = rw (words_no_input texts words) refl
+
 -- words alone are what is meant
 pub words_have_meaning : (held : List ℕ → FileKnown) (asked : Request) → IsOverSecrets asked → HasWordsAlone asked → HasMeaning held asked asked
 words_have_meaning held (request.Run config script) over words = absurd over
@@ -102,39 +115,3 @@ words_have_meaning held (request.CheckReply bdk asked answer initial) over words
 words_have_meaning held (request.Issue bdk loading iksn count ledger skip) over words =
     (word_means held bdk.now words.0, word_means held loading.now words.1.0, refl, refl, refl, refl)
 words_have_meaning held (request.Show kind what show) over words = (refl, word_means held what.now words.0, refl)
-
--- one secret more is read
-pub reads_more : (held : List ℕ → FileKnown) (written : List (Bor (List ℕ))) (texts : List (List ℕ)) (place : ℕ) (d : Bor (List ℕ)) (text : List ℕ)
-    → place < length written → EachMeans held (map (λ word. word.now) (take place written)) texts → Means held (get_or written place d).now text
-    → EachMeans held (map (λ word. word.now) (take (place + 1) written)) (texts ++ text ∷ [])
-reads_more held written texts place d text inside each one =
-    subst (λ words. EachMeans held words (texts ++ text ∷ [])) (sym (map_more (λ word. word.now) written place d inside))
-    (means_push held (map (λ word. word.now) (take place written)) texts (get_or written place d).now text each one)
-
--- a secret is not read, and those before it are
-pub first_unread : (held : List ℕ → FileKnown) (asked : Request) (written : List (Bor (List ℕ))) (texts : List (List ℕ)) (place : ℕ) (d : Bor (List ℕ))
-    (secret : Secret) (why : SecretFault) → map (λ word. word.now) written ≡ secrets_of asked → place < length written
-    → EachMeans held (map (λ word. word.now) (take place written)) texts → secret ≡ secret_at asked place
-    → IsSecretRefused held secret (get_or written place d).now why → IsSecretFault held asked why
-first_unread held asked written texts place d secret NoMemory same inside each named refused = tt
-first_unread held asked written texts place d secret (Unread name why) same inside each named refused = record {
-  place = place;
-  is_there = subst (λ words. place < length words) same (subst (λ n. place < n) (sym (length-map written (λ word. word.now))) inside);
-  texts = texts;
-  before = subst (λ words. EachMeans held words texts) (sym (take-map (λ word. word.now) place written) ∙ ap (take place) same) each;
-  secret_is = refused.0 ∙ named;
-  cause = subst (λ word. IsUnread held (reference_in word) why)
-      (sym (get_or-map (λ word. word.now) written place d [] inside) ∙ ap (λ words. get_or words place []) same) refused.1;
-}
-
-of_file : (written : List (Bor (List ℕ))) (place : ℕ) (d : Bor (List ℕ)) → place < length written
-    → Each (λ word. word ≢ codes "@-") (map (λ word. word.now) written) → (get_or written place d).now ≢ codes "@-"
-of_file (word ∷ written) zero d inside each = each.0
-of_file (word ∷ written) (suc place) d inside each = of_file written place d (omega (arith, inside)) each.1
-of_file [] place d inside each = absurd (omega (arith, inside))
-
--- no secret of a request is read from the input, and so none at a place
-pub of_file_at : (asked : Request) (written : List (Bor (List ℕ))) (place : ℕ) (d : Bor (List ℕ)) → map (λ word. word.now) written ≡ secrets_of asked
-    → place < length written → IsOfFiles asked → (get_or written place d).now ≢ codes "@-"
-of_file_at asked written place d same inside each =
-    of_file written place d inside (subst (Each (λ word. word ≢ codes "@-")) (sym same) each)

@@ -11,7 +11,7 @@ use Rattle.duk_io.specs.Known.{Known}
 use Rattle.duk_io.specs.Sink.{IsTried}
 use Rattle.duk_program.specs.Commands.{HasLostCommandOutput, HasShown, IsNotShown}
 use Rattle.duk_program.specs.Inquiry.{AreFacts, Inquiry}
-use Rattle.duk_program.specs.Meant.{AreSecretsRead, HasUnreadSecret, IsNotAnswered}
+use Rattle.duk_program.specs.Meant.{AreSecretsRead, HasUnreadSecret, IsNotAnswered, referred_in}
 use Rattle.duk_program.specs.Program.{IsProgramDone, IsProgramNotDone, IsRequestDone, IsRequestNotDone}
 use Rattle.duk_program.specs.Scene.{Scene, reading_on, scene, writers_of}
 use Rattle.duk_program.specs.Secrets.{HasMeaning}
@@ -47,7 +47,7 @@ pub record IsMeantFailed {D : Type 0} (meaning : DiskMeaning D) (s : Scene D) (a
     : Type 0 where
   pub input : Supply
   pub read : AreSecretsRead s asked input
-  pub means : HasMeaning s.held asked meant
+  pub means : HasMeaning (referred_in s) asked meant
   pub not_done : IsNotAnswered meaning (reading_on s input) meant
 
 -- status 1 of a request, and of which request it is explained: of the one whose secrets are what
@@ -60,7 +60,7 @@ IsNotDoneOf meaning s (request.Serve config log) about =
     (about ≡ request.Serve config log) × IsRequestNotDone meaning s (request.Serve config log)
 IsNotDoneOf meaning s asked about =
     IsMeantFailed meaning s asked about
-    ⊎ ((about ≡ asked) × HasUnreadSecret s.held asked (writers_of s))
+    ⊎ ((about ≡ asked) × HasUnreadSecret s asked)
 
 -- a request is not done, and its fault is told and explained
 pub record HasExplained {D : Type 0} (meaning : DiskMeaning D) (q : Inquiry) (s : Scene D)

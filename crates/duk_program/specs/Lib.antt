@@ -5,6 +5,7 @@ pub mod Explained
 pub mod Files
 pub mod HandedOn
 pub mod HostSize
+pub mod InputLine
 pub mod Inquiry
 pub mod IssueFiles
 pub mod Items

@@ -1,7 +1,6 @@
 -- What a command over secrets does (this project's own, over what each command makes of its
 -- arguments).
-use Rattle.std.specs.Prelude.{◌≡◌, ◌≢◌, ◌⊎◌, ℕ, List, Option, Some, None, codes}
-use Rattle.duk_arguments.specs.Given.{Each}
+use Rattle.std.specs.Prelude.{◌⊎◌, ℕ, List, Option, Some, None}
 use Rattle.duk_arguments.specs.declared.request.Request.{Request}
 use Rattle.duk_arguments.specs.declared.request.Request.TheVariants as request
 use Rattle.duk_batch.specs.Batch.{IsBatchDone, IsBatchNotDone}
@@ -14,11 +13,12 @@ use Rattle.duk_io.specs.Sink.{IsTried, IsUntouched}
 use Rattle.duk_program.specs.Commands.{command_for}
 use Rattle.duk_program.specs.Files.{FileKnown}
 use Rattle.duk_program.specs.HandedOn.{IsFlushLost}
+use Rattle.duk_program.specs.InputLine.{with_input}
 use Rattle.duk_program.specs.IssueFiles.{HasIssuedFiles, HasNotIssuedFiles, issue_arguments, issue_files_known}
 use Rattle.duk_program.specs.Items.{LineItems, command_of_line, items_of}
 use Rattle.duk_program.specs.LogFiles.{DiskKnown}
 use Rattle.duk_program.specs.Scene.{Scene, input_in, reading_on, writers_of}
-use Rattle.duk_program.specs.Secrets.{HasMeaning, IsSecretFault, secret_line, secrets_of}
+use Rattle.duk_program.specs.Secrets.{HasMeaning, IsInputTaken, IsSecretFault, inputs_in, secret_line, secrets_of}
 use Rattle.duk_program.specs.Show.{HasNotShownText, HasShownText, show_arguments}
 use Rattle.duk_program.specs.declared.secrets.SecretFault.{SecretFault}
 use Rattle.duk_store.specs.Disk.{DiskMeaning}
@@ -72,15 +72,15 @@ abbrev pub IsNotAnswered : {D : Type 0} → DiskMeaning D → Scene D → Reques
 IsNotAnswered meaning s asked = IsOverItemsNotDone (items_of asked) s
     (IsNotDoneAlone meaning s.held s.disks (writers_of s) asked)
 
--- no secret of a request is read from the input
-abbrev pub IsOfFiles : Request → Type 0
-IsOfFiles asked = Each (λ written. written ≢ codes "@-") (secrets_of asked)
+-- what there is under each path to which a secret refers
+abbrev pub referred_in : {D : Type 0} → Scene D → List ℕ → FileKnown
+referred_in s = with_input s.held s.streams.input_before
 
--- what the input makes known when the secrets were read: what it did before, where none was read
--- from it
-pub record AreSecretsRead {D : Type 0} (s : Scene D) (asked : Request) (input : Supply)
-    : Type 0 where
-  pub untouched : IsOfFiles asked → input ≡ s.streams.input_before
+-- what the input makes known when the secrets were read: what it did before, but for its first line
+-- where one of them refers to it
+abbrev pub AreSecretsRead : {D : Type 0} → Scene D → Request → Supply → Type 0
+AreSecretsRead s asked input =
+    IsInputTaken (inputs_in (secrets_of asked)) s.streams.input_before input
 
 -- the request is done over what its secrets stand for
 pub record HasMeantDone {D : Type 0} (meaning : DiskMeaning D) (s : Scene D) (asked : Request)
@@ -88,7 +88,7 @@ pub record HasMeantDone {D : Type 0} (meaning : DiskMeaning D) (s : Scene D) (as
   pub input : Supply
   pub read : AreSecretsRead s asked input
   pub meant : Request
-  pub means : HasMeaning s.held asked meant
+  pub means : HasMeaning (referred_in s) asked meant
   pub done : IsAnswered meaning (reading_on s input) meant
 
 -- it is not done over what its secrets stand for
@@ -97,18 +97,16 @@ pub record HasMeantNotDone {D : Type 0} (meaning : DiskMeaning D) (s : Scene D) 
   pub input : Supply
   pub read : AreSecretsRead s asked input
   pub meant : Request
-  pub means : HasMeaning s.held asked meant
+  pub means : HasMeaning (referred_in s) asked meant
   pub not_done : IsNotAnswered meaning (reading_on s input) meant
 
 -- a secret is not read, and that is reported
-pub record HasUnreadSecret (held : List ℕ → FileKnown) (asked : Request) (s : Streams)
-    : Type 0 where
+pub record HasUnreadSecret {D : Type 0} (s : Scene D) (asked : Request) : Type 0 where
   pub why : SecretFault
-  pub cause : IsSecretFault held asked why
-  pub no_output : IsUntouched s.output_before s.output_after
+  pub cause : IsSecretFault s.held s.streams.input_before s.streams.input_after asked why
+  pub no_output : IsUntouched s.streams.output_before s.streams.output_after
   pub line : IsTried s.fault_before s.fault_after (secret_line why)
 
 -- status 1
 abbrev pub IsMeantNotDone : {D : Type 0} → DiskMeaning D → Scene D → Request → Type 0
-IsMeantNotDone meaning s asked =
-    HasMeantNotDone meaning s asked ⊎ HasUnreadSecret s.held asked (writers_of s)
+IsMeantNotDone meaning s asked = HasMeantNotDone meaning s asked ⊎ HasUnreadSecret s asked

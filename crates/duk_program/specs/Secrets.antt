@@ -1,14 +1,16 @@
 -- Secrets that arguments give by reference (this project's own): `@FILE` stands for the first line
 -- of a file, and `@-` for that of standard input.
-use Rattle.std.specs.Prelude.{◌≡◌, ◌≢◌, ◌==◌, ◌<◌, ⊤, ℕ, List, [], ◌∷◌, ◌++◌, Option, Some, None, codes, get_or, length, option_to_list, take, if◌then◌else◌}
-use Rattle.std.specs.Str.{IsUtf8}
+use Rattle.std.specs.Prelude.{◌≡◌, ◌≢◌, ◌==◌, ◌<◌, ◌⊎◌, ⊤, ℕ, zero, suc, Bool, List, [], ◌∷◌, ◌++◌, Option, Some, None, codes, get_or, length, option_to_list, take, if◌then◌else◌}
+use Rattle.std.specs.Str.{IsUtf8, bytes_eq}
 use Rattle.std.specs.Option.{option_copied}
 use Rattle.duk_arguments.specs.Given.{Each}
 use Rattle.duk_arguments.specs.Keys.{texts_of_keys}
 use Rattle.duk_arguments.specs.declared.request.Request.{Request}
 use Rattle.duk_arguments.specs.declared.request.Request.TheVariants as request
 use Rattle.duk_commands.specs.Fault.{line_end}
+use Rattle.duk_host.specs.Serve.{Supply}
 use Rattle.duk_program.specs.Files.{FileKnown, HasLongLine, IsLineRead, IsUnreadableFile}
+use Rattle.duk_program.specs.InputLine.{IsInputFault, IsLineTaken, longest_line, with_input}
 use Rattle.duk_program.specs.declared.secrets.Secret.{Secret}
 use Rattle.duk_program.specs.declared.secrets.Secret.TheVariants.{Bdk, Kbpk, Pin, Pan, Zone, Key, Block, Loading, What}
 use Rattle.duk_program.specs.declared.secrets.SecretFault.{SecretFault}
@@ -16,21 +18,15 @@ use Rattle.duk_program.specs.declared.secrets.SecretFault.TheVariants.{NoMemory,
 use Rattle.duk_program.specs.declared.secrets.Unread.{Unread as Why}
 use Rattle.duk_program.specs.declared.secrets.Unread.TheVariants.{CannotRead, TooLong, NotUtf8}
 
--- the most bytes of a secret's line
-abbrev pub longest_line : ℕ
-longest_line = 4096
-
 -- what a text that begins with `@` (64) refers to
 abbrev pub reference_in : List ℕ → Option (List ℕ)
 reference_in [] = None
 reference_in (first ∷ rest) = if first == 64 then Some rest else None
 
--- what a secret that is written stands for: itself, the first line of a file, or of standard input,
--- of which no clause says more
+-- what a secret that is written stands for: itself, or the first line of what there is under a path
 abbrev pub StandsFor : (List ℕ → FileKnown) → Option (List ℕ) → List ℕ → List ℕ → Type 0
 StandsFor held None written text = text ≡ written
-StandsFor held (Some path) written text =
-    path ≢ codes "-" → IsLineRead (held path) longest_line text
+StandsFor held (Some path) written text = IsLineRead (held path) longest_line text
 
 abbrev pub Means : (List ℕ → FileKnown) → List ℕ → List ℕ → Type 0
 Means held written text = StandsFor held (reference_in written) written text
@@ -54,10 +50,57 @@ IsUnreadLine held CannotRead = IsUnreadableFile held
 IsUnreadLine held TooLong = HasLongLine longest_line held
 IsUnreadLine held NotUtf8 = HasNoText held
 
--- why a secret that is written so is not read; of standard input no clause says more
+-- why a secret that refers to a file is not read
 abbrev pub IsUnread : (List ℕ → FileKnown) → Option (List ℕ) → Why → Type 0
 IsUnread held None why = ⊥
-IsUnread held (Some path) why = path ≢ codes "-" → IsUnreadLine (held path) why
+IsUnread held (Some path) why = IsUnreadLine (held path) why
+
+-- a text that refers to the input
+abbrev pub is_input_reference : List ℕ → Bool
+is_input_reference text = bytes_eq text (codes "@-")
+
+-- how many of these texts do
+abbrev pub inputs_in : List (List ℕ) → ℕ
+inputs_in [] = 0
+inputs_in (text ∷ texts) =
+    if is_input_reference text then suc (inputs_in texts) else inputs_in texts
+
+-- what is read of the input for so many secrets that refer to it: nothing for none, its first line
+-- for one; more than one are never read
+abbrev pub IsInputTaken : ℕ → Supply → Supply → Type 0
+IsInputTaken zero before after = after ≡ before
+IsInputTaken (suc zero) before after = (bytes : List ℕ) × IsLineTaken before after bytes
+IsInputTaken (suc (suc more)) before after = ⊥
+
+-- secrets that are written so are read, and these are the texts that they stand for
+pub record AreRead (held : List ℕ → FileKnown) (written texts : List (List ℕ)) (before after : Supply)
+    : Type 0 where
+  pub means : EachMeans (with_input held before) written texts
+  pub taken : IsInputTaken (inputs_in written) before after
+
+-- a secret that does not refer to the input is not read, and nothing is read of the input
+pub record IsFileSecretUnread (held : List ℕ → FileKnown) (before after : Supply) (written : List ℕ)
+    (why : Why) : Type 0 where
+  pub no_input : written ≢ codes "@-"
+  pub idle : after ≡ before
+  pub cause : IsUnread held (reference_in written) why
+
+-- why the input is not read, where so many secrets before referred to it: it is read once
+abbrev pub IsInputUnread : ℕ → Supply → Supply → Why → Type 0
+IsInputUnread zero before after why = IsInputFault before after why
+IsInputUnread (suc earlier) before after why = (why ≡ CannotRead) × (after ≡ before)
+
+-- a secret that refers to the input is not read
+pub record IsInputSecretUnread (earlier : ℕ) (before after : Supply) (written : List ℕ) (why : Why)
+    : Type 0 where
+  pub is_input : written ≡ codes "@-"
+  pub cause : IsInputUnread earlier before after why
+
+-- why a secret that is written so is not read, where so many before it referred to the input
+abbrev pub IsNextUnread : (List ℕ → FileKnown) → ℕ → Supply → Supply → List ℕ → Why → Type 0
+IsNextUnread held earlier before after written why =
+    IsFileSecretUnread held before after written why
+    ⊎ IsInputSecretUnread earlier before after written why
 
 -- an optional secret
 abbrev pub OptionMeans : (List ℕ → FileKnown) → Option (List ℕ) → Option (List ℕ) → Type 0
@@ -167,19 +210,22 @@ abbrev pub secret_at : Request → ℕ → Secret
 secret_at asked place = get_or (secret_names asked) place Key
 
 -- a secret of a request is not read, and those before it are
-pub record IsFirstUnread (held : List ℕ → FileKnown) (asked : Request) (secret : Secret) (why : Why)
-    : Type 0 where
+pub record IsFirstUnread (held : List ℕ → FileKnown) (before after : Supply) (asked : Request)
+    (secret : Secret) (why : Why) : Type 0 where
   pub place : ℕ
   pub is_there : place < length (secrets_of asked)
   pub texts : List (List ℕ)
-  pub before : EachMeans held (take place (secrets_of asked)) texts
+  pub between : Supply
+  pub earlier : AreRead held (take place (secrets_of asked)) texts before between
   pub secret_is : secret ≡ secret_at asked place
-  pub cause : IsUnread held (reference_in (get_or (secrets_of asked) place [])) why
+  pub cause : IsNextUnread held (inputs_in (take place (secrets_of asked))) between after
+      (get_or (secrets_of asked) place []) why
 
 -- the fault of the secrets of a request; memory may be refused at any time
-abbrev pub IsSecretFault : (List ℕ → FileKnown) → Request → SecretFault → Type 0
-IsSecretFault held asked (Unread secret why) = IsFirstUnread held asked secret why
-IsSecretFault held asked NoMemory = ⊤
+abbrev pub IsSecretFault : (List ℕ → FileKnown) → Supply → Supply → Request → SecretFault → Type 0
+IsSecretFault held before after asked (Unread secret why) =
+    IsFirstUnread held before after asked secret why
+IsSecretFault held before after asked NoMemory = ⊤
 
 -- a text that is no reference
 abbrev pub IsWord : List ℕ → Type 0

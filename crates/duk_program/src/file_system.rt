@@ -1,8 +1,8 @@
 //! Reads whole files, first lines and first bytes of files, through a trait by which a contract can
 //! say what a file holds.
 
-ghost use Rattle.std.specs.Prelude.{ℕ, List, None, IfOk, IfErr, IfSome};
-ghost use Rattle.duk_program.specs.Files.{FileKnown, IsFileRead, IsFileUnread, IsFrontRead, IsFrontUnread, IsLineRead, IsLineUnread};
+ghost use Rattle.std.specs.Prelude.{◌≡◌, ℕ, List, None, IfOk, IfErr, IfSome};
+ghost use Rattle.duk_program.specs.Files.{FileKnown, IsFileRead, IsFileUnread, IsFrontRead, IsFrontUnread, IsLineRead, IsLineUnread, without_return};
 ghost use Rattle.duk_program.specs.Inquiry.{IsReason, ReasonKnown};
 
 use duk_explain::Reason;
@@ -176,7 +176,9 @@ fn read_first_line<R: Files>(
 }
 
 /// Takes the CR from the end of a line that LF ends, where there is one.
-pub(crate) fn strip_return(line: &mut Vec<u8>) {
+pub(crate) fn strip_return(line: &mut Vec<u8>)
+    ensures { line.new.items ≡ without_return line.old.items }
+{
     if line.last() == Some(&b'\r') {
         line.pop();
     }

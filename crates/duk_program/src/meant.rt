@@ -2,9 +2,10 @@
 
 ghost use Rattle.std.specs.Prelude.{◌≡◌, ◌⊎◌, IfErr, IfOk, IfSome, OnErr, map, string_bytes};
 ghost use Rattle.duk_arguments.specs.Keys.{texts_of_keys};
-ghost use Rattle.duk_program.specs.Meant.{HasMeantDone, HasMeantNotDone, IsMeantNotDone, IsOfFiles};
+ghost use Rattle.duk_host.specs.Serve.{supply};
+ghost use Rattle.duk_program.specs.Meant.{HasMeantDone, HasMeantNotDone, IsMeantNotDone};
 ghost use Rattle.duk_program.specs.Scene.{scene};
-ghost use Rattle.duk_program.specs.Secrets.{EachMeans, IsOverSecrets, IsSecretFault, secrets_of};
+ghost use Rattle.duk_program.specs.Secrets.{AreRead, IsOverSecrets, IsSecretFault, secrets_of};
 ghost use Rattle.duk_program.specs.Serve.{serving_of};
 
 use crate::answers::answer;
@@ -71,7 +72,9 @@ where
         (S.held files.now) (S.disks files.now) (serving_of R.known R.reads W.known input.old
         input.new output.old output.new) (F.known fault.old) (F.known fault.new))
         request.entry) }
-    ensures refused { IfErr result (IsSecretFault (S.held files.now) request.entry) }
+    ensures refused { IfErr result (IsSecretFault (S.held files.now)
+        (supply (R.known input.old) (R.reads input.old))
+        (supply (R.known input.new) (R.reads input.new)) request.entry) }
     ensures quiet { OnErr result (W.known output.new ≡ W.known output.old) }
     ensures silent { OnErr result (F.known fault.new ≡ F.known fault.old) }
 {
@@ -91,10 +94,12 @@ pub(crate) fn read_texts<S: FileSystem, R: Source>(
     input: &mut R,
 ) -> Result<Vec<String>, SecretFault>
     requires { IsOverSecrets request.now }
-    ensures read { IfOk result (λ texts. EachMeans (S.held files.now) (secrets_of request.now)
-        (map string_bytes texts.items)) }
-    ensures refused { IfErr result (IsSecretFault (S.held files.now) request.now) }
-    ensures untouched { IsOfFiles request.now → input.new ≡ input.old }
+    ensures read { IfOk result (λ texts. AreRead (S.held files.now) (secrets_of request.now)
+        (map string_bytes texts.items) (supply (R.known input.old) (R.reads input.old))
+        (supply (R.known input.new) (R.reads input.new))) }
+    ensures refused { IfErr result (IsSecretFault (S.held files.now)
+        (supply (R.known input.old) (R.reads input.old))
+        (supply (R.known input.new) (R.reads input.new)) request.now) }
 {
     let Some(written) = secrets_of(request) else {
         return Err(SecretFault::NoMemory);

@@ -1,13 +1,12 @@
 //! Reads what references stand for: the first line of a file, or of standard input.
 
-ghost use Rattle.std.specs.Prelude.{◌≡◌, ◌≢◌, ◌⊎◌, IfErr, IfOk, IsFalse, codes, map, option_map, string_bytes};
-ghost use Rattle.std.specs.Str.{IsUtf8};
+ghost use Rattle.std.specs.Prelude.{◌≡◌, [], IfErr, IfOk, IsFalse, IsOkAnd, MatchResult, OnErr, map, option_map, string_bytes};
 ghost use Rattle.duk_arguments.specs.Given.{Each};
-ghost use Rattle.duk_program.specs.Meant.{IsOfFiles};
-ghost use Rattle.duk_program.specs.Secrets.{EachMeans, HasWordsAlone, IsSecretFault, IsWord, Means, reference_in, secrets_of};
-ghost use Rattle.duk_program.specs.declared.secrets.SecretFault.TheVariants as fault;
-ghost use Rattle.duk_program.specs.inner.Secrets.{IsSecretRefused};
-ghost use Rattle.duk_program.specs.declared.secrets.Unread.TheVariants.{NotUtf8};
+ghost use Rattle.duk_host.specs.Serve.{supply};
+ghost use Rattle.duk_io.specs.Source.{AreReadsMade, IsBroken};
+ghost use Rattle.duk_program.specs.InputLine.{HasLineTaken};
+ghost use Rattle.duk_program.specs.Secrets.{AreRead, HasWordsAlone, IsSecretFault, IsWord, reference_in, secrets_of};
+ghost use Rattle.duk_program.specs.inner.Secrets.{IsAnyLineUnread, IsNextByte, IsOnceUnread, IsReadOnce, IsSecretRead, IsSecretRefused, IsTextRefused, line_fault};
 
 use crate::file_system::{FileFault, FileSystem, strip_return};
 use crate::request_secrets::{secret_at, secrets_of};
@@ -15,10 +14,13 @@ use crate::secrets::{Secret, SecretFault, Unread};
 use duk_arguments::Request;
 use duk_io::Source;
 use std::alloc::Global;
-use std::str;
+use std::{io, str};
 
 /// The most bytes of a secret's line.
 const LONGEST_LINE: usize = 4096;
+
+/// The most bytes that are read of the input: those of the longest line and of its end, CR LF.
+const MOST_TAKEN: usize = LONGEST_LINE + 2;
 
 /// Whether a secret of the request is a reference.
 pub(crate) fn has_reference(request: &Request<'_>) -> bool
@@ -69,10 +71,12 @@ pub(crate) fn read_secrets<S: FileSystem, R: Source>(
     written: &[&str],
 ) -> Result<Vec<String>, SecretFault>
     requires { map (λ text. text.now) written.now ≡ secrets_of request.now }
-    ensures read { IfOk result (λ texts. EachMeans (S.held files.now) (secrets_of request.now)
-        (map string_bytes texts.items)) }
-    ensures refused { IfErr result (IsSecretFault (S.held files.now) request.now) }
-    ensures untouched { IsOfFiles request.now → input.new ≡ input.old }
+    ensures read { IfOk result (λ texts. AreRead (S.held files.now) (secrets_of request.now)
+        (map string_bytes texts.items) (supply (R.known input.old) (R.reads input.old))
+        (supply (R.known input.new) (R.reads input.new))) }
+    ensures refused { IfErr result (IsSecretFault (S.held files.now)
+        (supply (R.known input.old) (R.reads input.old))
+        (supply (R.known input.new) (R.reads input.new)) request.now) }
 {
     let mut texts = Vec::new(alloc);
     let mut input_is_read = false;
@@ -103,19 +107,37 @@ pub(crate) fn read_secret<S: FileSystem, R: Source>(
     secret: Secret,
     written: &str,
 ) -> Result<String, SecretFault>
-    ensures read { IfOk result (λ text. Means (S.held files.now) written.now
-        (string_bytes text)) }
-    ensures refused { IfErr result (IsSecretRefused (S.held files.now) secret written.now) }
-    ensures untouched { written.now ≢ codes "@-" → input.new ≡ input.old }
+    ensures read { IfOk result (λ text. IsSecretRead (S.held files.now) input_is_read.old
+        input_is_read.new (supply (R.known input.old) (R.reads input.old))
+        (supply (R.known input.new) (R.reads input.new)) written.now (string_bytes text)) }
+    ensures refused { IfErr result (IsSecretRefused (S.held files.now) input_is_read.old
+        (supply (R.known input.old) (R.reads input.old))
+        (supply (R.known input.new) (R.reads input.new)) secret written.now) }
 {
     let Some(path) = path_in(written) else {
         return String::from_str(alloc, written).map_err(|_| SecretFault::NoMemory);
     };
-    let line = if path == "-" {
-        read_input_once(alloc, input, input_is_read)
+    if path == "-" {
+        let line = read_input_once(alloc, input, input_is_read);
+        text_of(alloc, secret, line)
     } else {
-        files.read_line(alloc, path, LONGEST_LINE)
-    };
+        let line = files.read_line(alloc, path, LONGEST_LINE);
+        text_of(alloc, secret, line)
+    }
+}
+
+/// The text of a line, where that is read.
+fn text_of(
+    alloc: Global,
+    secret: Secret,
+    line: Result<Vec<u8>, FileFault>,
+) -> Result<String, SecretFault>
+    ensures text { IfOk result (λ text. IsOkAnd line
+        (λ line. string_bytes text ≡ line.items)) }
+    ensures refused { IfErr result (λ why. MatchResult line
+        (λ line. IsTextRefused secret line.items why)
+        (λ fault. why ≡ line_fault secret fault)) }
+{
     match line {
         Ok(line) => text_of_line(alloc, secret, line.as_slice()),
         Err(FileFault::NoMemory) => Err(SecretFault::NoMemory),
@@ -124,11 +146,10 @@ pub(crate) fn read_secret<S: FileSystem, R: Source>(
     }
 }
 
-/// The text of a line.
+/// The text of a line that is read.
 fn text_of_line(alloc: Global, secret: Secret, line: &[u8]) -> Result<String, SecretFault>
     ensures text { IfOk result (λ text. string_bytes text ≡ line.now) }
-    ensures refused { IfErr result (λ why. (why ≡ fault.NoMemory)
-        ⊎ ((why ≡ fault.Unread secret NotUtf8) × ¬ IsUtf8 line.now)) }
+    ensures refused { IfErr result (IsTextRefused secret line.now) }
 {
     match str::from_utf8(line) {
         Ok(text) => String::from_str(alloc, text).map_err(|_| SecretFault::NoMemory),
@@ -142,7 +163,14 @@ fn read_input_once<R: Source>(
     alloc: Global,
     input: &mut R,
     input_is_read: &mut bool,
-) -> Result<Vec<u8>, FileFault> {
+) -> Result<Vec<u8>, FileFault>
+    ensures read { IfOk result (λ line. IsReadOnce input_is_read.old input_is_read.new
+        (supply (R.known input.old) (R.reads input.old))
+        (supply (R.known input.new) (R.reads input.new)) line.items) }
+    ensures refused { IfErr result (IsOnceUnread input_is_read.old
+        (supply (R.known input.old) (R.reads input.old))
+        (supply (R.known input.new) (R.reads input.new))) }
+{
     if *input_is_read {
         return Err(FileFault::CannotRead);
     }
@@ -155,19 +183,44 @@ fn read_input_once<R: Source>(
 }
 
 /// The same of any input; of one without an end no more bytes than tell that the line is too long.
-fn read_input_line<R: Source>(alloc: Global, input: &mut R) -> Result<Vec<u8>, FileFault> {
+fn read_input_line<R: Source>(alloc: Global, input: &mut R) -> Result<Vec<u8>, FileFault>
+    ensures read { IfOk result (λ line. HasLineTaken
+        (supply (R.known input.old) (R.reads input.old))
+        (supply (R.known input.new) (R.reads input.new)) line.items) }
+    ensures refused { IfErr result (IsAnyLineUnread
+        (supply (R.known input.old) (R.reads input.old))
+        (supply (R.known input.new) (R.reads input.new))) }
+{
+    duk_io::laws::reads();
     let mut line = Vec::new(alloc);
-    let mut byte = [0];
-    for _ in 0..LONGEST_LINE + 2 {
-        match input.get(&mut byte) {
-            Err(_) => return Err(FileFault::CannotRead),
-            Ok(0) => return Ok(line),
-            Ok(_) if byte[0] == b'\n' => {
-                strip_return(&mut line);
-                return Ok(line);
-            }
-            Ok(_) => line.push(byte[0]).map_err(|_| FileFault::NoMemory)?,
+    for _ in 0..MOST_TAKEN {
+        let Ok(next) = read_input_byte(input) else {
+            return Err(FileFault::CannotRead);
+        };
+        let Some(byte) = next else {
+            return Ok(line);
+        };
+        if byte == b'\n' {
+            strip_return(&mut line);
+            return Ok(line);
+        }
+        if line.push(byte).is_err() {
+            return Err(FileFault::NoMemory);
         }
     }
     Ok(line)
+}
+
+/// The next byte of the input, or none at its end.
+fn read_input_byte<R: Source>(input: &mut R) -> io::Result<Option<u8>>
+    ensures byte { IfOk result (IsNextByte (R.known input.old) (R.known input.new)) }
+    ensures failed { OnErr result (IsBroken (R.known input.old) (R.known input.new) []) }
+    ensures one_read { AreReadsMade (R.reads input.old) (R.reads input.new) 1 }
+{
+    let mut byte = [0];
+    let count = input.get(&mut byte)?;
+    if count == 0 {
+        return Ok(None);
+    }
+    Ok(Some(byte[0]))
 }

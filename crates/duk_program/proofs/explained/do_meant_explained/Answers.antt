@@ -18,7 +18,7 @@ returns-in_default-clause-not_done g c one =
 pub with_secrets-meant-requires-clause-count : goal.with_secrets-meant-requires-clause-count
 with_secrets-meant-requires-clause-count g c =
     ap length (c.in-Some.ensures ∙ ap (map string_bytes) c.as_slice.ensures.value)
-    ∙ means_length _ _ _ c.in-Ok.ensures.read
+    ∙ means_length _ _ _ c.in-Ok.ensures.read.means
 
 pub returns-clause-done : goal.returns-clause-done
 returns-clause-done g c zero = meant_heard g.S.Disk.Disk.meaning
@@ -26,8 +26,8 @@ returns-clause-done g c zero = meant_heard g.S.Disk.Disk.meaning
     (serving_of g.R.Source.known g.R.Source.reads g.W.Sink.known c.args.input.now c.answer-status.new.input c.args.output.now c.answer-status.new.output)
     (g.F.Sink.known c.args.fault.now) (g.F.Sink.known c.tell.new.fault))
     c.args.request c.with_secrets-meant.result (supply (g.R.Source.known c.read_texts.new.input) (g.R.Source.reads c.read_texts.new.input)) c.new-line.result.items c.answer-status.new.fault.items c.new-line.ensures.items c.requires
-    (record { untouched = λ files. ap (λ input. supply (g.R.Source.known input) (g.R.Source.reads input)) (c.in-Ok.ensures.untouched files) })
-    (c.with_secrets-meant.ensures.meaning _ (each_means_of _ _ _ _ (c.in-Some.ensures ∙ ap (map string_bytes) c.as_slice.ensures.value) c.in-Ok.ensures.read))
+    c.in-Ok.ensures.read.taken
+    (c.with_secrets-meant.ensures.meaning _ (each_means_of _ _ _ _ (c.in-Some.ensures ∙ ap (map string_bytes) c.as_slice.ensures.value) c.in-Ok.ensures.read.means))
     (c.answer-status.ensures.done (sym c.tell.ensures.status ∙ zero))
 
 pub returns-clause-not_done : goal.returns-clause-not_done
@@ -36,7 +36,7 @@ returns-clause-not_done g c one = meant_explained g.S.Disk.Disk.meaning
     (serving_of g.R.Source.known g.R.Source.reads g.W.Sink.known c.args.input.now c.answer-status.new.input c.args.output.now c.answer-status.new.output)
     (g.F.Sink.known c.args.fault.now) (g.F.Sink.known c.tell.new.fault))
     c.args.request c.with_secrets-meant.result (supply (g.R.Source.known c.read_texts.new.input) (g.R.Source.reads c.read_texts.new.input)) c.new-line.result.items c.answer-status.new.fault.items c.new-line.ensures.items c.requires
-    (record { untouched = λ files. ap (λ input. supply (g.R.Source.known input) (g.R.Source.reads input)) (c.in-Ok.ensures.untouched files) })
-    (c.with_secrets-meant.ensures.meaning _ (each_means_of _ _ _ _ (c.in-Some.ensures ∙ ap (map string_bytes) c.as_slice.ensures.value) c.in-Ok.ensures.read))
+    c.in-Ok.ensures.read.taken
+    (c.with_secrets-meant.ensures.meaning _ (each_means_of _ _ _ _ (c.in-Some.ensures ∙ ap (map string_bytes) c.as_slice.ensures.value) c.in-Ok.ensures.read.means))
     (c.answer-status.ensures.not_done (sym c.tell.ensures.status ∙ one))
     (told_of _ _ _ _ _ c.as_slice-2.ensures.value (c.tell.ensures.told (sym c.tell.ensures.status ∙ one)))

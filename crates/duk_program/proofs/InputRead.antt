@@ -1,0 +1,434 @@
+-- What is read of the input: its first line, a byte at a time, for one of the secrets in turn.
+use Rattle.std.proofs.Common.{◌≡◌, ◌≢◌, ◌==◌, ◌||◌, ◌+◌, ◌<◌, ◌≤◌, ◌⊎◌, ℕ, suc, Bool, true, false, List, [], ◌∷◌, ◌++◌, Option, Some, None, length, map, take, get_or, option_map, codes, inl, inr, refl, sym, subst, ap, ◌∙◌, append_assoc, append-nil, length-append, arith}
+use Rattle.std.proofs.Math.Seq.{take-append_seam}
+use Rattle.std.specs.Borrow.{Bor}
+use Rattle.std.specs.Prelude.{Result, Ok, Err, IfErr, IfOk, IsOkAnd, MatchResult, bytes_eq, if◌then◌else◌}
+use Rattle.std.proofs.lemmas.List.{get_or-map, length-map, map_more, take-map, take_all}
+use Rattle.std.proofs.lemmas.Bool.{eqb-true}
+use Rattle.std.proofs.lemmas.List.Folds.{list_any-append}
+use Rattle.std.proofs.lemmas.Option.{none-some, same_Some}
+use Rattle.std.proofs.lemmas.Slice.Eq.{bytes_eq-Decides}
+use Rattle.std.specs.Io.KnownBytes.{Consumes, IsAtEnd}
+use Rattle.std.specs.List.{before_first, position_or_len}
+use Rattle.std.specs.Str.{IsUtf8}
+use Rattle.duk_arguments.specs.declared.request.Request.{Request}
+use Rattle.duk_host.specs.Serve.{Supply}
+use Rattle.duk_io.specs.Known.{Known}
+use Rattle.duk_io.specs.Source.{AreBytesRead, AreReadsMade, IsBroken}
+use Rattle.duk_program.proofs.Words.{means_push}
+use Rattle.duk_program.specs.Files.{FileKnown, IsLineRead, IsLineUnread, first_line, has_end, without_return}
+use Rattle.duk_program.specs.InputLine.{HasEnded, HasLineTaken, HasNoEnd, IsInputBroken, IsInputOver, IsLineTaken, input_file, longest_line, with_input}
+use Rattle.duk_program.specs.Secrets.{AreRead, IsInputTaken, IsNextUnread, IsSecretFault, IsUnread, Means, StandsFor, inputs_in, is_input_reference, reference_in, secret_at, secrets_of}
+use Rattle.duk_program.specs.declared.secrets.Secret.{Secret}
+use Rattle.duk_program.specs.declared.secrets.SecretFault.{SecretFault}
+use Rattle.duk_program.specs.declared.secrets.SecretFault.TheVariants.{NoMemory, Unread}
+use Rattle.duk_program.specs.declared.secrets.Unread.TheVariants.{CannotRead, NotUtf8, TooLong}
+use Rattle.duk_program.specs.declared.file_system.FileFault.{FileFault}
+use Rattle.duk_program.specs.declared.file_system.FileFault.TheVariants as file
+use Rattle.duk_program.specs.inner.Secrets.{IsAnyLineUnread, IsOnceUnread, IsReadOnce, IsSecretRead, IsSecretRefused, IsTextRefused, inputs_read, line_fault}
+
+-- ---- a line that has no end, and one that has
+
+neither : (a b : Bool) → a || b ≡ false → (a ≡ false) × (b ≡ false)
+neither true b e = absurd (grind (arith, e))
+neither false b e = (refl, e)
+
+end_place : (line rest : List ℕ) → has_end line ≡ false → position_or_len (λ byte. byte == 10) (line ++ 10 ∷ rest) ≡ length line
+end_place [] rest none = refl
+end_place (byte ∷ line) rest none =
+    let parts = neither (byte == 10) (has_end line) none in
+    rw (parts.0) (omega (arith, end_place line rest parts.1))
+
+before_end : (line rest : List ℕ) → has_end line ≡ false → before_first (λ byte. byte == 10) (line ++ 10 ∷ rest) ≡ line
+before_end line rest none = ap (λ n. take n (line ++ 10 ∷ rest)) (end_place line rest none) ∙ take-append_seam line (10 ∷ rest)
+
+end_found : (line rest : List ℕ) → has_end (line ++ 10 ∷ rest) ≡ true
+end_found [] rest = refl
+end_found (byte ∷ line) rest = grind (arith, end_found line rest)
+
+first_line_ended : (line rest : List ℕ) → has_end line ≡ false → first_line (line ++ 10 ∷ rest) ≡ without_return line
+first_line_ended line rest none = rw (end_found line rest, before_end line rest none) refl
+
+first_line_all : (line : List ℕ) → has_end line ≡ false → first_line line ≡ line
+first_line_all line none = rw none refl
+
+-- ---- a line that is read a byte at a time
+
+-- what the laws of reading say
+pub record ReadLaws : Type 0 where
+  pub none : (now : Known) → AreBytesRead now now []
+  pub next : (before between after : Known) (first second : List ℕ) → AreBytesRead before between first → AreBytesRead between after second → AreBytesRead before after (first ++ second)
+  pub broken : (before between after : Known) (first second : List ℕ) → AreBytesRead before between first → IsBroken between after second → IsBroken before after (first ++ second)
+  pub no_reads : (now : Option ℕ) → AreReadsMade now now 0
+  pub more_reads : (before between after : Option ℕ) (first second : ℕ) → AreReadsMade before between first → AreReadsMade between after second → AreReadsMade before after (first + second)
+
+-- so many bytes were read, of which none is the end of a line
+pub record IsLineUnderWay (before now : Supply) (count : ℕ) (line : List ℕ) : Type 0 where
+  pub read : AreBytesRead before.known now.known line
+  pub made : AreReadsMade before.reads now.reads count
+  pub no_end : has_end line ≡ false
+  pub count_is : length line ≡ count
+
+pub start_line : (reads : ReadLaws) (input : Supply) → IsLineUnderWay input input 0 []
+start_line reads input = record { read = reads.none input.known; made = reads.no_reads input.reads; no_end = refl; count_is = refl }
+
+-- a byte more
+pub next_byte : (reads : ReadLaws) (before between after : Supply) (count : ℕ) (line : List ℕ) (byte : ℕ) → IsLineUnderWay before between count line
+    → AreBytesRead between.known after.known (byte ∷ []) → AreReadsMade between.reads after.reads 1 → (byte == 10) ≡ false
+    → IsLineUnderWay before after (count + 1) (line ++ byte ∷ [])
+next_byte reads before between after count line byte way read one other = record {
+  read = reads.next before.known between.known after.known line (byte ∷ []) way.read read;
+  made = reads.more_reads before.reads between.reads after.reads count 1 way.made one;
+  no_end = rw (list_any-append (λ b. b == 10) line (byte ∷ []), way.no_end, other) refl;
+  count_is = omega (arith, length-append line (byte ∷ []), way.count_is);
+}
+
+-- the end of the line
+pub line_ends : (reads : ReadLaws) (before between after : Supply) (count : ℕ) (line : List ℕ) → IsLineUnderWay before between count line
+    → AreBytesRead between.known after.known (10 ∷ []) → AreReadsMade between.reads after.reads 1 → count < 4098
+    → HasLineTaken before after (without_return line)
+line_ends reads before between after count line way read one few =
+    let many : length (line ++ 10 ∷ []) ≡ count + 1 = omega (arith, length-append line (10 ∷ []), way.count_is) in
+    record {
+      bytes = line ++ 10 ∷ [];
+      taken = record {
+        read = reads.next before.known between.known after.known line (10 ∷ []) way.read read;
+        few = omega (arith, many, few);
+        stops = inl (record {
+          line = line;
+          bytes_are = refl;
+          no_end_within = way.no_end;
+          made = subst (AreReadsMade before.reads after.reads) (sym many) (reads.more_reads before.reads between.reads after.reads count 1 way.made one);
+        });
+      };
+      line_is = sym (first_line_ended line [] way.no_end);
+    }
+
+-- the end of the input
+pub input_ends : (reads : ReadLaws) (before between after : Supply) (count : ℕ) (line : List ℕ) → IsLineUnderWay before between count line
+    → AreBytesRead between.known after.known [] → IsAtEnd after.known.contents → AreReadsMade between.reads after.reads 1 → count < 4098
+    → HasLineTaken before after line
+input_ends reads before between after count line way read over one few = record {
+  bytes = line;
+  taken = record {
+    read = subst (AreBytesRead before.known after.known) (append-nil line) (reads.next before.known between.known after.known line [] way.read read);
+    few = omega (arith, way.count_is, few);
+    stops = inr (inr (record {
+      no_end = way.no_end;
+      over = over;
+      made = subst (λ n. AreReadsMade before.reads after.reads (n + 1)) (sym way.count_is) (reads.more_reads before.reads between.reads after.reads count 1 way.made one);
+    }));
+  };
+  line_is = sym (first_line_all line way.no_end);
+}
+
+-- as many bytes as are read at most
+pub line_is_long : (before now : Supply) (count : ℕ) (line : List ℕ) → IsLineUnderWay before now count line → count ≡ 4098 → HasLineTaken before now line
+line_is_long before now count line way all = record {
+  bytes = line;
+  taken = record {
+    read = way.read;
+    few = omega (arith, way.count_is, all);
+    stops = inr (inl (record {
+      no_end = way.no_end;
+      all = way.count_is ∙ all;
+      made = subst (AreReadsMade before.reads now.reads) (sym way.count_is) way.made;
+    }));
+  };
+  line_is = sym (first_line_all line way.no_end);
+}
+
+-- a read that fails
+pub input_breaks : (reads : ReadLaws) (before between after : Supply) (count : ℕ) (line : List ℕ) → IsLineUnderWay before between count line
+    → IsBroken between.known after.known [] → AreReadsMade between.reads after.reads 1 → count < 4098 → IsInputBroken before after
+input_breaks reads before between after count line way broken one few = record {
+  bytes = line;
+  broken = subst (IsBroken before.known after.known) (append-nil line) (reads.broken before.known between.known after.known line [] way.read broken);
+  few = omega (arith, way.count_is, few);
+  no_end = way.no_end;
+  made = subst (λ n. AreReadsMade before.reads after.reads (n + 1)) (sym way.count_is) (reads.more_reads before.reads between.reads after.reads count 1 way.made one);
+}
+
+-- ---- the line that was read is the first of the input
+
+first_of_more : (line bytes rest all : List ℕ) → bytes ≡ line ++ 10 ∷ [] → has_end line ≡ false → all ≡ bytes ++ rest → first_line bytes ≡ first_line all
+first_of_more line bytes rest all is none whole =
+    let joined : all ≡ line ++ 10 ∷ rest = whole ∙ ap (λ l. l ++ rest) is ∙ append_assoc line (10 ∷ []) rest in
+    ap first_line is ∙ first_line_ended line [] none ∙ sym (ap first_line joined ∙ first_line_ended line rest none)
+
+taken_first : (before after : Supply) (bytes rest all : List ℕ) → IsLineTaken before after bytes → length (first_line bytes) ≤ 4096
+    → (IsAtEnd after.known.contents → rest ≡ []) → all ≡ bytes ++ rest → first_line bytes ≡ first_line all
+taken_first before after bytes rest all taken fits over whole = elim taken.stops [
+  | inl ended ↦ first_of_more ended.line bytes rest all ended.bytes_are ended.no_end_within whole
+  | inr (inl long) ↦ absurd (omega (arith, long.all, fits, ap length (first_line_all bytes long.no_end)))
+  | inr (inr last) ↦ ap first_line (sym (whole ∙ ap (λ l. bytes ++ l) (over last.over) ∙ append-nil bytes))
+]
+
+line_read : (before after : Supply) (old new : Option (List ℕ)) (bytes : List ℕ) → after.known.contents ≡ new → IsLineTaken before after bytes
+    → Consumes old new bytes → length (first_line bytes) ≤ 4096 → IsLineRead (option_map (λ b. Some b) old) 4096 (first_line bytes)
+line_read before after None new bytes is taken given fits = tt
+line_read before after (Some all) None bytes is taken given fits = absurd given
+line_read before after (Some all) (Some rest) bytes is taken given fits =
+    (taken_first before after bytes rest all taken fits (λ over. subst IsAtEnd is over) given, fits)
+
+pub input_line_read : (before after : Supply) (line : List ℕ) → HasLineTaken before after line → length line ≤ 4096 → IsLineRead (input_file before) 4096 line
+input_line_read before after line has fits =
+    rw (has.line_is) (line_read before after before.known.contents after.known.contents has.bytes refl has.taken has.taken.read.given (subst (λ l. length l ≤ 4096) has.line_is fits))
+
+-- ---- which secrets refer to the input
+
+differ : (xs ys : List ℕ) → xs ≢ ys → bytes_eq xs ys ≡ false
+differ xs ys other = grind (arith, bytes_eq-Decides xs ys)
+
+-- what a text refers to stands behind its sign
+behind_sign : (b : Bool) (first : ℕ) (rest path : List ℕ) → (first == 64) ≡ b → (if b then Some rest else None) ≡ Some path → first ∷ rest ≡ 64 ∷ path
+behind_sign true first rest path is e = ap (λ n. n ∷ rest) (eqb-true first 64 is) ∙ ap (λ l. 64 ∷ l) (same_Some rest path e)
+behind_sign false first rest path is e = absurd (none-some path e)
+
+pub written_is : (written path : List ℕ) → reference_in written ≡ Some path → written ≡ 64 ∷ path
+written_is [] path e = absurd (none-some path e)
+written_is (first ∷ rest) path e = behind_sign (first == 64) first rest path refl e
+
+pub no_input_reference : (written path : List ℕ) → reference_in written ≡ Some path → path ≢ codes "-" → written ≢ codes "@-"
+no_input_reference written path e other is = other (same_Some path (codes "-") (sym e ∙ ap reference_in is))
+
+pub word_is_no_input : (written : List ℕ) → reference_in written ≡ None → written ≢ codes "@-"
+word_is_no_input written e is = none-some (codes "-") (sym e ∙ ap reference_in is)
+
+-- what another stands for is not of the input
+file_held : (held : List ℕ → FileKnown) (before : Supply) (path : List ℕ) → path ≢ codes "-" → with_input held before path ≡ held path
+file_held held before path other = rw (differ path (codes "-") other) refl
+
+stands_elsewhere : (held : List ℕ → FileKnown) (before : Supply) (reference : Option (List ℕ)) (written text : List ℕ) → reference ≢ Some (codes "-")
+    → StandsFor held reference written text → StandsFor (with_input held before) reference written text
+stands_elsewhere held before None written text other stands = stands
+stands_elsewhere held before (Some path) written text other stands = rw (file_held held before path (λ is. other (ap (λ p. Some p) is))) stands
+
+means_elsewhere : (held : List ℕ → FileKnown) (before : Supply) (written text : List ℕ) → written ≢ codes "@-" → Means held written text
+    → Means (with_input held before) written text
+means_elsewhere held before written text other means =
+    stands_elsewhere held before (reference_in written) written text (λ is. other (written_is written (codes "-") is)) means
+
+-- ---- one secret
+
+-- a word is read, the line of the input, or that of a file
+pub word_read : (held : List ℕ → FileKnown) (was : Bool) (now : Supply) (written text : List ℕ) → reference_in written ≡ None → text ≡ written
+    → IsSecretRead held was was now now written text
+word_read held was now written text word same = inr (record {
+  no_input = word_is_no_input written word;
+  kept = refl;
+  idle = refl;
+  means = subst (λ r. StandsFor held r written text) (sym word) same;
+})
+
+pub input_read : (held : List ℕ → FileKnown) (was is : Bool) (before after : Supply) (written text line : List ℕ) → reference_in written ≡ Some (codes "-")
+    → text ≡ line → IsReadOnce was is before after line → IsSecretRead held was is before after written text
+input_read held was is before after written text line refers same once =
+    inl (record { is_input = written_is written (codes "-") refers; once = subst (IsReadOnce was is before after) (sym same) once })
+
+pub file_read : (held : List ℕ → FileKnown) (was : Bool) (now : Supply) (written path text line : List ℕ) → reference_in written ≡ Some path → path ≢ codes "-"
+    → text ≡ line → IsLineRead (held path) 4096 line → IsSecretRead held was was now now written text
+file_read held was now written path text line refers other same read = inr (record {
+  no_input = no_input_reference written path refers other;
+  kept = refl;
+  idle = refl;
+  means = subst (λ r. StandsFor held r written text) (sym refers) (subst (IsLineRead (held path) 4096) (sym same) read);
+})
+
+-- the line of the input is not read
+input_cause : (was : Bool) (before after : Supply) (why : FileFault) (held : List ℕ → FileKnown) (secret : Secret) (written : List ℕ)
+    → written ≡ codes "@-" → IsOnceUnread was before after why → IsSecretRefused held was before after secret written (line_fault secret why)
+input_cause true before after file.CannotRead held secret written is idle = (refl, inr (record { is_input = is; cause = (refl, idle) }))
+input_cause true before after file.TooLong held secret written is cause = absurd cause
+input_cause true before after file.NoMemory held secret written is cause = tt
+input_cause false before after file.CannotRead held secret written is broken = (refl, inr (record { is_input = is; cause = broken }))
+input_cause false before after file.TooLong held secret written is long = (refl, inr (record { is_input = is; cause = long }))
+input_cause false before after file.NoMemory held secret written is cause = tt
+
+pub input_unread : (held : List ℕ → FileKnown) (was : Bool) (before after : Supply) (secret : Secret) (written : List ℕ) (why : FileFault) (told : SecretFault)
+    → reference_in written ≡ Some (codes "-") → told ≡ line_fault secret why → IsOnceUnread was before after why → IsSecretRefused held was before after secret written told
+input_unread held was before after secret written why told refers is cause =
+    subst (IsSecretRefused held was before after secret written) (sym is) (input_cause was before after why held secret written (written_is written (codes "-") refers) cause)
+
+-- or is no text
+input_not_text : (held : List ℕ → FileKnown) (was is : Bool) (before after : Supply) (secret : Secret) (written line : List ℕ) → written ≡ codes "@-"
+    → IsReadOnce was is before after line → ¬ IsUtf8 line → IsSecretRefused held was before after secret written (Unread secret NotUtf8)
+input_not_text held true is before after secret written line input once no_text = absurd (grind (arith, once.unread))
+input_not_text held false is before after secret written line input once no_text =
+    (refl, inr (record { is_input = input; cause = record { line = line; taken = once.taken; not_utf8 = no_text } }))
+
+pub input_no_text : (held : List ℕ → FileKnown) (was is : Bool) (before after : Supply) (secret : Secret) (written line : List ℕ) (told : SecretFault)
+    → reference_in written ≡ Some (codes "-") → IsReadOnce was is before after line → IsTextRefused secret line told → IsSecretRefused held was before after secret written told
+input_no_text held was is before after secret written line told refers once refused = elim refused [
+  | inl memory ↦ subst (IsSecretRefused held was before after secret written) (sym memory) tt
+  | inr text ↦ subst (IsSecretRefused held was before after secret written) (sym text.0)
+      (input_not_text held was is before after secret written line (written_is written (codes "-") refers) once text.1)
+]
+
+-- the line of a file is not read
+file_cause : (held : List ℕ → FileKnown) (was : Bool) (now : Supply) (secret : Secret) (written path : List ℕ) (why : FileFault) → reference_in written ≡ Some path
+    → path ≢ codes "-" → IsLineUnread (held path) 4096 why → IsSecretRefused held was now now secret written (line_fault secret why)
+file_cause held was now secret written path file.CannotRead refers other cause = (
+  refl,
+  inl (record {
+    no_input = no_input_reference written path refers other;
+    idle = refl;
+    cause = subst (λ r. IsUnread held r CannotRead) (sym refers) cause;
+  }),
+)
+file_cause held was now secret written path file.TooLong refers other cause = (
+  refl,
+  inl (record {
+    no_input = no_input_reference written path refers other;
+    idle = refl;
+    cause = subst (λ r. IsUnread held r TooLong) (sym refers) cause;
+  }),
+)
+file_cause held was now secret written path file.NoMemory refers other cause = tt
+
+pub file_unread : (held : List ℕ → FileKnown) (was : Bool) (now : Supply) (secret : Secret) (written path : List ℕ) (why : FileFault) (told : SecretFault)
+    → reference_in written ≡ Some path → path ≢ codes "-" → told ≡ line_fault secret why → IsLineUnread (held path) 4096 why
+    → IsSecretRefused held was now now secret written told
+file_unread held was now secret written path why told refers other is cause =
+    subst (IsSecretRefused held was now now secret written) (sym is) (file_cause held was now secret written path why refers other cause)
+
+pub file_no_text : (held : List ℕ → FileKnown) (was : Bool) (now : Supply) (secret : Secret) (written path line : List ℕ) (told : SecretFault)
+    → reference_in written ≡ Some path → path ≢ codes "-" → IsLineRead (held path) 4096 line → IsTextRefused secret line told
+    → IsSecretRefused held was now now secret written told
+file_no_text held was now secret written path line told refers other read refused = elim refused [
+  | inl memory ↦ subst (IsSecretRefused held was now now secret written) (sym memory) tt
+  | inr text ↦ subst (IsSecretRefused held was now now secret written) (sym text.0) (
+    refl,
+    inl (record {
+      no_input = no_input_reference written path refers other;
+      idle = refl;
+      cause = subst (λ r. IsUnread held r NotUtf8) (sym refers) (record { line = line; read = read; not_utf8 = text.1 });
+    }),
+  )
+]
+
+-- the text of a line that is read is what is said of that line, and so is a fault
+pub text_through : {T E V F : Type 0} (P : V → Type 0) (Q : T → V → Type 0) (S : T → Type 0) (text : Result T E) (line : Result V F)
+    → IfOk text (λ t. IsOkAnd line (Q t)) → IfOk line P → ((t : T) (l : V) → Q t l → P l → S t) → IfOk text S
+text_through P Q S (Ok t) (Ok l) same says leads = leads t l same says
+text_through P Q S (Ok t) (Err why) same says leads = absurd same
+text_through P Q S (Err why) line same says leads = tt
+
+pub fault_through : {T E V F : Type 0} (P : V → Type 0) (R : F → Type 0) (A : V → E → Type 0) (B : F → E → Type 0) (S : E → Type 0) (text : Result T E) (line : Result V F)
+    → IfErr text (λ e. MatchResult line (λ l. A l e) (λ f. B f e)) → IfOk line P → IfErr line R
+    → ((l : V) (e : E) → A l e → P l → S e) → ((f : F) (e : E) → B f e → R f → S e) → IfErr text S
+fault_through P R A B S (Ok t) line same says refused of_text of_line = tt
+fault_through P R A B S (Err e) (Ok l) same says refused of_text of_line = of_text l e same says
+fault_through P R A B S (Err e) (Err f) same says refused of_text of_line = of_line f e same refused
+
+-- ---- the line of the input is read once
+pub once_unread : (was : Bool) (before after : Supply) (why : FileFault) → was ≡ false → IsAnyLineUnread before after why → IsOnceUnread was before after why
+once_unread true before after why unread cause = absurd (grind (arith, unread))
+once_unread false before after file.CannotRead unread cause = cause
+once_unread false before after file.TooLong unread cause = absurd cause
+once_unread false before after file.NoMemory unread cause = tt
+
+pub once_long : (was : Bool) (before after : Supply) (line : List ℕ) → was ≡ false → HasLineTaken before after line → 4096 < length line
+    → IsOnceUnread was before after file.TooLong
+once_long true before after line unread taken long = absurd (grind (arith, unread))
+once_long false before after line unread taken long = record { line = line; taken = taken; long = long }
+
+pub once_again : (was : Bool) (now : Supply) → was ≡ true → IsOnceUnread was now now file.CannotRead
+once_again true now again = refl
+once_again false now again = absurd (grind (arith, again))
+
+-- ---- secrets that are read in turn
+
+-- these were read, and whether one referred to the input
+pub record AreReadSoFar (held : List ℕ → FileKnown) (written texts : List (List ℕ)) (before now : Supply) (is_read : Bool) : Type 0 where
+  pub read : AreRead held written texts before now
+  pub inputs : inputs_in written ≡ inputs_read is_read
+
+pub none_read : (held : List ℕ → FileKnown) (now : Supply) → AreReadSoFar held [] [] now now false
+none_read held now = record { read = record { means = tt; taken = refl }; inputs = refl }
+
+counted : (b : Bool) (m n k : ℕ) → m ≡ n + k → (if b then suc m else m) ≡ (if b then suc n else n) + k
+counted true m n k e = omega (arith, e)
+counted false m n k e = e
+
+one_more : (written : List (List ℕ)) (word : List ℕ) → inputs_in (written ++ word ∷ []) ≡ inputs_in written + inputs_in (word ∷ [])
+one_more [] word = omega arith
+one_more (other ∷ written) word = counted (is_input_reference other) _ _ _ (one_more written word)
+
+input_more : (held : List ℕ → FileKnown) (written texts : List (List ℕ)) (before between after : Supply) (word text : List ℕ)
+    → AreReadSoFar held written texts before between false → word ≡ codes "@-" → HasLineTaken between after text → length text ≤ 4096
+    → AreReadSoFar held (written ++ word ∷ []) (texts ++ text ∷ []) before after true
+input_more held written texts before between after word text so_far is taken fits =
+    let idle : between ≡ before = subst (λ n. IsInputTaken n before between) so_far.inputs so_far.read.taken in
+    let first : HasLineTaken before after text = subst (λ s. HasLineTaken s after text) idle taken in
+    let this : inputs_in (word ∷ []) ≡ 1 = ap (λ w. inputs_in (w ∷ [])) is in
+    let one : inputs_in (written ++ word ∷ []) ≡ 1 = omega (arith, one_more written word, this, so_far.inputs) in
+    record {
+      read = record {
+        means = means_push (with_input held before) written texts word text so_far.read.means
+            (subst (λ w. Means (with_input held before) w text) (sym is) (input_line_read before after text first fits));
+        taken = subst (λ n. IsInputTaken n before after) (sym one) (first.bytes, first.taken);
+      };
+      inputs = one;
+    }
+
+other_more : (held : List ℕ → FileKnown) (written texts : List (List ℕ)) (before between after : Supply) (was is : Bool) (word text : List ℕ)
+    → AreReadSoFar held written texts before between was → word ≢ codes "@-" → is ≡ was → after ≡ between → Means held word text
+    → AreReadSoFar held (written ++ word ∷ []) (texts ++ text ∷ []) before after is
+other_more held written texts before between after was is word text so_far other kept idle means =
+    let this : inputs_in (word ∷ []) ≡ 0 = rw (differ word (codes "@-") other) refl in
+    let same : inputs_in (written ++ word ∷ []) ≡ inputs_in written = omega (arith, one_more written word, this) in
+    record {
+      read = record {
+        means = means_push (with_input held before) written texts word text so_far.read.means (means_elsewhere held before word text other means);
+        taken = subst (λ s. IsInputTaken (inputs_in (written ++ word ∷ [])) before s) (sym idle)
+            (subst (λ n. IsInputTaken n before between) (sym same) so_far.read.taken);
+      };
+      inputs = same ∙ so_far.inputs ∙ ap inputs_read (sym kept);
+    }
+
+secrets_more : (held : List ℕ → FileKnown) (written texts : List (List ℕ)) (before between after : Supply) (was is : Bool) (word text : List ℕ)
+    → AreReadSoFar held written texts before between was → IsSecretRead held was is between after word text
+    → AreReadSoFar held (written ++ word ∷ []) (texts ++ text ∷ []) before after is
+secrets_more held written texts before between after was is word text so_far read = elim read [
+  | inl input ↦ subst (AreReadSoFar held (written ++ word ∷ []) (texts ++ text ∷ []) before after) (sym input.once.marked)
+      (input_more held written texts before between after word text (subst (AreReadSoFar held written texts before between) input.once.unread so_far)
+      input.is_input input.once.taken input.once.fits)
+  | inr other ↦ other_more held written texts before between after was is word text so_far other.no_input other.kept other.idle other.means
+]
+
+-- one secret more is read
+pub reads_more : (held : List ℕ → FileKnown) (written : List (Bor (List ℕ))) (texts : List (List ℕ)) (before between after : Supply) (was is : Bool) (place : ℕ) (d : Bor (List ℕ))
+    (text : List ℕ) → place < length written → AreReadSoFar held (map (λ word. word.now) (take place written)) texts before between was
+    → IsSecretRead held was is between after (get_or written place d).now text
+    → AreReadSoFar held (map (λ word. word.now) (take (place + 1) written)) (texts ++ text ∷ []) before after is
+reads_more held written texts before between after was is place d text inside so_far one =
+    subst (λ words. AreReadSoFar held words (texts ++ text ∷ []) before after is) (sym (map_more (λ word. word.now) written place d inside))
+    (secrets_more held (map (λ word. word.now) (take place written)) texts before between after was is (get_or written place d).now text so_far one)
+
+-- all are
+pub all_read : (held : List ℕ → FileKnown) (asked : Request) (written : List (Bor (List ℕ))) (texts : List (List ℕ)) (before now : Supply) (is : Bool) (place : ℕ)
+    → map (λ word. word.now) written ≡ secrets_of asked → length written ≤ place → AreReadSoFar held (map (λ word. word.now) (take place written)) texts before now is
+    → AreRead held (secrets_of asked) texts before now
+all_read held asked written texts before now is place same all so_far =
+    subst (λ words. AreRead held words texts before now) (ap (map (λ word. word.now)) (take_all place written all) ∙ same) so_far.read
+
+-- a secret is not read, and those before it are
+pub first_unread : (held : List ℕ → FileKnown) (asked : Request) (written : List (Bor (List ℕ))) (texts : List (List ℕ)) (before between after : Supply) (was : Bool) (place : ℕ)
+    (d : Bor (List ℕ)) (secret : Secret) (why : SecretFault) → map (λ word. word.now) written ≡ secrets_of asked → place < length written
+    → AreReadSoFar held (map (λ word. word.now) (take place written)) texts before between was → secret ≡ secret_at asked place
+    → IsSecretRefused held was between after secret (get_or written place d).now why → IsSecretFault held before after asked why
+first_unread held asked written texts before between after was place d secret NoMemory same inside so_far named refused = tt
+first_unread held asked written texts before between after was place d secret (Unread name why) same inside so_far named refused =
+    let words : map (λ word. word.now) (take place written) ≡ take place (secrets_of asked) = sym (take-map (λ word. word.now) place written) ∙ ap (take place) same in
+    record {
+      place = place;
+      is_there = subst (λ words. place < length words) same (subst (λ n. place < n) (sym (length-map written (λ word. word.now))) inside);
+      texts = texts;
+      between = between;
+      earlier = subst (λ words. AreRead held words texts before between) words so_far.read;
+      secret_is = refused.0 ∙ named;
+      cause = subst (λ word. IsNextUnread held (inputs_in (take place (secrets_of asked))) between after word why)
+          (sym (get_or-map (λ word. word.now) written place d [] inside) ∙ ap (λ words. get_or words place []) same)
+          (subst (λ n. IsNextUnread held n between after (get_or written place d).now why) (sym so_far.inputs ∙ ap inputs_in words) refused.1);
+    }
