@@ -12,8 +12,8 @@ use duk_tests_support::files::BANK;
 use duk_tests_support::frames::{FIRST_REPLY, FIRST_REQUEST};
 use std::alloc::Global;
 
-/// Files that all hold the same text, or of which none can be read, and for a line of which memory is
-/// refused. None can be opened as a disk.
+/// Files that all hold the same text, or of which none can be read, and for a line or the front of
+/// which memory is refused. None can be opened as a disk.
 #[derive(Drop)]
 struct EveryFile {
     text: Option<&'static str>,
@@ -21,6 +21,8 @@ struct EveryFile {
 
 impl FileSystem for EveryFile {
     ghost held = { λ files _. Some (option_map (λ text. text.now) files.text) };
+
+    ghost reading = { λ _ _. None };
 
     fn read_file(&self, alloc: Global, _path: &str, most: usize) -> Result<Vec<u8>, FileFault> {
         let Some(text) = self.text else {
@@ -33,7 +35,10 @@ impl FileSystem for EveryFile {
     }
 
     fn read_front(&self, _alloc: Global, _path: &str, _count: usize) -> Result<Vec<u8>, FileFault> {
-        Err(FileFault::CannotRead)
+        match self.text {
+            Some(_) => Err(FileFault::NoMemory),
+            None => Err(FileFault::CannotRead),
+        }
     }
 
     fn read_line(&self, _alloc: Global, _path: &str, _most: usize) -> Result<Vec<u8>, FileFault> {
@@ -65,6 +70,8 @@ impl LogFiles for EveryFile {
 
     ghost disks = { λ _ _. Some None };
 
+    ghost opening = { λ _ _. None };
+
     ghost small = { Prim.search rules };
 
     fn open_disk(&self, _path: &str) -> Result<MemDisk, StoreFault> {
@@ -85,6 +92,8 @@ struct Banks {
 
 impl FileSystem for Banks {
     ghost held = { λ _ _. None };
+
+    ghost reading = { λ _ _. None };
 
     fn read_file(&self, alloc: Global, _path: &str, most: usize) -> Result<Vec<u8>, FileFault> {
         if BANK.len() > most {
@@ -114,6 +123,8 @@ impl LogFiles for Banks {
     type Disk = MemDisk;
 
     ghost disks = { λ _ _. None };
+
+    ghost opening = { λ _ _. None };
 
     ghost small = { Prim.search rules };
 
