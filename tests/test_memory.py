@@ -39,8 +39,8 @@ class Growths:
 CALLS = {
     "MemLog::new": Growths(1, 3, 1),
     "MemDisk::new": Growths(1, 6, 4),
-    "Host::restart": Growths(34, 48, 4),
-    "Host::restart-again": Growths(34, 54, 3),
+    "Host::restart": Growths(34, 48, 2),
+    "Host::restart-again": Growths(34, 54, 1),
     "Host::handle": Growths(28, 48, 1),
     "Host::handle-again": Growths(28, 48, 0),
     "serve": Growths(30, 54, 1),

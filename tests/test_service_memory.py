@@ -23,13 +23,14 @@ class LittleMemory(ServiceCase):
     weight = 6
 
     def test_in_memory(self) -> None:
-        """Here what the used numbers take is much more than what is left over before them."""
-        most = self.try_sizes(["serve", "wide.toml"], payments(8000), [])
+        """Here what the used numbers take is much more than what is left over before them: of every
+        second one, since those in order take none."""
+        most = self.try_sizes(["serve", "wide.toml"], payments(16000)[::2], [])
         self.assertGreater(most, 0, "no answer was written before memory was refused")
 
     def test_on_a_file(self) -> None:
-        """Here many numbers are used before, and some of them come again."""
-        requests = payments(6200)
+        """Here many numbers are used before, every second one, and some of them come again."""
+        requests = payments(12400)[::2]
         used = numbers_of(requests[:6100])
         self.try_sizes(["serve", "wide.toml", "--log", "log"], requests[6090:], used)
 

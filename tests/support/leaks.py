@@ -51,6 +51,9 @@ def leaks_of_batch(batch: Batch, data: bytes, ended: Ended) -> list[str]:
     for line in lines_in(data):
         try:
             given = batch.alone(line.decode() if len(line) <= MOST_ITEM else "")
+            if batch.command == "show" and given.values[0] == "block":
+                # Its fields are shown, and those of a refused one may stand in another.
+                continue
             secrets |= given_secrets(batch.command, given)
             lines_of(batch.command, given)
         except (UnicodeDecodeError, Refused):
