@@ -18,3 +18,4 @@ pub mod PermutationsByExchanges
 pub mod LinearSchedule
 pub mod DecipheringUndoes
 pub mod ThreePasses
+pub mod ThreeCiphers

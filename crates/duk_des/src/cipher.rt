@@ -8,7 +8,7 @@ ghost use Rattle.duk_des.specs.Des.{encipher, decipher, des_encrypted, des_decry
 use crate::bytes::xor_bytes;
 use crate::words::{
     RoundKey, crypt_block, crypt_block_backwards, crypt_both, crypt_thrice, crypt_thrice_backwards,
-    round_keys, xor_keys,
+    crypt_thrice_both, round_keys, xor_keys,
 };
 use std::marker::Model;
 
@@ -97,6 +97,31 @@ pub fn triple_encrypt(first: &Des, second: &Des, third: &Des, block: [u8; 8]) ->
         ≡ des_encrypted third.now (des_decrypted second.now (des_encrypted first.now block)) }
 {
     crypt_thrice(&first.keys, &second.keys, &third.keys, &block)
+}
+
+/// Enciphers a block of 8 bytes under two double-length keys, each given by its halves: TDES whose
+/// third key is the first again (NIST SP 800-67 section 3). It gives what two calls of
+/// `triple_encrypt` do, in less time.
+pub fn triple_encrypt_both(
+    left: &Des,
+    right: &Des,
+    other_left: &Des,
+    other_right: &Des,
+    block: [u8; 8],
+) -> ([u8; 8], [u8; 8])
+    ensures first { result.0
+        ≡ des_encrypted left.now (des_decrypted right.now (des_encrypted left.now block)) }
+    ensures second { result.1
+        ≡ des_encrypted other_left.now
+        (des_decrypted other_right.now (des_encrypted other_left.now block)) }
+{
+    crypt_thrice_both(
+        &left.keys,
+        &right.keys,
+        &other_left.keys,
+        &other_right.keys,
+        &block,
+    )
 }
 
 /// Deciphers a block of 8 bytes under the first key, enciphers it under the second and deciphers it

@@ -15,5 +15,8 @@ mod schedule;
 mod words;
 
 pub use bytes::xor_bytes;
-pub use cipher::{Des, decrypt_block, encrypt_block, encrypt_both, triple_decrypt, triple_encrypt};
+pub use cipher::{
+    Des, decrypt_block, encrypt_block, encrypt_both, triple_decrypt, triple_encrypt,
+    triple_encrypt_both,
+};
 pub use words::entry;

@@ -127,6 +127,50 @@ pub(crate) fn crypt_both(
     )
 }
 
+/// What `crypt_thrice` makes of a block by the first round keys, the second and the first again: by
+/// two such pairs, side by side.
+pub(crate) fn crypt_thrice_both(
+    first: &[RoundKey; 16],
+    second: &[RoundKey; 16],
+    other_first: &[RoundKey; 16],
+    other_second: &[RoundKey; 16],
+    block: &[u8; 8],
+) -> ([u8; 8], [u8; 8])
+    ensures first { result.0
+        ≡ bytes_of_bits 8
+        (des_computation (map key_bits first.now)
+        (des_computation (reverse (map key_bits second.now))
+        (des_computation (map key_bits first.now) (bits_of_bytes block.now)))) }
+    ensures second { result.1
+        ≡ bytes_of_bits 8
+        (des_computation (map key_bits other_first.now)
+        (des_computation (reverse (map key_bits other_second.now))
+        (des_computation (map key_bits other_first.now) (bits_of_bytes block.now)))) }
+{
+    let start = initial_permutation(block);
+    let (halves, others) = rounds_of_both(start, first, start, other_first);
+    let (halves, others) = rounds_of_both_backwards(
+        exchange(halves),
+        second,
+        exchange(others),
+        other_second,
+    );
+    let (halves, others) = rounds_of_both(exchange(halves), first, exchange(others), other_first);
+    (
+        final_permutation(halves.1, halves.0),
+        final_permutation(others.1, others.0),
+    )
+}
+
+/// The halves L and R, exchanged.
+#[inline(always)]
+fn exchange(halves: (u32, u32)) -> (u32, u32)
+    ensures left { result.0 ≡ halves.1 }
+    ensures right { result.1 ≡ halves.0 }
+{
+    (halves.1, halves.0)
+}
+
 /// Sixteen rounds on the halves L and R.
 fn rounds(left: u32, right: u32, keys: &[RoundKey; 16]) -> (u32, u32)
     ensures left { word_bits result.0
@@ -176,6 +220,28 @@ fn rounds_of_both(
     let (mut other_left, mut other_right) = other_halves;
     rounds_of_both!(left right keys, other_left other_right other_keys:
         0 1 2 3 4 5 6 7 8 9 10 11 12 13 14 15);
+    ((left, right), (other_left, other_right))
+}
+
+/// The same with the round keys in reverse order.
+#[inline(always)]
+fn rounds_of_both_backwards(
+    halves: (u32, u32),
+    keys: &[RoundKey; 16],
+    other_halves: (u32, u32),
+    other_keys: &[RoundKey; 16],
+) -> ((u32, u32), (u32, u32))
+    ensures first { record { left = word_bits result.0.0; right = word_bits result.0.1 }
+        ≡ rounds (reverse (map key_bits keys.now))
+        (record { left = word_bits halves.0; right = word_bits halves.1 }) }
+    ensures second { record { left = word_bits result.1.0; right = word_bits result.1.1 }
+        ≡ rounds (reverse (map key_bits other_keys.now))
+        (record { left = word_bits other_halves.0; right = word_bits other_halves.1 }) }
+{
+    let (mut left, mut right) = halves;
+    let (mut other_left, mut other_right) = other_halves;
+    rounds_of_both!(left right keys, other_left other_right other_keys:
+        15 14 13 12 11 10 9 8 7 6 5 4 3 2 1 0);
     ((left, right), (other_left, other_right))
 }
 

@@ -3,3 +3,4 @@ pub mod FirstBlock
 pub mod OneMoreBlockWritten
 pub mod XorOfBlocks
 pub mod CbcDecryptionUndoes
+pub mod MaskedHalves

@@ -59,3 +59,7 @@ IsKey-append left right is_left is_right = record {
   size_is = omega (arith, length-append left right, is_left.eight, is_right.eight);
   bytes_fit = All-append (λ byte. byte < 2 ^ 8) left right is_left.bytes_fit is_right.bytes_fit;
 }
+
+-- the third single key of a key of 16 bytes is the first again
+pub third_is_first : (key : List ℕ) → length key ≡ 16 → third_key key ≡ first_key key
+third_is_first key short = rw short refl

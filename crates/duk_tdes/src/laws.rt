@@ -52,6 +52,15 @@ pub fn keys()
         → IsKey 16 (left ++ right) }
 {}
 
+/// A mask on a key is its first eight bytes on the key's first single key, and its next eight on the
+/// second.
+pub fn masked_halves()
+    ensures first { (key mask : List ℕ)
+        → first_key (xor_bytes key mask) ≡ xor_bytes (first_key key) (first_key mask) }
+    ensures second { (key mask : List ℕ)
+        → second_key (xor_bytes key mask) ≡ xor_bytes (second_key key) (second_key mask) }
+{}
+
 /// Under one key of 16 or 24 bytes, from one initial vector and for whole blocks, CBC decryption
 /// undoes CBC encryption and the reverse, and both make as many whole blocks.
 pub fn cbc_inverse()

@@ -7,7 +7,7 @@ ghost use Rattle.duk_tree.specs.Derivation.{derivation_mask, initial_key_of, ste
 
 use crate::parent::Parent;
 use crate::serial::{COUNTER_BITS, Iksn, Ksn};
-use duk_tdes::{Key, array_of, tdes_encrypt};
+use duk_tdes::{Key, Tdes, array_of};
 
 /// Masks the base derivation key for the right half of an initial key, and a key of the tree for
 /// the left half of a derived key.
@@ -20,8 +20,8 @@ pub fn initial_key(bdk: &Key<16>, iksn: Iksn) -> Key<16>
     ensures { result ≡ initial_key_of bdk.now iksn }
 {
     let first_eight = array_of(&iksn.bytes()[..8]);
-    let left = tdes_encrypt(bdk, first_eight);
-    let right = tdes_encrypt(&mask(bdk), first_eight);
+    let cipher = Tdes::new(bdk);
+    let (left, right) = cipher.encrypt_both(&mask(&cipher), first_eight);
     join(left, right)
 }
 
@@ -56,11 +56,12 @@ pub fn transaction_key(initial: &Key<16>, ksn: Ksn) -> Key<16>
     key
 }
 
-/// The key under the derivation mask.
-fn mask(key: &Key<16>) -> Key<16>
-    ensures { result ≡ xor_bytes key.now derivation_mask }
+/// TDES under the key with the derivation mask.
+#[inline(always)]
+fn mask(cipher: &Tdes<16>) -> Tdes<16>
+    ensures { result ≡ xor_bytes cipher.now derivation_mask }
 {
-    key.xor(&DERIVATION_MASK.to_be_bytes())
+    cipher.under_mask(&DERIVATION_MASK.to_be_bytes())
 }
 
 /// The key of two halves.

@@ -46,6 +46,7 @@ impl Parent {
         ensures { result ≡ key.now }
     {
         duk_tdes::laws::tdes_key(key);
+        duk_tdes::laws::masked_halves();
         let (left, right) = key.halves();
         let left = Des::new(&left.bytes());
         let mask = HALF_MASK.to_be_bytes();

@@ -1,0 +1,8 @@
+use Rattle.duk_tdes.proofs.MaskedHalves.{masked_first, masked_second}
+use Rattle.duk_tdes.proofs.laws.masked_halves.Goals as goal
+
+pub returns-clause-first : goal.returns-clause-first
+returns-clause-first c = masked_first
+
+pub returns-clause-second : goal.returns-clause-second
+returns-clause-second c = masked_second
