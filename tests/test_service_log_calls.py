@@ -29,6 +29,8 @@ SYNCED = ["fdatasync(log)", LENGTH]
 # A read takes what has come, up to so much.
 READ = "read(0, 4096 bytes)"
 REPLIED = "write(1)"
+# A read of a record takes so many bytes, as far as the file has them.
+AHEAD = 4096
 
 
 def steps_of(trace: str) -> list[str]:
@@ -52,11 +54,15 @@ def steps_of(trace: str) -> list[str]:
     return steps
 
 
+def reads(size: int, end: int) -> list[str]:
+    """What is read of a log of so many bytes where its records up to this place are, in turn."""
+    return [f"pread64(log, {min(AHEAD, size - at)} bytes at {at})" for at in range(0, end, AHEAD)]
+
+
 def start(room: int) -> list[str]:
-    """The length is taken of a file that is locked. Each record of a log without numbers is read
+    """The length is taken of a file that is locked. The records of a log without numbers are read
     once, behind a sync."""
-    reads = [f"pread64(log, {RECORD} bytes at {RECORD * place})" for place in range(room)]
-    return [OPENED, LOCKED, LENGTH, *SYNCED, *reads]
+    return [OPENED, LOCKED, LENGTH, *SYNCED, *reads(RECORD * room, RECORD * room)]
 
 
 def write(count: int, at: int) -> list[str]:
@@ -96,6 +102,17 @@ class Calls(TracedCase):
         self.assertEqual(self.log.read_bytes(), log_image(numbers_of([first, second]), room))
         wanted = [*start(room), READ, *acceptance(0), REPLIED, *acceptance(1), READ]
         self.assertEqual(steps, wanted)
+
+
+    def test_a_long_log(self) -> None:
+        """All records are read, and then those with numbers once more. After a write nothing that
+        was read is kept, and nothing is read anew."""
+        kept, (request,), room = payments(301)[:300], payments(301)[300:], 600
+        self.log.write_bytes(log_image(numbers_of(kept), room))
+        ended, steps = self.traced([request])
+        self.assert_ended(ended, 0, answers_to([request]), b"", "under strace")
+        again = reads(RECORD * room, RECORD * len(kept))
+        self.assertEqual(steps, [*start(room), *again, READ, *acceptance(len(kept)), READ])
 
 
 class Opens(TracedCase):

@@ -12,3 +12,4 @@ mod WhatIsKept
 mod RecordsCounted
 mod RecordBytes
 mod LogOnDisk
+mod GivenAhead

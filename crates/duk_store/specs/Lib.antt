@@ -16,5 +16,6 @@ pub mod DiskDevice
 pub mod MemoryDisk
 pub mod Medium
 pub mod FileMedium
+pub mod ReadAhead
 pub mod MediumDisk
 pub mod inner

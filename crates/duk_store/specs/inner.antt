@@ -8,3 +8,5 @@ pub mod SlotCell
 pub mod SlotChoice
 pub mod SlotFormat
 pub mod SlotSteps
+pub mod Window
+pub mod ReadAhead

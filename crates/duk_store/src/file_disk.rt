@@ -8,6 +8,7 @@ use crate::fault::StoreFault;
 use crate::file_medium::FileMedium;
 use crate::medium_disk::MediumDisk;
 use crate::open_file::OpenFile;
+use crate::read_ahead::ReadAhead;
 use std::fs::{File, OpenOptions};
 use std::io;
 use std::os::unix::fs::FileExt;
@@ -41,16 +42,16 @@ impl OpenFile for File {
     }
 }
 
-/// A disk over a file, which is open and locked as long as the disk lives. Its restart goes on with
-/// the open file. So once a write or a sync of the file has failed, each later step fails, until
+/// A disk over a file, which is open and locked as long as the disk lives, and whose bytes are read
+/// ahead. Its restart goes on with the open file. So once a write or a sync of the file has failed, each later step fails, until
 /// the file is opened anew.
 ///
 /// That the file is a disk is a premise: the operating system and the hardware have to keep to the
 /// model. Besides, the opening and the four bodies of `OpenFile` for `File` rest on being read; all
 /// else is proved of a medium over any file, and of a disk over any medium.
-pub type FileDisk = MediumDisk<FileMedium<File>>;
+pub type FileDisk = MediumDisk<FileMedium<ReadAhead<File>>>;
 
-impl MediumDisk<FileMedium<File>> {
+impl MediumDisk<FileMedium<ReadAhead<File>>> {
     /// A disk over the file under a path, of the size that the file has now. The file is opened for
     /// reading and writing and never made.
     ///
@@ -63,10 +64,11 @@ impl MediumDisk<FileMedium<File>> {
         ensures disk { IfOk result (λ disk. disk.device ≡ new_disk_device) }
         ensures refused { IfErr result (λ fault. fault ≡ StoreFault.Device) }
     {
-        match open_locked(rt, path) {
-            Ok((file, size)) => Ok(MediumDisk::over(FileMedium::over(file, size), size)),
-            Err(_) => Err(StoreFault::Device),
-        }
+        let Ok((file, size)) = open_locked(rt, path) else {
+            return Err(StoreFault::Device);
+        };
+        let ahead = ReadAhead::over(file, size);
+        Ok(MediumDisk::over(FileMedium::over(ahead, size), size))
     }
 }
 

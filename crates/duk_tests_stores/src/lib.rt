@@ -13,4 +13,6 @@ mod logs;
 #[cfg(test)]
 mod media;
 #[cfg(test)]
+mod reads_ahead;
+#[cfg(test)]
 mod written_cells;
