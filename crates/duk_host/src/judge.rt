@@ -66,7 +66,7 @@ pub(crate) fn judge<const N: usize>(
 }
 
 /// Whether a number can be used by the next request, or why not.
-fn check_number(used: &UsedNumbers, room: u64, ksn: Ksn) -> Result<(), Reason>
+pub(crate) fn check_number(used: &UsedNumbers, room: u64, ksn: Ksn) -> Result<(), Reason>
     ensures fresh { OnOk result (¬ IsUsed used.now ksn) }
     ensures room { OnOk result (0 < room) }
     ensures refused { IfErr result (IsReasonAgainstNumber used.now room ksn) }
@@ -81,7 +81,7 @@ fn check_number(used: &UsedNumbers, room: u64, ksn: Ksn) -> Result<(), Reason>
 }
 
 /// The transaction of a request with this text, or the least reason against its MAC.
-fn open_authentic<const N: usize>(
+pub(crate) fn open_authentic<const N: usize>(
     hsm: &Hsm<N>,
     request: &Request,
     text: &[u8],

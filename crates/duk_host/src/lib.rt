@@ -22,6 +22,7 @@ mod recent;
 mod reply;
 mod running;
 mod service;
+mod steps;
 mod table;
 mod used;
 
@@ -30,5 +31,9 @@ pub use duk_pin::Card;
 pub use fault::HostFault;
 pub use host::Host;
 pub use issuer::Issuer;
+pub use payment::Payment;
+pub use reply::{code_for, reply_with};
 pub use service::serve;
+pub use steps::{admit, authenticate};
 pub use table::TableIssuer;
+pub use used::UsedNumbers;

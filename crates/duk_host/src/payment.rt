@@ -5,7 +5,9 @@ use duk_hsm::Transaction;
 
 /// A request, and the transaction that its key serial number was opened to.
 #[derive(Drop)]
-pub(crate) struct Payment {
-    pub(crate) request: Request,
-    pub(crate) transaction: Transaction,
+pub struct Payment {
+    /// The request.
+    pub request: Request,
+    /// What its key serial number was opened to.
+    pub transaction: Transaction,
 }

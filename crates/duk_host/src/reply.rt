@@ -14,7 +14,7 @@ use duk_tree::Ksn;
 
 /// The code for a request: what the issuer says of its PIN block under the zone key. Where the
 /// block is that of no PIN, the issuer is not asked.
-pub(crate) fn code_for<I: Issuer>(payment: &Payment, issuer: &I) -> Code
+pub fn code_for<I: Issuer>(payment: &Payment, issuer: &I) -> Code
     requires opened { (keys : HsmKeys)
         × AreTransactionKeys keys payment.now.request.ksn payment.now.transaction }
     requires zone { IsSome payment.now.transaction.zone }
@@ -31,7 +31,7 @@ pub(crate) fn code_for<I: Issuer>(payment: &Payment, issuer: &I) -> Code
 }
 
 /// The accepted reply with this code.
-pub(crate) fn reply_with(transaction: &Transaction, ksn: Ksn, code: Code) -> Frame
+pub fn reply_with(transaction: &Transaction, ksn: Ksn, code: Code) -> Frame
     ensures reply { (keys : HsmKeys) → AreTransactionKeys keys ksn transaction.now
         → IsReplyWith keys ksn code result.items }
     ensures code { IsReplyWithCode result.items ksn code }

@@ -17,7 +17,7 @@ use std::marker::Model;
 /// The used key serial numbers, in ranges: each is under the number that it begins at, with the
 /// counter that it ends at.
 #[derive(Drop)]
-pub(crate) struct UsedNumbers {
+pub struct UsedNumbers {
     ranges: BTreeMap<u128, u32>,
 }
 
@@ -34,7 +34,7 @@ impl Model for UsedNumbers {
 
 impl UsedNumbers {
     /// None is used. This takes no memory.
-    pub(crate) fn new(alloc: Global) -> Self
+    pub fn new(alloc: Global) -> Self
         ensures { result ≡ [] }
     {
         UsedNumbers {
@@ -43,7 +43,7 @@ impl UsedNumbers {
     }
 
     /// Whether a key serial number is used.
-    pub(crate) fn contains(&self, ksn: Ksn) -> bool
+    pub fn contains(&self, ksn: Ksn) -> bool
         ensures { IsTrue result ↔ IsUsed self.now ksn }
     {
         duk_tree::laws::paths();
@@ -51,7 +51,7 @@ impl UsedNumbers {
     }
 
     /// Adds a key serial number, and reports whether it was not used before.
-    pub(crate) fn insert(&mut self, ksn: Ksn) -> Result<bool, AllocError>
+    pub fn insert(&mut self, ksn: Ksn) -> Result<bool, AllocError>
         requires usable { IsUsable ksn.counter }
         ensures added { IfOk result (λ _. IsOneMore self.old ksn self.new) }
         ensures fresh { IfOk result

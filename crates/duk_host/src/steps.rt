@@ -1,0 +1,62 @@
+//! The steps of a judgement, for a host that keeps what it accepted in another way than `Host`.
+
+ghost use Rattle.std.specs.Prelude.{◌≡◌, ℕ, [], List, IfOk, IfErr, OnOk};
+ghost use Rattle.duk_frame.specs.Request.{IsRequest};
+ghost use Rattle.duk_frame.specs.declared.request.Request.{Request};
+ghost use Rattle.duk_hsm.specs.Keys.{HsmKeys};
+ghost use Rattle.duk_hsm.specs.TransactionKeys.{AreTransactionKeys};
+ghost use Rattle.duk_store.specs.Log.{Numbers};
+ghost use Rattle.duk_host.specs.Judgement.{Decision, IsAcceptable, IsAuthentic, IsRefusalFor, basis_with};
+ghost use Rattle.duk_host.specs.Used.{Lists};
+
+use crate::judge::{check_number, open_authentic};
+use crate::payment::Payment;
+use crate::reason::Reason;
+use crate::used::UsedNumbers;
+use duk_frame::{Frame, mac_text, read_request};
+use duk_hsm::Hsm;
+use duk_tree::Ksn;
+
+/// Reads a request and verifies its MAC, or gives the frame of its refusal, whose reason is one of 1
+/// to 4.
+pub fn authenticate<const N: usize>(hsm: &Hsm<N>, bytes: &[u8]) -> Result<Payment, Frame>
+    ensures request { IfOk result (λ payment. IsRequest bytes.now payment.request) }
+    ensures authentic { IfOk result (λ payment. IsAuthentic hsm.now payment.request) }
+    ensures opened { IfOk result
+        (λ payment. AreTransactionKeys hsm.now payment.request.ksn payment.transaction) }
+    ensures refused { IfErr result (λ frame. (numbers : Numbers) (room : ℕ) (decides : Decision)
+        → IsRefusalFor (basis_with hsm.now numbers [] room decides) bytes.now frame.items) }
+    ensures not_authentic { IfErr result (λ _. (request : Request)
+        → IsRequest bytes.now request → ¬ IsAuthentic hsm.now request) }
+{
+    let Some(request) = read_request(bytes) else {
+        return Err(Reason::Malformed.answer(Ksn::from_bytes([0; 10])).frame);
+    };
+    duk_frame::laws::mac_texts();
+    duk_frame::laws::one_reading();
+    match open_authentic(hsm, &request, mac_text(bytes)) {
+        Ok(transaction) => Ok(Payment {
+            request,
+            transaction,
+        }),
+        Err(reason) => Err(reason.answer(request.ksn).frame),
+    }
+}
+
+/// Judges an authentic request that was never accepted before by its number and by the room for it:
+/// it may be accepted, or this is the frame of its refusal, whose reason is 5 or 6.
+pub fn admit(payment: &Payment, used: &UsedNumbers, room: u64) -> Result<(), Frame>
+    ensures acceptable { OnOk result ((keys : HsmKeys) (numbers : Numbers) (decides : Decision)
+        → IsAuthentic keys payment.now.request → Lists numbers used.now
+        → IsAcceptable (basis_with keys numbers [] room decides) payment.now.request) }
+    ensures refused { IfErr result (λ frame. (keys : HsmKeys) (numbers : Numbers)
+        → (decides : Decision) (bytes : List ℕ) → IsRequest bytes payment.now.request
+        → IsAuthentic keys payment.now.request → Lists numbers used.now
+        → IsRefusalFor (basis_with keys numbers [] room decides) bytes frame.items) }
+{
+    let ksn = payment.request.ksn;
+    match check_number(used, room, ksn) {
+        Ok(()) => Ok(()),
+        Err(reason) => Err(reason.answer(ksn).frame),
+    }
+}
