@@ -32,7 +32,7 @@ third_is_key key is_key =
       | inr long ↦ rw long (eight_of 16 key (omega arith) is_key.bytes_fit)
     ]
 
-length-xor_bytes : (bytes mask : List ℕ) → length (xor_bytes bytes mask) ≡ length bytes
+pub length-xor_bytes : (bytes mask : List ℕ) → length (xor_bytes bytes mask) ≡ length bytes
 length-xor_bytes [] mask = refl
 length-xor_bytes (byte ∷ bytes) [] = refl
 length-xor_bytes (byte ∷ bytes) (m ∷ mask) = ap suc (length-xor_bytes bytes mask)

@@ -2,12 +2,11 @@
 
 ghost use Rattle.std.specs.Prelude.{◌≡◌};
 ghost use Rattle.duk_tdes.specs.KeyBytes.{bytes_of};
-ghost use Rattle.duk_tdes.specs.Key.{xor_bytes};
 ghost use Rattle.duk_tdes.specs.Tdes.{IsTdesLength, third_key, tdes_encrypted, tdes_decrypted};
 
 use crate::bytes::array_of;
 use crate::key::{Key, KeyBytes};
-use duk_des::{Des, triple_decrypt, triple_encrypt, triple_encrypt_both};
+use duk_des::{Des, triple_decrypt, triple_encrypt};
 use std::marker::Model;
 
 /// TDES under one key of `N` bytes, 16 or 24: DES under each of its single keys, whose round keys
@@ -77,39 +76,6 @@ impl<const N: usize> Tdes<N> {
             Some(third) => third,
             None => &self.first,
         }
-    }
-}
-
-impl Tdes<16> {
-    /// TDES under this key, xored with a mask. It makes no key schedule where the mask is a constant.
-    #[inline(always)]
-    pub fn under_mask(&self, mask: &[u8; 16]) -> Self
-        ensures { result ≡ xor_bytes self.now mask.now }
-    {
-        crate::laws::masked_halves();
-        Tdes {
-            key: self.key.xor(mask),
-            first: self.first.under_mask(&array_of(&mask[..8])),
-            second: self.second.under_mask(&array_of(&mask[8..])),
-            third: None,
-        }
-    }
-
-    /// A block, enciphered under this key and under another: what two calls of `encrypt` give, in
-    /// less time.
-    pub fn encrypt_both(&self, other: &Tdes<16>, block: [u8; 8]) -> ([u8; 8], [u8; 8])
-        ensures first { result.0 ≡ tdes_encrypted self.now block }
-        ensures second { result.1 ≡ tdes_encrypted other.now block }
-    {
-        crate::laws::tdes_key(&self.key);
-        crate::laws::tdes_key(&other.key);
-        triple_encrypt_both(
-            &self.first,
-            &self.second,
-            &other.first,
-            &other.second,
-            block,
-        )
     }
 }
 

@@ -2,6 +2,7 @@
 
 ghost use Rattle.std.specs.Prelude.{◌≡◌, ℕ, List, ◌++◌, length};
 ghost use Rattle.duk_des.specs.Block.{IsBlock};
+ghost use Rattle.duk_des.specs.Des.{des_decrypted, des_encrypted};
 ghost use Rattle.duk_tdes.specs.Cbc.{AreWholeBlocks, cbc_encrypted, cbc_decrypted};
 ghost use Rattle.duk_tdes.specs.Key.{IsKey, xor_bytes};
 ghost use Rattle.duk_tdes.specs.Tdes.{IsTdesKey, IsTdesLength, first_key, second_key, tdes_encrypted, tdes_decrypted};
@@ -52,9 +53,17 @@ pub fn keys()
         → IsKey 16 (left ++ right) }
 {}
 
+/// Under a key of 16 bytes, the left half is the first and the third single key.
+pub fn double_length()
+    ensures { (key block : List ℕ) → length key ≡ 16 → tdes_encrypted key block
+        ≡ des_encrypted (first_key key)
+        (des_decrypted (second_key key) (des_encrypted (first_key key) block)) }
+{}
+
 /// A mask on a key is its first eight bytes on the key's first single key, and its next eight on the
-/// second.
+/// second. It changes no length.
 pub fn masked_halves()
+    ensures length { (key mask : List ℕ) → length (xor_bytes key mask) ≡ length key }
     ensures first { (key mask : List ℕ)
         → first_key (xor_bytes key mask) ≡ xor_bytes (first_key key) (first_key mask) }
     ensures second { (key mask : List ℕ)

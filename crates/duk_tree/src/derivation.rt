@@ -2,16 +2,12 @@
 //! down the key tree.
 
 ghost use Rattle.std.specs.Prelude.{◌≡◌, ◌++◌};
-ghost use Rattle.duk_tdes.specs.Key.{xor_bytes};
-ghost use Rattle.duk_tree.specs.Derivation.{derivation_mask, initial_key_of, step_of, transaction_key_of, derived_key_of};
+ghost use Rattle.duk_tree.specs.Derivation.{initial_key_of, step_of, transaction_key_of, derived_key_of};
 
-use crate::parent::Parent;
+use crate::parent::{Parent, masked};
 use crate::serial::{COUNTER_BITS, Iksn, Ksn};
-use duk_tdes::{Key, Tdes, array_of};
-
-/// Masks the base derivation key for the right half of an initial key, and a key of the tree for
-/// the left half of a derived key.
-const DERIVATION_MASK: u128 = 0xC0C0_C0C0_0000_0000_C0C0_C0C0_0000_0000;
+use duk_des::{Des, triple_encrypt_both};
+use duk_tdes::{Key, array_of};
 
 /// The initial key of a terminal, under the base derivation key: each half is TDES of the first
 /// eight bytes of the initial key serial number, the right one under the masked key.
@@ -19,9 +15,20 @@ const DERIVATION_MASK: u128 = 0xC0C0_C0C0_0000_0000_C0C0_C0C0_0000_0000;
 pub fn initial_key(bdk: &Key<16>, iksn: Iksn) -> Key<16>
     ensures { result ≡ initial_key_of bdk.now iksn }
 {
+    duk_tdes::laws::double_length();
+    duk_tdes::laws::masked_halves();
+    duk_tdes::laws::tdes_key(bdk);
+    let (left, right) = bdk.halves();
+    let left = Des::new(&left.bytes());
+    let right = Des::new(&right.bytes());
     let first_eight = array_of(&iksn.bytes()[..8]);
-    let cipher = Tdes::new(bdk);
-    let (left, right) = cipher.encrypt_both(&mask(&cipher), first_eight);
+    let (left, right) = triple_encrypt_both(
+        &left,
+        &right,
+        &masked(&left),
+        &masked(&right),
+        first_eight,
+    );
     join(left, right)
 }
 
@@ -54,14 +61,6 @@ pub fn transaction_key(initial: &Key<16>, ksn: Ksn) -> Key<16>
         }
     }
     key
-}
-
-/// TDES under the key with the derivation mask.
-#[inline(always)]
-fn mask(cipher: &Tdes<16>) -> Tdes<16>
-    ensures { result ≡ xor_bytes cipher.now derivation_mask }
-{
-    cipher.under_mask(&DERIVATION_MASK.to_be_bytes())
 }
 
 /// The key of two halves.

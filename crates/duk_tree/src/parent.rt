@@ -1,7 +1,9 @@
 //! A node of the key tree whose children are derived.
 
 ghost use Rattle.std.specs.Prelude.{◌≡◌};
-ghost use Rattle.duk_tree.specs.Derivation.{step_of};
+ghost use Rattle.duk_tdes.specs.Key.{xor_bytes};
+ghost use Rattle.duk_tdes.specs.Tdes.{first_key};
+ghost use Rattle.duk_tree.specs.Derivation.{derivation_mask, step_of};
 ghost use Rattle.duk_tree.specs.Serial.{low_bytes};
 
 use crate::derivation::join;
@@ -10,7 +12,8 @@ use duk_des::{Des, encrypt_both};
 use duk_tdes::Key;
 use std::marker::Model;
 
-/// The derivation mask of one half of a key.
+/// The derivation mask of one half of a key: it masks the base derivation key for the right half of
+/// an initial key, and a key of the tree for the left half of a derived key.
 const HALF_MASK: u64 = 0xC0C0_C0C0_0000_0000;
 
 /// A node of the key tree whose children are derived: the halves of its key without and with the
@@ -49,10 +52,9 @@ impl Parent {
         duk_tdes::laws::masked_halves();
         let (left, right) = key.halves();
         let left = Des::new(&left.bytes());
-        let mask = HALF_MASK.to_be_bytes();
         Parent {
-            masked_left: left.under_mask(&mask),
-            masked_right: right.xor(&mask),
+            masked_left: masked(&left),
+            masked_right: right.xor(&HALF_MASK.to_be_bytes()),
             left,
             right,
         }
@@ -81,4 +83,12 @@ impl Parent {
             self.right.xor(&right).bytes(),
         )
     }
+}
+
+/// DES under a half of a key, under the derivation mask. No other code masks a cipher, so that the
+/// compiler takes this mask for a constant, and makes no key schedule for it.
+pub(crate) fn masked(half: &Des) -> Des
+    ensures { result ≡ xor_bytes half.now (first_key derivation_mask) }
+{
+    half.under_mask(&HALF_MASK.to_be_bytes())
 }

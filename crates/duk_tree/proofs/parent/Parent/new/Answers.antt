@@ -22,19 +22,17 @@ invariant_of-result c =
     let key = c.args.key.now in
     let is_left : c.new-left.result ≡ first_key key = c.new-left.ensures ∙ c.bytes.ensures.bytes ∙ c.halves-left.ensures.left in
     let is_right = c.halves-left.ensures.right in
-    let is_mask = c.to_be_bytes-mask.ensures in
     halves_of key _ _ _ _ (ap₂ (λ (left right : List ℕ). left ++ right) is_left is_right ∙ halves_joined key c.tdes_key.ensures.size)
     (record { left_is = is_left; right_is = is_right })
     (record {
       left_is =
-          c.under_mask.ensures
-          ∙ ap (λ left. xor_bytes left c.to_be_bytes-mask.result) is_left
-          ∙ ap (xor_bytes (first_key key)) is_mask
+          c.masked.ensures
+          ∙ ap (λ left. xor_bytes left (first_key derivation_mask)) is_left
           ∙ sym (c.masked_halves.ensures.first key derivation_mask);
       right_is =
           c.xor.ensures
-          ∙ ap (λ right. xor_bytes right c.to_be_bytes-mask.result) is_right
-          ∙ ap (xor_bytes (second_key key)) is_mask
+          ∙ ap (λ right. xor_bytes right c.to_be_bytes.result) is_right
+          ∙ ap (xor_bytes (second_key key)) c.to_be_bytes.ensures
           ∙ sym (c.masked_halves.ensures.second key derivation_mask);
     })
 
