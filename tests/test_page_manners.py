@@ -1,28 +1,17 @@
-"""The page in use: by the keyboard alone, with labels, readable in both schemes, on narrow screens,
-and at once."""
+"""The page in use: by the keyboard alone, with labels, readable in both schemes and on narrow
+screens."""
 from __future__ import annotations
 
-import math
 import os
-import statistics
 from pathlib import Path
-from typing import Callable
 
 from .support.browser import END, HOME, LEFT, RIGHT, TAB, page_address
-from .support.call_cases import Chance
-from .support.dukpt import serial_text
 from .support.page_case import PANELS, READY, PageCase
-from .support.page_values import BASE, IKSN, upper
 
 # Where screenshots go; without it none is made.
 SHOTS = "DUKPT_PAGE_SHOTS"
 WIDTHS = (360, 1280)
 LEAST_CONTRAST = 4.5
-# A frame of a screen with 60 of them a second.
-FRAME_MILLISECONDS = 16
-ROUNDS = 3
-# The most processor time of a change, its painting included, on a machine that is too busy to tell.
-BUSY_MILLISECONDS = 2 * FRAME_MILLISECONDS
 SCHEMES = ("light", "dark")
 
 # What of a panel can take the focus: of radio buttons of one name the chosen one does.
@@ -101,41 +90,6 @@ const walker = document.createTreeWalker(document.body, NodeFilter.SHOW_TEXT);
 while (walker.nextNode()) look(walker.currentNode.parentElement, walker.currentNode.data);
 for (const field of document.querySelectorAll("input, textarea, select")) look(field, field.value);
 return [count, found];"""
-# How long changes take, each from its event to the laid out page.
-TIMED_TYPING = """
-const [field, texts, result] = arguments;
-const element = document.getElementById(field);
-const times = texts.map((text) => {
-  const began = performance.now();
-  element.value = text;
-  element.dispatchEvent(new Event("input", { bubbles: true }));
-  document.body.getBoundingClientRect();
-  const took = performance.now() - began;
-  if (!document.getElementById(result).textContent) throw new Error("no result of " + text);
-  return took;
-});
-return times;"""
-TIMED_SLIDING = """
-const [places] = arguments;
-const slider = document.getElementById("tree-slider");
-const times = [];
-for (const place of places) {
-  await new Promise((done) => {
-    let began;
-    // Of one frame the first and the last job; between them is the page's.
-    requestAnimationFrame(() => { began = performance.now(); });
-    slider.value = place;
-    const event = performance.now();
-    slider.dispatchEvent(new Event("input", { bubbles: true }));
-    const direct = performance.now() - event;
-    requestAnimationFrame(() => {
-      document.body.getBoundingClientRect();
-      times.push(direct + performance.now() - began);
-      done();
-    });
-  });
-}
-return times;"""
 
 
 class TestKeyboard(PageCase):
@@ -225,59 +179,6 @@ class TestLooks(PageCase):
             self.browser.prefer(prefers_color_scheme=scheme)
             self.browser.screenshot(Path(folder) / f"{panel}-{width}-{scheme}.png")
         self.browser.prefer()
-
-
-class TestSpeed(PageCase):
-    """Each change is shown within a frame, in one of some rounds by the clock. Where the machine is
-    too busy for that, the processor time of the page's thread counts, which has painting in it."""
-
-    def setUp(self) -> None:
-        super().setUp()
-        self.browser.command("Performance.enable")
-        self.addCleanup(self.browser.command, "Performance.disable")
-
-    def thread_milliseconds(self) -> float:
-        """The processor time of the page's thread until now."""
-        metrics = self.browser.command("Performance.getMetrics")["metrics"]
-        return 1000 * next(it["value"] for it in metrics if it["name"] == "ThreadTime")
-
-    def assert_at_once(self, what: str, measured: Callable[[], list[float]]) -> None:
-        """That of 200 changes half are shown within a frame."""
-        medians: list[float] = []
-        began = self.thread_milliseconds()
-        while len(medians) < ROUNDS and min(medians, default=math.inf) > FRAME_MILLISECONDS:
-            times = measured()
-            self.assertEqual(len(times), 200)
-            medians.append(statistics.median(times))
-        spent = (self.thread_milliseconds() - began) / (200 * len(medians))
-        clock = " ".join(f"{it:.1f}" for it in medians)
-        self.tells(f"{what}: median {clock} ms by the clock, {spent:.1f} ms of processor time")
-        self.assertGreater(spent, 0)
-        if min(medians) > FRAME_MILLISECONDS:
-            self.assertLessEqual(spent, BUSY_MILLISECONDS, f"{what}: {clock} ms by the clock")
-
-    def test_derivation(self) -> None:
-        """Changes of the number and of the key."""
-        chance = Chance(self.chance)
-        self.set(derive_bdk=BASE, derive_ksn=serial_text(IKSN + 1))
-
-        def measured() -> list[float]:
-            numbers = list(map(serial_text, chance.usables(100)))
-            keys = list(map(upper, chance.keys(100)))
-            return (self.browser.run(TIMED_TYPING, "derive-ksn", numbers, "derive-pin-key")
-                    + self.browser.run(TIMED_TYPING, "derive-bdk", keys, "derive-pin-key"))
-
-        self.assert_at_once("derivation", measured)
-
-    def test_slider(self) -> None:
-        self.show("tree")
-        self.set(tree_bdk=BASE, tree_ksn=serial_text(IKSN + 1))
-
-        def measured() -> list[float]:
-            places = [self.chance.randrange(1, 1 << 20) for _ in range(200)]
-            return self.browser.run_async(TIMED_SLIDING, places)
-
-        self.assert_at_once("slider", measured)
 
 
 class TestOldBrowser(PageCase):

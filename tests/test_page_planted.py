@@ -10,7 +10,7 @@ from pathlib import Path
 from typing import Sequence
 
 from . import test_page_faults, test_page_frames, test_page_manners, test_page_panels
-from . import test_page_policy, test_page_registers
+from . import test_page_policy, test_page_registers, test_page_speed
 from .support.case import Case
 from .support.page_case import PageCase
 
@@ -30,6 +30,8 @@ class Plant:
     test: str
 
 
+# A loop of 20 ms.
+BUSY = "for (const until = performance.now() + 20; performance.now() < until;);\n"
 PLANTS = (
     Plant("the response key stands as the request key",
           [('"request", calls.requestKey(key)', '"request", calls.responseKey(key)')],
@@ -53,6 +55,12 @@ PLANTS = (
     Plant("a register has the number of the next one",
           [("const front = [BITS - place,", "const front = [BITS - place - 1,")],
           test_page_registers.TestPlaces, "test_slider"),
+    Plant("a step of the slider takes 20 ms more",
+          [("      moved(Number(slider.value));", BUSY + "      moved(Number(slider.value));")],
+          test_page_speed.TestSpeed, "test_slider"),
+    Plant("a derivation takes 20 ms more",
+          [('  renew(element("panel-derive"));', BUSY + '  renew(element("panel-derive"));')],
+          test_page_speed.TestSpeed, "test_derivation"),
     Plant("a result stays behind a fault",
           [('for (const output of part.querySelectorAll("output")) show(output.id, "");', "")],
           test_page_faults.TestFields, "test_each"),

@@ -294,6 +294,12 @@ class Browser:
         """A command of the browser's own protocol (Chrome DevTools)."""
         return self.ask("POST", "/goog/cdp/execute", {"cmd": name, "params": given})
 
+    def thread_milliseconds(self) -> float:
+        """The processor time of the page's thread until now; what it paints is in it."""
+        self.command("Performance.enable")
+        metrics = self.command("Performance.getMetrics")["metrics"]
+        return 1000 * next(it["value"] for it in metrics if it["name"] == "ThreadTime")
+
     def resize(self, width: int, height: int) -> None:
         """Sets the size of the page that is seen, in CSS pixels."""
         self.command("Emulation.setDeviceMetricsOverride", width=width, height=height,
