@@ -74,8 +74,9 @@ export function heldIn(place, next) {
   return isUsable(counter) && counter >= next ? counter : undefined;
 }
 
-/** The counter of a key serial number, and the number with another counter. */
-export const counterOf = (ksn) => (ksn[7] & 31) << 16 | ksn[8] << 8 | ksn[9];
+/** The counter of the key serial number at a place, and a number with another counter. */
+export const counterOf = (bytes, at = 0) =>
+  (bytes[at + 7] & 31) << 16 | bytes[at + 8] << 8 | bytes[at + 9];
 export function withCounter(ksn, counter) {
   const made = ksn.slice();
   made.set([ksn[7] & 224 | counter >> 16, counter >> 8 & 255, counter & 255], 7);

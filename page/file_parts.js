@@ -63,11 +63,11 @@ function damageOfPast(image) {
     : ["behind the past IKSNs stand zeros alone", rest + wrong, rest + wrong];
 }
 
-/** The numbers that a log keeps, and how many records it has. */
-export function numbersOf(log) {
-  const numbers = [];
-  for (let at = 0; log[at] === 1; at += RECORD) numbers.push(log.slice(at + 1, at + 11));
-  return { numbers, records: log.length / RECORD };
+/** How many numbers a right log keeps. */
+export function countInLog(log) {
+  let count = 0;
+  while (log[RECORD * count] === 1) count += 1;
+  return count;
 }
 
 /** What is wrong with a log. */

@@ -1,17 +1,23 @@
-// The panel "Frames and files", its files: the image of a terminal, or a log of used numbers.
+// The panel "Frames and files", its files: the image of a terminal, a log of used numbers, or a
+// journal of payments.
 import * as calls from "./calls.js";
 import { SPENT, withCounter } from "./counters.js";
 import { STATUS } from "./faults.js";
 import { attempt, element, follow, made, renew, setFault, tableOf } from "./fields.js";
-import { damageOfImage, damageOfLog, numbersOf, pastOf } from "./file_parts.js";
-import { givenKey, initialKeyBy, usableNote } from "./frames.js";
+import { guessed } from "./file_kinds.js";
+import { damageOfImage, damageOfLog, pastOf } from "./file_parts.js";
+import { givenKey, initialKeyBy } from "./frames.js";
 import { hex } from "./hexadecimal.js";
+import { journalParts } from "./journal.js";
+import { damageOfJournal } from "./journal_parts.js";
+import { logParts } from "./log.js";
 import { fillRegisters, nextCounter, registerName, registersOf } from "./registers.js";
 
 const MOST_ROWS = 1000;
 
-// The file that was chosen or dropped: its name and bytes.
+// The file that is shown: its name and bytes; and how many were chosen or dropped.
 let file;
+let asked = 0;
 
 /** Whether the registers hold the keys of the given initial or base derivation key, in words. */
 function keysCheck(image) {
@@ -54,44 +60,17 @@ function imageParts(image) {
   return [...lines, keysCheck(image), tableOf(head, (it) => fillRegisters(it, image))];
 }
 
-/** For each number the record in which it stands for the first time. */
-function firstRecords(numbers) {
-  const first = new Map();
-  for (const [record, text] of numbers.map(hex).entries()) {
-    if (!first.has(text)) first.set(text, record);
-  }
-  return first;
-}
+// Of each kind of file its name, its damage, and what is shown of it.
+const KINDS = {
+  image: ["an image", damageOfImage, imageParts],
+  log: ["a log", damageOfLog, logParts],
+  journal: ["a journal", damageOfJournal, journalParts],
+};
 
-function logRow(number, record, first) {
-  const text = hex(number);
-  const notes = [usableNote(number)];
-  if (first.get(text) !== record) notes.push(`also in record ${first.get(text)}`);
-  const row = made("tr", "", { "data-record": record });
-  row.append(made("td", record, { class: "record" }), made("td", text, { class: "number" }));
-  row.append(made("td", notes.filter(Boolean).join("; "), { class: "meaning" }));
-  return row;
-}
-
-function logParts(log) {
-  const { numbers, records } = numbersOf(log);
-  const first = firstRecords(numbers);
-  const free = records - numbers.length;
-  const words = [
-    `Log of ${records} records: ${numbers.length} used numbers, room for ${free} more.`,
-  ];
-  if (first.size < numbers.length) words.push(`Repeated numbers: ${numbers.length - first.size}.`);
-  if (numbers.length > MOST_ROWS) words.push(`The first ${MOST_ROWS} are shown.`);
-  const rows = numbers.slice(0, MOST_ROWS).map((it, record) => logRow(it, record, first));
-  const names = ["record", "used number", "note"];
-  return [made("p", words.join(" ")), tableOf(names, (it) => it.append(...rows))];
-}
-
-/** What a file is taken for. No log that a host leaves begins with 02, the version of an image. */
-function kindOf(bytes) {
+/** What the file is read as: what was chosen, or else what it looks like. */
+function takenFor(bytes) {
   const chosen = element("frame-file-kind").value;
-  if (chosen !== "guess") return chosen;
-  return bytes[0] === 2 || bytes.length === 350 || bytes.length === 431 ? "image" : "log";
+  return chosen === "guess" ? guessed(bytes) : { kind: chosen, doubt: "" };
 }
 
 function renewed() {
@@ -99,27 +78,41 @@ function renewed() {
   const found = element("file-found");
   found.replaceChildren();
   delete found.dataset.kind;
+  element("file-taken").textContent = "";
   if (!file) return;
-  const kind = kindOf(file.bytes);
-  const damage = kind === "image" ? damageOfImage(file.bytes) : damageOfLog(file.bytes);
+  const { kind, doubt } = takenFor(file.bytes);
+  element("file-taken").textContent = doubt;
+  const [name, damageOf, partsOf] = KINDS[kind];
+  const damage = damageOf(file.bytes);
   if (damage) {
     const [words, from, to] = damage;
     const place = from === to ? `Byte ${from}` : `Bytes ${from} to ${to}`;
-    setFault("frame-file", `${file.name}, as ${kind === "image" ? "an image" : "a log"}: `
-      + `${place}: ${words}.`, [from, to]);
+    setFault("frame-file", `${file.name}, as ${name}: ${place}: ${words}.`, [from, to]);
     return;
   }
-  const parts = attempt(() => "frame-file", () =>
-    (kind === "image" ? imageParts(file.bytes) : logParts(file.bytes)));
+  const parts = attempt(() => "frame-file", () => partsOf(file.bytes, MOST_ROWS));
   if (!parts) return;
   found.dataset.kind = kind;
   found.append(made("h4", file.name), ...parts);
 }
 
-async function take(given) {
-  if (!given) return;
-  file = { name: given.name, bytes: new Uint8Array(await given.arrayBuffer()) };
+/** Keys are compared with those of an image alone: no other file is read again for them. */
+function renewedKey() {
+  if (element("file-found").dataset.kind === "image") renewed();
+}
+
+/** Reads a file and shows it, but where another one was given meanwhile. */
+async function take(one) {
+  if (!one) return;
+  asked += 1;
+  const own = asked;
+  file = undefined;
   renewed();
+  const bytes = await one.arrayBuffer().catch(() => undefined);
+  if (own !== asked) return;
+  if (bytes) file = { name: one.name, bytes: new Uint8Array(bytes) };
+  renewed();
+  if (!bytes) setFault("frame-file", `${one.name} cannot be read.`);
 }
 
 export function startFiles() {
@@ -132,7 +125,7 @@ export function startFiles() {
     event.preventDefault();
     if (!element("panel-frame").hidden) take(event.dataTransfer.files[0]);
   });
-  element("frame-key").addEventListener("input", renewed);
-  element("frame-key-kind").addEventListener("input", renewed);
-  follow(element("frame-files"), renewed);
+  element("frame-key").addEventListener("input", renewedKey);
+  element("frame-key-kind").addEventListener("input", renewedKey);
+  follow(element("frame-file-kind"), renewed);
 }

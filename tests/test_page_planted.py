@@ -9,8 +9,9 @@ from dataclasses import dataclass
 from pathlib import Path
 from typing import Sequence
 
-from . import test_page_faults, test_page_frames, test_page_manners, test_page_panels
-from . import test_page_policy, test_page_registers, test_page_speed
+from . import test_page_faults, test_page_files, test_page_frames, test_page_journals
+from . import test_page_manners, test_page_panels, test_page_policy, test_page_registers
+from . import test_page_speed
 from .support.case import Case
 from .support.page_case import PageCase
 
@@ -55,6 +56,44 @@ PLANTS = (
     Plant("a register has the number of the next one",
           [("const front = [BITS - place,", "const front = [BITS - place - 1,")],
           test_page_registers.TestPlaces, "test_slider"),
+    Plant("the payments of a terminal and the approved ones are swapped",
+          [("iksn, payments, approved,", "iksn, payments: approved, approved: payments,")],
+          test_page_journals.TestJournals, "test_random"),
+    Plant("a sum has the refused amounts too", [("if (isApproved(journal, record)) {", "{")],
+          test_page_journals.TestJournals, "test_random"),
+    Plant("the amount of a payment is read from its other end",
+          [("getUint32(RECORD * record + AMOUNT)", "getUint32(RECORD * record + AMOUNT, true)")],
+          test_page_journals.TestJournals, "test_random"),
+    Plant("the followers of a group are read from their other end",
+          [("journal[at + FOLLOWERS] << 8 | journal[at + FOLLOWERS + 1]",
+            "journal[at + FOLLOWERS + 1] << 8 | journal[at + FOLLOWERS]")],
+          test_page_journals.TestJournals, "test_by_hand"),
+    Plant("a payment stands one record too low",
+          [("payments.push({ record,", "payments.push({ record: record + 1,")],
+          test_page_journals.TestJournals, "test_random"),
+    Plant("damage of a record is named one byte too low",
+          [("at + first, at + last]", "at + first + 1, at + last + 1]")],
+          test_page_journals.TestDamage, "test_each"),
+    Plant("a follower may say anything",
+          [("if (followers === 0) return", "if (followers >= 0) return")],
+          test_page_journals.TestDamage, "test_each"),
+    Plant("a group may have one record too many", [("_FOLLOWERS = 4095", "_FOLLOWERS = 4096")],
+          test_page_journals.TestDamage, "test_each"),
+    Plant("a closed record ends no groups", [("return damageBehind(journal, at);", "")],
+          test_page_journals.TestDamage, "test_each"),
+    Plant("a repeated number is not said", [(": `also in record ${earlier}`", ': ""')],
+          test_page_journals.TestJournals, "test_random"),
+    Plant("the payments of a file stay behind the damage of another one",
+          [("  found.replaceChildren();\n  delete found.dataset.kind;\n", "")],
+          test_page_files.TestStale, "test_after_damage"),
+    Plant("a file stays behind one that cannot be read",
+          [("  file = undefined;\n  renewed();\n", "")],
+          test_page_files.TestStale, "test_unreadable"),
+    Plant("a file that is read late takes the place of another one",
+          [("if (own !== asked) return;", "")], test_page_files.TestStale, "test_overtaken"),
+    Plant("a log and a journal are not told apart",
+          [("it[0] === 1 && it[1] === 1", "it[0] === 1 && it[2] === 1")],
+          test_page_files.TestKinds, "test_guesses"),
     Plant("a step of the slider takes 20 ms more",
           [("      moved(Number(slider.value));", BUSY + "      moved(Number(slider.value));")],
           test_page_speed.TestSpeed, "test_slider"),

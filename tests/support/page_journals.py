@@ -1,0 +1,309 @@
+"""Journals of payments as files: writing them, spoiling them, and reading them strictly.
+
+docs/FORMATS.md has the layout, under "Disk of a journal".
+"""
+from __future__ import annotations
+
+import random
+from dataclasses import dataclass
+from typing import Callable, Optional, Sequence, Union
+
+from .dukpt import counter_of, iksn_of, serial_text, usable
+
+RECORD = 32
+MOST_FOLLOWERS = 4095
+OPEN, PAYMENT = 1, 1
+CODES = {0: "approved", 14: "no such card", 30: "PIN block unreadable",
+         51: "over the card's limit", 55: "wrong PIN"}
+
+
+# A journal by hand: one payment; then a group of two, whose second gate is closed, though not zero.
+BY_HAND = """
+01 01 0000 FFFF9876543210E00001 00000001 00 A05619896B683F13 0000000000
+01 01 0001 FFFF9876543210E00008 000004D2 33 0102030405060708 0000000000
+7F 01 0000 0123456789ABCDE00001 FFFFFFFF 00 1112131415161718 0000000000
+00 01 0007 0000000000000000FFFF FFFFFFFF FF FFFFFFFFFFFFFFFF FFFFFFFFFF
+"""
+BY_HAND_ROWS = [
+    ["0", "FFFF9876543210E00001", "1", "00 approved", "A05619896B683F13", "alone", ""],
+    ["1", "FFFF9876543210E00008", "1234", "51 over the card's limit", "0102030405060708",
+     "records 1 to 2", ""],
+    ["2", "0123456789ABCDE00001", "4294967295", "00 approved", "1112131415161718",
+     "records 1 to 2", ""],
+]
+BY_HAND_SUMS = [["FFFF9876543210E00000", "2", "1", "1"],
+                ["0123456789ABCDE00000", "1", "1", "4294967295"]]
+
+
+@dataclass(frozen=True)
+class Payment:
+    serial: int
+    amount: int
+    code: int
+    mac: bytes
+
+    def record(self, gate: int, followers: int = 0) -> bytes:
+        return (bytes([gate, PAYMENT]) + followers.to_bytes(2, "big")
+                + self.serial.to_bytes(10, "big") + self.amount.to_bytes(4, "big")
+                + bytes([self.code]) + self.mac + bytes(5))
+
+
+@dataclass(frozen=True)
+class Place:
+    """The first and the last byte of what breaks a rule."""
+
+    first: int
+    last: int
+
+
+Group = Sequence[Payment]
+
+
+def journal_of(groups: Sequence[Group], room: int, chance: Optional[random.Random] = None) -> bytes:
+    """A journal of these groups, with room for so many payments more. What may be anything is zero,
+    or is drawn: the gates of followers, which are closed, and closed records behind the groups."""
+    closed = (lambda: 0) if chance is None else (lambda: chance.choice((0, 0, 2, 0xFF)))
+    records = [payment.record(closed() if at else OPEN, 0 if at else len(group) - 1)
+               for group in groups for at, payment in enumerate(group)]
+    rest = (bytes(RECORD) if chance is None or chance.random() < 0.4
+            else bytes([closed()]) + chance.randbytes(RECORD - 1) for _ in range(room))
+    return b"".join([*records, *rest])
+
+
+# What reading comes to: of each payment the first and last record of its group, and the payment.
+Row = tuple[int, int, Payment]
+
+
+def read_journal(data: bytes) -> Union[list[Row], Place]:
+    """The payments of a journal, or the first place where it breaks a rule."""
+    if not data or len(data) % RECORD:
+        return Place(len(data) - len(data) % RECORD, max(len(data) - 1, 0))
+    records = [data[at : at + RECORD] for at in range(0, len(data), RECORD)]
+    rows: list[Row] = []
+    end = 0
+    while end < len(records) and records[end][0] == OPEN:
+        first, last = end, end + int.from_bytes(records[end][2:4], "big")
+        for at in range(first, min(last + 1, len(records))):
+            wrong = wrong_bytes(records[at], at > first, len(records) - at)
+            if wrong:
+                return Place(RECORD * at + wrong[0], RECORD * at + wrong[-1])
+            rows.append((first, last, payment_in(records[at])))
+        end = last + 1
+    later = [at for at in range(end, len(records)) if records[at][0] == OPEN]
+    return Place(RECORD * later[0], RECORD * later[0]) if later else rows
+
+
+def payment_in(record: bytes) -> Payment:
+    return Payment(int.from_bytes(record[4:14], "big"), int.from_bytes(record[14:18], "big"),
+                   record[18], record[19:27])
+
+
+def wrong_bytes(record: bytes, is_follower: bool, left: int) -> Sequence[int]:
+    """Which bytes of a payment's record break a rule first; so many records are left from it on."""
+    followers = int.from_bytes(record[2:4], "big")
+    counts = (0,) if is_follower else range(min(MOST_FOLLOWERS + 1, left))
+    rules = (
+        ((0,), not (is_follower and record[0] == OPEN)),
+        ((1,), record[1] == PAYMENT),
+        ((2, 3), followers in counts),
+        ((11, 12, 13), usable(counter_of(payment_in(record).serial))),
+        ((18,), record[18] in CODES),
+        *(((at,), record[at] == 0) for at in range(27, RECORD)),
+    )
+    return next((places for places, holds in rules if not holds), ())
+
+
+@dataclass(frozen=True)
+class Total:
+    """What the payments of an initial key serial number come to."""
+
+    payments: int = 0
+    approved: int = 0
+    amount: int = 0
+
+
+def totals_of(payments: Sequence[Payment]) -> dict[int, Total]:
+    """The totals by initial key serial number, in the order of the first payments."""
+    found: dict[int, Total] = {}
+    for it in payments:
+        old = found.get(iksn_of(it.serial), Total())
+        is_approved = it.code == 0
+        found[iksn_of(it.serial)] = Total(
+            old.payments + 1, old.approved + is_approved, old.amount + is_approved * it.amount)
+    return found
+
+
+# What the page shows of them
+
+
+def rows_of(rows: Sequence[Row]) -> list[list[str]]:
+    """The rows that payments have."""
+    shown, first_records = [], {}
+    for record, (first, last, it) in enumerate(rows):
+        earlier = first_records.setdefault(it.serial, record)
+        shown.append([
+            str(record), serial_text(it.serial), str(it.amount), f"{it.code:02} {CODES[it.code]}",
+            it.mac.hex().upper(), "alone" if first == last else f"records {first} to {last}",
+            "" if earlier == record else f"also in record {earlier}"])
+    return shown
+
+
+def sums_of(rows: Sequence[Row]) -> list[list[str]]:
+    return [[serial_text(iksn), str(it.payments), str(it.approved), str(it.amount)]
+            for iksn, it in totals_of([it for _, _, it in rows]).items()]
+
+
+def rows_in(groups: Sequence[Sequence[Payment]]) -> list[Row]:
+    """The rows of groups, as they were given and not as they were written."""
+    rows: list[Row] = []
+    for group in groups:
+        first = len(rows)
+        rows += [(first, first + len(group) - 1, it) for it in group]
+    return rows
+
+
+# Journals and damage at random
+
+
+class Journals:
+    """What draws them."""
+
+    def __init__(self, chance: random.Random) -> None:
+        self.chance = chance
+
+    def serial(self, iksn: int) -> int:
+        counter = 0
+        while not usable(counter):
+            counter = self.chance.getrandbits(21) & self.chance.getrandbits(21)
+        return iksn + counter
+
+    def payment(self, iksn: int) -> Payment:
+        amount = self.chance.choice((0, 1, self.chance.randrange(10_000), (1 << 32) - 1,
+                                     self.chance.getrandbits(32)))
+        code = self.chance.choice((0, *CODES))
+        return Payment(self.serial(iksn), amount, code, self.chance.randbytes(8))
+
+    def groups(self, count: int, longest: int = 6, terminals: int = 4) -> list[list[Payment]]:
+        """So many groups of payments, of a few terminals; some numbers come again."""
+        iksns = [iksn_of(self.chance.getrandbits(80)) for _ in range(terminals)]
+        groups: list[list[Payment]] = []
+        for _ in range(count):
+            size = self.chance.choice((1, 1, self.chance.randint(1, longest)))
+            group = [self.payment(self.chance.choice(iksns)) for _ in range(size)]
+            if groups and self.chance.random() < 0.2:
+                serial = self.chance.choice(self.chance.choice(groups)).serial
+                group[-1] = Payment(serial, group[-1].amount, group[-1].code, group[-1].mac)
+            groups.append(group)
+        return groups
+
+    def journal(self, count: int) -> tuple[list[list[Payment]], bytes]:
+        groups = self.groups(count)
+        return groups, journal_of(groups, self.chance.randrange(6), self.chance)
+
+
+# A kind of damage: what it does to a journal of these groups, and where it stands then.
+Damage = Callable[[Journals, Sequence[Group], bytes], tuple[bytes, Place]]
+
+
+def starts_of(groups: Sequence[Group]) -> list[int]:
+    """The first record of each group, and the first one behind the groups."""
+    starts = [0]
+    for group in groups:
+        starts.append(starts[-1] + len(group))
+    return starts
+
+
+def put(data: bytes, record: int, at: int, value: bytes) -> tuple[bytes, Place]:
+    """A journal with other bytes in a record, and their place."""
+    first = RECORD * record + at
+    return data[:first] + value + data[first + len(value) :], Place(first, first + len(value) - 1)
+
+
+def any_payment(journals: Journals, groups: Sequence[Group]) -> int:
+    return journals.chance.randrange(starts_of(groups)[-1])
+
+
+def unknown_kind(journals: Journals, groups: Sequence[Group], data: bytes) -> tuple[bytes, Place]:
+    kind = journals.chance.choice((0, 2, journals.chance.randint(2, 255)))
+    return put(data, any_payment(journals, groups), 1, bytes([kind]))
+
+
+def no_code(journals: Journals, groups: Sequence[Group], data: bytes) -> tuple[bytes, Place]:
+    code = journals.chance.choice([it for it in range(256) if it not in CODES])
+    return put(data, any_payment(journals, groups), 18, bytes([code]))
+
+
+def unusable_counter(journals: Journals, groups: Sequence[Group], data: bytes
+                     ) -> tuple[bytes, Place]:
+    ones = journals.chance.choice((0, 11, 21))
+    counter = sum(1 << it for it in journals.chance.sample(range(21), ones))
+    record = any_payment(journals, groups)
+    front = data[RECORD * record + 11] & 0xE0
+    return put(data, record, 11, (front << 16 | counter).to_bytes(3, "big"))
+
+
+def no_zeros(journals: Journals, groups: Sequence[Group], data: bytes) -> tuple[bytes, Place]:
+    at, value = journals.chance.randrange(27, RECORD), journals.chance.randint(1, 255)
+    return put(data, any_payment(journals, groups), at, bytes([value]))
+
+
+def open_inside(journals: Journals, groups: Sequence[Group], data: bytes) -> tuple[bytes, Place]:
+    return put(data, a_follower(journals, groups), 0, bytes([OPEN]))
+
+
+def open_behind(journals: Journals, groups: Sequence[Group], data: bytes) -> tuple[bytes, Place]:
+    """Behind the groups and one closed record at least."""
+    end = starts_of(groups)[-1]
+    data = data.ljust(RECORD * (end + 2), b"\x00")
+    record = journals.chance.randrange(end + 1, len(data) // RECORD)
+    return put(data, record, 0, bytes([OPEN]))
+
+
+def following_follower(journals: Journals, groups: Sequence[Group], data: bytes
+                       ) -> tuple[bytes, Place]:
+    followers = journals.chance.choice((1, 256, journals.chance.randint(1, 0xFFFF)))
+    return put(data, a_follower(journals, groups), 2, followers.to_bytes(2, "big"))
+
+
+def a_follower(journals: Journals, groups: Sequence[Group]) -> int:
+    return journals.chance.choice([start + at for start, group in zip(starts_of(groups), groups)
+                                   for at in range(1, len(group))])
+
+
+def too_many(journals: Journals, groups: Sequence[Group], data: bytes) -> tuple[bytes, Place]:
+    """More followers than a group may have, with records for all of them behind it."""
+    followers = journals.chance.choice((MOST_FOLLOWERS + 1, journals.chance.randint(4096, 9000)))
+    record = journals.chance.choice(starts_of(groups)[:-1])
+    data = data.ljust(RECORD * (record + followers + 1), b"\x00")
+    return put(data, record, 2, followers.to_bytes(2, "big"))
+
+
+def past_the_end(journals: Journals, groups: Sequence[Group], data: bytes) -> tuple[bytes, Place]:
+    record = journals.chance.choice(starts_of(groups)[:-1])
+    least = len(data) // RECORD - record
+    followers = journals.chance.choice(
+        (least, MOST_FOLLOWERS, journals.chance.randint(least, MOST_FOLLOWERS)))
+    return put(data, record, 2, followers.to_bytes(2, "big"))
+
+
+def broken_size(journals: Journals, groups: Sequence[Group], data: bytes) -> tuple[bytes, Place]:
+    """A piece of a record stands at the end."""
+    piece = journals.chance.randint(1, RECORD - 1)
+    return data + bytes(piece), Place(len(data), len(data) + piece - 1)
+
+
+DAMAGES: tuple[Damage, ...] = (
+    unknown_kind, no_code, unusable_counter, no_zeros, open_inside, open_behind,
+    following_follower, too_many, past_the_end, broken_size)
+
+
+def scratched(journals: Journals, data: bytes) -> bytes:
+    """A journal with a few bytes changed anywhere, most of them where rules speak of them."""
+    found = bytearray(data)
+    for _ in range(journals.chance.choice((1, 1, 2, 3))):
+        record = RECORD * journals.chance.randrange(len(data) // RECORD)
+        at = journals.chance.choice((0, 0, 1, 2, 3, 3, 11, 12, 13, 18, 27, 31,
+                                     journals.chance.randrange(RECORD)))
+        value = journals.chance.choice((0, 1, 1, 2, 14, journals.chance.randrange(256)))
+        found[record + at] = value
+    return bytes(found)
