@@ -14,8 +14,8 @@ const HEADER = [
   ["mode", 8, 1, WORDS.mode],
   ["key-version", 9, 2, WORDS["key-version"]],
   ["exportability", 11, 1, WORDS.exportability],
-  ["count", 12, 2, (text) => (text === "00" ? "no optional blocks" : `${text} optional blocks`)],
-  ["reserved", 14, 2, () => "reserved"],
+  ["count", 12, 2, WORDS.count],
+  ["reserved", 14, 2, () => "reserved: read as anything"],
 ];
 const LEAST_REST = 64;
 const MAC = 16;

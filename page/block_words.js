@@ -1,7 +1,7 @@
 // The header of a key block in words: the tables of ANSI X9.143 (TR-31).
 
 const USAGES = {
-  B0: "base derivation key (BDK)", B1: "initial DUKPT key", B2: "base key variant key",
+  B0: "base derivation key (BDK)", B1: "initial key (IPEK)", B2: "base key variant key",
   B3: "key derivation key (not ANSI X9.24)", C0: "card verification key",
   D0: "symmetric key for data encryption", D1: "asymmetric key for data encryption",
   D2: "data encryption key for a decimalization table", D3: "data encryption key for sensitive data",
@@ -41,8 +41,9 @@ const OPTIONAL = {
   AL: "life of an asymmetric key", BI: "identifier of the base derivation key", CT: "certificate",
   DA: "derivations that are allowed", HM: "hash algorithm of HMAC",
   IK: "initial key identifier of AES DUKPT", KC: "check value of the wrapped key",
-  KP: "check value of the protection key", KS: "key serial number", KV: "version of the values",
-  LB: "label", PB: "padding", TC: "time of creation", TS: "time stamp", WP: "wrapping pedigree",
+  KP: "check value of the key block protection key", KS: "key serial number",
+  KV: "version of the values", LB: "label", PB: "padding", TC: "time of creation",
+  TS: "time stamp", WP: "wrapping pedigree",
 };
 
 const inTable = (table) => (text) =>
@@ -53,6 +54,12 @@ function versionWords(text) {
   return text.startsWith("c") ? `component ${text[1]} of a key` : `version ${text} of the key`;
 }
 
+function countWords(text) {
+  if (!/^\d\d$/.test(text)) return "no decimal number of optional blocks";
+  const count = Number(text);
+  return `${count || "no"} optional block${count === 1 ? "" : "s"}`;
+}
+
 /** What the text of each header field means. A value that the standard lacks is said to be so. */
 export const WORDS = {
   usage: inTable(USAGES),
@@ -60,5 +67,6 @@ export const WORDS = {
   mode: inTable(MODES),
   "key-version": versionWords,
   exportability: inTable(EXPORTABILITIES),
+  count: countWords,
   optional: (id) => `optional block ${id}: ${OPTIONAL[id] ?? "no id of the standard"}`,
 };

@@ -194,12 +194,29 @@ class TestBlocks(PageCase):
         text = sealed(protection, front, payload)
         self.set(unwrap_kbpk=upper(protection), unwrap_text=text.decode())
         self.assert_shown({"unwrap-key": upper(payload[2:18]), "unwrap-text-fault": ""})
+        meanings = dict(self.rows("#unwrap-parts tr", ["data-part"], ["meaning"]))
+        self.assertEqual(meanings["count"], "2 optional blocks")
+        self.assertEqual(meanings["optional-1"], "optional block KS: key serial number")
         parts = self.rows("#unwrap-parts tr", ["data-part"], ["characters", "text"])
         self.assertEqual(parts[9:], [
             ["optional-1", "16 to 39", optional[:24].decode()],
             ["optional-2", "40 to 47", optional[24:].decode()],
             ["ciphertext", "48 to 95", text[48:96].decode()],
             ["mac", "96 to 111", text[96:].decode()]])
+
+    def test_words(self) -> None:
+        """Fields in the words of docs/GLOSSARY.md; what the standard lacks is said to be so."""
+        for field, text, words in (
+                ("usage", "B0", "base derivation key (BDK)"), ("usage", "B1", "initial key (IPEK)"),
+                ("usage", "K1", "key block protection key (KBPK)"), ("usage", "P0", "PIN encryption"),
+                ("usage", "10", "for proprietary use (numeric)"),
+                ("usage", "ZZ", "no value of the standard"), ("algorithm", "T", "TDES"),
+                ("mode", "X", "to derive other keys"), ("mode", "N", "no special restrictions"),
+                ("version", "00", "key versions are not used"),
+                ("version", "c2", "component 2 of a key"), ("version", "07", "version 07 of the key"),
+                ("exportability", "N", "not exportable")):
+            self.set(**{f"wrap-{field}": text})
+            self.assert_shown({f"wrap-{field}-words": words})
 
     def test_wrap(self) -> None:
         chance, count = Chance(self.chance), CASES * self.times
