@@ -311,8 +311,12 @@ class Browser:
         self.command("Emulation.setEmulatedMedia", features=named)
 
     def screenshot(self, path: Path) -> None:
-        """Writes the whole page, with what is below the window, as a PNG."""
-        shot = self.command("Page.captureScreenshot", format="png", captureBeyondViewport=True)
+        """Writes the whole page, with what is below the window, as a PNG as wide as the window. By
+        itself the browser leaves out the bar to scroll by, and lays out the page without one."""
+        width, height = self.run("return [innerWidth, document.scrollingElement.scrollHeight];")
+        clip = {"x": 0, "y": 0, "width": width, "height": height, "scale": 1}
+        shot = self.command("Page.captureScreenshot", format="png", captureBeyondViewport=True,
+                            clip=clip)
         path.write_bytes(base64.b64decode(shot["data"]))
 
 
