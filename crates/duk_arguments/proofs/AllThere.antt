@@ -1,5 +1,5 @@
 -- Where a request is asked for, all that its command needs is there.
-use Rattle.std.proofs.Common.{◌≡◌, ◌≤◌, ◌∙◌, ℕ, List, Option, Some, ap, length, subst, sym}
+use Rattle.std.proofs.Common.{◌≡◌, ◌≤◌, ◌∙◌, ℕ, List, Option, Some, ap, length, refl, subst, sym}
 use Rattle.std.proofs.lemmas.List.{length-map, length-take-le}
 use Rattle.std.specs.Prelude.{IfSome, IsSome, IsSomeAnd, find, is_some, unwrap_or}
 use Rattle.std.specs.Str.{bytes_eq}
@@ -11,14 +11,13 @@ use Rattle.duk_arguments.specs.Keys.{texts_of_keys}
 use Rattle.duk_arguments.specs.declared.keys.Keys.{Keys}
 use Rattle.duk_arguments.specs.declared.request.Request.{Request}
 use Rattle.duk_arguments.specs.declared.request.Request.TheVariants as request
-use Rattle.duk_arguments.specs.inner.Asked.{AreThere}
+use Rattle.duk_arguments.specs.inner.Asked.{AreThere, HaveRoom}
+use Rattle.duk_arguments.specs.inner.CommandLine.{shape_named}
+use Rattle.duk_arguments.specs.declared.commands.name.CommandName.{CommandName}
+use Rattle.duk_arguments.specs.declared.commands.name.CommandName.TheVariants as command_name
 
 pub count_is : (keys : Keys) → length (texts_of_keys keys) ≡ keys.count
 count_is keys = length-map _ _ ∙ length-take-le keys.count _ keys.in_range.1
-
--- from 1 to 16 texts
-abbrev pub HaveRoom : List Text → Type 0
-HaveRoom texts = (1 ≤ length texts) × (length texts ≤ 16)
 
 keys_have_room : (keys : Keys) → HaveRoom (texts_of_keys keys)
 keys_have_room keys =
@@ -51,15 +50,30 @@ are_found rows (request.CheckReply bdk asked answer initial) f = (some f.0, (som
 are_found rows (request.Show kind what show) f = (some f.0, (some f.1.0, (tt, tt)))
 are_found rows (request.Issue bdk loading iksn count ledger skip_issued) f = (some f.0, (some f.1.0, (some f.1.1.0, (some f.1.1.1.0, (some f.1.1.1.1.0, (tt, tt))))))
 
--- all that this command needs is there, where its name has been met
-pub there_by : {name command : Text} (rows : List Row) (asked : Request) → name ≡ command
-    → AsksFor name rows asked → AreThere rows (command_named command)
-there_by {name} {command} rows asked met asks =
-    subst (λ (n : Text). AreThere rows (command_named n)) (sym asks.0 ∙ met)
-    (are_found rows asked asks.1)
+-- a command is the one of its name
+found_by_name : (command : CommandName) → shape_named command ≡ command_named (shape_named command).name
+found_by_name command_name.Derive = refl
+found_by_name command_name.Walk = refl
+found_by_name command_name.Initial = refl
+found_by_name command_name.Issue = refl
+found_by_name command_name.Registers = refl
+found_by_name command_name.Kcv = refl
+found_by_name command_name.Mac = refl
+found_by_name command_name.Pin = refl
+found_by_name command_name.Unpin = refl
+found_by_name command_name.Translate = refl
+found_by_name command_name.Wrap = refl
+found_by_name command_name.Unwrap = refl
+found_by_name command_name.Show = refl
+found_by_name command_name.Request = refl
+found_by_name command_name.Reply = refl
+found_by_name command_name.Run = refl
+found_by_name command_name.Serve = refl
 
--- what asks for this after the command asks for it after its name
-pub asks_by : {name command : Text} (rows : List Row) (result : Option Request) → name ≡ command
-    → IfSome result (AsksFor command rows) → IfSome result (AsksFor name rows)
-asks_by {name} {command} rows result met asks =
-    subst (λ (n : Text). IfSome result (AsksFor n rows)) (sym met) asks
+-- all that this command needs is there, where it is the one of the request
+pub there_by : {name : Text} (rows : List Row) (asked : Request) (command : CommandName)
+    → (shape_named command).name ≡ name → AsksFor name rows asked → AreThere rows (shape_named command)
+there_by {name} rows asked command met asks =
+    subst (λ (shape : Shape). AreThere rows shape)
+    (sym (found_by_name command ∙ ap command_named (met ∙ asks.0)))
+    (are_found rows asked asks.1)

@@ -6,9 +6,9 @@ use Rattle.clap.specs.Simple.{HasMatchesOf, is_simple}
 use Rattle.clap.specs.Words.{App, IsAmong, Text, fault_of, is_simple_and_free, subcommand_of, subcommand_rows_of}
 use Rattle.clap.specs.declared.parser.matches.ArgMatches.{ArgMatches}
 use Rattle.clap.specs.declared.error.kind.ErrorKind.{ErrorKind}
-use Rattle.clap.specs.declared.error.kind.ErrorKind.TheVariants.{OutOfMemory}
-use Rattle.duk_arguments.specs.Asked.{IsNoRequestOf, is_shown}
-use Rattle.duk_arguments.specs.inner.Asked.{IsReportedAs, MayFailBy}
+use Rattle.clap.specs.declared.error.kind.ErrorKind.TheVariants.{MissingSubcommand, OutOfMemory}
+use Rattle.duk_arguments.specs.Asked.{AskForNothing, IsNoRequestOf, is_shown}
+use Rattle.duk_arguments.specs.inner.Asked.{IsReportedAs}
 use Rattle.duk_arguments.specs.CommandLine.{command_line}
 use Rattle.duk_arguments.specs.declared.request.NoRequest.{NoRequest}
 use Rattle.duk_arguments.specs.declared.request.NoRequest.TheVariants as answer
@@ -24,11 +24,6 @@ pub command_found : (app : App) (arguments : List Text) (matches : ArgMatches) �
 command_found app arguments matches made has =
     (has (ap is_simple made)).1 ∙ ap (λ (a : App). subcommand_of a arguments) made
 
-pub may_fail : (arguments : List Text) (kind : ErrorKind)
-    → (kind ≡ OutOfMemory) ⊎ IsAmong kind (fault_of command_line arguments) → MayFailBy arguments kind
-may_fail arguments kind (inl refused) = inl refused
-may_fail arguments kind (inr among) = inr (inl among)
-
 any_among : (test : ErrorKind → Bool) (kind : ErrorKind) (kinds : List ErrorKind)
     → IsAmong kind kinds → test kind ≡ true → list_any test kinds ≡ true
 any_among test kind [] among passes = absurd among
@@ -38,17 +33,24 @@ any_among test kind (k ∷ kinds) (inr among) passes =
     let rest : list_any test kinds ≡ true = any_among test kind kinds among passes in
     grind (arith, common_steps)
 
--- what is reported of an error stands for what the arguments ask
+-- what is reported of an error of the arguments stands for what they ask
 pub is_no_request : (arguments : List Text) (kind : ErrorKind) (reported : NoRequest)
-    → MayFailBy arguments kind → IsReportedAs kind reported → IsNoRequestOf arguments reported
+    → (kind ≡ OutOfMemory) ⊎ IsAmong kind (fault_of command_line arguments)
+    → IsReportedAs kind reported → IsNoRequestOf arguments reported
 is_no_request arguments kind (answer.Help text) (inl refused) shown =
     let hidden : is_shown kind ≡ false = ap is_shown refused in grind arith
-is_no_request arguments kind (answer.Help text) (inr (inl among)) shown =
+is_no_request arguments kind (answer.Help text) (inr among) shown =
     any_among is_shown kind _ among shown
-is_no_request arguments kind (answer.Help text) (inr (inr missing)) shown =
-    let hidden : is_shown kind ≡ false = ap is_shown missing.0 in grind arith
 is_no_request arguments kind (answer.Refused text) (inl refused) reported = absurd (reported.1 refused)
-is_no_request arguments kind (answer.Refused text) (inr (inl among)) reported =
+is_no_request arguments kind (answer.Refused text) (inr among) reported =
     inl (any_among (λ k. not (is_shown k)) kind _ among (ap not reported.0))
-is_no_request arguments kind (answer.Refused text) (inr (inr missing)) reported = inr missing.1
 is_no_request arguments kind answer.NoMemory fails reported = tt
+
+-- what is reported of no command stands for arguments without a fault that ask for nothing
+pub is_no_command : (arguments : List Text) (reported : NoRequest)
+    → IsReportedAs MissingSubcommand reported → fault_of command_line arguments ≡ []
+    → AskForNothing arguments → IsNoRequestOf arguments reported
+is_no_command arguments (answer.Help text) shown none nothing =
+    let hidden : false ≡ true = shown in grind arith
+is_no_command arguments (answer.Refused text) reported none nothing = inr (none, nothing)
+is_no_command arguments answer.NoMemory reported none nothing = tt

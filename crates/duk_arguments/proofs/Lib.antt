@@ -3,6 +3,7 @@ mod Entered
 mod Failures
 mod FoundRows
 mod InFours
+mod Listed
 mod OneRequest
 pub mod PlainArguments
 mod ReadBlocks

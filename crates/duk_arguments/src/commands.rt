@@ -1,47 +1,89 @@
 //! The program, with its commands, as `clap` reads them.
 
-ghost use Rattle.std.specs.Prelude.{◌≡◌, [], IfOk, map};
+ghost use Rattle.std.specs.Prelude.{◌≡◌, [], IfOk, IfSome, IsSome, map};
 ghost use Rattle.clap.specs.Words.{app_of};
 ghost use Rattle.duk_arguments.specs.CommandLine.{command_line, program_shape};
-ghost use Rattle.duk_arguments.specs.inner.CommandLine.{shape_of_usage};
+ghost use Rattle.duk_arguments.specs.Given.{name_of};
+ghost use Rattle.duk_arguments.specs.declared.request.Request.{Request};
+ghost use Rattle.duk_arguments.specs.inner.CommandLine.{shape_named, shape_of_usage};
 
-mod arguments;
+pub(crate) mod arguments;
 mod blocks;
 mod files;
 mod frames;
 mod keys;
+pub(crate) mod name;
 
 use crate::help;
 use arguments::{Usage, command_of};
 use clap::Command;
+use name::CommandName;
 use std::alloc::{AllocError, Global};
 
 /// What `--version` prints after the program's name.
 const VERSION: &str = "0.1.0";
 
 /// The program's commands, in the order in which help lists them.
-fn commands<'a>() -> [Usage<'a>; 17]
-    ensures { map shape_of_usage result ≡ command_line.subs }
+fn commands() -> [CommandName; 17]
+    ensures { map shape_named result ≡ command_line.subs }
 {
     [
-        keys::derive(),
-        keys::walk(),
-        keys::initial(),
-        keys::issue(),
-        keys::registers(),
-        keys::kcv(),
-        blocks::mac(),
-        blocks::pin(),
-        blocks::unpin(),
-        blocks::translate(),
-        blocks::wrap(),
-        blocks::unwrap(),
-        blocks::show(),
-        frames::request(),
-        frames::reply(),
-        files::run(),
-        files::serve(),
+        CommandName::Derive,
+        CommandName::Walk,
+        CommandName::Initial,
+        CommandName::Issue,
+        CommandName::Registers,
+        CommandName::Kcv,
+        CommandName::Mac,
+        CommandName::Pin,
+        CommandName::Unpin,
+        CommandName::Translate,
+        CommandName::Wrap,
+        CommandName::Unwrap,
+        CommandName::Show,
+        CommandName::Request,
+        CommandName::Reply,
+        CommandName::Run,
+        CommandName::Serve,
     ]
+}
+
+/// How a command is used.
+pub(crate) fn usage_of<'a>(command: CommandName) -> Usage<'a>
+    ensures { shape_of_usage result ≡ shape_named command }
+{
+    match command {
+        CommandName::Derive => keys::derive(),
+        CommandName::Walk => keys::walk(),
+        CommandName::Initial => keys::initial(),
+        CommandName::Issue => keys::issue(),
+        CommandName::Registers => keys::registers(),
+        CommandName::Kcv => keys::kcv(),
+        CommandName::Mac => blocks::mac(),
+        CommandName::Pin => blocks::pin(),
+        CommandName::Unpin => blocks::unpin(),
+        CommandName::Translate => blocks::translate(),
+        CommandName::Wrap => blocks::wrap(),
+        CommandName::Unwrap => blocks::unwrap(),
+        CommandName::Show => blocks::show(),
+        CommandName::Request => frames::request(),
+        CommandName::Reply => frames::reply(),
+        CommandName::Run => files::run(),
+        CommandName::Serve => files::serve(),
+    }
+}
+
+/// The command that is written so, where there is one.
+pub(crate) fn command_named(name: &str) -> Option<CommandName>
+    ensures named { IfSome result (λ command. (shape_named command).name ≡ name.now) }
+    ensures all { (request : Request) → name.now ≡ name_of request → IsSome result }
+{
+    for command in &commands() {
+        if usage_of(*command).name == name {
+            return Some(*command);
+        }
+    }
+    None
 }
 
 /// The program with its commands.
@@ -49,8 +91,8 @@ pub(crate) fn program<'a>(alloc: Global) -> Result<Command<'a>, AllocError>
     ensures { IfOk result (λ made. app_of made ≡ command_line) }
 {
     let mut program = bare_program(alloc);
-    for usage in &commands() {
-        program = program.subcommand(command_of(alloc, usage)?)?;
+    for command in &commands() {
+        program = program.subcommand(command_of(alloc, &usage_of(*command))?)?;
     }
     Ok(program)
 }

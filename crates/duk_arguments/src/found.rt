@@ -1,11 +1,17 @@
 //! The request of each command, of what `clap` found after it.
 
-ghost use Rattle.std.specs.Prelude.{◌≡◌, IfSome, IsSome, Some, codes, map, option_map};
+ghost use Rattle.std.specs.Prelude.{◌≡◌, ◌↔◌, IfSome, IsSome, IsSomeAnd, IsTrue, Some, codes, map, option_map};
 ghost use Rattle.clap.specs.Words.{all_of, first_of, found_of, rows_of, subcommand_rows_of};
 ghost use Rattle.duk_arguments.specs.Asked.{AsksAfter, AsksFor, IsFlag};
 ghost use Rattle.duk_arguments.specs.CommandLine.{derive_command, walk_command, initial_command, issue_command, registers_command, kcv_command, mac_command, pin_command, unpin_command, translate_command, wrap_command, unwrap_command, show_command, request_command, reply_command, run_command, serve_command};
-ghost use Rattle.duk_arguments.specs.inner.Asked.{AreThere};
+ghost use Rattle.duk_arguments.specs.Given.{Each};
+ghost use Rattle.duk_arguments.specs.Keys.{texts_of_keys};
+ghost use Rattle.duk_arguments.specs.inner.Asked.{AreThere, HaveRoom, IsThere};
+ghost use Rattle.duk_arguments.specs.inner.CommandLine.{rule_of_argument, shape_named};
 
+use crate::commands::arguments::Argument;
+use crate::commands::name::CommandName;
+use crate::commands::{command_named, usage_of};
 use crate::keys::Keys;
 use crate::request::Request;
 use clap::ArgMatches;
@@ -17,282 +23,291 @@ pub(crate) fn request_of<'a>(matches: &ArgMatches<'a>) -> Option<Request<'a>>
         → IsSome result }
 {
     let (name, found) = matches.subcommand()?;
-    request_by(name, found)
+    request_by(command_named(name)?, found)
 }
 
-/// The request of the command of this name, over what was found after it.
-fn request_by<'a>(name: &str, found: &ArgMatches<'a>) -> Option<Request<'a>>
-    ensures asks { IfSome result (AsksFor name.now (rows_of (found_of found.now))) }
-    ensures all { (request : Request)
-        → AsksFor name.now (rows_of (found_of found.now)) request → IsSome result }
+/// The request of a command, where all that has to be there was found after it.
+fn request_by<'a>(command: CommandName, found: &ArgMatches<'a>) -> Option<Request<'a>>
+    ensures asks { IfSome result
+        (AsksFor (shape_named command).name (rows_of (found_of found.now))) }
+    ensures all { AreThere (rows_of (found_of found.now)) (shape_named command) → IsSome result }
 {
-    match name {
-        "derive" => derive_request(found),
-        "walk" => walk_request(found),
-        "initial" => initial_request(found),
-        "issue" => issue_request(found),
-        "registers" => registers_request(found),
-        "kcv" => kcv_request(found),
-        "mac" => mac_request(found),
-        "pin" => pin_request(found),
-        "unpin" => unpin_request(found),
-        "translate" => translate_request(found),
-        "wrap" => wrap_request(found),
-        "unwrap" => unwrap_request(found),
-        "show" => show_request(found),
-        "request" => make_request(found),
-        "reply" => check_reply(found),
-        "run" => run_request(found),
-        "serve" => serve_request(found),
-        _ => None,
+    if are_there(found, usage_of(command).arguments) {
+        Some(whole_request(command, found))
+    } else {
+        None
     }
 }
 
-fn derive_request<'a>(found: &ArgMatches<'a>) -> Option<Request<'a>>
-    ensures asks { IfSome result (AsksFor (codes "derive") (rows_of (found_of found.now))) }
-    ensures all { AreThere (rows_of (found_of found.now)) derive_command → IsSome result }
+/// Whether all was found that has to be there of these arguments.
+fn are_there(found: &ArgMatches<'_>, arguments: &[Argument<'_>]) -> bool
+    ensures { IsTrue result
+        ↔ Each (IsThere (rows_of (found_of found.now))) (map rule_of_argument arguments.now) }
 {
-    let bdk = text(found, "BDK")?;
-    let ksn = text(found, "KSN")?;
-    Some(Request::Derive {
-        bdk,
-        ksn,
+    for argument in arguments {
+        if !is_there(found, *argument) {
+            return false;
+        }
+    }
+    true
+}
+
+/// Whether an argument was found, where it has to be there.
+fn is_there(found: &ArgMatches<'_>, argument: Argument<'_>) -> bool
+    ensures { IsTrue result
+        ↔ IsThere (rows_of (found_of found.now)) (rule_of_argument argument.entry) }
+{
+    match argument {
+        Argument::Needed(name, _) => value(found, name).is_some(),
+        Argument::Named(name, _, _) => value(found, name).is_some(),
+        Argument::Several(name, _) => has_several(found, name),
+        Argument::Valued(_, _, _) | Argument::Flag(_, _) => true,
+    }
+}
+
+/// Whether from 1 to 16 texts were found under a name.
+fn has_several(found: &ArgMatches<'_>, name: &str) -> bool
+    ensures { IsTrue result ↔ IsSomeAnd (all_of name.now (rows_of (found_of found.now))) HaveRoom }
+{
+    match texts(found, name) {
+        Some(texts) => 1 <= texts.len() && texts.len() <= 16,
+        None => false,
+    }
+}
+
+/// The request of a command, after which all was found that has to be there.
+fn whole_request<'a>(command: CommandName, found: &ArgMatches<'a>) -> Request<'a>
+    requires { AreThere (rows_of (found_of found.now)) (shape_named command) }
+    ensures { AsksFor (shape_named command).name (rows_of (found_of found.now)) result }
+{
+    match command {
+        CommandName::Derive => derive_request(found),
+        CommandName::Walk => walk_request(found),
+        CommandName::Initial => initial_request(found),
+        CommandName::Issue => issue_request(found),
+        CommandName::Registers => registers_request(found),
+        CommandName::Kcv => kcv_request(found),
+        CommandName::Mac => mac_request(found),
+        CommandName::Pin => pin_request(found),
+        CommandName::Unpin => unpin_request(found),
+        CommandName::Translate => translate_request(found),
+        CommandName::Wrap => wrap_request(found),
+        CommandName::Unwrap => unwrap_request(found),
+        CommandName::Show => show_request(found),
+        CommandName::Request => make_request(found),
+        CommandName::Reply => check_reply(found),
+        CommandName::Run => run_request(found),
+        CommandName::Serve => serve_request(found),
+    }
+}
+
+fn derive_request<'a>(found: &ArgMatches<'a>) -> Request<'a>
+    requires { AreThere (rows_of (found_of found.now)) derive_command }
+    ensures { AsksFor (codes "derive") (rows_of (found_of found.now)) result }
+{
+    Request::Derive {
+        bdk: text(found, "BDK"),
+        ksn: text(found, "KSN"),
         initial: flag(found, "initial"),
         trace: flag(found, "trace"),
         all: flag(found, "all"),
-    })
+    }
 }
 
-fn walk_request<'a>(found: &ArgMatches<'a>) -> Option<Request<'a>>
-    ensures asks { IfSome result (AsksFor (codes "walk") (rows_of (found_of found.now))) }
-    ensures all { AreThere (rows_of (found_of found.now)) walk_command → IsSome result }
+fn walk_request<'a>(found: &ArgMatches<'a>) -> Request<'a>
+    requires { AreThere (rows_of (found_of found.now)) walk_command }
+    ensures { AsksFor (codes "walk") (rows_of (found_of found.now)) result }
 {
-    let bdk = text(found, "BDK")?;
-    let iksn = text(found, "IKSN")?;
-    let count = text(found, "COUNT")?;
-    Some(Request::Walk {
-        bdk,
-        iksn,
-        count,
+    Request::Walk {
+        bdk: text(found, "BDK"),
+        iksn: text(found, "IKSN"),
+        count: text(found, "COUNT"),
         skip: value(found, "skip"),
         alone: flag(found, "ksn"),
         initial: flag(found, "initial"),
-    })
+    }
 }
 
-fn initial_request<'a>(found: &ArgMatches<'a>) -> Option<Request<'a>>
-    ensures asks { IfSome result (AsksFor (codes "initial") (rows_of (found_of found.now))) }
-    ensures all { AreThere (rows_of (found_of found.now)) initial_command → IsSome result }
+fn initial_request<'a>(found: &ArgMatches<'a>) -> Request<'a>
+    requires { AreThere (rows_of (found_of found.now)) initial_command }
+    ensures { AsksFor (codes "initial") (rows_of (found_of found.now)) result }
 {
-    let bdk = text(found, "BDK")?;
-    let iksn = text(found, "IKSN")?;
-    Some(Request::Initial { bdk, iksn })
+    Request::Initial {
+        bdk: text(found, "BDK"),
+        iksn: text(found, "IKSN"),
+    }
 }
 
-fn issue_request<'a>(found: &ArgMatches<'a>) -> Option<Request<'a>>
-    ensures asks { IfSome result (AsksFor (codes "issue") (rows_of (found_of found.now))) }
-    ensures all { AreThere (rows_of (found_of found.now)) issue_command → IsSome result }
+fn issue_request<'a>(found: &ArgMatches<'a>) -> Request<'a>
+    requires { AreThere (rows_of (found_of found.now)) issue_command }
+    ensures { AsksFor (codes "issue") (rows_of (found_of found.now)) result }
 {
-    let bdk = text(found, "BDK")?;
-    let loading = text(found, "LOADING")?;
-    let iksn = text(found, "IKSN")?;
-    let count = text(found, "COUNT")?;
-    let ledger = text(found, "ledger")?;
-    Some(Request::Issue {
-        bdk,
-        loading,
-        iksn,
-        count,
-        ledger,
+    Request::Issue {
+        bdk: text(found, "BDK"),
+        loading: text(found, "LOADING"),
+        iksn: text(found, "IKSN"),
+        count: text(found, "COUNT"),
+        ledger: text(found, "ledger"),
         skip_issued: flag(found, "skip-issued"),
-    })
+    }
 }
 
-fn registers_request<'a>(found: &ArgMatches<'a>) -> Option<Request<'a>>
-    ensures asks { IfSome result (AsksFor (codes "registers") (rows_of (found_of found.now))) }
-    ensures all { AreThere (rows_of (found_of found.now)) registers_command → IsSome result }
+fn registers_request<'a>(found: &ArgMatches<'a>) -> Request<'a>
+    requires { AreThere (rows_of (found_of found.now)) registers_command }
+    ensures { AsksFor (codes "registers") (rows_of (found_of found.now)) result }
 {
-    let bdk = text(found, "BDK")?;
-    let ksn = text(found, "KSN")?;
-    Some(Request::Registers {
-        bdk,
-        ksn,
+    Request::Registers {
+        bdk: text(found, "BDK"),
+        ksn: text(found, "KSN"),
         initial: flag(found, "initial"),
-    })
+    }
 }
 
-fn kcv_request<'a>(found: &ArgMatches<'a>) -> Option<Request<'a>>
-    ensures asks { IfSome result (AsksFor (codes "kcv") (rows_of (found_of found.now))) }
-    ensures all { AreThere (rows_of (found_of found.now)) kcv_command → IsSome result }
+fn kcv_request<'a>(found: &ArgMatches<'a>) -> Request<'a>
+    requires { AreThere (rows_of (found_of found.now)) kcv_command }
+    ensures { AsksFor (codes "kcv") (rows_of (found_of found.now)) result }
 {
-    let keys = Keys::from_slice(texts(found, "KEY")?)?;
-    Some(Request::Kcv {
-        keys,
+    Request::Kcv {
+        keys: keys(found, "KEY"),
         components: flag(found, "components"),
         show: flag(found, "show"),
-    })
+    }
 }
 
-fn mac_request<'a>(found: &ArgMatches<'a>) -> Option<Request<'a>>
-    ensures asks { IfSome result (AsksFor (codes "mac") (rows_of (found_of found.now))) }
-    ensures all { AreThere (rows_of (found_of found.now)) mac_command → IsSome result }
+fn mac_request<'a>(found: &ArgMatches<'a>) -> Request<'a>
+    requires { AreThere (rows_of (found_of found.now)) mac_command }
+    ensures { AsksFor (codes "mac") (rows_of (found_of found.now)) result }
 {
-    let key = text(found, "KEY")?;
-    let text = text(found, "TEXT")?;
-    Some(Request::Mac {
-        key,
-        text,
+    Request::Mac {
+        key: text(found, "KEY"),
+        text: text(found, "TEXT"),
         cmac: flag(found, "cmac"),
         hex: flag(found, "hex"),
-    })
+    }
 }
 
-fn pin_request<'a>(found: &ArgMatches<'a>) -> Option<Request<'a>>
-    ensures asks { IfSome result (AsksFor (codes "pin") (rows_of (found_of found.now))) }
-    ensures all { AreThere (rows_of (found_of found.now)) pin_command → IsSome result }
+fn pin_request<'a>(found: &ArgMatches<'a>) -> Request<'a>
+    requires { AreThere (rows_of (found_of found.now)) pin_command }
+    ensures { AsksFor (codes "pin") (rows_of (found_of found.now)) result }
 {
-    let pin = text(found, "PIN")?;
-    let pan = text(found, "PAN")?;
-    Some(Request::Pin {
-        pin,
-        pan,
+    Request::Pin {
+        pin: text(found, "PIN"),
+        pan: text(found, "PAN"),
         key: value(found, "key"),
-    })
+    }
 }
 
-fn unpin_request<'a>(found: &ArgMatches<'a>) -> Option<Request<'a>>
-    ensures asks { IfSome result (AsksFor (codes "unpin") (rows_of (found_of found.now))) }
-    ensures all { AreThere (rows_of (found_of found.now)) unpin_command → IsSome result }
+fn unpin_request<'a>(found: &ArgMatches<'a>) -> Request<'a>
+    requires { AreThere (rows_of (found_of found.now)) unpin_command }
+    ensures { AsksFor (codes "unpin") (rows_of (found_of found.now)) result }
 {
-    let block = text(found, "BLOCK")?;
-    let pan = text(found, "PAN")?;
-    Some(Request::Unpin {
-        block,
-        pan,
+    Request::Unpin {
+        block: text(found, "BLOCK"),
+        pan: text(found, "PAN"),
         key: value(found, "key"),
         show: flag(found, "show"),
-    })
+    }
 }
 
-fn translate_request<'a>(found: &ArgMatches<'a>) -> Option<Request<'a>>
-    ensures asks { IfSome result (AsksFor (codes "translate") (rows_of (found_of found.now))) }
-    ensures all { AreThere (rows_of (found_of found.now)) translate_command → IsSome result }
+fn translate_request<'a>(found: &ArgMatches<'a>) -> Request<'a>
+    requires { AreThere (rows_of (found_of found.now)) translate_command }
+    ensures { AsksFor (codes "translate") (rows_of (found_of found.now)) result }
 {
-    let block = text(found, "BLOCK")?;
-    let pan = text(found, "PAN")?;
-    let bdk = text(found, "BDK")?;
-    let ksn = text(found, "KSN")?;
-    let zone = text(found, "ZONE")?;
-    Some(Request::Translate {
-        block,
-        pan,
-        bdk,
-        ksn,
-        zone,
+    Request::Translate {
+        block: text(found, "BLOCK"),
+        pan: text(found, "PAN"),
+        bdk: text(found, "BDK"),
+        ksn: text(found, "KSN"),
+        zone: text(found, "ZONE"),
         initial: flag(found, "initial"),
-    })
+    }
 }
 
-fn wrap_request<'a>(found: &ArgMatches<'a>) -> Option<Request<'a>>
-    ensures asks { IfSome result (AsksFor (codes "wrap") (rows_of (found_of found.now))) }
-    ensures all { AreThere (rows_of (found_of found.now)) wrap_command → IsSome result }
+fn wrap_request<'a>(found: &ArgMatches<'a>) -> Request<'a>
+    requires { AreThere (rows_of (found_of found.now)) wrap_command }
+    ensures { AsksFor (codes "wrap") (rows_of (found_of found.now)) result }
 {
-    let kbpk = text(found, "KBPK")?;
-    let fields = text(found, "FIELDS")?;
-    let key = text(found, "KEY")?;
-    let pad = text(found, "PAD")?;
-    Some(Request::Wrap {
-        kbpk,
-        fields,
-        key,
-        pad,
-    })
+    Request::Wrap {
+        kbpk: text(found, "KBPK"),
+        fields: text(found, "FIELDS"),
+        key: text(found, "KEY"),
+        pad: text(found, "PAD"),
+    }
 }
 
-fn unwrap_request<'a>(found: &ArgMatches<'a>) -> Option<Request<'a>>
-    ensures asks { IfSome result (AsksFor (codes "unwrap") (rows_of (found_of found.now))) }
-    ensures all { AreThere (rows_of (found_of found.now)) unwrap_command → IsSome result }
+fn unwrap_request<'a>(found: &ArgMatches<'a>) -> Request<'a>
+    requires { AreThere (rows_of (found_of found.now)) unwrap_command }
+    ensures { AsksFor (codes "unwrap") (rows_of (found_of found.now)) result }
 {
-    let kbpk = text(found, "KBPK")?;
-    let block = text(found, "BLOCK")?;
-    Some(Request::Unwrap { kbpk, block })
+    Request::Unwrap {
+        kbpk: text(found, "KBPK"),
+        block: text(found, "BLOCK"),
+    }
 }
 
-fn show_request<'a>(found: &ArgMatches<'a>) -> Option<Request<'a>>
-    ensures asks { IfSome result (AsksFor (codes "show") (rows_of (found_of found.now))) }
-    ensures all { AreThere (rows_of (found_of found.now)) show_command → IsSome result }
+fn show_request<'a>(found: &ArgMatches<'a>) -> Request<'a>
+    requires { AreThere (rows_of (found_of found.now)) show_command }
+    ensures { AsksFor (codes "show") (rows_of (found_of found.now)) result }
 {
-    let kind = text(found, "KIND")?;
-    let what = text(found, "WHAT")?;
-    Some(Request::Show {
-        kind,
-        what,
+    Request::Show {
+        kind: text(found, "KIND"),
+        what: text(found, "WHAT"),
         show: flag(found, "show"),
-    })
+    }
 }
 
-fn make_request<'a>(found: &ArgMatches<'a>) -> Option<Request<'a>>
-    ensures asks { IfSome result (AsksFor (codes "request") (rows_of (found_of found.now))) }
-    ensures all { AreThere (rows_of (found_of found.now)) request_command → IsSome result }
+fn make_request<'a>(found: &ArgMatches<'a>) -> Request<'a>
+    requires { AreThere (rows_of (found_of found.now)) request_command }
+    ensures { AsksFor (codes "request") (rows_of (found_of found.now)) result }
 {
-    let bdk = text(found, "BDK")?;
-    let ksn = text(found, "KSN")?;
-    let pan = text(found, "PAN")?;
-    let pin = text(found, "PIN")?;
-    let amount = text(found, "AMOUNT")?;
-    Some(Request::MakeRequest {
-        bdk,
-        ksn,
-        pan,
-        pin,
-        amount,
+    Request::MakeRequest {
+        bdk: text(found, "BDK"),
+        ksn: text(found, "KSN"),
+        pan: text(found, "PAN"),
+        pin: text(found, "PIN"),
+        amount: text(found, "AMOUNT"),
         initial: flag(found, "initial"),
-    })
+    }
 }
 
-fn check_reply<'a>(found: &ArgMatches<'a>) -> Option<Request<'a>>
-    ensures asks { IfSome result (AsksFor (codes "reply") (rows_of (found_of found.now))) }
-    ensures all { AreThere (rows_of (found_of found.now)) reply_command → IsSome result }
+fn check_reply<'a>(found: &ArgMatches<'a>) -> Request<'a>
+    requires { AreThere (rows_of (found_of found.now)) reply_command }
+    ensures { AsksFor (codes "reply") (rows_of (found_of found.now)) result }
 {
-    let bdk = text(found, "BDK")?;
-    let request = text(found, "REQUEST")?;
-    let answer = text(found, "ANSWER")?;
-    Some(Request::CheckReply {
-        bdk,
-        request,
-        answer,
+    Request::CheckReply {
+        bdk: text(found, "BDK"),
+        request: text(found, "REQUEST"),
+        answer: text(found, "ANSWER"),
         initial: flag(found, "initial"),
-    })
+    }
 }
 
-fn run_request<'a>(found: &ArgMatches<'a>) -> Option<Request<'a>>
-    ensures asks { IfSome result (AsksFor (codes "run") (rows_of (found_of found.now))) }
-    ensures all { AreThere (rows_of (found_of found.now)) run_command → IsSome result }
+fn run_request<'a>(found: &ArgMatches<'a>) -> Request<'a>
+    requires { AreThere (rows_of (found_of found.now)) run_command }
+    ensures { AsksFor (codes "run") (rows_of (found_of found.now)) result }
 {
-    let config = text(found, "CONFIG")?;
-    let script = text(found, "SCRIPT")?;
-    Some(Request::Run { config, script })
+    Request::Run {
+        config: text(found, "CONFIG"),
+        script: text(found, "SCRIPT"),
+    }
 }
 
-fn serve_request<'a>(found: &ArgMatches<'a>) -> Option<Request<'a>>
-    ensures asks { IfSome result (AsksFor (codes "serve") (rows_of (found_of found.now))) }
-    ensures all { AreThere (rows_of (found_of found.now)) serve_command → IsSome result }
+fn serve_request<'a>(found: &ArgMatches<'a>) -> Request<'a>
+    requires { AreThere (rows_of (found_of found.now)) serve_command }
+    ensures { AsksFor (codes "serve") (rows_of (found_of found.now)) result }
 {
-    let config = text(found, "CONFIG")?;
-    Some(Request::Serve {
-        config,
+    Request::Serve {
+        config: text(found, "CONFIG"),
         log: value(found, "log"),
-    })
+    }
 }
 
-/// The text that was found under a name, where there is one.
-#[tactic(auto, using(crate::proofs::FoundRows::by_rows))]
-fn text<'a>(found: &ArgMatches<'a>, name: &str) -> Option<&'a str>
-    ensures found { IfSome result
-        (λ text. first_of name.now (rows_of (found_of found.now)) ≡ Some text.now) }
-    ensures there { IsSome (first_of name.now (rows_of (found_of found.now))) → IsSome result }
+/// The text that was found under a name.
+fn text<'a>(found: &ArgMatches<'a>, name: &str) -> &'a str
+    requires { IsSome (first_of name.now (rows_of (found_of found.now))) }
+    ensures { first_of name.now (rows_of (found_of found.now)) ≡ Some result.now }
 {
-    found.get_str(name)
+    value(found, name).unwrap()
 }
 
 /// The value of an option, where it was found.
@@ -301,6 +316,14 @@ fn value<'a>(found: &ArgMatches<'a>, name: &str) -> Option<&'a str>
     ensures { first_of name.now (rows_of (found_of found.now)) ≡ option_map (λ text. text.now) result }
 {
     found.get_str(name)
+}
+
+/// The texts that were found under a name, from 1 to 16.
+fn keys<'a>(found: &ArgMatches<'a>, name: &str) -> Keys<'a>
+    requires { IsSomeAnd (all_of name.now (rows_of (found_of found.now))) HaveRoom }
+    ensures { all_of name.now (rows_of (found_of found.now)) ≡ Some (texts_of_keys result) }
+{
+    Keys::from_slice(texts(found, name).unwrap()).unwrap()
 }
 
 /// The texts that were found under a name, where there are any.

@@ -1,17 +1,19 @@
 //! The request that the arguments of the command line make.
 
-ghost use Rattle.std.specs.Prelude.{◌≡◌, [], IfErr, IfOk};
+ghost use Rattle.std.specs.Prelude.{◌≡◌, [], IfErr, IfOk, IfSome, IsSome};
 ghost use Rattle.clap.specs.Values.{kind_of};
-ghost use Rattle.clap.specs.Words.{app_of, fault_of};
-ghost use Rattle.duk_arguments.specs.Asked.{Asks, IsNoRequestOf, texts_of};
-ghost use Rattle.duk_arguments.specs.inner.Asked.{IsReportedAs, MayFailBy};
+ghost use Rattle.clap.specs.Words.{app_of, fault_of, subcommand_rows_of};
+ghost use Rattle.clap.specs.declared.error.kind.ErrorKind.TheVariants.{MissingSubcommand};
+ghost use Rattle.duk_arguments.specs.Asked.{Asks, AsksAfter, IsNoRequestOf, texts_of};
+ghost use Rattle.duk_arguments.specs.declared.request.Request.{Request};
+ghost use Rattle.duk_arguments.specs.inner.Asked.{IsReportedAs};
 ghost use Rattle.duk_arguments.specs.CommandLine.{command_line};
 
 use crate::commands::program;
 use crate::found::request_of;
 use crate::request::{NoRequest, Request};
 use clap::error::ErrorKind;
-use clap::{Command, Error};
+use clap::{ArgMatches, Command, Error};
 use std::alloc::{AllocError, Global};
 
 /// The request that the arguments make, the first of which is the program's name: that of the
@@ -22,33 +24,48 @@ pub fn read_request<'a>(alloc: Global, arguments: &'a [String]) -> Result<Reques
     ensures taken { IfOk result (λ _. fault_of command_line (texts_of arguments.now) ≡ []) }
     ensures instead { IfErr result (IsNoRequestOf (texts_of arguments.now)) }
 {
-    match match_arguments(alloc, arguments) {
-        Ok(request) => Ok(request),
+    let Ok(mut program) = program(alloc) else {
+        return Err(NoRequest::NoMemory);
+    };
+    match_by(alloc, &mut program, arguments)
+}
+
+/// The request that `clap` finds in the arguments by this program, or what stands in its place.
+fn match_by<'a>(
+    alloc: Global,
+    program: &mut Command<'a>,
+    arguments: &'a [String],
+) -> Result<Request<'a>, NoRequest>
+    requires { app_of program.old ≡ command_line }
+    ensures asks { IfOk result (Asks (texts_of arguments.now)) }
+    ensures taken { IfOk result (λ _. fault_of command_line (texts_of arguments.now) ≡ []) }
+    ensures instead { IfErr result (IsNoRequestOf (texts_of arguments.now)) }
+{
+    match program.try_get_matches_from_mut(arguments) {
+        Ok(matches) => match request_in(matches) {
+            Some(request) => Ok(request),
+            None => Err(no_command(alloc, program)),
+        },
         Err(error) => Err(no_request(alloc, &error)),
     }
 }
 
-/// The request that `clap` finds in the arguments, or its error.
-fn match_arguments<'a>(alloc: Global, arguments: &'a [String]) -> Result<Request<'a>, Error>
-    ensures asks { IfOk result (Asks (texts_of arguments.now)) }
-    ensures taken { IfOk result (λ _. fault_of command_line (texts_of arguments.now) ≡ []) }
-    ensures fails { IfErr result (λ error. MayFailBy (texts_of arguments.now) (kind_of error)) }
+/// The request of the command that was used, over what was found after it.
+fn request_in<'a>(matches: ArgMatches<'a>) -> Option<Request<'a>>
+    ensures asks { IfSome result (AsksAfter (subcommand_rows_of matches.entry)) }
+    ensures all { (request : Request) → AsksAfter (subcommand_rows_of matches.entry) request
+        → IsSome result }
 {
-    let mut program = program(alloc)?;
-    match_by(&mut program, arguments)
+    request_of(&matches)
 }
 
-/// The request that `clap` finds in the arguments by this program, or its error.
-fn match_by<'a>(program: &mut Command<'a>, arguments: &'a [String]) -> Result<Request<'a>, Error>
-    requires { app_of program.old ≡ command_line }
-    ensures asks { IfOk result (Asks (texts_of arguments.now)) }
-    ensures taken { IfOk result (λ _. fault_of command_line (texts_of arguments.now) ≡ []) }
-    ensures fails { IfErr result (λ error. MayFailBy (texts_of arguments.now) (kind_of error)) }
+/// What stands in place of a request where no command is used.
+fn no_command(alloc: Global, program: &mut Command<'_>) -> NoRequest
+    ensures { IsReportedAs MissingSubcommand result }
 {
-    let found = request_of(&program.try_get_matches_from_mut(arguments)?);
-    match found {
-        Some(request) => Ok(request),
-        None => Err(program.error(ErrorKind::MissingSubcommand, "a command is required")?),
+    match program.error(ErrorKind::MissingSubcommand, "a command is required") {
+        Ok(error) => no_request(alloc, &error),
+        Err(AllocError) => NoRequest::NoMemory,
     }
 }
 

@@ -11,6 +11,10 @@ use Rattle.duk_arguments.specs.declared.request.NoRequest.TheVariants as answer
 use Rattle.duk_arguments.specs.Asked.{AskForNothing, is_shown}
 use Rattle.duk_arguments.specs.Given.{Each}
 
+-- from 1 to 16 texts
+abbrev pub HaveRoom : List Text → Type 0
+HaveRoom texts = (1 ≤ length texts) × (length texts ≤ 16)
+
 -- the texts of an argument are found where it has to be there: one, or as many as it may have
 abbrev pub IsThereBy : List Row → Text → Bool → Option ValueRange → Type 0
 IsThereBy rows name false range = ⊤
@@ -24,13 +28,6 @@ IsThere rows rule = IsThereBy rows rule.id rule.required rule.range
 -- all that has to be there after the command is found
 abbrev pub AreThere : List Row → Shape → Type 0
 AreThere rows shape = Each (IsThere rows) shape.rules
-
--- the kinds of error by which no request is found in the arguments
-abbrev pub MayFailBy : List Text → ErrorKind → Type 0
-MayFailBy arguments kind = (kind ≡ OutOfMemory)
-    ⊎ (IsAmong kind (fault_of command_line arguments)
-    ⊎ ((kind ≡ MissingSubcommand)
-    × ((fault_of command_line arguments ≡ []) × AskForNothing arguments)))
 
 -- what an error of this kind is reported as
 abbrev pub IsReportedAs : ErrorKind → NoRequest → Type 0

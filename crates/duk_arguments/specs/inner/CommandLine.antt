@@ -7,7 +7,10 @@ use Rattle.clap.specs.declared.builder.command.Command.TheViews.{out-Command as 
 use Rattle.duk_arguments.specs.declared.commands.arguments.Argument.{Argument}
 use Rattle.duk_arguments.specs.declared.commands.arguments.Argument.TheVariants as argument
 use Rattle.duk_arguments.specs.declared.commands.arguments.Usage.{Usage}
+use Rattle.duk_arguments.specs.declared.commands.name.CommandName.{CommandName}
+use Rattle.duk_arguments.specs.declared.commands.name.CommandName.TheVariants as command_name
 use Rattle.duk_arguments.specs.CommandLine.{argument_rule, command, flag_rule, named_rule, option_rule, several_rule}
+use Rattle.duk_arguments.specs.CommandLine.{derive_command, walk_command, initial_command, issue_command, registers_command, kcv_command, mac_command, pin_command, unpin_command, translate_command, wrap_command, unwrap_command, show_command, request_command, reply_command, run_command, serve_command}
 
 -- the rule of an argument of the code
 abbrev pub rule_of_argument : Argument → Rule
@@ -28,3 +31,23 @@ IsArgument rule clap_argument = (rule_of clap_argument ≡ rule) × (clap_argume
 -- a command of this shape, each of whose arguments is its own alone
 abbrev pub IsCommand : Shape → Command → Type 0
 IsCommand shape made = (shape_of made ≡ shape) × ((fields_of made).has_globals ≡ false)
+
+-- the command of this name
+abbrev pub shape_named : CommandName → Shape
+shape_named command_name.Derive = derive_command
+shape_named command_name.Walk = walk_command
+shape_named command_name.Initial = initial_command
+shape_named command_name.Issue = issue_command
+shape_named command_name.Registers = registers_command
+shape_named command_name.Kcv = kcv_command
+shape_named command_name.Mac = mac_command
+shape_named command_name.Pin = pin_command
+shape_named command_name.Unpin = unpin_command
+shape_named command_name.Translate = translate_command
+shape_named command_name.Wrap = wrap_command
+shape_named command_name.Unwrap = unwrap_command
+shape_named command_name.Show = show_command
+shape_named command_name.Request = request_command
+shape_named command_name.Reply = reply_command
+shape_named command_name.Run = run_command
+shape_named command_name.Serve = serve_command

@@ -1,0 +1,40 @@
+//! The names of the program's commands.
+
+/// A command of the program.
+#[derive(Clone, Copy)]
+pub(crate) enum CommandName {
+    /// `derive`
+    Derive,
+    /// `walk`
+    Walk,
+    /// `initial`
+    Initial,
+    /// `issue`
+    Issue,
+    /// `registers`
+    Registers,
+    /// `kcv`
+    Kcv,
+    /// `mac`
+    Mac,
+    /// `pin`
+    Pin,
+    /// `unpin`
+    Unpin,
+    /// `translate`
+    Translate,
+    /// `wrap`
+    Wrap,
+    /// `unwrap`
+    Unwrap,
+    /// `show`
+    Show,
+    /// `request`
+    Request,
+    /// `reply`
+    Reply,
+    /// `run`
+    Run,
+    /// `serve`
+    Serve,
+}
