@@ -1,7 +1,7 @@
 -- Where a request is asked for, all that its command needs is there.
 use Rattle.std.proofs.Common.{◌≡◌, ◌≤◌, ◌∙◌, ℕ, List, Option, Some, ap, length, refl, subst, sym}
 use Rattle.std.proofs.lemmas.List.{length-map, length-take-le}
-use Rattle.std.specs.Prelude.{IfSome, IsSome, IsSomeAnd, find, is_some, unwrap_or}
+use Rattle.std.specs.Prelude.{IsSome, IsSomeAnd, find, is_some, unwrap_or}
 use Rattle.std.specs.Str.{bytes_eq}
 use Rattle.clap.specs.Words.{Row, Shape, Text}
 use Rattle.duk_arguments.specs.Asked.{AsksFor, IsFound}

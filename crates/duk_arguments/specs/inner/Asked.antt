@@ -1,14 +1,13 @@
 -- What only private functions and proofs say beside `Asked.antt`: this project's own.
-use Rattle.std.specs.Prelude.{◌≡◌, ◌≢◌, ◌≤◌, ◌⊎◌, ⊤, Bool, IsSome, IsSomeAnd, List, Option, None, Some, [], length}
+use Rattle.std.specs.Prelude.{◌≡◌, ◌≢◌, ◌≤◌, ⊤, Bool, IsSome, IsSomeAnd, List, Option, None, Some, length}
 use Rattle.std.specs.Prelude.{true, false}
-use Rattle.clap.specs.Words.{IsAmong, Row, Rule, Shape, Text, all_of, fault_of, first_of}
+use Rattle.clap.specs.Words.{Row, Rule, Shape, Text, all_of, first_of}
 use Rattle.clap.specs.declared.builder.range.ValueRange.{ValueRange}
 use Rattle.clap.specs.declared.error.kind.ErrorKind.{ErrorKind}
-use Rattle.clap.specs.declared.error.kind.ErrorKind.TheVariants.{MissingSubcommand, OutOfMemory}
-use Rattle.duk_arguments.specs.CommandLine.{command_line}
+use Rattle.clap.specs.declared.error.kind.ErrorKind.TheVariants.{OutOfMemory}
 use Rattle.duk_arguments.specs.declared.request.NoRequest.{NoRequest}
 use Rattle.duk_arguments.specs.declared.request.NoRequest.TheVariants as answer
-use Rattle.duk_arguments.specs.Asked.{AskForNothing, is_shown}
+use Rattle.duk_arguments.specs.Asked.{is_shown}
 use Rattle.duk_arguments.specs.Given.{Each}
 
 -- from 1 to 16 texts

@@ -1,7 +1,7 @@
-use Rattle.std.proofs.Common.{[], List, Option, ◌≡◌, ◌∙◌, ap, arith, false, subst, sym, true, true≢false}
+use Rattle.std.proofs.Common.{[], List, Option, ◌≡◌, ◌∙◌, ap, subst, sym, true≢false}
 use Rattle.clap.specs.Kinds.{HasKind}
 use Rattle.clap.specs.Values.{kind_of}
-use Rattle.clap.specs.Words.{App, Row, Text, app_of, fault_of, is_simple_and_free, subcommand_of, subcommand_rows_of}
+use Rattle.clap.specs.Words.{App, Row, Text, fault_of, is_simple_and_free, subcommand_of, subcommand_rows_of}
 use Rattle.duk_arguments.specs.Asked.{AskForNothing, AsksAfter, texts_of}
 use Rattle.duk_arguments.specs.CommandLine.{command_line}
 use Rattle.duk_arguments.proofs.Failures.{command_found, is_no_command, is_no_request, is_reported_of}
