@@ -1,13 +1,13 @@
 //! Does the command of a request.
 
-ghost use Rattle.std.specs.Prelude.{◌≡◌, ◌⊎◌, ◌||◌};
+ghost use Rattle.std.specs.Prelude.{◌≡◌, ◌⊎◌, ◌||◌, IfErr, IfOk};
 ghost use Rattle.duk_commands.specs.Answer.{IsDone, IsNotDone, streams};
 ghost use Rattle.duk_program.specs.Commands.{command_for, derive_for};
-ghost use Rattle.duk_program.specs.inner.Commands.{NeedsNoFile};
+ghost use Rattle.duk_program.specs.inner.Commands.{MakesLines, NeedsNoFile};
 
 use duk_arguments::Request;
 use duk_commands::{
-    Fault, KeyArgument, derive_command, finish, pin_command, report, unwrap_command, walk_command,
+    Fault, KeyArgument, Lines, derive_command, finish, pin_command, unwrap_command, walk_command,
     wrap_command,
 };
 use duk_io::Sink;
@@ -61,32 +61,39 @@ pub(crate) fn do_command<W: Sink, F: Sink>(
             pad,
         } => wrap_command(kbpk, fields, key, pad, output, fault),
         Request::Unwrap { kbpk, block } => unwrap_command(kbpk, block, output, fault),
-        Request::Initial { bdk, iksn } => finish(initial_lines(bdk, iksn), output, fault),
+        request => finish(lines_of(alloc, request), output, fault),
+    }
+}
+
+/// The lines of a command that makes them all before it writes, or why it is refused.
+fn lines_of(alloc: Global, request: Request<'_>) -> Result<Lines, Fault>
+    requires { MakesLines request }
+    ensures lines { IfOk result (λ lines. (command_for request.entry).writes lines.items) }
+    ensures begun { IfOk result (λ lines. (command_for request.entry).begins lines.items) }
+    ensures refused { IfErr result (command_for request.entry).refuses }
+{
+    match request {
+        Request::Initial { bdk, iksn } => initial_lines(bdk, iksn),
         Request::Registers { bdk, ksn, initial } => {
-            let lines = registers_lines(KeyArgument::new(bdk, initial), ksn);
-            finish(lines, output, fault)
+            registers_lines(KeyArgument::new(bdk, initial), ksn)
         }
         Request::Kcv {
             keys,
             components,
             show,
-        } => finish(
-            values_lines(keys.texts().as_slice(), components, show),
-            output,
-            fault,
-        ),
+        } => values_lines(keys.texts().as_slice(), components, show),
         Request::Mac {
             key,
             text,
             cmac,
             hex,
-        } => finish(mac_lines(alloc, key, text, cmac, hex), output, fault),
+        } => mac_lines(alloc, key, text, cmac, hex),
         Request::Unpin {
             block,
             pan,
             key,
             show,
-        } => finish(unpin_lines(block, pan, key, show), output, fault),
+        } => unpin_lines(block, pan, key, show),
         Request::Translate {
             block,
             pan,
@@ -94,10 +101,7 @@ pub(crate) fn do_command<W: Sink, F: Sink>(
             ksn,
             zone,
             initial,
-        } => {
-            let lines = translate_lines(block, pan, KeyArgument::new(bdk, initial), ksn, zone);
-            finish(lines, output, fault)
-        }
+        } => translate_lines(block, pan, KeyArgument::new(bdk, initial), ksn, zone),
         Request::MakeRequest {
             bdk,
             ksn,
@@ -105,23 +109,14 @@ pub(crate) fn do_command<W: Sink, F: Sink>(
             pin,
             amount,
             initial,
-        } => {
-            let lines = request_lines(KeyArgument::new(bdk, initial), ksn, pan, pin, amount);
-            finish(lines, output, fault)
-        }
+        } => request_lines(KeyArgument::new(bdk, initial), ksn, pan, pin, amount),
         Request::CheckReply {
             bdk,
             request,
             answer,
             initial,
-        } => {
-            let lines = reply_lines(alloc, KeyArgument::new(bdk, initial), request, answer);
-            finish(lines, output, fault)
-        }
-        Request::Run { .. }
-        | Request::Serve { .. }
-        | Request::Show { .. }
-        | Request::Issue { .. } => report(fault, Fault::OutOfMemory),
+        } => reply_lines(alloc, KeyArgument::new(bdk, initial), request, answer),
+        _ => Err(Fault::OutOfMemory),
     }
 }
 

@@ -9,3 +9,15 @@ NeedsNoFile (request.Serve config log) = ⊥
 NeedsNoFile (request.Show kind what show) = ⊥
 NeedsNoFile (request.Issue bdk loading iksn count ledger skip) = ⊥
 NeedsNoFile asked = Unit {0}
+
+-- a request whose command makes all its lines before it writes any
+abbrev pub MakesLines : Request → Type 0
+MakesLines (request.Initial bdk iksn) = Unit {0}
+MakesLines (request.Registers bdk ksn initial) = Unit {0}
+MakesLines (request.Kcv keys components show) = Unit {0}
+MakesLines (request.Mac key text cmac hex) = Unit {0}
+MakesLines (request.Unpin block pan key show) = Unit {0}
+MakesLines (request.Translate block pan bdk ksn zone initial) = Unit {0}
+MakesLines (request.MakeRequest bdk ksn pan pin amount initial) = Unit {0}
+MakesLines (request.CheckReply bdk asked answer initial) = Unit {0}
+MakesLines asked = ⊥

@@ -1,7 +1,9 @@
-use Rattle.std.proofs.Common.{subst, ◌∙◌}
-use Rattle.duk_commands.specs.Answer.{IsDone, IsNotDone, streams}
-use Rattle.duk_tools.specs.CheckValues.{values_of}
-use Rattle.duk_program.proofs.Endings.{done, not_done}
+use Rattle.std.proofs.Common.{◌≢◌, ℕ, Bool, List, Option, refl}
+use Rattle.std.specs.Borrow.{Bor}
+use Rattle.duk_arguments.specs.declared.request.Request.{Request}
+use Rattle.duk_arguments.specs.declared.request.Request.TheVariants as request
+use Rattle.duk_program.specs.inner.Commands.{MakesLines, NeedsNoFile}
+use Rattle.duk_program.proofs.Endings.{done_by, not_done_by}
 use Rattle.duk_program.proofs.commands.do_command.Goals as goal
 
 pub returns-in-Walk-clause-done : goal.returns-in-Walk-clause-done
@@ -34,70 +36,35 @@ returns-in-Derive-clause-done g c = rw c.in-Derive.is c.do_derive.ensures.done
 pub returns-in-Derive-clause-not_done : goal.returns-in-Derive-clause-not_done
 returns-in-Derive-clause-not_done g c = rw c.in-Derive.is c.do_derive.ensures.not_done
 
-pub returns-in-Initial-clause-done : goal.returns-in-Initial-clause-done
-returns-in-Initial-clause-done g c zero =
-    rw c.in-Initial.is (done (λ lines. lines.items) _ _ _ _ c.initial_lines.ensures.lines (c.finish.ensures.done zero))
+makes_lines : (asked : Request) → NeedsNoFile asked
+    → ((bdk ksn : Bor (List ℕ)) (initial trace all : Bool) → asked ≢ request.Derive bdk ksn initial trace all)
+    → ((bdk iksn count : Bor (List ℕ)) (skip : Option (Bor (List ℕ))) (alone initial : Bool)
+    → asked ≢ request.Walk bdk iksn count skip alone initial)
+    → ((pin pan : Bor (List ℕ)) (key : Option (Bor (List ℕ))) → asked ≢ request.Pin pin pan key)
+    → ((kbpk fields key pad : Bor (List ℕ)) → asked ≢ request.Wrap kbpk fields key pad)
+    → ((kbpk block : Bor (List ℕ)) → asked ≢ request.Unwrap kbpk block) → MakesLines asked
+makes_lines (request.Derive bdk ksn initial trace all) no_file derive walk pin wrap unwrap =
+    absurd (derive bdk ksn initial trace all refl)
+makes_lines (request.Walk bdk iksn count skip alone initial) no_file derive walk pin wrap unwrap =
+    absurd (walk bdk iksn count skip alone initial refl)
+makes_lines (request.Pin pin' pan key) no_file derive walk pin wrap unwrap = absurd (pin pin' pan key refl)
+makes_lines (request.Wrap kbpk fields key pad) no_file derive walk pin wrap unwrap =
+    absurd (wrap kbpk fields key pad refl)
+makes_lines (request.Unwrap kbpk block) no_file derive walk pin wrap unwrap = absurd (unwrap kbpk block refl)
+makes_lines (request.Run config script) no_file derive walk pin wrap unwrap = absurd no_file
+makes_lines (request.Serve config log) no_file derive walk pin wrap unwrap = absurd no_file
+makes_lines (request.Show kind what show) no_file derive walk pin wrap unwrap = absurd no_file
+makes_lines (request.Issue bdk loading iksn count ledger skip) no_file derive walk pin wrap unwrap = absurd no_file
+makes_lines asked no_file derive walk pin wrap unwrap = tt
 
-pub returns-in-Initial-clause-not_done : goal.returns-in-Initial-clause-not_done
-returns-in-Initial-clause-not_done g c one =
-    rw c.in-Initial.is (not_done (λ lines. lines.items) _ _ _ _ c.initial_lines.ensures.lines c.initial_lines.ensures.refused (c.finish.ensures.not_done one))
+pub lines_of-requires : goal.lines_of-requires
+lines_of-requires g c = makes_lines c.args.request c.requires c.in_default.not-Derive c.in_default.not-Walk
+    c.in_default.not-Pin c.in_default.not-Wrap c.in_default.not-Unwrap
 
-pub returns-in-Registers-clause-done : goal.returns-in-Registers-clause-done
-returns-in-Registers-clause-done g c zero =
-    rw (c.in-Registers.is, ← c.new.ensures) (done (λ lines. lines.items) _ _ _ _ c.registers_lines-lines.ensures.lines (c.finish-in-Registers.ensures.done zero))
+pub returns-in_default-clause-done : goal.returns-in_default-clause-done
+returns-in_default-clause-done g c zero =
+    done_by (λ lines. lines.items) _ _ _ c.lines_of.ensures.lines (c.finish.ensures.done zero)
 
-pub returns-in-Registers-clause-not_done : goal.returns-in-Registers-clause-not_done
-returns-in-Registers-clause-not_done g c one =
-    rw (c.in-Registers.is, ← c.new.ensures) (not_done (λ lines. lines.items) _ _ _ _ c.registers_lines-lines.ensures.lines c.registers_lines-lines.ensures.refused (c.finish-in-Registers.ensures.not_done one))
-
-pub returns-in-Mac-clause-done : goal.returns-in-Mac-clause-done
-returns-in-Mac-clause-done g c zero =
-    rw c.in-Mac.is (done (λ lines. lines.items) _ _ _ _ c.mac_lines.ensures.lines (c.finish-in-Mac.ensures.done zero))
-
-pub returns-in-Mac-clause-not_done : goal.returns-in-Mac-clause-not_done
-returns-in-Mac-clause-not_done g c one =
-    rw c.in-Mac.is (not_done (λ lines. lines.items) _ _ _ _ c.mac_lines.ensures.lines c.mac_lines.ensures.refused (c.finish-in-Mac.ensures.not_done one))
-
-pub returns-in-Unpin-clause-done : goal.returns-in-Unpin-clause-done
-returns-in-Unpin-clause-done g c zero =
-    rw c.in-Unpin.is (done (λ lines. lines.items) _ _ _ _ c.unpin_lines.ensures.lines (c.finish-in-Unpin.ensures.done zero))
-
-pub returns-in-Unpin-clause-not_done : goal.returns-in-Unpin-clause-not_done
-returns-in-Unpin-clause-not_done g c one =
-    rw c.in-Unpin.is (not_done (λ lines. lines.items) _ _ _ _ c.unpin_lines.ensures.lines c.unpin_lines.ensures.refused (c.finish-in-Unpin.ensures.not_done one))
-
-pub returns-in-Translate-clause-done : goal.returns-in-Translate-clause-done
-returns-in-Translate-clause-done g c zero =
-    rw (c.in-Translate.is, ← c.new-in-Translate.ensures) (done (λ lines. lines.items) _ _ _ _ c.translate_lines-lines.ensures.lines (c.finish-in-Translate.ensures.done zero))
-
-pub returns-in-Translate-clause-not_done : goal.returns-in-Translate-clause-not_done
-returns-in-Translate-clause-not_done g c one =
-    rw (c.in-Translate.is, ← c.new-in-Translate.ensures) (not_done (λ lines. lines.items) _ _ _ _ c.translate_lines-lines.ensures.lines c.translate_lines-lines.ensures.refused (c.finish-in-Translate.ensures.not_done one))
-
-pub returns-in-MakeRequest-clause-done : goal.returns-in-MakeRequest-clause-done
-returns-in-MakeRequest-clause-done g c zero =
-    rw (c.in-MakeRequest.is, ← c.new-in-MakeRequest.ensures) (done (λ lines. lines.items) _ _ _ _ c.request_lines-lines.ensures.lines (c.finish-in-MakeRequest.ensures.done zero))
-
-pub returns-in-MakeRequest-clause-not_done : goal.returns-in-MakeRequest-clause-not_done
-returns-in-MakeRequest-clause-not_done g c one =
-    rw (c.in-MakeRequest.is, ← c.new-in-MakeRequest.ensures) (not_done (λ lines. lines.items) _ _ _ _ c.request_lines-lines.ensures.lines c.request_lines-lines.ensures.refused (c.finish-in-MakeRequest.ensures.not_done one))
-
-pub returns-in-CheckReply-clause-done : goal.returns-in-CheckReply-clause-done
-returns-in-CheckReply-clause-done g c zero =
-    rw (c.in-CheckReply.is, ← c.new-in-CheckReply.ensures) (done (λ lines. lines.items) _ _ _ _ c.reply_lines-lines.ensures.lines (c.finish-in-CheckReply.ensures.done zero))
-
-pub returns-in-CheckReply-clause-not_done : goal.returns-in-CheckReply-clause-not_done
-returns-in-CheckReply-clause-not_done g c one =
-    rw (c.in-CheckReply.is, ← c.new-in-CheckReply.ensures) (not_done (λ lines. lines.items) _ _ _ _ c.reply_lines-lines.ensures.lines c.reply_lines-lines.ensures.refused (c.finish-in-CheckReply.ensures.not_done one))
-
-pub returns-in-Kcv-clause-done : goal.returns-in-Kcv-clause-done
-returns-in-Kcv-clause-done g c zero =
-    let s = streams (g.W.Sink.known c.args.output.now) (g.W.Sink.known c.finish-in-Kcv.new.output) (g.F.Sink.known c.args.fault.now) (g.F.Sink.known c.finish-in-Kcv.new.fault) in
-    rw c.in-Kcv.is (subst (λ texts. IsDone (values_of texts c.in-Kcv.components c.in-Kcv.show) s) (c.as_slice.ensures ∙ c.texts.ensures)
-    (done (λ lines. lines.items) _ _ _ _ c.values_lines.ensures.lines (c.finish-in-Kcv.ensures.done zero)))
-
-pub returns-in-Kcv-clause-not_done : goal.returns-in-Kcv-clause-not_done
-returns-in-Kcv-clause-not_done g c one =
-    let s = streams (g.W.Sink.known c.args.output.now) (g.W.Sink.known c.finish-in-Kcv.new.output) (g.F.Sink.known c.args.fault.now) (g.F.Sink.known c.finish-in-Kcv.new.fault) in
-    rw c.in-Kcv.is (subst (λ texts. IsNotDone (values_of texts c.in-Kcv.components c.in-Kcv.show) s) (c.as_slice.ensures ∙ c.texts.ensures)
-    (not_done (λ lines. lines.items) _ _ _ _ c.values_lines.ensures.lines c.values_lines.ensures.refused (c.finish-in-Kcv.ensures.not_done one)))
+pub returns-in_default-clause-not_done : goal.returns-in_default-clause-not_done
+returns-in_default-clause-not_done g c one =
+    not_done_by (λ lines. lines.items) _ _ _ c.lines_of.ensures.begun c.lines_of.ensures.refused (c.finish.ensures.not_done one)

@@ -1,0 +1,81 @@
+use Rattle.std.proofs.Common.{◌∙◌, IfErr, IfOk, List, ℕ, subst}
+use Rattle.duk_tools.specs.CheckValues.{IsValuesRefused, IsValuesText}
+use Rattle.duk_program.proofs.commands.lines_of.Goals as goal
+
+pub returns-in-Initial-clause-lines : goal.returns-in-Initial-clause-lines
+returns-in-Initial-clause-lines c = rw c.in-Initial.is c.initial_lines.ensures.lines
+
+pub returns-in-Initial-clause-begun : goal.returns-in-Initial-clause-begun
+returns-in-Initial-clause-begun c = rw c.in-Initial.is c.initial_lines.ensures.lines
+
+pub returns-in-Initial-clause-refused : goal.returns-in-Initial-clause-refused
+returns-in-Initial-clause-refused c = rw c.in-Initial.is c.initial_lines.ensures.refused
+
+pub returns-in-Registers-clause-lines : goal.returns-in-Registers-clause-lines
+returns-in-Registers-clause-lines c = rw (c.in-Registers.is, ← c.new.ensures) c.registers_lines.ensures.lines
+
+pub returns-in-Registers-clause-begun : goal.returns-in-Registers-clause-begun
+returns-in-Registers-clause-begun c = rw (c.in-Registers.is, ← c.new.ensures) c.registers_lines.ensures.lines
+
+pub returns-in-Registers-clause-refused : goal.returns-in-Registers-clause-refused
+returns-in-Registers-clause-refused c = rw (c.in-Registers.is, ← c.new.ensures) c.registers_lines.ensures.refused
+
+pub returns-in-Mac-clause-lines : goal.returns-in-Mac-clause-lines
+returns-in-Mac-clause-lines c = rw c.in-Mac.is c.mac_lines.ensures.lines
+
+pub returns-in-Mac-clause-begun : goal.returns-in-Mac-clause-begun
+returns-in-Mac-clause-begun c = rw c.in-Mac.is c.mac_lines.ensures.lines
+
+pub returns-in-Mac-clause-refused : goal.returns-in-Mac-clause-refused
+returns-in-Mac-clause-refused c = rw c.in-Mac.is c.mac_lines.ensures.refused
+
+pub returns-in-Unpin-clause-lines : goal.returns-in-Unpin-clause-lines
+returns-in-Unpin-clause-lines c = rw c.in-Unpin.is c.unpin_lines.ensures.lines
+
+pub returns-in-Unpin-clause-begun : goal.returns-in-Unpin-clause-begun
+returns-in-Unpin-clause-begun c = rw c.in-Unpin.is c.unpin_lines.ensures.lines
+
+pub returns-in-Unpin-clause-refused : goal.returns-in-Unpin-clause-refused
+returns-in-Unpin-clause-refused c = rw c.in-Unpin.is c.unpin_lines.ensures.refused
+
+pub returns-in-Translate-clause-lines : goal.returns-in-Translate-clause-lines
+returns-in-Translate-clause-lines c = rw (c.in-Translate.is, ← c.new-in-Translate.ensures) c.translate_lines.ensures.lines
+
+pub returns-in-Translate-clause-begun : goal.returns-in-Translate-clause-begun
+returns-in-Translate-clause-begun c = rw (c.in-Translate.is, ← c.new-in-Translate.ensures) c.translate_lines.ensures.lines
+
+pub returns-in-Translate-clause-refused : goal.returns-in-Translate-clause-refused
+returns-in-Translate-clause-refused c = rw (c.in-Translate.is, ← c.new-in-Translate.ensures) c.translate_lines.ensures.refused
+
+pub returns-in-MakeRequest-clause-lines : goal.returns-in-MakeRequest-clause-lines
+returns-in-MakeRequest-clause-lines c = rw (c.in-MakeRequest.is, ← c.new-in-MakeRequest.ensures) c.request_lines.ensures.lines
+
+pub returns-in-MakeRequest-clause-begun : goal.returns-in-MakeRequest-clause-begun
+returns-in-MakeRequest-clause-begun c = rw (c.in-MakeRequest.is, ← c.new-in-MakeRequest.ensures) c.request_lines.ensures.lines
+
+pub returns-in-MakeRequest-clause-refused : goal.returns-in-MakeRequest-clause-refused
+returns-in-MakeRequest-clause-refused c = rw (c.in-MakeRequest.is, ← c.new-in-MakeRequest.ensures) c.request_lines.ensures.refused
+
+pub returns-in-CheckReply-clause-lines : goal.returns-in-CheckReply-clause-lines
+returns-in-CheckReply-clause-lines c = rw (c.in-CheckReply.is, ← c.new-in-CheckReply.ensures) c.reply_lines.ensures.lines
+
+pub returns-in-CheckReply-clause-begun : goal.returns-in-CheckReply-clause-begun
+returns-in-CheckReply-clause-begun c = rw (c.in-CheckReply.is, ← c.new-in-CheckReply.ensures) c.reply_lines.ensures.lines
+
+pub returns-in-CheckReply-clause-refused : goal.returns-in-CheckReply-clause-refused
+returns-in-CheckReply-clause-refused c = rw (c.in-CheckReply.is, ← c.new-in-CheckReply.ensures) c.reply_lines.ensures.refused
+
+pub returns-in-Kcv-clause-lines : goal.returns-in-Kcv-clause-lines
+returns-in-Kcv-clause-lines c =
+    rw c.in-Kcv.is (subst (λ (texts : List (List ℕ)). IfOk c.values_lines.result (λ lines. IsValuesText texts c.in-Kcv.components c.in-Kcv.show lines.items))
+    (c.as_slice.ensures ∙ c.texts.ensures) c.values_lines.ensures.lines)
+
+pub returns-in-Kcv-clause-begun : goal.returns-in-Kcv-clause-begun
+returns-in-Kcv-clause-begun c =
+    rw c.in-Kcv.is (subst (λ (texts : List (List ℕ)). IfOk c.values_lines.result (λ lines. IsValuesText texts c.in-Kcv.components c.in-Kcv.show lines.items))
+    (c.as_slice.ensures ∙ c.texts.ensures) c.values_lines.ensures.lines)
+
+pub returns-in-Kcv-clause-refused : goal.returns-in-Kcv-clause-refused
+returns-in-Kcv-clause-refused c =
+    rw c.in-Kcv.is (subst (λ (texts : List (List ℕ)). IfErr c.values_lines.result (IsValuesRefused texts c.in-Kcv.components))
+    (c.as_slice.ensures ∙ c.texts.ensures) c.values_lines.ensures.refused)
