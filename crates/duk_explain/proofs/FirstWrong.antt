@@ -1,5 +1,5 @@
 -- The first of some that fails a test.
-use Rattle.std.proofs.Common.{◌≡◌, ◌+◌, ◌<◌, ℕ, zero, suc, Bool, true, false, List, [], ◌∷◌, Some, None, cond, option_map, length, map, get_or, refl, arith, rules, add-one, find}
+use Rattle.std.proofs.Common.{◌≡◌, ◌<◌, ℕ, zero, suc, Bool, true, false, List, [], ◌∷◌, Some, None, length, map, get_or, refl, arith, rules, find}
 use Rattle.duk_explain.specs.Kind.{first_failing}
 
 -- it is seen through a view

@@ -1,5 +1,5 @@
 -- The lengths of keys.
-use Rattle.std.proofs.Common.{◌≡◌, ◌≢◌, ◌==◌, ◌<◌, ℕ, Bool, true, false, List, [], ◌∷◌, Bor, get_or, length, map, arith, rules, refl}
+use Rattle.std.proofs.Common.{◌≡◌, ◌≢◌, ◌<◌, ℕ, false, List, [], ◌∷◌, Bor, get_or, length, map, arith}
 use Rattle.std.proofs.Common.{ne_eqb}
 use Rattle.duk_explain.specs.Keys.{is_as_long}
 

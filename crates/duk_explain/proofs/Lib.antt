@@ -1,6 +1,12 @@
 mod AllLines
 mod Between
+mod Blanks
+mod ConfigLines
+mod Counted
+mod FaultNames
 mod FirstWrong
 mod KeyLengths
+mod Matches
 mod NumberTexts
 mod Unfit
+mod WorkedLines

@@ -1,9 +1,9 @@
 -- Numbers in decimal digits.
-use Rattle.std.proofs.Common.{◌≡◌, ◌<◌, ◌≤◌, ◌&&◌, ℕ, zero, suc, Bool, true, false, List, [], ◌∷◌, Option, Some, None, IfSome, IfNone, is_some, is_none, nat_le, get_or, length, map, map-id, option_map, refl, sym, ap, ◌∙◌, arith, rules, tests, All, if◌then◌else◌, true≢false, ◌+◌}
+use Rattle.std.proofs.Common.{◌≡◌, ◌<◌, ◌≤◌, ◌&&◌, ℕ, zero, suc, Bool, true, false, List, [], ◌∷◌, Option, Some, None, IfSome, IfNone, is_some, is_none, nat_le, get_or, length, map-id, option_map, refl, sym, ap, ◌∙◌, arith, rules, tests, All, if◌then◌else◌, true≢false, ◌+◌}
 use Rattle.std.specs.Char.{IsAsciiDigit}
 use Rattle.duk_commands.specs.Decimal.{IsDecimal, number_of_digits}
 use Rattle.duk_explain.specs.Explanation.{is_number}
-use Rattle.duk_explain.specs.Kind.{first_failing, first_wrong, is_between, is_of_kind}
+use Rattle.duk_explain.specs.Kind.{first_failing, first_wrong, is_of_kind}
 use Rattle.duk_explain.specs.declared.kind.Kind.TheVariants.{Decimal}
 use Rattle.duk_explain.proofs.FirstWrong.{first_failing-nowhere}
 

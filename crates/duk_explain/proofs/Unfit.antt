@@ -1,5 +1,5 @@
 -- A line has one middle.
-use Rattle.std.proofs.Common.{◌≡◌, ◌++◌, ◌+◌, ◌<◌, ◌≤◌, ◌⊎◌, ℕ, zero, suc, Bool, true, false, List, [], ◌∷◌, length, get_or, sym, ap, refl, subst, ◌∙◌, true≢false, arith, eq-or-lt_of_le, inl, inr}
+use Rattle.std.proofs.Common.{◌≡◌, ◌++◌, ◌+◌, ◌<◌, ◌≤◌, ℕ, zero, suc, true, false, List, [], ◌∷◌, length, get_or, sym, ap, refl, subst, ◌∙◌, true≢false, arith, eq-or-lt_of_le, inl, inr}
 use Rattle.duk_explain.specs.declared.told.TheConstants.{ALL}
 use Rattle.duk_explain.specs.declared.told.Told.{Told}
 use Rattle.std.proofs.lemmas.List.{append_cancel_left, append_cancel_right}

@@ -2,23 +2,20 @@
 --
 -- Of the text of an argument an explanation has its measure alone: how many bytes it has, and where
 -- the first wrong one stands.
-use Rattle.std.specs.Prelude.{◌≡◌, ◌&&◌, ◌⊎◌, ◌++◌, ℕ, Bool, true, false, List, [], ◌∷◌, Option, Some, None, codes, decimal, get_or, is_none, length, nat_le, option_map, if◌then◌else◌}
+use Rattle.std.specs.Prelude.{◌≡◌, ◌&&◌, ◌⊎◌, ◌++◌, ℕ, Bool, true, List, [], ◌∷◌, Option, Some, None, codes, decimal, get_or, is_none, length, nat_le, if◌then◌else◌}
 use Rattle.std.specs.Option.{option_copied}
 use Rattle.duk_arguments.specs.declared.request.Request.{Request}
 use Rattle.duk_arguments.specs.declared.request.Request.TheVariants as request
 use Rattle.duk_commands.specs.Decimal.{number_of_digits}
-use Rattle.duk_explain.specs.Argument.{block_of, count_of, key_of, keys_of, ksn_of, iksn_of, mac_text_of, text_of, what_of}
+use Rattle.duk_explain.specs.Argument.{block_of, key_of, keys_of, ksn_of, iksn_of, mac_text_of, text_of, what_of}
 use Rattle.duk_explain.specs.Keys.{is_as_long, is_key, key_name}
 use Rattle.duk_explain.specs.Kind.{first_failing, first_wrong}
 use Rattle.duk_explain.specs.Numbers.{counter_ones, measure_iksn, number_way}
 use Rattle.duk_explain.specs.Reading.{IsTold, IsUnknownKey}
 use Rattle.duk_explain.specs.Texts.{explained, length_text, measure_of, measure_text, reason_text}
 use Rattle.duk_explain.specs.Told.{Row, row}
-use Rattle.duk_explain.specs.declared.argument.Argument.{Argument}
-use Rattle.duk_explain.specs.declared.argument.Argument.TheVariants as argument
 use Rattle.duk_explain.specs.declared.found.Facts.{Facts}
 use Rattle.duk_explain.specs.declared.found.Reason.{Reason}
-use Rattle.duk_explain.specs.declared.found.Reason.TheVariants.{Other}
 use Rattle.duk_explain.specs.declared.kind.Kind.{Kind}
 use Rattle.duk_explain.specs.declared.kind.Kind.TheVariants.{Hexadecimal, Decimal, Printable, Any}
 use Rattle.duk_explain.specs.declared.rows.Found.{Found}

@@ -1,5 +1,5 @@
 -- Which of several keys is told of (this project's own).
-use Rattle.std.specs.Prelude.{◌==◌, ◌&&◌, ◌||◌, ◌++◌, ◌+◌, ℕ, Bool, List, [], ◌∷◌, Option, Some, None, codes, decimal, is_none, length, option_map, get_or, if◌then◌else◌}
+use Rattle.std.specs.Prelude.{◌==◌, ◌&&◌, ◌||◌, ◌++◌, ◌+◌, ℕ, Bool, List, [], codes, decimal, is_none, length, get_or, if◌then◌else◌}
 use Rattle.duk_explain.specs.Kind.{first_wrong}
 use Rattle.duk_explain.specs.declared.kind.Kind.TheVariants.{Hexadecimal}
 

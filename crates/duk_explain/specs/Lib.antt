@@ -3,7 +3,9 @@ pub mod Argument
 pub mod Told
 pub mod Texts
 pub mod Reading
+pub mod Places
 pub mod Numbers
 pub mod Keys
 pub mod Explanation
 pub mod Subject
+pub mod inner

@@ -1,9 +1,8 @@
 -- What is told of key serial numbers and counts (this project's own).
-use Rattle.std.specs.Prelude.{◌==◌, ◌&&◌, ◌+◌, ◌-◌, ◌%◌, nat_le, ℕ, Bool, List, [], ◌∷◌, Option, Some, None, codes, count_ones, decimal, drop, get_or, is_none, length, option_map, if◌then◌else◌}
-use Rattle.duk_commands.specs.Decimal.{number_of_digits}
+use Rattle.std.specs.Prelude.{◌==◌, ◌&&◌, ◌+◌, ◌-◌, ◌%◌, ℕ, List, [], Option, Some, codes, count_ones, drop, get_or, is_none, length, option_map, if◌then◌else◌}
 use Rattle.duk_explain.specs.Kind.{first_wrong, is_between}
 use Rattle.duk_explain.specs.Texts.{measure_of}
-use Rattle.duk_explain.specs.declared.kind.Kind.TheVariants.{Decimal, Hexadecimal, Zero}
+use Rattle.duk_explain.specs.declared.kind.Kind.TheVariants.{Hexadecimal, Zero}
 use Rattle.duk_explain.specs.declared.texts.Measure.{Measure}
 
 -- the value of a hexadecimal digit, in either case; 0 of another byte

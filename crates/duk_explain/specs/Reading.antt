@@ -3,7 +3,7 @@ use Rattle.std.specs.Prelude.{◌≡◌, ◌==◌, ◌&&◌, ◌++◌, nat_le, �
 use Rattle.std.specs.List.{list_any}
 use Rattle.duk_commands.specs.Fault.{line_end}
 use Rattle.duk_explain.specs.Kind.{first_wrong}
-use Rattle.duk_explain.specs.Told.{Row, row}
+use Rattle.duk_explain.specs.Told.{row}
 use Rattle.duk_explain.specs.declared.kind.Kind.TheVariants.{Decimal, Hexadecimal}
 use Rattle.duk_explain.specs.declared.told.Told.{Told}
 use Rattle.duk_explain.specs.declared.told_texts.Middle.{Middle}

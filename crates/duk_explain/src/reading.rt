@@ -55,7 +55,7 @@ fn middle_of(told: Told, text: &[u8]) -> Option<&[u8]>
 }
 
 /// What stands between two texts.
-fn between<'a>(before: &str, text: &'a [u8], after: &str) -> Option<&'a [u8]>
+pub(crate) fn between<'a>(before: &str, text: &'a [u8], after: &str) -> Option<&'a [u8]>
     ensures read { IfSome result (λ middle. text.now ≡ before.now ++ middle.now ++ after.now) }
     ensures none { IfNone result
         ((middle : List ℕ) → text.now ≢ before.now ++ middle ++ after.now) }

@@ -1,4 +1,4 @@
-use Rattle.std.proofs.Common.{refl, ◌≡◌}
+use Rattle.std.proofs.Common.{refl}
 use Rattle.duk_explain.proofs.argument.keys_of.Goals as goal
 
 pub returns-in-Kcv : goal.returns-in-Kcv

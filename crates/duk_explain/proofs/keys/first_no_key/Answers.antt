@@ -1,4 +1,4 @@
-use Rattle.std.proofs.Common.{arith, ◌≡◌, sym, ◌∙◌}
+use Rattle.std.proofs.Common.{arith, sym, ◌∙◌}
 use Rattle.duk_explain.specs.Keys.{is_key}
 use Rattle.duk_explain.proofs.FirstWrong.{first_failing-here, first_failing-nowhere}
 use Rattle.duk_explain.proofs.keys.first_no_key.Goals as goal

@@ -1,5 +1,5 @@
-use Rattle.std.proofs.Common.{◌≡◌, ◌<◌, ℕ, true, get_or, map, List, Bor}
-use Rattle.duk_explain.specs.Keys.{is_as_long, is_key}
+use Rattle.std.proofs.Common.{◌≡◌, ◌<◌, ℕ, true, get_or, List, Bor}
+use Rattle.duk_explain.specs.Keys.{is_key}
 use Rattle.duk_explain.proofs.keys.first_no_key.Given as goal
 
 -- the texts so far pass the test

@@ -1,4 +1,4 @@
-use Rattle.std.proofs.Common.{arith, ◌≡◌, [], sym, map}
+use Rattle.std.proofs.Common.{arith, [], sym, map}
 use Rattle.duk_explain.specs.Keys.{is_as_long}
 use Rattle.duk_explain.proofs.KeyLengths.{other_length}
 use Rattle.duk_explain.proofs.FirstWrong.{first_failing-here, first_failing-nowhere}

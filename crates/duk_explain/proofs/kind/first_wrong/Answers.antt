@@ -1,4 +1,4 @@
-use Rattle.std.proofs.Common.{◌≡◌, ◌<◌, ℕ, List, None, Some, false, get_or, map-id, arith, sym, ap, ◌∙◌}
+use Rattle.std.proofs.Common.{◌≡◌, false, get_or, map-id, arith, sym, ap, ◌∙◌}
 use Rattle.duk_explain.specs.Kind.{first_failing, is_of_kind}
 use Rattle.duk_explain.proofs.FirstWrong.{first_failing-here, first_failing-nowhere}
 use Rattle.duk_explain.proofs.kind.first_wrong.Goals as goal

@@ -1,4 +1,4 @@
-use Rattle.std.proofs.Common.{◌≡◌, ◌∙◌}
+use Rattle.std.proofs.Common.{◌∙◌}
 use Rattle.duk_explain.proofs.NumberTexts.{is_number_is}
 use Rattle.duk_explain.proofs.numbers.is_number.Goals as goal
 

@@ -1,4 +1,4 @@
-use Rattle.std.proofs.Common.{arith, ◌≡◌, ℕ, List}
+use Rattle.std.proofs.Common.{arith, ℕ, List}
 use Rattle.duk_explain.specs.Reading.{IsToldText}
 use Rattle.duk_explain.proofs.AllLines.{stands}
 use Rattle.duk_explain.proofs.Unfit.{one_more}

@@ -1,4 +1,3 @@
-use Rattle.std.proofs.Common.{◌≡◌}
 use Rattle.duk_explain.proofs.Between.{none_by}
 use Rattle.duk_explain.proofs.reading.unknown_key.Goals as goal
 
