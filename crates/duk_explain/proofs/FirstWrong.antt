@@ -1,5 +1,6 @@
 -- The first of some that fails a test.
-use Rattle.std.proofs.Common.{◌≡◌, ◌<◌, ℕ, zero, suc, Bool, true, false, List, [], ◌∷◌, Some, None, length, map, get_or, refl, arith, rules, find}
+use Rattle.std.proofs.Common.{◌≡◌, ◌<◌, ◌||◌, ℕ, zero, suc, Bool, true, false, List, [], ◌∷◌, Some, None, length, map, get_or, refl, arith, rules, find}
+use Rattle.std.specs.List.{list_any}
 use Rattle.duk_explain.specs.Kind.{first_failing}
 
 -- it is seen through a view
@@ -49,3 +50,28 @@ find-at passes view (first ∷ rest) (suc place) d inside before right =
     find-at passes view rest place d (omega (arith, inside))
     (λ k e below. before (suc k) e (omega (arith, below))) right in
     rw now later
+
+-- whether one of some passes a test
+pub any_nowhere : {A X : Type 0} (passes : X → Bool) (view : A → X) (xs : List A)
+    → ((k : ℕ) (d : A) → k < length xs → passes (view (get_or xs k d)) ≡ false)
+    → list_any passes (map view xs) ≡ false
+any_nowhere passes view [] all = refl
+any_nowhere passes view (first ∷ rest) all =
+    let now : passes (view first) ≡ false = all zero first (omega arith) in
+    let later : list_any passes (map view rest) ≡ false = any_nowhere passes view rest
+    (λ k d inside. all (suc k) d (omega (arith, inside))) in
+    rw now later
+
+true_after : (first rest : Bool) → rest ≡ true → first || rest ≡ true
+true_after true rest is = refl
+true_after false rest is = is
+
+pub any_at : {A X : Type 0} (passes : X → Bool) (view : A → X) (xs : List A) (place : ℕ) (d : A)
+    → place < length xs → passes (view (get_or xs place d)) ≡ true
+    → list_any passes (map view xs) ≡ true
+any_at passes view [] place d inside right = absurd (omega (arith, inside))
+any_at passes view (first ∷ rest) zero d inside right = rw right refl
+any_at passes view (first ∷ rest) (suc place) d inside right =
+    let later : list_any passes (map view rest) ≡ true =
+    any_at passes view rest place d (omega (arith, inside)) right in
+    true_after (passes (view first)) (list_any passes (map view rest)) later

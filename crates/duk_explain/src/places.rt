@@ -6,8 +6,20 @@ ghost use Rattle.duk_explain.specs.Places.{BeginsWith, GivesValue, HasBrackets, 
 ghost use Rattle.duk_explain.specs.Reading.{IsUnknownKey};
 ghost use Rattle.duk_explain.specs.inner.Places.{IsCleared, IsEntry, IsEntryBehind, IsEntryText, IsKey, IsMatch, IsNamed, IsNamedBy, IsText, lines_after, nth_of};
 
-use crate::reading::{between, unknown_key};
+use crate::reading::{between, is_among, unknown_key};
 use duk_commands::read_decimal;
+
+/// The keys of a configuration.
+const CONFIG_KEYS: [&str; 8] = [
+    "lmk",
+    "zone",
+    "loading",
+    "terminals",
+    "log",
+    "stores",
+    "bdk",
+    "card",
+];
 
 /// The most entries of a table.
 const MOST_ENTRIES: u32 = 1000;
@@ -101,10 +113,7 @@ fn read_entry(digits: &[u8]) -> Option<u64>
 fn is_config_key(text: &[u8]) -> bool
     ensures { result ≡ is_config_key text.now }
 {
-    matches!(
-        text,
-        b"lmk" | b"zone" | b"loading" | b"terminals" | b"log" | b"stores" | b"bdk" | b"card"
-    )
+    is_among(&CONFIG_KEYS, text)
 }
 
 /// The line of a configuration that is named, from 1.

@@ -1,12 +1,18 @@
 //! Which line of a fault a text is.
 
-ghost use Rattle.std.specs.Prelude.{◌≡◌, ◌≢◌, ◌≤◌, ◌++◌, ℕ, List, IfNone, IfSome, IsTrue, length};
+ghost use Rattle.std.specs.Prelude.{◌≡◌, ◌≢◌, ◌≤◌, ◌++◌, ℕ, List, IfNone, IfSome, IsTrue, bytes_eq, length, map};
+ghost use Rattle.std.specs.List.{list_any};
 ghost use Rattle.duk_explain.specs.Reading.{IsTold, IsToldText, IsUnknownKey, is_middle, is_secret};
 ghost use Rattle.duk_explain.specs.declared.told.Told.{Told};
 
 use crate::kind::{Kind, first_wrong};
 use crate::told::{ALL, COUNT, Told};
 use crate::told_texts::Middle;
+
+/// The names of the secrets.
+const SECRETS: [&str; 9] = [
+    "BDK", "KBPK", "PIN", "PAN", "ZONE", "KEY", "BLOCK", "LOADING", "WHAT",
+];
 
 /// The line of a fault that these bytes are, LF at their end, and what stands in its middle.
 pub(crate) fn read_line(line: &[u8]) -> Option<(Told, &[u8])>
@@ -83,8 +89,17 @@ fn is_middle(middle: Middle, text: &[u8]) -> bool
 fn is_secret(text: &[u8]) -> bool
     ensures { result ≡ is_secret text.now }
 {
-    matches!(
-        text,
-        b"BDK" | b"KBPK" | b"PIN" | b"PAN" | b"ZONE" | b"KEY" | b"BLOCK" | b"LOADING" | b"WHAT"
-    )
+    is_among(&SECRETS, text)
+}
+
+/// Whether a text is one of some names.
+pub(crate) fn is_among(names: &[&str], text: &[u8]) -> bool
+    ensures { result ≡ list_any (λ name. bytes_eq name text.now) (map (λ name. name.now) names.now) }
+{
+    for name in names {
+        if name.as_bytes() == text {
+            return true;
+        }
+    }
+    false
 }
