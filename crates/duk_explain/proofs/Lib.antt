@@ -8,5 +8,6 @@ mod FirstWrong
 mod KeyLengths
 mod Matches
 mod NumberTexts
+mod ShortTexts
 mod Unfit
 mod WorkedLines

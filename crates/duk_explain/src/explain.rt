@@ -49,6 +49,7 @@ fn explain_unknown_key(facts: &Facts) -> Lines
 }
 
 /// Explains a fault, of whose line this stands in the middle.
+#[tactic(auto, using(crate::proofs::ShortTexts::short_words))]
 fn explain(request: &Request<'_>, line: Told, middle: &[u8], facts: &Facts) -> Lines
     requires { length middle.now ≤ 20 }
     ensures { result.items ≡ told_explained line request.now facts.now middle.now }
@@ -75,6 +76,7 @@ fn explain(request: &Request<'_>, line: Told, middle: &[u8], facts: &Facts) -> L
 }
 
 /// The line of a row, whose name stands in the middle of the fault's line where it has none.
+#[tactic(auto, using(crate::proofs::ShortTexts::short_name, crate::proofs::ShortTexts::short_wanted, crate::proofs::ShortTexts::short_way))]
 fn explain_row(line: Told, middle: &[u8], found: &Lines) -> Lines
     requires middle { length middle.now ≤ 20 }
     requires found { array_vec_len found.now ≤ 80 }
@@ -126,6 +128,7 @@ fn explain_words(line: Told, middle: &[u8], first: &[u8], second: &[u8]) -> Line
 }
 
 /// Explains by what the system says of a secret's file.
+#[tactic(auto, using(crate::proofs::ShortTexts::short_words))]
 fn explain_reference(line: Told, name: &[u8], facts: &Facts) -> Lines
     requires { length name.now ≤ 20 }
     ensures { result.items ≡ row_explained (row line) name.now
@@ -135,6 +138,7 @@ fn explain_reference(line: Told, name: &[u8], facts: &Facts) -> Lines
 }
 
 /// Explains by a place in a file.
+#[tactic(auto, using(crate::proofs::ShortTexts::short_words))]
 fn explain_place(line: Told, middle: &[u8], before: &str, facts: &Facts) -> Lines
     requires middle { length middle.now ≤ 20 }
     requires before { length before.now ≤ 20 }

@@ -46,6 +46,7 @@ pub(crate) fn explain_iksn(request: &Request<'_>, refused: Told) -> Lines
 }
 
 /// Explains a number of this measure that is refused.
+#[tactic(auto, using(crate::proofs::ShortTexts::short_name, crate::proofs::ShortTexts::short_wanted))]
 fn explain_number(found: Measure, refused: Told) -> Lines
     ensures { result.items ≡ number_explained (row refused) found }
 {

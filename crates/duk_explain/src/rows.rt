@@ -1,6 +1,6 @@
 //! What explains each line of a fault.
 
-ghost use Rattle.std.specs.Prelude.{◌≡◌, ◌≤◌, length};
+ghost use Rattle.std.specs.Prelude.{◌≡◌};
 ghost use Rattle.duk_explain.specs.Told.{row};
 
 use crate::argument::Argument;
@@ -54,7 +54,6 @@ impl Told {
     /// What is explained.
     pub(crate) fn name(self) -> &'static str
         ensures text { result.now ≡ (row self).name }
-        ensures short { length result.now ≤ 20 }
     {
         match self {
             Told::BdkRefused | Told::InitialRefused => "BDK",
@@ -213,7 +212,6 @@ impl Told {
     /// Words that tell what was found.
     pub(crate) fn words(self) -> &'static str
         ensures text { result.now ≡ (row self).words }
-        ensures short { length result.now ≤ 40 }
     {
         match self {
             Told::CounterRefused => " one bits in its counter",
@@ -255,7 +253,6 @@ impl Told {
     /// What is wanted.
     pub(crate) fn wanted(self) -> &'static str
         ensures text { result.now ≡ (row self).wanted }
-        ensures short { length result.now ≤ 90 }
     {
         match self {
             Told::BdkRefused | Told::InitialRefused | Told::KeyRefused | Told::BadLoading =>
@@ -344,7 +341,6 @@ impl Told {
     /// What helps.
     pub(crate) fn way(self) -> &'static str
         ensures text { result.now ≡ (row self).way }
-        ensures short { length result.now ≤ 50 }
     {
         match self {
             Told::CounterRefused => "walk prints the numbers that a terminal uses",

@@ -1,6 +1,6 @@
 //! The texts of the lines of all faults.
 
-ghost use Rattle.std.specs.Prelude.{◌≡◌, ◌≤◌, length};
+ghost use Rattle.std.specs.Prelude.{◌≡◌};
 ghost use Rattle.duk_explain.specs.Told.{row};
 
 use crate::told::Told;
@@ -23,7 +23,6 @@ impl Told {
     /// What stands before the middle.
     pub(crate) fn before(self) -> &'static str
         ensures text { result.now ≡ (row self).before }
-        ensures short { length result.now ≤ 30 }
     {
         match self {
             Told::BdkRefused => "BDK refused",
@@ -121,7 +120,6 @@ impl Told {
     /// What stands after the middle.
     pub(crate) fn after(self) -> &'static str
         ensures text { result.now ≡ (row self).after }
-        ensures short { length result.now ≤ 30 }
     {
         match self {
             Told::FrameHex | Told::BlockHex | Told::ImageHex => ": Hex",

@@ -1,11 +1,12 @@
 -- What is asked of files after a fault, and what is found (this project's own).
 use Rattle.std.specs.Prelude.{◌≡◌, ◌⊎◌, ◌<◌, ⊤, ℕ, List, Option, Some, None, [], codes, get_or, length}
 use Rattle.duk_arguments.specs.declared.request.Request.{Request}
+use Rattle.duk_explain.specs.Places.{IsLineOfFault}
 use Rattle.duk_explain.specs.Subject.{IsSubject, Subject, config, lockable, log, readable, secrets}
 use Rattle.duk_explain.specs.declared.found.Facts.{Facts}
 use Rattle.duk_explain.specs.declared.found.Reason.{Reason}
 use Rattle.duk_explain.specs.declared.found.Reason.TheVariants.{Other}
-use Rattle.duk_program.specs.Files.{FileKnown}
+use Rattle.duk_program.specs.Files.{FileKnown, HasBytes}
 use Rattle.duk_program.specs.Secrets.{reference_in, secret_at, secret_line, secrets_of}
 use Rattle.duk_program.specs.Show.{HasNoLog}
 use Rattle.duk_program.specs.declared.secrets.SecretFault.TheVariants.{Unread}
@@ -69,6 +70,17 @@ abbrev pub IsRecordOf : FileKnown → Option ℕ → Type 0
 IsRecordOf held None = ⊤
 IsRecordOf held (Some place) = HasNoLog held (LogRefused place)
 
+-- the line of this number is the one that the line of a fault is about, in the bytes of a file
+pub record HasLine (held : FileKnown) (line : List ℕ) (number : ℕ) : Type 0 where
+  pub config : List ℕ
+  pub config_is : HasBytes held config
+  pub is_line : IsLineOfFault config line number
+
+-- the line of a configuration that the line of a fault is about, where one is known
+abbrev pub IsLineOf : FileKnown → List ℕ → Option ℕ → Type 0
+IsLineOf held line None = ⊤
+IsLineOf held line (Some number) = HasLine held line number
+
 -- what is found after a fault of a request with this line, by what is looked for
 abbrev pub AreFactsOf : Inquiry → Request → List ℕ → Option Subject → Facts → Type 0
 AreFactsOf q asked line None facts = (facts.reason ≡ None) × (facts.place ≡ None)
@@ -80,7 +92,8 @@ AreFactsOf q asked line (Some (lockable path)) facts =
     IsReason (q.opening path) facts.reason × (facts.place ≡ None)
 AreFactsOf q asked line (Some (log path)) facts =
     (facts.reason ≡ None) × IsRecordOf (q.held path) facts.place
-AreFactsOf q asked line (Some (config path)) facts = facts.reason ≡ None
+AreFactsOf q asked line (Some (config path)) facts =
+    (facts.reason ≡ None) × IsLineOf (q.held path) line facts.place
 
 -- what is found after a fault of a request with this line
 pub record AreFacts (q : Inquiry) (asked : Request) (line : List ℕ) (facts : Facts) : Type 0 where

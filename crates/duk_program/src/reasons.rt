@@ -3,7 +3,7 @@
 
 ghost use Rattle.std.specs.Prelude.{◌≡◌, IfSome, IsTrue, Some, map};
 ghost use Rattle.duk_explain.specs.Subject.{subject_of};
-ghost use Rattle.duk_program.specs.Inquiry.{AreFacts, AreFactsOf, IsReasonOfSecrets, IsRecordOf, IsReferenceReason, inquiry};
+ghost use Rattle.duk_program.specs.Inquiry.{AreFacts, AreFactsOf, IsLineOf, IsReasonOfSecrets, IsRecordOf, IsReferenceReason, inquiry};
 ghost use Rattle.duk_program.specs.Secrets.{secret_line, secrets_of};
 ghost use Rattle.duk_program.specs.declared.secrets.SecretFault.TheVariants as fault;
 ghost use Rattle.duk_program.specs.declared.secrets.Unread.TheVariants as unread;
@@ -131,7 +131,9 @@ fn damaged_record<S: FileSystem>(alloc: Global, files: &S, path: &str) -> Option
 }
 
 /// The line of a configuration that the line of a fault is about, where it can be read.
-fn faulty_line<S: FileSystem>(alloc: Global, files: &S, path: &str, line: &[u8]) -> Option<u64> {
+fn faulty_line<S: FileSystem>(alloc: Global, files: &S, path: &str, line: &[u8]) -> Option<u64>
+    ensures { IsLineOf (S.held files.now path.now) line.now result }
+{
     let bytes = files.read_again(alloc, path, LONGEST_FILE)?;
     line_of_fault(bytes.as_slice(), line)
 }
