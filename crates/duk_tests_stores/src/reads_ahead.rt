@@ -76,17 +76,16 @@ enum Call {
     Sync,
 }
 
-/// Whether a read of `N` bytes passes, and gives the byte of its place.
-fn reads_right<const N: usize>(file: &mut ReadAhead<NotedFile<'_>>, at: u64) -> bool {
-    let mut bytes = [0; N];
-    let passed = file.read_range(at, &mut bytes).is_ok();
-    passed && bytes[0] as u64 == at % 251
+/// Whether a read into all of these bytes passes, and gives the byte of its place.
+fn reads_right(file: &mut ReadAhead<NotedFile<'_>>, at: u64, bytes: &mut [u8]) -> bool {
+    let passed = file.read_range(at, bytes).is_ok();
+    passed && bytes.first() == Some(&((at % 251) as u8))
 }
 
 fn passes(file: &mut ReadAhead<NotedFile<'_>>, call: Call) -> bool {
     match call {
-        Call::Read(at) => reads_right::<16>(file, at),
-        Call::ReadMany(at) => reads_right::<4096>(file, at),
+        Call::Read(at) => reads_right(file, at, &mut [0; 16]),
+        Call::ReadMany(at) => reads_right(file, at, &mut [0; 4096]),
         Call::Write => file.write_range(0, &[1]).is_ok(),
         Call::Sync => file.sync_writes().is_ok(),
     }
