@@ -1,0 +1,61 @@
+-- What a host over a journal does with a group of frames: this project's own.
+use Rattle.std.specs.Prelude.{◌≡◌, ◌<◌, ◌++◌, ℕ, List, [], None, length, take}
+use Rattle.duk_host.specs.declared.fault.HostFault.{HostFault}
+use Rattle.duk_host.specs.declared.fault.HostFault.TheVariants as fault
+use Rattle.duk_journal.specs.Groups.{Payments}
+use Rattle.duk_journal.specs.Journal.{GroupAppendFailed}
+use Rattle.duk_store.specs.declared.fault.StoreFault.{StoreFault}
+use Rattle.duk_line.specs.Host.{HostMeaning, HostOf, JudgesBy, basis_of}
+use Rattle.duk_line.specs.Judged.{AreJudged}
+use Rattle.duk_line.specs.Restart.{PreservesEnds}
+
+-- the most frames of a group
+abbrev pub most_frames : ℕ
+most_frames = 1024
+
+-- a group of frames as it is answered: the answers, in the order of the frames, and the payments
+-- that go into the journal before any of them goes out
+pub record GroupOf : Type 0 where
+  pub answers : List (List ℕ)
+  pub payments : Payments
+
+-- frames are answered: whatever payments the host judged by, these are the answers, and it now
+-- judges by those payments and the ones that the frames add
+pub record AnswersFrames
+    {J I : Type 0} (meaning : HostMeaning J I) (frames : List (List ℕ)) (old new : HostOf J I)
+    (answers : List (List ℕ)) : Type 0 where
+  pub ends : PreservesEnds old new
+  pub capacity : meaning.journal.capacity new.journal ≡ meaning.journal.capacity old.journal
+  pub answered : (payments : Payments) → JudgesBy meaning old payments → (added : Payments)
+      × AreJudged (basis_of meaning old payments) frames answers added
+      × JudgesBy meaning new (payments ++ added)
+
+-- memory was refused at a frame: the frames before it are answered
+pub record AnswersFirst
+    {J I : Type 0} (meaning : HostMeaning J I) (frames : List (List ℕ)) (old new : HostOf J I)
+    (answers : List (List ℕ)) : Type 0 where
+  pub fewer : length answers < length frames
+  pub answers_are : AnswersFrames meaning (take (length answers) frames) old new answers
+
+-- payments of a group are not kept: the host is stopped, and there are no answers. A restart finds
+-- the payments that it judged by, or these and all that the first frames of the group add
+pub record IsGroupNotKept
+    {J I : Type 0} (meaning : HostMeaning J I) (frames : List (List ℕ)) (old new : HostOf J I)
+    (why : StoreFault) : Type 0 where
+  pub ends : PreservesEnds old new
+  pub stopped : new.state ≡ None
+  pub not_kept : (payments : Payments) → JudgesBy meaning old payments
+      → (count : ℕ) × (answers : List (List ℕ)) × (added : Payments)
+      × AreJudged (basis_of meaning old payments) (take count frames) answers added
+      × GroupAppendFailed meaning.journal old.journal new.journal added why
+
+-- why a group is not answered whole, what that leaves, and the answers that there are
+abbrev pub GroupRefused : {J I : Type 0} → HostMeaning J I → List (List ℕ) → HostOf J I
+    → HostOf J I → List (List ℕ) → HostFault → Type 0
+GroupRefused meaning frames old new answers fault.NoMemory =
+    AnswersFirst meaning frames old new answers
+GroupRefused meaning frames old new answers (fault.Store why) =
+    IsGroupNotKept meaning frames old new why × (answers ≡ [])
+GroupRefused meaning frames old new answers fault.Stopped =
+    (old.state ≡ None) × (new ≡ old) × (answers ≡ [])
+GroupRefused meaning frames old new answers _ = ⊥

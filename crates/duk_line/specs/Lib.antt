@@ -1,0 +1,8 @@
+pub mod Latest
+pub mod Judgement
+pub mod Judged
+pub mod Host
+pub mod Restart
+pub mod Group
+pub mod View
+pub mod inner

@@ -1,0 +1,6 @@
+pub mod Latest
+pub mod Index
+pub mod Group
+pub mod Host
+pub mod Judged
+pub mod Keep

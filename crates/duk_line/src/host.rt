@@ -1,0 +1,127 @@
+//! A host over its journal.
+
+ghost use Rattle.std.specs.Prelude.{◌≡◌, ◌≤◌, None, IfErr, IfOk, IsSome, OnOk, length, map};
+ghost use Rattle.duk_store.specs.StoreState.{StaysButCalm};
+ghost use Rattle.duk_line.specs.Group.{AnswersFrames, GroupRefused, most_frames};
+ghost use Rattle.duk_line.specs.Host.{host_meaning_of};
+ghost use Rattle.duk_line.specs.Restart.{PreservesEnds};
+ghost use Rattle.duk_line.specs.inner.Keep.{AreKept, KeepFailed, MayBeKept};
+
+use crate::group::Group;
+use crate::index::Index;
+use crate::judge::judge_frames;
+use duk_frame::Frame;
+use duk_host::{HostFault, Issuer};
+use duk_hsm::Hsm;
+use duk_journal::{Journal, Payment};
+use duk_store::StoreFault;
+use std::alloc::Global;
+use std::marker::Model;
+
+/// A host: a security module, the issuer of the cards, and the journal of the payments. It is made
+/// stopped. While it runs, the used numbers and the payments that can be answered again are in
+/// memory.
+#[derive(Drop)]
+pub struct JournalHost<const N: usize, J: Journal, I: Issuer> {
+    alloc: Global,
+    hsm: Hsm<N>,
+    issuer: I,
+    journal: J,
+    state: Option<Index>,
+}
+
+impl<const N: usize, J: Journal, I: Issuer> Model for JournalHost<N, J, I> {
+    ghost use Rattle.duk_line.specs.Host.{HostOf};
+    ghost use Rattle.duk_line.specs.inner.Host.{AgreesWithJournal};
+    ghost use Rattle.duk_line.specs.View.{host_view};
+
+    ghost Value = { HostOf J I };
+
+    ghost view = { host_view };
+
+    ghost invariant = { λ host. AgreesWithJournal J.meaning host.hsm host.journal host.state };
+}
+
+impl<const N: usize, J: Journal, I: Issuer> JournalHost<N, J, I> {
+    /// A stopped host. Its security module holds a zone key, as `has_zone` reports. This takes no
+    /// memory.
+    pub fn new(alloc: Global, hsm: Hsm<N>, issuer: I, journal: J) -> Self
+        requires zone { IsSome hsm.zone }
+        ensures { result ≡ record { keys = hsm.entry; issuer = issuer; journal = journal; state = None } }
+    {
+        JournalHost {
+            alloc,
+            hsm,
+            issuer,
+            journal,
+            state: None,
+        }
+    }
+
+    /// Judges the frames of a group in turn, each with the payments that the earlier ones leave,
+    /// appends the payments that they add to the journal, and puts the answers into `group`.
+    ///
+    /// Refused with `Stopped`; with `NoMemory` at the first frame to be accepted for which memory is
+    /// refused, where the frames before it are answered; and with `Store`, where the payments are
+    /// not kept, the host is stopped, and there are no answers.
+    pub fn answer(&mut self, frames: &[Frame], group: &mut Group) -> Result<(), HostFault>
+        requires few { length frames.now ≤ most_frames }
+        ensures answered { OnOk result (AnswersFrames (host_meaning_of J.meaning I.decides)
+            (map (λ frame. frame.items) frames.now) self.old self.new group.new.answers) }
+        ensures refused { IfErr result (GroupRefused (host_meaning_of J.meaning I.decides)
+            (map (λ frame. frame.items) frames.now) self.old self.new group.new.answers) }
+    {
+        group.clear();
+        let Some(index) = &mut self.state else {
+            return Err(HostFault::Stopped);
+        };
+        let room = self.journal.room();
+        let judged = judge_frames(&self.hsm, &self.issuer, index, room, frames, group);
+        match keep(&mut self.journal, group.payments()) {
+            Ok(()) => {}
+            Err(fault) => {
+                self.state = None;
+                group.clear();
+                return Err(HostFault::Store(fault));
+            }
+        }
+        match judged {
+            Ok(()) => Ok(()),
+            Err(_refused) => Err(HostFault::NoMemory),
+        }
+    }
+
+    /// The security module.
+    pub fn hsm(&self) -> &Hsm<N>
+        ensures { result.now ≡ self.now.keys }
+    {
+        &self.hsm
+    }
+
+    /// Lets the next `steps` device steps of the journal pass and each later one fail, until a
+    /// restart.
+    pub fn arm(&mut self, steps: u32)
+        ensures armed { J.meaning.arms self.old.journal steps self.new.journal }
+        ensures stays { StaysButCalm
+            (J.meaning.state_of self.old.journal) (J.meaning.state_of self.new.journal) }
+        ensures capacity { J.meaning.capacity self.new.journal
+            ≡ J.meaning.capacity self.old.journal }
+        ensures ends { PreservesEnds self.old self.new }
+        ensures state { self.new.state ≡ self.old.state }
+    {
+        self.journal.arm(steps);
+    }
+}
+
+/// Appends the payments of a group, if there are any.
+fn keep<J: Journal>(journal: &mut J, payments: &[Payment]) -> Result<(), StoreFault>
+    requires kept { MayBeKept J.meaning journal.old payments.now }
+    ensures kept { OnOk result (AreKept J.meaning journal.old journal.new payments.now) }
+    ensures capacity { J.meaning.capacity journal.new ≡ J.meaning.capacity journal.old }
+    ensures failed { IfErr result (KeepFailed J.meaning journal.old journal.new payments.now) }
+{
+    if payments.is_empty() {
+        return Ok(());
+    }
+    journal.append(payments)
+}

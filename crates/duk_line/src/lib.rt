@@ -1,0 +1,17 @@
+//! A payment host over a journal, for a busy line.
+//!
+//! It judges requests as `duk_host` does, a group of frames at a time: what a group accepts goes into
+//! the journal together, with one pair of syncs, before any answer of the group goes out. The journal
+//! keeps what was decided, so a request whose payment is one of the latest is given its reply again
+//! in any run.
+#![tactic(auto)]
+
+mod group;
+mod host;
+mod index;
+mod judge;
+mod latest;
+pub mod laws;
+
+pub use group::{Group, MOST_FRAMES};
+pub use host::JournalHost;
