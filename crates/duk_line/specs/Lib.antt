@@ -4,5 +4,4 @@ pub mod Judged
 pub mod Host
 pub mod Restart
 pub mod Group
-pub mod View
 pub mod inner

@@ -4,3 +4,4 @@ pub mod Group
 pub mod Host
 pub mod Judged
 pub mod Keep
+pub mod View
