@@ -5,3 +5,6 @@ pub mod Ring
 pub mod Indexed
 pub mod Judging
 pub mod Answering
+pub mod FirstRead
+pub mod PiecesRead
+pub mod Restarting

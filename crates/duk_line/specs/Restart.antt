@@ -1,8 +1,57 @@
--- What calls of a host over a journal leave as it was: this project's own.
-use Rattle.std.specs.Prelude.{◌≡◌}
-use Rattle.duk_line.specs.Host.{HostOf}
+-- The restart of a host over a journal: this project's own.
+use Rattle.std.specs.Prelude.{◌≡◌, ◌⊎◌, ℕ, None, length}
+use Rattle.duk_host.specs.Used.{AreUsable}
+use Rattle.duk_host.specs.declared.fault.HostFault.{HostFault}
+use Rattle.duk_host.specs.declared.fault.HostFault.TheVariants as fault
+use Rattle.duk_journal.specs.Groups.{Payments}
+use Rattle.duk_journal.specs.Journal.{JournalMeaning, JournalRestarted}
+use Rattle.duk_store.specs.Restart.{Restarted, RestartFailed}
+use Rattle.duk_store.specs.declared.fault.StoreFault.{StoreFault}
+use Rattle.duk_store.specs.declared.fault.StoreFault.TheVariants.{Damaged}
+use Rattle.duk_line.specs.Host.{HostMeaning, HostOf, JudgesBy}
+use Rattle.duk_line.specs.Latest.{numbers_of}
 
 -- all but the journal and the index is as it was
 pub record PreservesEnds {J I : Type 0} (old new : HostOf J I) : Type 0 where
   pub keys : new.keys ≡ old.keys
   pub issuer : new.issuer ≡ old.issuer
+
+-- a restart that is done: the journal's is, and the host judges by the payments that it found
+pub record IsHostRestarted
+    {J I : Type 0} (meaning : HostMeaning J I) (old new : HostOf J I) (found : ℕ) : Type 0 where
+  pub payments : Payments
+  pub ends : PreservesEnds old new
+  pub journal : Restarted (meaning.journal.state_of old.journal) (meaning.journal.state_of new.journal) payments
+  pub counted : length payments ≡ found
+  pub judges : JudgesBy meaning new payments
+
+-- the journal kept a payment whose number numbers no transaction, or two of one number
+pub record FoundUnusable
+    {J : Type 0} (meaning : JournalMeaning J) (old new : J) : Type 0 where
+  pub count : ℕ
+  pub journal : JournalRestarted meaning old new count
+  pub not_usable : (honest : (meaning.state_of old).honest)
+      → ¬ AreUsable (numbers_of (journal.found honest).0)
+
+-- a restart that failed: the host is stopped, since its journal failed, or found such a list
+pub record HostRestartStopped
+    {J I : Type 0} (meaning : JournalMeaning J) (old new : HostOf J I) (why : StoreFault) : Type 0 where
+  pub ends : PreservesEnds old new
+  pub stopped : new.state ≡ None
+  pub cause : RestartFailed (meaning.state_of old.journal) (meaning.state_of new.journal) why
+      ⊎ ((why ≡ Damaged) × FoundUnusable meaning old.journal new.journal)
+
+-- a restart that was refused memory: the host is stopped, and its journal's restart is done
+pub record HostRestartNoMemory
+    {J I : Type 0} (meaning : JournalMeaning J) (old new : HostOf J I) : Type 0 where
+  pub count : ℕ
+  pub ends : PreservesEnds old new
+  pub stopped : new.state ≡ None
+  pub journal : JournalRestarted meaning old.journal new.journal count
+
+-- why a restart is refused
+abbrev pub HostRestartRefused : {J I : Type 0} → JournalMeaning J → HostOf J I → HostOf J I
+    → HostFault → Type 0
+HostRestartRefused meaning old new (fault.Store why) = HostRestartStopped meaning old new why
+HostRestartRefused meaning old new fault.NoMemory = HostRestartNoMemory meaning old new
+HostRestartRefused meaning old new _ = ⊥

@@ -5,3 +5,4 @@ pub mod Host
 pub mod Judged
 pub mod Keep
 pub mod View
+pub mod Reading

@@ -4,12 +4,13 @@ ghost use Rattle.std.specs.Prelude.{◌≡◌, ◌≤◌, None, IfErr, IfOk, IsS
 ghost use Rattle.duk_store.specs.StoreState.{StaysButCalm};
 ghost use Rattle.duk_line.specs.Group.{AnswersFrames, GroupRefused, most_frames};
 ghost use Rattle.duk_line.specs.Host.{host_meaning_of};
-ghost use Rattle.duk_line.specs.Restart.{PreservesEnds};
+ghost use Rattle.duk_line.specs.Restart.{HostRestartRefused, IsHostRestarted, PreservesEnds};
 ghost use Rattle.duk_line.specs.inner.Keep.{AreKept, KeepFailed, MayBeKept};
 
 use crate::group::Group;
 use crate::index::Index;
 use crate::judge::judge_frames;
+use crate::reading::index_of;
 use duk_frame::Frame;
 use duk_host::{HostFault, Issuer};
 use duk_hsm::Hsm;
@@ -56,6 +57,28 @@ impl<const N: usize, J: Journal, I: Issuer> JournalHost<N, J, I> {
             journal,
             state: None,
         }
+    }
+
+    /// Brings journal and host up, reads the payments of the journal, and gives how many there are.
+    ///
+    /// Refused with `Store`: of the journal's fault, or with `Damaged` where a number that it keeps
+    /// occurs twice or numbers no transaction; and with `NoMemory`. The host is stopped after
+    /// either.
+    pub fn restart(&mut self) -> Result<u64, HostFault>
+        ensures restarted { IfOk result
+            (IsHostRestarted (host_meaning_of J.meaning I.decides) self.old self.new) }
+        ensures refused { IfErr result (HostRestartRefused J.meaning self.old self.new) }
+        ensures disarmed { J.meaning.disarmed self.new.journal }
+        ensures capacity { J.meaning.capacity self.new.journal
+            ≡ J.meaning.capacity self.old.journal }
+    {
+        self.state = None;
+        let kept = match self.journal.restart() {
+            Ok(kept) => kept,
+            Err(fault) => return Err(HostFault::Store(fault)),
+        };
+        self.state = Some(index_of(self.alloc, &mut self.journal, kept)?);
+        Ok(kept)
     }
 
     /// Judges the frames of a group in turn, each with the payments that the earlier ones leave,

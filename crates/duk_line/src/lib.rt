@@ -3,7 +3,7 @@
 //! It judges requests as `duk_host` does, a group of frames at a time: what a group accepts goes into
 //! the journal together, with one pair of syncs, before any answer of the group goes out. The journal
 //! keeps what was decided, so a request whose payment is one of the latest is given its reply again
-//! in any run.
+//! in any run. A restart reads the journal by large pieces.
 #![tactic(auto)]
 
 mod group;
@@ -12,6 +12,7 @@ mod index;
 mod judge;
 mod latest;
 pub mod laws;
+mod reading;
 
 pub use group::{Group, MOST_FRAMES};
 pub use host::JournalHost;

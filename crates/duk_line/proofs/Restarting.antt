@@ -1,0 +1,173 @@
+-- A host's restart, from what the restart of its journal and the reading do.
+use Rattle.std.proofs.Common.{◌≡◌, ◌++◌, ℕ, None, Some, drop, length, take, inl, inr, refl, sym, ap, subst, ◌∙◌}
+use Rattle.std.proofs.lemmas.Bool.{false≢true}
+use Rattle.std.proofs.lemmas.List.{take-append-drop}
+use Rattle.duk_host.specs.Used.{AreUsable}
+use Rattle.duk_host.specs.declared.fault.HostFault.{HostFault}
+use Rattle.duk_host.specs.declared.fault.HostFault.TheVariants as fault
+use Rattle.duk_journal.specs.Groups.{Payments}
+use Rattle.duk_journal.specs.Journal.{IsReadStopped, JournalMeaning, JournalRestarted, PaymentsUnread}
+use Rattle.duk_store.specs.Restart.{Restarted, RestartFailed}
+use Rattle.duk_store.specs.StoreState.{FindsOnly, Stays, Stops, StoreState}
+use Rattle.duk_store.specs.declared.fault.StoreFault.{StoreFault}
+use Rattle.duk_store.specs.declared.fault.StoreFault.TheVariants as store_fault
+use Rattle.duk_line.specs.Host.{HostMeaning, HostOf, IndexOf, KeepsAlone}
+use Rattle.duk_line.specs.Latest.{numbers_of}
+use Rattle.duk_line.specs.Restart.{HostRestartRefused, IsHostRestarted, PreservesEnds}
+use Rattle.duk_line.specs.inner.Host.{HoldsIndex}
+use Rattle.duk_line.specs.inner.Reading.{AreRead, ReadRefused}
+use Rattle.duk_line.proofs.Answering.{take_all}
+use Rattle.duk_line.proofs.FirstRead.{usable_front}
+use Rattle.duk_line.proofs.PiecesRead.{nature_on}
+
+finds_on : (mid new : StoreState Payments) (payments : Payments) → mid.honest → FindsOnly mid payments → Stays mid new → FindsOnly new payments
+finds_on mid new payments honest only stays = λ other.
+    let as_before = stays.found honest other in (λ found. (only other).0 (as_before.0 found), λ same. as_before.1 ((only other).1 same))
+
+-- what a restart found stays found while the journal is read
+restarted_on : {J : Type 0} (meaning : JournalMeaning J) (old mid new : J) (count : ℕ) → JournalRestarted meaning old mid count → Stays (meaning.state_of mid) (meaning.state_of new) → JournalRestarted meaning old new count
+restarted_on meaning old mid new count restarted stays = record {
+  nature = nature_on (meaning.state_of old) (meaning.state_of mid) (meaning.state_of new) restarted.nature stays.nature;
+  no_failure = stays.no_failure ∙ restarted.no_failure;
+  runs = stays.running ∙ restarted.runs;
+  found = λ honest.
+      let list = restarted.found honest in (
+        list.0,
+        record {
+          finds = finds_on (meaning.state_of mid) (meaning.state_of new) list.0 (restarted.nature.honest.0 honest) list.1.finds stays;
+          was_found = list.1.was_found;
+          counted = list.1.counted;
+        },
+      );
+}
+
+-- ---- all payments are read
+
+module _ {J : Type 0} (meaning : JournalMeaning J) (old mid new : J) (count : ℕ) (index : IndexOf) (restarted : JournalRestarted meaning old mid count) (read : AreRead meaning mid new count index) where
+  -- they are those that the restart found
+  all_seen : (honest : (meaning.state_of old).honest) → (restarted.found honest).0 ≡ read.seen
+  all_seen honest =
+      let list = restarted.found honest in
+      let is_found = (list.1.finds list.0).1 refl in
+      let first = read.read.first (restarted.nature.honest.0 honest) list.0 is_found in
+      sym (take_all list.0 (length read.seen) (read.counted ∙ sym list.1.counted)) ∙ first
+
+  journal_read : Restarted (meaning.state_of old) (meaning.state_of new) read.seen
+  unfolding restarted_on
+  journal_read =
+      let after = restarted_on meaning old mid new count restarted read.read.stays in
+      record {
+        settles = record {
+          nature = after.nature;
+          no_failure = after.no_failure;
+          runs = after.runs;
+          finds = λ honest. subst (λ payments. FindsOnly (meaning.state_of new) payments) (all_seen honest) (after.found honest).1.finds;
+        };
+        was_found = λ honest. subst (meaning.state_of old).found (all_seen honest) (restarted.found honest).1.was_found;
+      }
+
+  keeps_read : meaning.count new ≡ count → KeepsAlone meaning new read.seen
+  keeps_read counted = record {
+    runs = journal_read.settles.runs;
+    counted = read.counted ∙ sym counted;
+    finds = λ honest. journal_read.settles.finds (journal_read.settles.nature.honest.1 honest);
+  }
+
+  pub holds_read : meaning.count new ≡ count → HoldsIndex meaning new index
+  holds_read counted = record { payments = read.seen; index_is = read.index_is; kept = keeps_read counted }
+
+pub is_restarted :
+    {J I : Type 0} (meaning : HostMeaning J I) (old new : HostOf J I) (mid : J) (count : ℕ) (index : IndexOf) → JournalRestarted meaning.journal old.journal mid count → AreRead meaning.journal mid new.journal count index
+    → PreservesEnds old new → new.state ≡ Some index → meaning.journal.count new.journal ≡ count → IsHostRestarted meaning old new count
+is_restarted meaning old new mid count index restarted read ends runs counted = record {
+  payments = read.seen;
+  ends = ends;
+  journal = journal_read meaning.journal old.journal mid new.journal count index restarted read;
+  counted = read.counted;
+  judges = record {
+    index = index;
+    runs = runs;
+    index_is = read.index_is;
+    kept = keeps_read meaning.journal old.journal mid new.journal count index restarted read counted;
+  };
+}
+
+-- ---- not all are
+
+module _ {J : Type 0} (meaning : JournalMeaning J) (old mid new : J) (count : ℕ) (restarted : JournalRestarted meaning old mid count) where
+  unread_stops : IsReadStopped meaning mid new → ((meaning.state_of old).calm → (meaning.state_of new).failures ≡ (meaning.state_of old).failures)
+      → Stops (meaning.state_of old) (meaning.state_of new) (meaning.state_of old).found
+  unread_stops stopped quiet = record {
+    nature = nature_on (meaning.state_of old) (meaning.state_of mid) (meaning.state_of new) restarted.nature stopped.nature;
+    quiet = quiet;
+    stopped = stopped.stopped;
+    within = λ honest other found.
+        let list = restarted.found honest in
+        let same = (list.1.finds other).0 ((stopped.found (restarted.nature.honest.0 honest) other).0 found) in
+        subst (meaning.state_of old).found (sym same) list.1.was_found;
+    some = λ honest sound.
+        let list = restarted.found honest in
+        (list.0, (stopped.found (restarted.nature.honest.0 honest) list.0).1 ((list.1.finds list.0).1 refl));
+  }
+
+  -- a reading that failed after a restart is a restart that failed
+  failed_on : (why : StoreFault) → PaymentsUnread meaning mid new why → RestartFailed (meaning.state_of old) (meaning.state_of new) why
+  failed_on store_fault.Device unread = record {
+    stops = unread_stops unread.0 (λ calm. absurd (unread.2 (restarted.nature.calm calm)));
+    fault_is = λ same. unread.1 (same ∙ sym restarted.no_failure);
+  }
+  failed_on store_fault.Stopped unread = absurd (false≢true (sym unread.was_stopped ∙ restarted.runs))
+  failed_on store_fault.Damaged unread = record {
+    stops = unread_stops unread.0 (λ calm. unread.1 ∙ restarted.no_failure);
+    fault_is = record {
+      unsound = λ honest sound. unread.2 (restarted.nature.honest.0 honest);
+      no_failure = unread.1 ∙ restarted.no_failure;
+    };
+  }
+  failed_on store_fault.Worn unread = absurd unread
+  failed_on store_fault.NoMemory unread = absurd unread
+
+-- where the first payments may not be used, nor may all
+not_all_usable : (payments seen : Payments) → take (length seen) payments ≡ seen → ¬ AreUsable (numbers_of seen) → ¬ AreUsable (numbers_of payments)
+not_all_usable payments seen first bad are =
+    let rest = drop (length seen) payments in
+    let all : payments ≡ seen ++ rest = sym (take-append-drop (length seen) payments) ∙ ap (λ front. front ++ rest) first in
+    bad (usable_front seen rest (subst (λ payments. AreUsable (numbers_of payments)) all are))
+
+-- the payments are not read, and the host is stopped
+pub restart_refused :
+    {J I : Type 0} (meaning : JournalMeaning J) (old new : HostOf J I) (mid : J) (count : ℕ) (why : HostFault) → JournalRestarted meaning old.journal mid count → PreservesEnds old new → new.state ≡ None
+    → ReadRefused meaning mid new.journal count why → HostRestartRefused meaning old new why
+unfolding restarted_on
+restart_refused meaning old new mid count fault.NoMemory restarted ends stopped stays = record {
+  count = count;
+  ends = ends;
+  stopped = stopped;
+  journal = restarted_on meaning old.journal mid new.journal count restarted stays;
+}
+restart_refused meaning old new mid count (fault.Store why) restarted ends stopped refused = record {
+  ends = ends;
+  stopped = stopped;
+  cause =
+      elim refused [
+        | inl unread ↦ inl (failed_on meaning old.journal mid new.journal count restarted why unread)
+        | inr damaged ↦
+            let bad = damaged.1 in
+            inr (
+              damaged.0,
+              record {
+                count = count;
+                journal = restarted_on meaning old.journal mid new.journal count restarted bad.read.stays;
+                not_usable = λ honest.
+                    let list = restarted.found honest in
+                    let is_found = (list.1.finds list.0).1 refl in
+                    not_all_usable list.0 bad.seen (bad.read.first (restarted.nature.honest.0 honest) list.0 is_found) bad.not_usable;
+              },
+            )
+      ];
+}
+restart_refused meaning old new mid count fault.Stopped restarted ends stopped refused = absurd refused
+restart_refused meaning old new mid count fault.Read restarted ends stopped refused = absurd refused
+restart_refused meaning old new mid count fault.Write restarted ends stopped refused = absurd refused
+restart_refused meaning old new mid count fault.Truncated restarted ends stopped refused = absurd refused
+restart_refused meaning old new mid count fault.TooLong restarted ends stopped refused = absurd refused
