@@ -16,7 +16,7 @@ from .support.program import Word
 from .support.service_case import (
     LOG_FAILED, ON_LOG, ServiceCase, answers_to, frames_of, numbers_of, stream_of)
 
-PAYMENTS, ROOM = 6, 8
+PAYMENTS, ROOM, LONG_ROOM = 6, 8, 600
 # The writes and syncs of an acceptance, behind the sync at the start.
 CALLS = 4
 
@@ -68,23 +68,37 @@ class FailedCalls(ServiceCase):
 
 
 class FailedReads(ServiceCase):
-    """One read of a start fails, and each later one would be answered."""
+    """Reads of a start fail, and each later one would be answered. Where the bytes ahead cannot be
+    read, the record is read alone."""
+
+    def setUp(self) -> None:
+        super().setUp()
+        self.image = log_image(numbers_of(payments(PAYMENTS)[:-1]), LONG_ROOM)
+        self.file = CutFile(self.folder(), self.image)
+        self.addCleanup(self.file.close)
+        self.words = ("serve", "bank.toml", "--log", self.file.path)
+        self.check(self.words, [], b"")
+        self.reads = self.file.reads()
 
     def test_each_read(self) -> None:
-        requests = payments(PAYMENTS)
-        image = log_image(numbers_of(requests[:-1]), ROOM)
-        file = CutFile(self.folder(), image)
-        self.addCleanup(file.close)
-        words = ("serve", "bank.toml", "--log", file.path)
-        self.check(words, [], b"")
-        reads = file.reads()
-        self.assertGreaterEqual(reads, ROOM, "a start reads each record")
-        for read in range(reads):
+        """The one of the bytes ahead, and that of the record."""
+        self.assertGreater(self.reads, 2, "a start reads a long log in pieces")
+        for read in range(self.reads):
+            what = f"read {read} of a start fails, and the next one"
+            self.file.begin(Plan(failed_read=read, failed_reads=2))
+            requests = payments(PAYMENTS)
+            self.check(self.words, [stream_of(requests)], b"", LOG_FAILED, what=what)
+            self.assertEqual(self.file.reads(), read + 2, f"{what}: reads behind them")
+            self.assertEqual(self.file.image(), self.image, what)
+
+    def test_reads_ahead(self) -> None:
+        """The one of the bytes ahead alone: the log is read all the same."""
+        for read in range(self.reads):
             what = f"read {read} of a start fails"
-            file.begin(Plan(failed_read=read))
-            self.check(words, [stream_of(requests)], b"", LOG_FAILED, what=what)
-            self.assertEqual(file.reads(), read + 1, f"{what}: reads behind it")
-            self.assertEqual(file.image(), image, what)
+            self.file.begin(Plan(failed_read=read))
+            self.check(self.words, [], b"", what=what)
+            self.assertGreater(self.file.reads(), self.reads, what)
+            self.assertEqual(self.file.image(), self.image, what)
 
 
 class CutShort(ServiceCase):

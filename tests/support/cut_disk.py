@@ -146,8 +146,9 @@ class Plan:
     stop: Optional[Stop] = None
     lies: Lies = Lies.NONE
     failure: Optional[Failure] = None
-    # The read that fails, once: they are counted from 0.
+    # The first read that fails, counted from 0, and how many do.
     failed_read: Optional[int] = None
+    failed_reads: int = 1
     # Whether reads and writes take a part of what is asked for, at times.
     in_pieces: bool = False
 
@@ -171,7 +172,8 @@ class PlannedDisk:
     def read(self, at: int, count: int) -> bytes:
         self.demand_power()
         self.reads += 1
-        if self.plan.failed_read == self.reads - 1:
+        first = self.plan.failed_read
+        if first is not None and first < self.reads <= first + self.plan.failed_reads:
             raise OSError(errno.EIO, "a read that fails")
         return self.disk.read(at, self.taken(count))
 

@@ -13,6 +13,8 @@ from collections import deque
 from enum import Enum
 
 RECORD = 16
+# A read of a record takes so many bytes, as far as the file has them.
+AHEAD = 4096
 KEPT = 64
 
 
@@ -46,7 +48,10 @@ class Log:
             step()
         self.room = self.size // RECORD
         self.sync()
-        records = [self.read(RECORD * at, RECORD) for at in range(self.room)]
+        held = b""
+        while len(held) < RECORD * self.room:
+            held += self.read_ahead(len(held))
+        records = [held[RECORD * at:RECORD * (at + 1)] for at in range(self.room)]
         self.numbers = [it[1:11] for it in records if it[0] == 1]
 
     def lock(self) -> None:
@@ -55,15 +60,23 @@ class Log:
     def take_length(self) -> None:
         self.size = os.fstat(self.file).st_size
 
+    def read_ahead(self, at: int) -> bytes:
+        """The record at this place, and what can be read behind it."""
+        try:
+            return self.read(at, min(AHEAD, RECORD * self.room - at))
+        except OSError:
+            pass
+        try:
+            return self.read(at, RECORD)
+        except OSError:
+            if self.way is not Way.READS_ZEROS:
+                raise
+            return bytes(RECORD)
+
     def read(self, at: int, count: int) -> bytes:
         data = b""
         while len(data) < count:
-            try:
-                data += os.pread(self.file, count - len(data), at + len(data))
-            except OSError:
-                if self.way is not Way.READS_ZEROS:
-                    raise
-                return bytes(count)
+            data += os.pread(self.file, count - len(data), at + len(data))
         return data
 
     def sync(self) -> None:
