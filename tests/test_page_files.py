@@ -21,15 +21,22 @@ from .test_page_manners import FAINT, LEAST_CONTRAST, SCHEMES, WIDTHS
 OVERTAKE = LOOK + """
 const [slow, quick] = arguments[0].map(([name, data]) => fileOf(name, data));
 let release;
+let told;
 const gate = new Promise((done) => { release = done; });
+const isRead = new Promise((done) => { told = done; });
 const read = File.prototype.arrayBuffer;
 File.prototype.arrayBuffer = async function () {
-  if (this.name === slow.name) await gate;
-  return read.call(this);
+  const bytes = await read.call(this);
+  if (this.name === slow.name) {
+    told();
+    await gate;
+  }
+  return bytes;
 };
 drop(slow);
 drop(quick);
 while (!isShown()) await turn();
+await isRead;
 release();
 for (let count = 0; count < 20; count += 1) await turn();
 File.prototype.arrayBuffer = read;
