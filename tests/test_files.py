@@ -174,8 +174,11 @@ class StartScript(Case):
 
     def start(self, *words: str, kit: str = "") -> subprocess.Popen:
         if kit:
-            (self.home / "rt").write_text(kit)
-            (self.home / "rt").chmod(0o755)
+            command = self.home / "rt"
+            # One that runs cannot be written.
+            if not command.exists() or command.read_text() != kit:
+                command.write_text(kit)
+                command.chmod(0o755)
         told = {"PATH": f"{self.home}:{SYSTEM}" if kit else SYSTEM, "NOTED": str(self.noted),
                 "TMPDIR": str(self.temporary)}
         return subprocess.Popen([self.home / "dukpt", *words], cwd=self.temporary, env=told,

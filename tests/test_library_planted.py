@@ -93,8 +93,8 @@ SHIMS = (
     ("rest", "random", "dukpt_pin_of_block: status 0, argument 2 is another"),
     ("order", "random", "dukpt_pin_of_block: status 12, and not 1"),
     ("exchanged", "random", "dukpt_check_reply: status 2"),
-    ("before", "random", "dukpt_cmac: status 0, argument 2 is written before its begin"),
-    ("input", "random", "dukpt_cmac: status 0, argument 0 is changed"),
+    ("before", "random", "argument 2 is written before its begin"),
+    ("input", "random", "argument 0 is changed"),
     ("behind", "random", "random: status -11"),
     ("read behind", "random", "random: status -11"),
 )
