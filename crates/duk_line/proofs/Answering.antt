@@ -60,6 +60,7 @@ module _ {J I : Type 0} (meaning : HostMeaning J I) (keys : HsmKeys) (issuer : I
       → AnswersFrames meaning (take (length answers) frames) (host_with keys issuer old state) (host_with keys issuer new (Some after)) answers
   answers_first kept capacity = record {
     ends = record { keys = refl; issuer = refl };
+    nature = kept.nature;
     capacity = capacity;
     answered = λ payments judges.
         let both = by_capacity payments (judged_by payments judges) in

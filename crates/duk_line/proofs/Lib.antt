@@ -5,6 +5,9 @@ pub mod Ring
 pub mod Indexed
 pub mod Judging
 pub mod Answering
+pub mod Collecting
+pub mod Serving
+pub mod ReadAndServed
 pub mod FirstRead
 pub mod PiecesRead
 pub mod Restarting

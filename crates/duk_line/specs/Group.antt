@@ -4,6 +4,7 @@ use Rattle.duk_host.specs.declared.fault.HostFault.{HostFault}
 use Rattle.duk_host.specs.declared.fault.HostFault.TheVariants as fault
 use Rattle.duk_journal.specs.Groups.{Payments}
 use Rattle.duk_journal.specs.Journal.{GroupAppendFailed}
+use Rattle.duk_store.specs.StoreState.{PreservesNature}
 use Rattle.duk_store.specs.declared.fault.StoreFault.{StoreFault}
 use Rattle.duk_line.specs.Host.{HostMeaning, HostOf, JudgesBy, basis_of}
 use Rattle.duk_line.specs.Judged.{AreJudged}
@@ -25,6 +26,8 @@ pub record AnswersFrames
     {J I : Type 0} (meaning : HostMeaning J I) (frames : List (List ℕ)) (old new : HostOf J I)
     (answers : List (List ℕ)) : Type 0 where
   pub ends : PreservesEnds old new
+  pub nature : PreservesNature
+      (meaning.journal.state_of old.journal) (meaning.journal.state_of new.journal)
   pub capacity : meaning.journal.capacity new.journal ≡ meaning.journal.capacity old.journal
   pub answered : (payments : Payments) → JudgesBy meaning old payments → (added : Payments)
       × AreJudged (basis_of meaning old payments) frames answers added

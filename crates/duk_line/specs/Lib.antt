@@ -4,4 +4,5 @@ pub mod Judged
 pub mod Host
 pub mod Restart
 pub mod Group
+pub mod Serve
 pub mod inner

@@ -6,3 +6,4 @@ pub mod Judged
 pub mod Keep
 pub mod View
 pub mod Reading
+pub mod Serve

@@ -1,6 +1,6 @@
 //! A group of frames, as it is answered.
 
-ghost use Rattle.std.specs.Prelude.{◌≡◌, ◌<◌, ◌++◌, ◌∷◌, [], IfOk, length, map};
+ghost use Rattle.std.specs.Prelude.{◌≡◌, ◌<◌, ◌≤◌, ◌++◌, ◌∷◌, [], IfOk, length, map};
 ghost use Rattle.std.specs.Option.{option_to_list};
 ghost use Rattle.duk_line.specs.Group.{most_frames};
 
@@ -46,9 +46,10 @@ impl Group {
         Ok(Group { answers, payments })
     }
 
-    /// The answers.
+    /// The answers, at most as many as a group may have frames.
     pub fn answers(&self) -> &[Frame]
-        ensures { map (λ answer. answer.items) result.now ≡ self.now.answers }
+        ensures answers { map (λ answer. answer.items) result.now ≡ self.now.answers }
+        ensures few { length result.now ≤ most_frames }
     {
         &self.answers
     }

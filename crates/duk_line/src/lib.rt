@@ -13,6 +13,10 @@ mod judge;
 mod latest;
 pub mod laws;
 mod reading;
+mod service;
+mod workspace;
 
 pub use group::{Group, MOST_FRAMES};
 pub use host::JournalHost;
+pub use service::serve;
+pub use workspace::Workspace;

@@ -1,0 +1,216 @@
+//! A host over a journal as a service: frames in, answers out.
+
+ghost use Rattle.std.specs.Prelude.{◌≡◌, ◌<◌, ◌≤◌, ◌++◌, [], false, length, IfErr, IfOk, OnErr, OnOk, map, take};
+ghost use Rattle.std.specs.List.{concat};
+ghost use Rattle.duk_frame.specs.Stream.{IsPart};
+ghost use Rattle.duk_host.specs.Serve.{supply};
+ghost use Rattle.duk_host.specs.declared.fault.HostFault.TheVariants as fault;
+ghost use Rattle.duk_io.specs.Sink.{IsCut, IsWritten};
+ghost use Rattle.duk_line.specs.Group.{most_frames};
+ghost use Rattle.duk_line.specs.Host.{host_meaning_of};
+ghost use Rattle.duk_line.specs.Serve.{BytesFailed, GroupFailed, IsReadToEnd, IsServed, ServiceFailed, service};
+ghost use Rattle.duk_line.specs.inner.Serve.{AreAnswered, AreBeforeTooLong, AreCollected, HasRoomForFrames};
+
+use crate::group::MOST_FRAMES;
+use crate::host::JournalHost;
+use crate::workspace::Workspace;
+use arrayvec::ArrayVec;
+use duk_frame::{Feeder, Frame, FrameFault};
+use duk_host::{HostFault, Issuer};
+use duk_io::{Sink, Source, write_text};
+use duk_journal::Journal;
+
+/// How many bytes are read at a time, at most.
+const PIECE: usize = 65_536;
+
+/// The most bytes of the answers of a group.
+const LONGEST_ANSWERS: usize = 65_536;
+
+/// Answers the frames of the input. Those that a read ends are answered together, in groups: the
+/// payments of a group are kept before any of its answers is written.
+///
+/// Refused with the first of these: `Read`, where a read failed, and `Truncated`, where the input
+/// ends inside a frame, each after all whole frames are answered; `TooLong`, where a length above
+/// 62 stands in the place of a frame, after all before it are; what `answer` refuses, where
+/// `Store` leaves the whole group without an answer, and `NoMemory` the frames from the first on
+/// for which memory is refused; `Write`, where a write failed or took no byte. A run makes
+/// 2^64 - 1 reads at most, and gives `Read` after them.
+pub fn serve<const N: usize, J: Journal, I: Issuer, R: Source, W: Sink>(
+    host: &mut JournalHost<N, J, I>,
+    work: &mut Workspace,
+    reader: &mut R,
+    writer: &mut W,
+) -> Result<(), HostFault>
+    ensures served { OnOk result (IsReadToEnd (host_meaning_of J.meaning I.decides)
+        (service host.old (W.known writer.old)) (service host.new (W.known writer.new))
+        (supply (R.known reader.old) (R.reads reader.old))
+        (supply (R.known reader.new) (R.reads reader.new)) []) }
+    ensures refused { IfErr result (ServiceFailed (host_meaning_of J.meaning I.decides)
+        (service host.old (W.known writer.old)) (service host.new (W.known writer.new))
+        (supply (R.known reader.old) (R.reads reader.old))
+        (supply (R.known reader.new) (R.reads reader.new))) }
+{
+    duk_io::laws::reads();
+    duk_io::laws::writes();
+    let mut piece = [0; PIECE];
+    let mut feeder = Feeder::new();
+    for _ in 0..u64::MAX {
+        let Ok(count) = reader.get(&mut piece) else {
+            return Err(HostFault::Read);
+        };
+        if count == 0 {
+            return at_end(&feeder);
+        }
+        serve_piece(host, work, &mut feeder, &piece[..count], writer)?;
+    }
+    Err(HostFault::Read)
+}
+
+/// What a service answers at the end of its input.
+fn at_end(feeder: &Feeder) -> Result<(), HostFault>
+    ensures between { OnOk result (feeder.now.rest ≡ []) }
+    ensures inside { IfErr result
+        (λ why. (why ≡ fault.Truncated) × (0 < length feeder.now.rest)) }
+{
+    if feeder.held() > 0 {
+        return Err(HostFault::Truncated);
+    }
+    Ok(())
+}
+
+/// Answers the frames that end in a piece.
+fn serve_piece<const N: usize, J: Journal, I: Issuer, W: Sink>(
+    host: &mut JournalHost<N, J, I>,
+    work: &mut Workspace,
+    feeder: &mut Feeder,
+    piece: &[u8],
+    writer: &mut W,
+) -> Result<(), HostFault>
+    requires goes_on { feeder.old.failed ≡ false }
+    requires some { 0 < length piece.now }
+    ensures served { OnOk result (IsServed (host_meaning_of J.meaning I.decides)
+        (service host.old (W.known writer.old)) (service host.new (W.known writer.new))
+        (feeder.old.rest ++ piece.now) feeder.new.rest) }
+    ensures part { OnOk result (IsPart feeder.new.rest) }
+    ensures goes_on { OnOk result (feeder.new.failed ≡ false) }
+    ensures refused { IfErr result (BytesFailed (host_meaning_of J.meaning I.decides)
+        (service host.old (W.known writer.old)) (service host.new (W.known writer.new))
+        (feeder.old.rest ++ piece.now)) }
+{
+    duk_io::laws::writes();
+    let mut done = 0;
+    while done < piece.len() {
+        done += serve_group(host, work, feeder, &piece[done..], writer)?;
+    }
+    Ok(())
+}
+
+/// Answers the first frames that end in a piece, as many as make a group, and gives how many bytes
+/// of the piece that took.
+fn serve_group<const N: usize, J: Journal, I: Issuer, W: Sink>(
+    host: &mut JournalHost<N, J, I>,
+    work: &mut Workspace,
+    feeder: &mut Feeder,
+    piece: &[u8],
+    writer: &mut W,
+) -> Result<usize, HostFault>
+    requires goes_on { feeder.old.failed ≡ false }
+    requires some { 0 < length piece.now }
+    ensures served { IfOk result (λ taken. IsServed (host_meaning_of J.meaning I.decides)
+        (service host.old (W.known writer.old)) (service host.new (W.known writer.new))
+        (feeder.old.rest ++ take taken piece.now) feeder.new.rest) }
+    ensures some { IfOk result (λ taken. 0 < taken) }
+    ensures within { IfOk result (λ taken. taken ≤ length piece.now) }
+    ensures part { OnOk result (IsPart feeder.new.rest) }
+    ensures goes_on { OnOk result (feeder.new.failed ≡ false) }
+    ensures refused { IfErr result (BytesFailed (host_meaning_of J.meaning I.decides)
+        (service host.old (W.known writer.old)) (service host.new (W.known writer.new))
+        (feeder.old.rest ++ piece.now)) }
+{
+    duk_io::laws::writes();
+    let collected = collect(&mut work.frames, feeder, piece);
+    answer_group(host, work, writer)?;
+    match collected {
+        Ok(taken) => Ok(taken),
+        Err(FrameFault::TooLong) => Err(HostFault::TooLong),
+    }
+}
+
+/// Takes the first frames that end in a piece, as many as make a group, and gives how many bytes of
+/// the piece that took: all of it, where no more frames end there.
+fn collect(frames: &mut Vec<Frame>, feeder: &mut Feeder, piece: &[u8]) -> Result<usize, FrameFault>
+    requires goes_on { feeder.old.failed ≡ false }
+    requires room { HasRoomForFrames frames.old }
+    ensures collected { IfOk result (AreCollected feeder.old feeder.new piece.now
+        (map (λ frame. frame.items) frames.new.items)) }
+    ensures goes_on { OnOk result (feeder.new.failed ≡ false) }
+    ensures too_long { OnErr result (AreBeforeTooLong feeder.old piece.now
+        (map (λ frame. frame.items) frames.new.items)) }
+    ensures few { length frames.new.items ≤ most_frames }
+    ensures room { HasRoomForFrames frames.new }
+{
+    frames.clear();
+    let mut done = 0;
+    while frames.len() < MOST_FRAMES {
+        let (taken, frame) = feeder.feed(&piece[done..])?;
+        let Some(frame) = frame else {
+            return Ok(piece.len());
+        };
+        frames.push_reserved(frame);
+        done += taken;
+    }
+    Ok(done)
+}
+
+/// Answers the frames that were taken, and writes the answers that there are.
+fn answer_group<const N: usize, J: Journal, I: Issuer, W: Sink>(
+    host: &mut JournalHost<N, J, I>,
+    work: &mut Workspace,
+    writer: &mut W,
+) -> Result<(), HostFault>
+    requires few { length work.old.frames ≤ most_frames }
+    ensures answered { OnOk result (AreAnswered (host_meaning_of J.meaning I.decides)
+        (service host.old (W.known writer.old)) (service host.new (W.known writer.new))
+        work.old.frames) }
+    ensures failed { IfErr result (GroupFailed (host_meaning_of J.meaning I.decides)
+        (service host.old (W.known writer.old)) (service host.new (W.known writer.new))
+        work.old.frames) }
+    ensures stays { work.new.frames ≡ work.old.frames }
+{
+    duk_io::laws::writes();
+    let frames = work.frames.as_slice();
+    if frames.is_empty() {
+        return Ok(());
+    }
+    let answered = host.answer(frames, &mut work.group);
+    write_answers(work.group.answers(), writer)?;
+    answered
+}
+
+/// Writes the answers of a group, together.
+fn write_answers<W: Sink>(answers: &[Frame], writer: &mut W) -> Result<(), HostFault>
+    requires few { length answers.now ≤ most_frames }
+    ensures written { OnOk result (IsWritten (W.known writer.old) (W.known writer.new)
+        (concat (map (λ answer. answer.items) answers.now))) }
+    ensures cut { IfErr result (λ why. (why ≡ fault.Write)
+        × IsCut (W.known writer.old) (W.known writer.new)
+        (concat (map (λ answer. answer.items) answers.now))) }
+{
+    let text = joined(answers);
+    if write_text(writer, text.as_slice()).is_err() {
+        return Err(HostFault::Write);
+    }
+    Ok(())
+}
+
+/// The bytes of answers, one after the other.
+fn joined(answers: &[Frame]) -> ArrayVec<u8, LONGEST_ANSWERS>
+    requires few { length answers.now ≤ most_frames }
+    ensures { result.items ≡ concat (map (λ answer. answer.items) answers.now) }
+{
+    let mut text = ArrayVec::new();
+    for answer in answers {
+        text.try_extend_from_slice(answer.as_slice()).unwrap();
+    }
+    text
+}
