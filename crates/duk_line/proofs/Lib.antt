@@ -8,6 +8,8 @@ pub mod Answering
 pub mod Collecting
 pub mod Serving
 pub mod ReadAndServed
+pub mod LifetimeOfServices
+pub mod AnswersOfService
 pub mod FirstRead
 pub mod PiecesRead
 pub mod Restarting

@@ -5,4 +5,5 @@ pub mod Host
 pub mod Restart
 pub mod Group
 pub mod Serve
+pub mod Lifetime
 pub mod inner

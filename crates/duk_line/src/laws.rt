@@ -1,17 +1,29 @@
 //! Laws of hosts over journals, each the contract of a function that does nothing.
 
 ghost use Rattle.std.specs.Prelude.{◌≡◌, ◌++◌, ℕ, [], List, Contains, length};
+ghost use Rattle.std.specs.List.{concat};
 ghost use Rattle.duk_frame.specs.Request.{IsRequest};
 ghost use Rattle.duk_frame.specs.declared.request.Request.{Request};
-ghost use Rattle.duk_host.specs.Judgement.{IsAuthentic, IsReplyWith};
+ghost use Rattle.duk_host.specs.Judgement.{Decision, IsAuthentic, IsReplyWith};
+ghost use Rattle.duk_host.specs.Lifetime.{AcceptsAlike};
+ghost use Rattle.duk_host.specs.Serve.{Supply};
 ghost use Rattle.duk_host.specs.Used.{AreUsable};
+ghost use Rattle.duk_host.specs.declared.fault.HostFault.{HostFault};
 ghost use Rattle.duk_hsm.specs.Keys.{HsmKeys};
+ghost use Rattle.duk_io.specs.Sink.{IsWritten};
 ghost use Rattle.duk_journal.specs.Groups.{Payments};
 ghost use Rattle.duk_journal.specs.declared.payment.Payment.{Payment};
 ghost use Rattle.duk_tree.specs.Serial.{Serial};
+ghost use Rattle.duk_line.specs.Host.{HostOf, host_meaning_of};
 ghost use Rattle.duk_line.specs.Judged.{AreJudged, AreRepliesOf, AreTwoGroups, IsReplyOf};
 ghost use Rattle.duk_line.specs.Judgement.{IsJudged, LineBasis, with_payments};
 ghost use Rattle.duk_line.specs.Latest.{IsPaymentOf, latest_payments, numbers_of};
+ghost use Rattle.duk_line.specs.Lifetime.{AreWrittenTo, IsLifetime, IsService, all_answers};
+ghost use Rattle.duk_line.specs.Restart.{IsHostRestarted};
+ghost use Rattle.duk_line.specs.Serve.{IsReadToEnd, Service, ServiceFailed};
+
+use duk_host::Issuer;
+use duk_journal::Journal;
 
 /// It does not matter how frames are grouped: a group after another is one group, and one group is
 /// any first part of it and the rest, by what that left. There are as many answers as frames.
@@ -62,4 +74,41 @@ pub fn answered_again()
         → IsReplyWith basis.keys request.ksn payment.code answer × (added ≡ []) }
 {
     duk_frame::laws::one_reading();
+}
+
+/// All that services over one journal answer, one after the other, however each of them ends, and
+/// wherever a step of the journal's device fails. All accepted replies to a number that any of them
+/// gives are equal, byte for byte; and the journal keeps the payment of each.
+pub fn lifetimes<J: Journal, I: Issuer>()
+    ensures alike { (keys : HsmKeys) (decides : Decision) (first last : J)
+        → (services : List (List (List ℕ)))
+        → IsLifetime (host_meaning_of J.meaning I.decides) keys decides
+        (J.meaning.state_of first).found services (J.meaning.state_of last).found
+        → AcceptsAlike (all_answers services) }
+    ensures kept { (keys : HsmKeys) (decides : Decision) (first last : J)
+        → (services : List (List (List ℕ))) (payments : Payments)
+        → IsLifetime (host_meaning_of J.meaning I.decides) keys decides
+        (J.meaning.state_of first).found services (J.meaning.state_of last).found
+        → (J.meaning.state_of last).found payments
+        → AreRepliesOf keys payments (all_answers services) }
+{
+    one_reply();
+}
+
+/// What `serve` does after a restart is a service, however it ends: at the end of its input, or
+/// with any fault. The answers of that service are those which the writer got, or, where a write
+/// failed, those whose first bytes it got.
+pub fn each_service<J: Journal, I: Issuer>()
+    ensures ended { let m = host_meaning_of J.meaning I.decides in
+        (made : HostOf J I) (old new : Service J I) (input left : Supply)
+        → (rest : List ℕ) (found : ℕ) → IsHostRestarted m made old.host found
+        → IsReadToEnd m old new input left rest → (answers : List (List ℕ))
+        × IsService m made answers new.host × IsWritten old.writer new.writer (concat answers) }
+    ensures failed { let m = host_meaning_of J.meaning I.decides in
+        (made : HostOf J I) (old new : Service J I) (input left : Supply)
+        → (found : ℕ) (why : HostFault) → IsHostRestarted m made old.host found
+        → ServiceFailed m old new input left why → (answers : List (List ℕ))
+        × IsService m made answers new.host × AreWrittenTo old.writer new.writer answers why }
+{
+    duk_io::laws::writes();
 }
