@@ -1,0 +1,2 @@
+mod KeptFront
+mod Zeroed
