@@ -6,7 +6,7 @@ use Rattle.clap.specs.Simple.{HasMatchesOf, is_simple}
 use Rattle.clap.specs.Words.{App, IsAmong, Text, fault_of, is_simple_and_free, subcommand_of, subcommand_rows_of}
 use Rattle.clap.specs.declared.parser.matches.ArgMatches.{ArgMatches}
 use Rattle.clap.specs.declared.error.kind.ErrorKind.{ErrorKind}
-use Rattle.clap.specs.declared.error.kind.ErrorKind.TheVariants.{MissingSubcommand, OutOfMemory}
+use Rattle.clap.specs.declared.error.kind.ErrorKind.TheVariants.{ArgumentConflict, OutOfMemory}
 use Rattle.duk_arguments.specs.Asked.{AskForNothing, IsNoRequestOf, is_shown}
 use Rattle.duk_arguments.specs.inner.Asked.{IsReportedAs}
 use Rattle.duk_arguments.specs.CommandLine.{command_line}
@@ -46,11 +46,11 @@ is_no_request arguments kind (answer.Refused text) (inr among) reported =
     inl (any_among (λ k. not (is_shown k)) kind _ among (ap not reported.0))
 is_no_request arguments kind answer.NoMemory fails reported = tt
 
--- what is reported of no command stands for arguments without a fault that ask for nothing
-pub is_no_command : (arguments : List Text) (reported : NoRequest)
-    → IsReportedAs MissingSubcommand reported → fault_of command_line arguments ≡ []
+-- what is reported of two stores stands for arguments without a fault that ask for nothing
+pub is_conflict : (arguments : List Text) (reported : NoRequest)
+    → IsReportedAs ArgumentConflict reported → fault_of command_line arguments ≡ []
     → AskForNothing arguments → IsNoRequestOf arguments reported
-is_no_command arguments (answer.Help text) shown none nothing =
+is_conflict arguments (answer.Help text) shown none nothing =
     let hidden : false ≡ true = shown in grind arith
-is_no_command arguments (answer.Refused text) reported none nothing = inr (none, nothing)
-is_no_command arguments answer.NoMemory reported none nothing = tt
+is_conflict arguments (answer.Refused text) reported none nothing = inr (none, nothing)
+is_conflict arguments answer.NoMemory reported none nothing = tt

@@ -4,10 +4,10 @@ use Rattle.clap.specs.Walk.{Text}
 use Rattle.duk_arguments.specs.Written.{IsPlainRequest, arguments_of}
 use Rattle.duk_arguments.specs.declared.request.Request.{Request}
 use Rattle.duk_arguments.specs.declared.request.Request.TheVariants as request
-use Rattle.duk_arguments.proofs.Entered.{leaf_of, enters_derive, enters_walk, enters_pin, enters_wrap, enters_unwrap, enters_run, enters_serve, enters_initial, enters_registers, enters_kcv, enters_mac, enters_unpin, enters_translate, enters_request, enters_reply, enters_show, enters_issue}
+use Rattle.duk_arguments.proofs.Entered.{leaf_of, enters_derive, enters_walk, enters_pin, enters_wrap, enters_unwrap, enters_run, enters_serve, enters_initial, enters_registers, enters_kcv, enters_mac, enters_unpin, enters_translate, enters_request, enters_reply, enters_show, enters_issue, enters_new_journal}
 use Rattle.duk_arguments.proofs.TopLevel.{Make, make}
 use Rattle.duk_arguments.proofs.ReadBlocks.{reads_mac, reads_pin, reads_unpin, reads_translate, reads_wrap, reads_unwrap, reads_show}
-use Rattle.duk_arguments.proofs.ReadFiles.{reads_run, reads_serve}
+use Rattle.duk_arguments.proofs.ReadFiles.{reads_run, reads_serve, reads_new_journal}
 use Rattle.duk_arguments.proofs.ReadFrames.{reads_request, reads_reply}
 use Rattle.duk_arguments.proofs.ReadKcv.{reads_kcv}
 use Rattle.duk_arguments.proofs.ReadKeys.{reads_derive, reads_walk, reads_initial, reads_issue, reads_registers}
@@ -33,9 +33,12 @@ all_made program (request.Unwrap kbpk block) plain =
 all_made program (request.Run config script) plain =
     make program (leaf_of (codes "run")) (request.Run config script) enters_run
     (reads_run config script plain)
-all_made program (request.Serve config log) plain =
-    make program (leaf_of (codes "serve")) (request.Serve config log) enters_serve
-    (reads_serve config log plain)
+all_made program (request.Serve config keeping) plain =
+    make program (leaf_of (codes "serve")) (request.Serve config keeping) enters_serve
+    (reads_serve config keeping plain)
+all_made program (request.NewJournal file records) plain =
+    make program (leaf_of (codes "new-journal")) (request.NewJournal file records) enters_new_journal
+    (reads_new_journal file records plain)
 all_made program (request.Initial bdk iksn) plain =
     make program (leaf_of (codes "initial")) (request.Initial bdk iksn) enters_initial
     (reads_initial bdk iksn plain)

@@ -123,10 +123,16 @@ abbrev pub run_command : Shape
 run_command = command (codes "run")
     (argument_rule (codes "CONFIG") ∷ argument_rule (codes "SCRIPT") ∷ [])
 
--- serve CONFIG [--log FILE]
+-- serve CONFIG [--log FILE] [--journal FILE]
 abbrev pub serve_command : Shape
 serve_command = command (codes "serve")
-    (argument_rule (codes "CONFIG") ∷ option_rule (codes "log") ∷ [])
+    (argument_rule (codes "CONFIG") ∷ option_rule (codes "log") ∷ option_rule (codes "journal")
+    ∷ [])
+
+-- new-journal FILE RECORDS
+abbrev pub new_journal_command : Shape
+new_journal_command = command (codes "new-journal")
+    (argument_rule (codes "FILE") ∷ argument_rule (codes "RECORDS") ∷ [])
 
 -- dukpt: it has a version, wants a command, and answers with its help where no arguments are given
 abbrev pub program_shape : Shape
@@ -159,7 +165,7 @@ frame_commands = request_command ∷ reply_command ∷ []
 
 -- the commands over files
 abbrev pub file_commands : List Shape
-file_commands = run_command ∷ serve_command ∷ []
+file_commands = run_command ∷ serve_command ∷ new_journal_command ∷ []
 
 -- dukpt, and one of its commands
 abbrev pub command_line : App

@@ -1,8 +1,10 @@
 -- What a request gives on the command line: this project's own.
-use Rattle.std.specs.Prelude.{◌∷◌, [], ⊤, Bool, List, Option, codes}
+use Rattle.std.specs.Prelude.{◌∷◌, [], ⊤, Bool, List, None, Option, Some, codes}
 use Rattle.std.specs.Option.{option_map}
 use Rattle.clap.specs.Words.{Text}
 use Rattle.duk_arguments.specs.Keys.{texts_of_keys}
+use Rattle.duk_arguments.specs.declared.request.Kept.{Kept}
+use Rattle.duk_arguments.specs.declared.request.Kept.TheVariants as kept
 use Rattle.duk_arguments.specs.declared.request.Request.{Request}
 use Rattle.duk_arguments.specs.declared.request.Request.TheVariants as request
 
@@ -16,6 +18,15 @@ pub data Given : Type 0 where
   flag : Text → Bool → Given
   several : Text → List Text → Given
 
+-- the path of the log or of the journal in which numbers are kept, where they are kept in one
+abbrev pub log_in : Kept → Option Text
+log_in (kept.InLog path) = Some path.now
+log_in _ = None
+
+abbrev pub journal_in : Kept → Option Text
+journal_in (kept.InJournal path) = Some path.now
+journal_in _ = None
+
 -- the command of a request
 abbrev pub name_of : Request → Text
 name_of (request.Derive bdk ksn initial trace all) = codes "derive"
@@ -24,7 +35,8 @@ name_of (request.Pin pin pan key) = codes "pin"
 name_of (request.Wrap kbpk fields key pad) = codes "wrap"
 name_of (request.Unwrap kbpk block) = codes "unwrap"
 name_of (request.Run config script) = codes "run"
-name_of (request.Serve config log) = codes "serve"
+name_of (request.Serve config keeping) = codes "serve"
+name_of (request.NewJournal file records) = codes "new-journal"
 name_of (request.Initial bdk iksn) = codes "initial"
 name_of (request.Registers bdk ksn initial) = codes "registers"
 name_of (request.Kcv keys components show) = codes "kcv"
@@ -55,9 +67,11 @@ given_of (request.Unwrap kbpk block) =
     needed (codes "KBPK") kbpk.now ∷ needed (codes "BLOCK") block.now ∷ []
 given_of (request.Run config script) =
     needed (codes "CONFIG") config.now ∷ needed (codes "SCRIPT") script.now ∷ []
-given_of (request.Serve config log) =
-    needed (codes "CONFIG") config.now ∷ valued (codes "log") (option_map (λ text. text.now) log)
-    ∷ []
+given_of (request.Serve config keeping) =
+    needed (codes "CONFIG") config.now ∷ valued (codes "log") (log_in keeping)
+    ∷ valued (codes "journal") (journal_in keeping) ∷ []
+given_of (request.NewJournal file records) =
+    needed (codes "FILE") file.now ∷ needed (codes "RECORDS") records.now ∷ []
 given_of (request.Initial bdk iksn) =
     needed (codes "BDK") bdk.now ∷ needed (codes "IKSN") iksn.now ∷ []
 given_of (request.Registers bdk ksn initial) =

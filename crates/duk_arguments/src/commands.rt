@@ -24,7 +24,7 @@ use std::alloc::{AllocError, Global};
 const VERSION: &str = "0.1.0";
 
 /// The program's commands, in the order in which help lists them.
-fn commands() -> [CommandName; 17]
+fn commands() -> [CommandName; 18]
     ensures { map shape_named result ≡ command_line.subs }
 {
     [
@@ -45,6 +45,7 @@ fn commands() -> [CommandName; 17]
         CommandName::Reply,
         CommandName::Run,
         CommandName::Serve,
+        CommandName::NewJournal,
     ]
 }
 
@@ -70,6 +71,7 @@ pub(crate) fn usage_of<'a>(command: CommandName) -> Usage<'a>
         CommandName::Reply => frames::reply(),
         CommandName::Run => files::run(),
         CommandName::Serve => files::serve(),
+        CommandName::NewJournal => files::new_journal(),
     }
 }
 

@@ -1,11 +1,13 @@
 //! The request of each command, of what `clap` found after it.
 
-ghost use Rattle.std.specs.Prelude.{◌≡◌, ◌↔◌, IfSome, IsSome, IsSomeAnd, IsTrue, Some, codes, map, option_map};
+ghost use Rattle.std.specs.Prelude.{◌≡◌, ◌↔◌, IfSome, IsSome, IsSomeAnd, IsTrue, None, Some, codes, map, option_map};
+ghost use Rattle.std.specs.Option.{option_copied};
 ghost use Rattle.clap.specs.Words.{all_of, first_of, found_of, rows_of, subcommand_rows_of};
 ghost use Rattle.duk_arguments.specs.Asked.{AsksAfter, AsksFor, IsFlag};
-ghost use Rattle.duk_arguments.specs.CommandLine.{derive_command, walk_command, initial_command, issue_command, registers_command, kcv_command, mac_command, pin_command, unpin_command, translate_command, wrap_command, unwrap_command, show_command, request_command, reply_command, run_command, serve_command};
-ghost use Rattle.duk_arguments.specs.Given.{Each};
+ghost use Rattle.duk_arguments.specs.CommandLine.{derive_command, walk_command, initial_command, issue_command, registers_command, kcv_command, mac_command, pin_command, unpin_command, translate_command, wrap_command, unwrap_command, show_command, request_command, reply_command, run_command, serve_command, new_journal_command};
+ghost use Rattle.duk_arguments.specs.Given.{Each, journal_in, log_in};
 ghost use Rattle.duk_arguments.specs.Keys.{texts_of_keys};
+ghost use Rattle.duk_arguments.specs.declared.request.Request.{Request};
 ghost use Rattle.duk_arguments.specs.inner.Asked.{AreThere, HaveRoom, IsThere};
 ghost use Rattle.duk_arguments.specs.inner.CommandLine.{rule_of_argument, shape_named};
 
@@ -13,7 +15,7 @@ use crate::commands::arguments::Argument;
 use crate::commands::name::CommandName;
 use crate::commands::{command_named, usage_of};
 use crate::keys::Keys;
-use crate::request::Request;
+use crate::request::{Kept, Request};
 use clap::ArgMatches;
 
 /// The request of the command that was used, over what was found after it.
@@ -26,14 +28,16 @@ pub(crate) fn request_of<'a>(matches: &ArgMatches<'a>) -> Option<Request<'a>>
     request_by(command_named(name)?, found)
 }
 
-/// The request of a command, where all that has to be there was found after it.
+/// The request of a command, where all that has to be there was found after it, and it asks for one.
 fn request_by<'a>(command: CommandName, found: &ArgMatches<'a>) -> Option<Request<'a>>
     ensures asks { IfSome result
         (AsksFor (shape_named command).name (rows_of (found_of found.now))) }
-    ensures all { AreThere (rows_of (found_of found.now)) (shape_named command) → IsSome result }
+    ensures all { (request : Request)
+        → AsksFor (shape_named command).name (rows_of (found_of found.now)) request
+        → IsSome result }
 {
     if are_there(found, usage_of(command).arguments) {
-        Some(whole_request(command, found))
+        whole_request(command, found)
     } else {
         None
     }
@@ -75,29 +79,35 @@ fn has_several(found: &ArgMatches<'_>, name: &str) -> bool
     }
 }
 
-/// The request of a command, after which all was found that has to be there.
-fn whole_request<'a>(command: CommandName, found: &ArgMatches<'a>) -> Request<'a>
+/// The request of a command, after which all was found that has to be there, where it asks
+/// for one.
+fn whole_request<'a>(command: CommandName, found: &ArgMatches<'a>) -> Option<Request<'a>>
     requires { AreThere (rows_of (found_of found.now)) (shape_named command) }
-    ensures { AsksFor (shape_named command).name (rows_of (found_of found.now)) result }
+    ensures asks { IfSome result
+        (AsksFor (shape_named command).name (rows_of (found_of found.now))) }
+    ensures all { (request : Request)
+        → AsksFor (shape_named command).name (rows_of (found_of found.now)) request
+        → IsSome result }
 {
     match command {
-        CommandName::Derive => derive_request(found),
-        CommandName::Walk => walk_request(found),
-        CommandName::Initial => initial_request(found),
-        CommandName::Issue => issue_request(found),
-        CommandName::Registers => registers_request(found),
-        CommandName::Kcv => kcv_request(found),
-        CommandName::Mac => mac_request(found),
-        CommandName::Pin => pin_request(found),
-        CommandName::Unpin => unpin_request(found),
-        CommandName::Translate => translate_request(found),
-        CommandName::Wrap => wrap_request(found),
-        CommandName::Unwrap => unwrap_request(found),
-        CommandName::Show => show_request(found),
-        CommandName::Request => make_request(found),
-        CommandName::Reply => check_reply(found),
-        CommandName::Run => run_request(found),
+        CommandName::Derive => Some(derive_request(found)),
+        CommandName::Walk => Some(walk_request(found)),
+        CommandName::Initial => Some(initial_request(found)),
+        CommandName::Issue => Some(issue_request(found)),
+        CommandName::Registers => Some(registers_request(found)),
+        CommandName::Kcv => Some(kcv_request(found)),
+        CommandName::Mac => Some(mac_request(found)),
+        CommandName::Pin => Some(pin_request(found)),
+        CommandName::Unpin => Some(unpin_request(found)),
+        CommandName::Translate => Some(translate_request(found)),
+        CommandName::Wrap => Some(wrap_request(found)),
+        CommandName::Unwrap => Some(unwrap_request(found)),
+        CommandName::Show => Some(show_request(found)),
+        CommandName::Request => Some(make_request(found)),
+        CommandName::Reply => Some(check_reply(found)),
+        CommandName::Run => Some(run_request(found)),
         CommandName::Serve => serve_request(found),
+        CommandName::NewJournal => Some(new_journal_request(found)),
     }
 }
 
@@ -292,13 +302,39 @@ fn run_request<'a>(found: &ArgMatches<'a>) -> Request<'a>
     }
 }
 
-fn serve_request<'a>(found: &ArgMatches<'a>) -> Request<'a>
+/// The request of `serve`, unless a log and a journal are given both.
+fn serve_request<'a>(found: &ArgMatches<'a>) -> Option<Request<'a>>
     requires { AreThere (rows_of (found_of found.now)) serve_command }
-    ensures { AsksFor (codes "serve") (rows_of (found_of found.now)) result }
+    ensures asks { IfSome result (AsksFor (codes "serve") (rows_of (found_of found.now))) }
+    ensures all { (request : Request)
+        → AsksFor (codes "serve") (rows_of (found_of found.now)) request → IsSome result }
 {
-    Request::Serve {
-        config: text(found, "CONFIG"),
-        log: value(found, "log"),
+    let config = text(found, "CONFIG");
+    let kept = kept_in(value(found, "log"), value(found, "journal"))?;
+    Some(Request::Serve { config, kept })
+}
+
+/// Where numbers are kept, by the paths of a log and of a journal: in one of them at most.
+fn kept_in<'a>(log: Option<&'a str>, journal: Option<&'a str>) -> Option<Kept<'a>>
+    ensures log { IfSome result (λ kept. log_in kept ≡ option_copied log.entry) }
+    ensures journal { IfSome result (λ kept. journal_in kept ≡ option_copied journal.entry) }
+    ensures both { result ≡ None ↔ IsSome log.entry × IsSome journal.entry }
+{
+    match (log, journal) {
+        (None, None) => Some(Kept::InMemory),
+        (Some(path), None) => Some(Kept::InLog(path)),
+        (None, Some(path)) => Some(Kept::InJournal(path)),
+        (Some(_), Some(_)) => None,
+    }
+}
+
+fn new_journal_request<'a>(found: &ArgMatches<'a>) -> Request<'a>
+    requires { AreThere (rows_of (found_of found.now)) new_journal_command }
+    ensures { AsksFor (codes "new-journal") (rows_of (found_of found.now)) result }
+{
+    Request::NewJournal {
+        file: text(found, "FILE"),
+        records: text(found, "RECORDS"),
     }
 }
 

@@ -3,13 +3,15 @@
 ghost use Rattle.std.specs.Prelude.{◌≡◌, [], IfErr, IfOk, IfSome, IsSome};
 ghost use Rattle.clap.specs.Values.{kind_of};
 ghost use Rattle.clap.specs.Words.{app_of, fault_of, subcommand_rows_of};
-ghost use Rattle.clap.specs.declared.error.kind.ErrorKind.TheVariants.{MissingSubcommand};
+ghost use Rattle.clap.specs.declared.error.kind.ErrorKind.TheVariants.{ArgumentConflict};
 ghost use Rattle.duk_arguments.specs.Asked.{Asks, AsksAfter, IsNoRequestOf, texts_of};
 ghost use Rattle.duk_arguments.specs.declared.request.Request.{Request};
 ghost use Rattle.duk_arguments.specs.inner.Asked.{IsReportedAs};
 ghost use Rattle.duk_arguments.specs.CommandLine.{command_line};
 
-use crate::commands::program;
+use crate::commands::arguments::command_of;
+use crate::commands::name::CommandName;
+use crate::commands::{program, usage_of};
 use crate::found::request_of;
 use crate::request::{NoRequest, Request};
 use clap::error::ErrorKind;
@@ -44,7 +46,7 @@ fn match_by<'a>(
     match program.try_get_matches_from_mut(arguments) {
         Ok(matches) => match request_in(matches) {
             Some(request) => Ok(request),
-            None => Err(no_command(alloc, program)),
+            None => Err(two_stores(alloc)),
         },
         Err(error) => Err(no_request(alloc, &error)),
     }
@@ -59,14 +61,25 @@ fn request_in<'a>(matches: ArgMatches<'a>) -> Option<Request<'a>>
     request_of(&matches)
 }
 
-/// What stands in place of a request where no command is used.
-fn no_command(alloc: Global, program: &mut Command<'_>) -> NoRequest
-    ensures { IsReportedAs MissingSubcommand result }
+/// What stands in place of a request where a log and a journal are given both: `clap` finds no fault,
+/// and yet no request has the two.
+fn two_stores(alloc: Global) -> NoRequest
+    ensures { IsReportedAs ArgumentConflict result }
 {
-    match program.error(ErrorKind::MissingSubcommand, "a command is required") {
+    match conflict_of_stores(alloc) {
         Ok(error) => no_request(alloc, &error),
         Err(AllocError) => NoRequest::NoMemory,
     }
+}
+
+/// The error of `clap` for options that exclude each other.
+fn conflict_of_stores(alloc: Global) -> Result<Error, AllocError>
+    ensures { IfOk result (λ error. kind_of error ≡ ArgumentConflict) }
+{
+    let usage = usage_of(CommandName::Serve);
+    let mut command = command_of(alloc, &usage)?.bin_name("dukpt serve")?;
+    let text = "the argument '--log <FILE>' cannot be used with '--journal <FILE>'";
+    command.error(ErrorKind::ArgumentConflict, text)
 }
 
 /// What `clap` reports with an error: that memory was refused, or a text for the user.

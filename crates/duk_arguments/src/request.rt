@@ -71,8 +71,15 @@ pub enum Request<'a> {
     Serve {
         /// The path of the configuration.
         config: &'a str,
-        /// The path of the log of used numbers, or none for a log in memory.
-        log: Option<&'a str>,
+        /// Where the used numbers are kept.
+        kept: Kept<'a>,
+    },
+    /// A new journal.
+    NewJournal {
+        /// The path of the journal.
+        file: &'a str,
+        /// For how many payments it has room, as written.
+        records: &'a str,
     },
     /// The initial key of a terminal, and its check value.
     Initial {
@@ -186,6 +193,17 @@ pub enum Request<'a> {
         /// Whether to pass over the initial keys that are issued already.
         skip_issued: bool,
     },
+}
+
+/// Where a host keeps the numbers that were used.
+#[derive(Clone, Copy)]
+pub enum Kept<'a> {
+    /// In memory.
+    InMemory,
+    /// In the log under this path.
+    InLog(&'a str),
+    /// In the journal under this path, with what was decided for each.
+    InJournal(&'a str),
 }
 
 /// What stands in place of a request.

@@ -1,7 +1,7 @@
 //! The commands over files.
 
 ghost use Rattle.std.specs.Prelude.{◌≡◌};
-ghost use Rattle.duk_arguments.specs.CommandLine.{run_command, serve_command};
+ghost use Rattle.duk_arguments.specs.CommandLine.{new_journal_command, run_command, serve_command};
 ghost use Rattle.duk_arguments.specs.inner.CommandLine.{shape_of_usage};
 
 use super::arguments::{Argument, Usage};
@@ -22,7 +22,7 @@ pub(super) fn run<'a>() -> Usage<'a>
     }
 }
 
-/// `serve CONFIG [--log FILE]`
+/// `serve CONFIG [--log FILE] [--journal FILE]`
 pub(super) fn serve<'a>() -> Usage<'a>
     ensures { shape_of_usage result ≡ serve_command }
 {
@@ -36,6 +36,32 @@ pub(super) fn serve<'a>() -> Usage<'a>
                 "log",
                 "FILE",
                 "Keeps the used numbers in this file, which has to be there, and not in memory",
+            ),
+            Argument::Valued(
+                "journal",
+                "FILE",
+                "Keeps them with what was decided in this file, which has to be there",
+            ),
+        ],
+    }
+}
+
+/// `new-journal FILE RECORDS`
+pub(super) fn new_journal<'a>() -> Usage<'a>
+    ensures { shape_of_usage result ≡ new_journal_command }
+{
+    Usage {
+        name: "new-journal",
+        about: "Makes the file of a new journal",
+        after_help: help::NEW_JOURNAL,
+        arguments: &[
+            Argument::Needed(
+                "FILE",
+                "The file of the journal, which is made and must not be there",
+            ),
+            Argument::Needed(
+                "RECORDS",
+                "For how many payments it has room, 1 to 1000000000",
             ),
         ],
     }

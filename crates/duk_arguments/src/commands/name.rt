@@ -37,4 +37,6 @@ pub(crate) enum CommandName {
     Run,
     /// `serve`
     Serve,
+    /// `new-journal`
+    NewJournal,
 }

@@ -29,16 +29,37 @@ An answer is written for each frame, in their order. FILE is zeros at first, 16 
 that it has room for. It is opened and never made. Without it the used numbers are lost at the end:
 that is for trials.
 
+FILE of --journal has 32 bytes for each payment, zeros at first. Frames that come together are
+answered together, and a request among the latest 1048576 that were accepted gets its reply again,
+also after a restart. --log and --journal exclude each other.
+
 Example:
   $ dd if=/dev/zero of=used.log bs=16 count=1000 conv=excl,fsync status=none
   $ dukpt serve examples/bank.toml --log used.log <requests >answers
+  $ dd if=/dev/zero of=payments.journal bs=32 count=1000 conv=excl,fsync status=none
+  $ dukpt serve examples/bank.toml --journal payments.journal <requests >answers
 
 Faults, on standard error with status 1, the first alone; --explain says more:
   config: ..                    The configuration, as of `run`
   log: cannot open              FILE is missing, cannot be opened, or is in use by another service
   log: failed                   FILE is damaged, or a device step failed
+  journal: cannot open          FILE is missing, cannot be opened, or is in use by another service
+  journal: failed               FILE is damaged, or a device step failed
   serve: read failed            Standard input cannot be read, or took 1000000 reads
   serve: input ends in a frame  Standard input ended inside a frame
   serve: frame too long         A length above 62 where a frame begins
   serve: write failed           Standard output takes no more
   out of memory                 Memory was refused";
+
+/// At the end of the help of `new-journal`.
+pub(crate) const NEW_JOURNAL: &str = "\
+A journal takes 32 bytes for each payment. They are zeros at first, and all of them are written, so that
+a device without room for them shows now and not at a payment. FILE and its folder are synced.
+
+Example:
+  $ dukpt new-journal payments.journal 1000
+
+Faults, on standard error with status 1, the first alone; --explain says more:
+  records refused        RECORDS is no decimal number of 1 to 1000000000
+  journal: cannot make   FILE is there, cannot be made, written or synced, or its folder cannot be synced
+  out of memory          Memory was refused";

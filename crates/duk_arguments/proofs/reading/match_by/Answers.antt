@@ -4,7 +4,7 @@ use Rattle.clap.specs.Values.{kind_of}
 use Rattle.clap.specs.Words.{App, Row, Text, fault_of, is_simple_and_free, subcommand_of, subcommand_rows_of}
 use Rattle.duk_arguments.specs.Asked.{AskForNothing, AsksAfter, texts_of}
 use Rattle.duk_arguments.specs.CommandLine.{command_line}
-use Rattle.duk_arguments.proofs.Failures.{command_found, is_no_command, is_no_request, is_reported_of}
+use Rattle.duk_arguments.proofs.Failures.{command_found, is_conflict, is_no_request, is_reported_of}
 use Rattle.duk_arguments.proofs.reading.match_by.Goals as goal
 
 pub returns-in-Some-clause-asks : goal.returns-in-Some-clause-asks
@@ -28,7 +28,7 @@ returns-in-None-clause-instead c =
     let nothing : AskForNothing (texts_of c.args.arguments.now) = λ request asked.
     absurd (true≢false (sym (c.in-None.ensures.all request
     (subst (λ (used : Option (Text × List Row)). AsksAfter used request) (sym found) asked)))) in
-    is_no_command (texts_of c.args.arguments.now) c.no_command.result c.no_command.ensures none nothing
+    is_conflict (texts_of c.args.arguments.now) c.two_stores.result c.two_stores.ensures none nothing
 
 pub returns-in-Err-clause-instead : goal.returns-in-Err-clause-instead
 returns-in-Err-clause-instead c =
