@@ -7,7 +7,7 @@ use Rattle.duk_explain.specs.declared.told.Told.TheVariants as told
 -- a place in the list at which a line stands
 pub record StandsAt (line : Told) : Type 0 where
   pub place : ℕ
-  pub within : place < 93
+  pub within : place < 97
   pub is : get_or ALL place line ≡ line
 
 pub stands : (line : Told) → StandsAt line
@@ -92,15 +92,19 @@ stands told.ScriptTooLong = record { place = 77; within = omega arith; is = refl
 stands told.NotAnEvent = record { place = 78; within = omega arith; is = refl }
 stands told.LogUnopened = record { place = 79; within = omega arith; is = refl }
 stands told.LogFailed = record { place = 80; within = omega arith; is = refl }
-stands told.ServeUnread = record { place = 81; within = omega arith; is = refl }
-stands told.ServeCut = record { place = 82; within = omega arith; is = refl }
-stands told.ServeTooLong = record { place = 83; within = omega arith; is = refl }
-stands told.Unwritten = record { place = 84; within = omega arith; is = refl }
-stands told.ScriptUnwritten = record { place = 85; within = omega arith; is = refl }
-stands told.ServeUnwritten = record { place = 86; within = omega arith; is = refl }
-stands told.ItemsRefused = record { place = 87; within = omega arith; is = refl }
-stands told.BatchUnread = record { place = 88; within = omega arith; is = refl }
-stands told.OutOfMemory = record { place = 89; within = omega arith; is = refl }
-stands told.SecretUnread = record { place = 90; within = omega arith; is = refl }
-stands told.SecretTooLong = record { place = 91; within = omega arith; is = refl }
-stands told.SecretNotUtf8 = record { place = 92; within = omega arith; is = refl }
+stands told.RecordsRefused = record { place = 81; within = omega arith; is = refl }
+stands told.JournalUnmade = record { place = 82; within = omega arith; is = refl }
+stands told.ServeUnread = record { place = 83; within = omega arith; is = refl }
+stands told.ServeCut = record { place = 84; within = omega arith; is = refl }
+stands told.ServeTooLong = record { place = 85; within = omega arith; is = refl }
+stands told.Unwritten = record { place = 86; within = omega arith; is = refl }
+stands told.ScriptUnwritten = record { place = 87; within = omega arith; is = refl }
+stands told.ServeUnwritten = record { place = 88; within = omega arith; is = refl }
+stands told.ItemsRefused = record { place = 89; within = omega arith; is = refl }
+stands told.BatchUnread = record { place = 90; within = omega arith; is = refl }
+stands told.OutOfMemory = record { place = 91; within = omega arith; is = refl }
+stands told.SecretUnread = record { place = 92; within = omega arith; is = refl }
+stands told.SecretTooLong = record { place = 93; within = omega arith; is = refl }
+stands told.SecretNotUtf8 = record { place = 94; within = omega arith; is = refl }
+stands told.JournalUnopened = record { place = 95; within = omega arith; is = refl }
+stands told.JournalFailed = record { place = 96; within = omega arith; is = refl }

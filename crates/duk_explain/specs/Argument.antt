@@ -1,6 +1,7 @@
 -- The arguments of requests (this project's own).
 use Rattle.std.specs.Prelude.{ℕ, List, Option, Some, None}
 use Rattle.std.specs.Option.{option_copied}
+use Rattle.duk_arguments.specs.Given.{journal_in, log_in}
 use Rattle.duk_arguments.specs.Keys.{texts_of_keys}
 use Rattle.duk_arguments.specs.declared.request.Request.{Request}
 use Rattle.duk_arguments.specs.declared.request.Request.TheVariants as request
@@ -133,7 +134,7 @@ what_of asked = None
 -- CONFIG
 abbrev pub config_of : Request → Option (List ℕ)
 config_of (request.Run config script) = Some config.now
-config_of (request.Serve config log) = Some config.now
+config_of (request.Serve config kept) = Some config.now
 config_of asked = None
 
 -- SCRIPT
@@ -143,8 +144,23 @@ script_of asked = None
 
 -- the path of the log
 abbrev pub log_of : Request → Option (List ℕ)
-log_of (request.Serve config log) = option_copied log
+log_of (request.Serve config kept) = log_in kept
 log_of asked = None
+
+-- the path of the journal
+abbrev pub journal_of : Request → Option (List ℕ)
+journal_of (request.Serve config kept) = journal_in kept
+journal_of asked = None
+
+-- RECORDS
+abbrev pub records_of : Request → Option (List ℕ)
+records_of (request.NewJournal file records) = Some records.now
+records_of asked = None
+
+-- the path of the journal that is made
+abbrev pub new_of : Request → Option (List ℕ)
+new_of (request.NewJournal file records) = Some file.now
+new_of asked = None
 
 -- the path of the ledger
 abbrev pub ledger_of : Request → Option (List ℕ)
@@ -173,6 +189,7 @@ text_of asked argument.Request = frame_of asked
 text_of asked argument.Answer = answer_of asked
 text_of asked argument.Kind = kind_of asked
 text_of asked argument.What = what_of asked
+text_of asked argument.Records = records_of asked
 
 -- the keys of `kcv`
 abbrev pub keys_of : Request → Option (List (List ℕ))

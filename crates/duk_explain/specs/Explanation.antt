@@ -137,6 +137,8 @@ found_explained (found.Reason file) r asked facts middle =
     row_explained r middle (reason_found facts.reason)
 found_explained (found.Locking file) r asked facts middle =
     row_explained r middle (reason_found facts.reason)
+found_explained (found.Making file) r asked facts middle =
+    row_explained r middle (reason_found facts.reason)
 found_explained found.Reference r asked facts middle =
     row_explained r middle (reference_found r.words facts.reason)
 found_explained (found.Record file) r asked facts middle =

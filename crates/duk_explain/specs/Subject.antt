@@ -1,7 +1,7 @@
 -- The file that a fault is about, and what is looked for in it (this project's own).
 use Rattle.std.specs.Prelude.{◌≡◌, ◌⊎◌, ℕ, List, Option, Some, None, codes, option_map}
 use Rattle.duk_arguments.specs.declared.request.Request.{Request}
-use Rattle.duk_explain.specs.Argument.{config_of, ledger_of, log_of, script_of, what_of}
+use Rattle.duk_explain.specs.Argument.{config_of, journal_of, ledger_of, log_of, new_of, script_of, what_of}
 use Rattle.duk_explain.specs.Explanation.{IsNoFault}
 use Rattle.duk_explain.specs.Reading.{IsTold, IsUnknownKey}
 use Rattle.duk_explain.specs.Told.{row}
@@ -14,12 +14,13 @@ use Rattle.duk_explain.specs.declared.rows.Found.TheVariants as found
 use Rattle.duk_explain.specs.declared.told.Told.{Told}
 
 -- what is looked for: the reason for which the file of a secret is refused, or one that is read, or
--- one that is opened to be written and locked; the damaged record of a log; the line of a
+-- one that is opened to be written and locked, or one that is made; the damaged record of a log; the line of a
 -- configuration
 pub data Subject : Type 0 where
   secrets : Subject
   readable : List ℕ → Subject
   lockable : List ℕ → Subject
+  makeable : List ℕ → Subject
   log : List ℕ → Subject
   config : List ℕ → Subject
 
@@ -27,6 +28,7 @@ abbrev pub subject_of : Blamed → Subject
 subject_of blamed.Secrets = secrets
 subject_of (blamed.Readable path) = readable path.now
 subject_of (blamed.Lockable path) = lockable path.now
+subject_of (blamed.Makeable path) = makeable path.now
 subject_of (blamed.Log path) = log path.now
 subject_of (blamed.Config path) = config path.now
 
@@ -38,11 +40,14 @@ path_of file.Config asked = config_of asked
 path_of file.Script asked = script_of asked
 path_of file.Log asked = log_of asked
 path_of file.Ledger asked = ledger_of asked
+path_of file.Journal asked = journal_of asked
+path_of file.New asked = new_of asked
 
 -- what is looked for, by what is told of what was found
 abbrev pub subject_found : Found → Request → Option Subject
 subject_found (found.Reason file) asked = option_map readable (path_of file asked)
 subject_found (found.Locking file) asked = option_map lockable (path_of file asked)
+subject_found (found.Making file) asked = option_map makeable (path_of file asked)
 subject_found (found.Record file) asked = option_map log (path_of file asked)
 subject_found found.Line asked = option_map config (config_of asked)
 subject_found found.Reference asked = Some secrets

@@ -4,7 +4,7 @@ use Rattle.std.specs.Prelude.{◌==◌, ◌++◌, ℕ, List, [], ◌∷◌, Opti
 use Rattle.duk_commands.specs.Fault.{line_end}
 use Rattle.duk_explain.specs.Kind.{first_wrong}
 use Rattle.duk_explain.specs.declared.found.Reason.{Reason}
-use Rattle.duk_explain.specs.declared.found.Reason.TheVariants.{Missing, NoPermission, Folder, InUse, Other}
+use Rattle.duk_explain.specs.declared.found.Reason.TheVariants.{Missing, NoPermission, Folder, InUse, Other, There, NoFolder}
 use Rattle.duk_explain.specs.declared.kind.Kind.{Kind}
 use Rattle.duk_explain.specs.declared.texts.Measure.{Measure}
 
@@ -31,6 +31,8 @@ reason_text Missing = codes "no such file"
 reason_text NoPermission = codes "no permission"
 reason_text Folder = codes "a folder"
 reason_text InUse = codes "in use"
+reason_text There = codes "there already"
+reason_text NoFolder = codes "no such folder"
 reason_text Other = codes "the system refuses it"
 
 -- what helps, where something does

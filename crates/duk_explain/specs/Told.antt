@@ -310,6 +310,12 @@ row told.LogFailed =
     words_row (codes "log: failed") (codes "log") (found.Record file.Log)
     (codes "wrong records, or a step that failed")
     (codes "a log as it was kept, on a device that works") []
+row told.RecordsRefused =
+    text_row (codes "records refused") (codes "RECORDS") argument.Records Decimal
+    (codes "1 to 1000000000") []
+row told.JournalUnmade =
+    words_row (codes "journal: cannot make") (codes "journal") (found.Making file.New) []
+    (codes "a name that no file has, in a folder with room") []
 row told.ServeUnread =
     words_row (codes "serve: read failed") (codes "input") found.Words (codes "a read failed")
     (codes "frames") []
@@ -347,3 +353,10 @@ row told.SecretTooLong =
 row told.SecretNotUtf8 =
     middle_row [] middle.Secret (codes ": not UTF-8") [] found.Words (codes "other bytes")
     (codes "a line of UTF-8") []
+row told.JournalUnopened =
+    words_row (codes "journal: cannot open") (codes "journal") (found.Locking file.Journal) []
+    (codes "a file of zeros, 32 bytes a payment, that no other uses") []
+row told.JournalFailed =
+    words_row (codes "journal: failed") (codes "journal") found.Words
+    (codes "wrong records, or a step that failed")
+    (codes "a journal as it was kept, on a device that works") []

@@ -3,9 +3,9 @@
 ghost use Rattle.std.specs.Prelude.{◌≡◌};
 ghost use Rattle.std.specs.Option.{option_copied, option_map};
 ghost use Rattle.duk_arguments.specs.Keys.{texts_of_keys};
-ghost use Rattle.duk_explain.specs.Argument.{amount_of, answer_of, bdk_of, block_of, config_of, count_of, fields_of, frame_of, iksn_of, kbpk_of, key_of, keys_of, kind_of, ksn_of, ledger_of, loading_of, log_of, mac_text_of, pad_of, pan_of, pin_of, script_of, skip_of, text_of, what_of, zone_of};
+ghost use Rattle.duk_explain.specs.Argument.{amount_of, answer_of, bdk_of, block_of, config_of, count_of, fields_of, frame_of, iksn_of, journal_of, kbpk_of, key_of, keys_of, kind_of, ksn_of, ledger_of, loading_of, log_of, mac_text_of, new_of, pad_of, pan_of, pin_of, records_of, script_of, skip_of, text_of, what_of, zone_of};
 
-use duk_arguments::{Keys, Request};
+use duk_arguments::{Kept, Keys, Request};
 
 /// An argument that has one text, by its name in the help; `Skip` is K.
 #[derive(Clone, Copy)]
@@ -30,6 +30,7 @@ pub(crate) enum Argument {
     Answer,
     Kind,
     What,
+    Records,
 }
 
 /// The text of an argument, where the request has it.
@@ -57,6 +58,7 @@ pub(crate) fn text_of<'a>(request: &Request<'a>, argument: Argument) -> Option<&
         Argument::Answer => answer_of(request),
         Argument::Kind => kind_of(request),
         Argument::What => what_of(request),
+        Argument::Records => records_of(request),
     }
 }
 
@@ -302,7 +304,43 @@ pub(crate) fn log_of<'a>(request: &Request<'a>) -> Option<&'a str>
     ensures { option_copied result ≡ log_of request.now }
 {
     match request {
-        Request::Serve { log, .. } => *log,
+        Request::Serve {
+            kept: Kept::InLog(path),
+            ..
+        } => Some(*path),
+        _ => None,
+    }
+}
+
+/// The path of the journal.
+pub(crate) fn journal_of<'a>(request: &Request<'a>) -> Option<&'a str>
+    ensures { option_copied result ≡ journal_of request.now }
+{
+    match request {
+        Request::Serve {
+            kept: Kept::InJournal(path),
+            ..
+        } => Some(*path),
+        _ => None,
+    }
+}
+
+/// RECORDS.
+pub(crate) fn records_of<'a>(request: &Request<'a>) -> Option<&'a str>
+    ensures { option_copied result ≡ records_of request.now }
+{
+    match request {
+        Request::NewJournal { records, .. } => Some(*records),
+        _ => None,
+    }
+}
+
+/// The path of the journal that is made.
+pub(crate) fn new_of<'a>(request: &Request<'a>) -> Option<&'a str>
+    ensures { option_copied result ≡ new_of request.now }
+{
+    match request {
+        Request::NewJournal { file, .. } => Some(*file),
         _ => None,
     }
 }

@@ -59,7 +59,9 @@ fn explain(request: &Request<'_>, line: Told, middle: &[u8], facts: &Facts) -> L
         Found::Words => explain_words(line, middle, line.words().as_bytes(), b""),
         Found::Before => explain_words(line, middle, line.words().as_bytes(), middle),
         Found::After => explain_words(line, middle, middle, line.words().as_bytes()),
-        Found::Reason(_) | Found::Locking(_) => explain_row(line, middle, &reason_found(facts)),
+        Found::Reason(_) | Found::Locking(_) | Found::Making(_) => {
+            explain_row(line, middle, &reason_found(facts))
+        }
         Found::Reference => explain_reference(line, middle, facts),
         Found::Record(_) => explain_place(line, middle, "record ", facts),
         Found::Line => explain_place(line, middle, "line ", facts),

@@ -5,7 +5,7 @@ ghost use Rattle.std.specs.Option.{option_copied};
 ghost use Rattle.duk_explain.specs.Argument.{config_of};
 ghost use Rattle.duk_explain.specs.Subject.{IsSubject, config, path_of, subject_found, subject_of};
 
-use crate::argument::{config_of, ledger_of, log_of, script_of, what_of};
+use crate::argument::{config_of, journal_of, ledger_of, log_of, new_of, script_of, what_of};
 use crate::reading::{read_line, unknown_key};
 use crate::rows::Found;
 use duk_arguments::Request;
@@ -25,6 +25,10 @@ pub(crate) enum File {
     Log,
     /// The ledger of issued numbers.
     Ledger,
+    /// The journal of payments.
+    Journal,
+    /// The journal that is made.
+    New,
 }
 
 /// The file that a fault's line is about, by its path.
@@ -36,6 +40,8 @@ pub enum Blamed<'a> {
     Readable(&'a str),
     /// A file that has to be opened to be written and locked: it is asked for its reason.
     Lockable(&'a str),
+    /// A file that has to be made: its folder is asked for its reason.
+    Makeable(&'a str),
     /// A log or a ledger, of which the damaged record is looked for.
     Log(&'a str),
     /// A configuration, of which the line is looked for.
@@ -62,6 +68,7 @@ fn blamed_by<'a>(found: Found, request: &Request<'a>) -> Option<Blamed<'a>>
     match found {
         Found::Reason(file) => Some(Blamed::Readable(path_of(file, request)?)),
         Found::Locking(file) => Some(Blamed::Lockable(path_of(file, request)?)),
+        Found::Making(file) => Some(Blamed::Makeable(path_of(file, request)?)),
         Found::Record(file) => Some(Blamed::Log(path_of(file, request)?)),
         Found::Line => blamed_config(request),
         Found::Reference => Some(Blamed::Secrets),
@@ -87,5 +94,7 @@ fn path_of<'a>(file: File, request: &Request<'a>) -> Option<&'a str>
         File::Script => script_of(request),
         File::Log => log_of(request),
         File::Ledger => ledger_of(request),
+        File::Journal => journal_of(request),
+        File::New => new_of(request),
     }
 }

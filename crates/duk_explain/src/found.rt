@@ -11,6 +11,10 @@ pub enum Reason {
     Folder,
     /// Another program holds the file.
     InUse,
+    /// The file is there, and was to be made.
+    There,
+    /// There is no folder for a file that was to be made.
+    NoFolder,
     /// The system refuses the file for another reason.
     Other,
 }

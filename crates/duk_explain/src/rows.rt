@@ -19,6 +19,8 @@ pub(crate) enum Found {
     Reason(File),
     /// What the system says of a file that is opened to be written and locked.
     Locking(File),
+    /// What the system says of a file that is made.
+    Making(File),
     /// What the system says of a secret's file, or words of standard input.
     Reference,
     /// The damaged record of a log or a ledger, or words where it is not known.
@@ -124,6 +126,9 @@ impl Told {
             | Told::BadCardEntry => "CONFIG",
             Told::ScriptUnread | Told::ScriptTooLong | Told::NotAnEvent => "SCRIPT",
             Told::LogUnopened | Told::LogFailed => "log",
+            Told::JournalUnopened | Told::JournalFailed => "journal",
+            Told::RecordsRefused => "RECORDS",
+            Told::JournalUnmade => "journal",
             Told::ServeUnread
             | Told::ServeCut
             | Told::ServeTooLong
@@ -192,6 +197,9 @@ impl Told {
             Told::ScriptUnread => Found::Reason(File::Script),
             Told::LedgerUnopened => Found::Locking(File::Ledger),
             Told::LogUnopened => Found::Locking(File::Log),
+            Told::JournalUnopened => Found::Locking(File::Journal),
+            Told::RecordsRefused => Found::Text(Argument::Records, Kind::Decimal),
+            Told::JournalUnmade => Found::Making(File::New),
             Told::LedgerDamaged => Found::Record(File::Ledger),
             Told::LogFailed => Found::Record(File::Log),
             Told::Issued => Found::After,
@@ -224,7 +232,7 @@ impl Told {
             Told::LedgerDamaged => "numbers that no ledger has",
             Told::SecretNotUtf8 => "other bytes",
             Told::LedgerFailed => "a step of its device failed",
-            Told::LogFailed => "wrong records, or a step that failed",
+            Told::LogFailed | Told::JournalFailed => "wrong records, or a step that failed",
             Told::Issued => " stands in the ledger",
             Told::LedgerFull => "too little room",
             Told::NotToml => "other text",
@@ -311,6 +319,7 @@ impl Told {
             Told::PaddingUnread => "a device that can be read",
             Told::LedgerUnopened | Told::LogUnopened =>
                 "a file of zeros, 16 bytes a number, that no other uses",
+            Told::JournalUnopened => "a file of zeros, 32 bytes a payment, that no other uses",
             Told::LedgerDamaged => "initial key serial numbers",
             Told::LedgerFailed => "a device that works",
             Told::Issued => "numbers that do not",
@@ -327,6 +336,9 @@ impl Told {
                 "pan, 12 to 19 digits, pin, 4 to 12, and limit up to 4294967295; each pan once",
             Told::NotAnEvent => "an event, a comment after # or an empty line",
             Told::LogFailed => "a log as it was kept, on a device that works",
+            Told::JournalFailed => "a journal as it was kept, on a device that works",
+            Told::RecordsRefused => "1 to 1000000000",
+            Told::JournalUnmade => "a name that no file has, in a folder with room",
             Told::ServeUnread => "frames",
             Told::ServeCut => "whole frames",
             Told::ServeTooLong => "frames of requests",

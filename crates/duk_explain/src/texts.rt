@@ -102,6 +102,8 @@ pub(crate) fn reason_text(reason: Reason) -> &'static str
         Reason::NoPermission => "no permission",
         Reason::Folder => "a folder",
         Reason::InUse => "in use",
+        Reason::There => "there already",
+        Reason::NoFolder => "no such folder",
         Reason::Other => "the system refuses it",
     }
 }

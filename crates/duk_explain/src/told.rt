@@ -165,6 +165,10 @@ pub(crate) enum Told {
     LogUnopened,
     /// `log: failed`
     LogFailed,
+    /// `records refused`
+    RecordsRefused,
+    /// `journal: cannot make`
+    JournalUnmade,
     /// `serve: read failed`
     ServeUnread,
     /// `serve: input ends in a frame`
@@ -189,10 +193,14 @@ pub(crate) enum Told {
     SecretTooLong,
     /// `NAME: not UTF-8`
     SecretNotUtf8,
+    /// `journal: cannot open`
+    JournalUnopened,
+    /// `journal: failed`
+    JournalFailed,
 }
 
 /// How many lines there are.
-pub(crate) const COUNT: usize = 93;
+pub(crate) const COUNT: usize = 97;
 
 /// All of them.
 pub(crate) static ALL: [Told; COUNT] = [
@@ -277,6 +285,8 @@ pub(crate) static ALL: [Told; COUNT] = [
     Told::NotAnEvent,
     Told::LogUnopened,
     Told::LogFailed,
+    Told::RecordsRefused,
+    Told::JournalUnmade,
     Told::ServeUnread,
     Told::ServeCut,
     Told::ServeTooLong,
@@ -289,4 +299,6 @@ pub(crate) static ALL: [Told; COUNT] = [
     Told::SecretUnread,
     Told::SecretTooLong,
     Told::SecretNotUtf8,
+    Told::JournalUnopened,
+    Told::JournalFailed,
 ];
