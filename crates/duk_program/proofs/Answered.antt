@@ -70,7 +70,8 @@ at_once_not_done (Some items) s alone none not_done = absurd (none-some items (s
 request_done : {D : Type 0} (meaning : DiskMeaning D) (s : Scene D) (asked : Request) → IsAtOnce asked → IsDone (command_for asked) (writers_of s)
     → IsRequestDone meaning s asked
 request_done meaning s (request.Run config script) at_once done = absurd done.asked
-request_done meaning s (request.Serve config log) at_once done = absurd done.asked
+request_done meaning s (request.Serve config kept) at_once done = absurd done.asked
+request_done meaning s (request.NewJournal file records) at_once done = absurd done.asked
 request_done meaning s (request.Show kind what show) at_once done = absurd done.asked
 request_done meaning s (request.Issue bdk loading iksn count ledger skip) at_once done = absurd done.asked
 request_done meaning s asked at_once done = record {
@@ -95,8 +96,10 @@ request_not_done : {D : Type 0} (meaning : DiskMeaning D) (s : Scene D) (asked :
     → IsRequestNotDone meaning s asked
 request_not_done meaning s (request.Run config script) at_once (inl refused) = absurd refused.cause
 request_not_done meaning s (request.Run config script) at_once (inr short) = absurd short.asked
-request_not_done meaning s (request.Serve config log) at_once (inl refused) = absurd refused.cause
-request_not_done meaning s (request.Serve config log) at_once (inr short) = absurd short.asked
+request_not_done meaning s (request.Serve config kept) at_once (inl refused) = absurd refused.cause
+request_not_done meaning s (request.Serve config kept) at_once (inr short) = absurd short.asked
+request_not_done meaning s (request.NewJournal file records) at_once (inl refused) = absurd refused.cause
+request_not_done meaning s (request.NewJournal file records) at_once (inr short) = absurd short.asked
 request_not_done meaning s (request.Show kind what show) at_once (inl refused) = absurd refused.cause
 request_not_done meaning s (request.Show kind what show) at_once (inr short) = absurd short.asked
 request_not_done meaning s (request.Issue bdk loading iksn count ledger skip) at_once (inl refused) = absurd refused.cause
@@ -123,13 +126,15 @@ program_not_done meaning arguments s (inr lost) = inr (inr lost)
 pub meant_done : {D : Type 0} (meaning : DiskMeaning D) (s : Scene D) (asked : Request) → IsOverSecrets asked → HasMeantDone meaning s asked
     → IsRequestDone meaning s asked
 meant_done meaning s (request.Run config script) over done = absurd over
-meant_done meaning s (request.Serve config log) over done = absurd over
+meant_done meaning s (request.Serve config kept) over done = absurd over
+meant_done meaning s (request.NewJournal file records) over done = absurd over
 meant_done meaning s asked over done = done
 
 pub meant_not_done : {D : Type 0} (meaning : DiskMeaning D) (s : Scene D) (asked : Request) → IsOverSecrets asked → IsMeantNotDone meaning s asked
     → IsRequestNotDone meaning s asked
 meant_not_done meaning s (request.Run config script) over not_done = absurd over
-meant_not_done meaning s (request.Serve config log) over not_done = absurd over
+meant_not_done meaning s (request.Serve config kept) over not_done = absurd over
+meant_not_done meaning s (request.NewJournal file records) over not_done = absurd over
 meant_not_done meaning s asked over not_done = not_done
 
 -- of a request over its arguments its command is done
@@ -151,7 +156,8 @@ pub no_file_needed : (asked : Request) → IsOverSecrets asked
     → ((bdk loading iksn count ledger : Bor (List ℕ)) (skip : Bool) → asked ≢ request.Issue bdk loading iksn count ledger skip)
     → NeedsNoFile asked
 no_file_needed (request.Run config script) over no_show no_issue = absurd over
-no_file_needed (request.Serve config log) over no_show no_issue = absurd over
+no_file_needed (request.Serve config kept) over no_show no_issue = absurd over
+no_file_needed (request.NewJournal file records) over no_show no_issue = absurd over
 no_file_needed (request.Show kind what show) over no_show no_issue = absurd (no_show kind what show refl)
 no_file_needed (request.Issue bdk loading iksn count ledger skip) over no_show no_issue = absurd (no_issue bdk loading iksn count ledger skip refl)
 no_file_needed asked over no_show no_issue = tt

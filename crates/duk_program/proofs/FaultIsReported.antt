@@ -19,10 +19,13 @@ use Rattle.duk_issue.specs.Fault.{issue_line}
 use Rattle.duk_issue.specs.Issue.{Job}
 use Rattle.duk_issue.specs.declared.fault.IssueFault.{IssueFault}
 use Rattle.duk_issue.specs.declared.fault.IssueFault.TheVariants as issue
+use Rattle.duk_journal.specs.DiskJournal.{disk_journal_meaning}
+use Rattle.duk_line.specs.Host as journal
 use Rattle.duk_program.specs.Commands.{command_for}
 use Rattle.duk_program.specs.Configured.{IsConfigFaultReported}
 use Rattle.duk_program.specs.Files.{FileKnown}
-use Rattle.duk_program.specs.LogFiles.{DiskKnown}
+use Rattle.duk_program.specs.LogFiles.{DiskKnown, MakingKnown}
+use Rattle.duk_program.specs.NewJournal.{HasNotMadeJournal, new_journal_line}
 use Rattle.duk_program.specs.IssueFiles.{HasNotIssuedFiles, IsNotIssuedOver, IssueFilesKnown, Issuing}
 use Rattle.duk_program.specs.Items.{LineItems, command_of_line, items_of}
 use Rattle.duk_program.specs.Meant.{HasLostLines, IsMeantNotDone, IsNotAnswered, IsNotDoneAlone, IsOverItemsNotDone}
@@ -30,7 +33,8 @@ use Rattle.duk_program.specs.RunFiles.{FileRun, HasReportedFault, script_line}
 use Rattle.duk_program.specs.Scene.{Scene, input_in, reading_on, writers_of}
 use Rattle.duk_program.specs.Secrets.{secret_line}
 use Rattle.duk_program.specs.Serve.{HasNotServed, Serving, over_log, serve_line}
-use Rattle.duk_program.specs.ServeFiles.{FileService, HasNotServedFiles, IsUnservedOver, unopened_line}
+use Rattle.duk_program.specs.ServeFiles.{FileService, HasNotServedFiles, IsUnservedOver, KeptKnown, in_journal, in_log, in_memory, unopened_journal_line, unopened_line}
+use Rattle.duk_program.specs.ServeJournal.{HasNotServedJournal, journal_line, over_journal}
 use Rattle.duk_program.specs.Reported.{IsLineReported, IsOtherFaultLine}
 use Rattle.duk_program.specs.Show.{HasNotShownText, ShowArguments}
 use Rattle.duk_program.specs.declared.file_system.FileFault.{FileFault}
@@ -93,29 +97,46 @@ service_reported meaning made s old new (inl refused) = elim refused.reports [
 ]
 service_reported meaning made s old new (inr lost) = host_reported old new host.Write lost.reports.line
 
-over_reported : {D : Type 0} (meaning : DiskMeaning D) (log_file : Option (DiskKnown D)) (config : Settings) (s : Serving)
-    (old new : Known) → IsUnservedOver meaning log_file config s old new → IsLineReported old new
-over_reported meaning None config s old new failed = service_reported (over_log memory_log_meaning) _ s old new failed
-over_reported meaning (Some known) config s old new (inl none) =
+-- so is that of `show`, of `issue`, and of a command over the lines of the input
+other_reported : (old new : Known) (line : List ℕ) → IsOtherFaultLine line → IsTried old new line → IsLineReported old new
+other_reported old new line line_is reported = record { line = line; line_is = inr (inr (inr (inr (inr (inr line_is))))); reported = reported }
+
+-- so is that of a host over a journal
+journal_reported : (old new : Known) (why : HostFault) → IsTried old new (journal_line why) → IsLineReported old new
+journal_reported old new why reported =
+    other_reported old new (journal_line why) (inr (inr (inr (inr (inl (inl (why, refl))))))) reported
+
+journal_service_reported : {J : Type 0} (meaning : journal.HostMeaning J CardTable) (made : journal.HostOf J CardTable) (s : Serving)
+    (old new : Known) → HasNotServedJournal meaning made s old new → IsLineReported old new
+journal_service_reported meaning made s old new (inl refused) = elim refused.reports [
+  | inl reported ↦ journal_reported old new refused.why reported.1
+  | inr lost ↦ journal_reported old new host.Write lost.line
+]
+journal_service_reported meaning made s old new (inr lost) = journal_reported old new host.Write lost.reports.line
+
+over_reported : {D : Type 0} (meaning : DiskMeaning D) (kept : KeptKnown D) (config : Settings) (s : Serving)
+    (old new : Known) → IsUnservedOver meaning kept config s old new → IsLineReported old new
+over_reported meaning in_memory config s old new failed = service_reported (over_log memory_log_meaning) _ s old new failed
+over_reported meaning (in_log known) config s old new (inl none) =
     record { line = unopened_line; line_is = inr (inr (inr (inr (inl refl)))); reported = none.line }
-over_reported meaning (Some known) config s old new (inr failed) =
+over_reported meaning (in_log known) config s old new (inr failed) =
     service_reported (over_log (disk_log_meaning meaning)) _ s old new failed.failed
+over_reported meaning (in_journal known) config s old new (inl none) =
+    other_reported old new unopened_journal_line (inr (inr (inr (inr (inl (inr refl)))))) none.line
+over_reported meaning (in_journal known) config s old new (inr failed) =
+    journal_service_reported (over_journal (disk_journal_meaning meaning)) _ s old new failed.failed
 
 -- where a service over files ends with status 1, a line is reported
 pub unserved_reported : {D : Type 0} (meaning : DiskMeaning D) (r : FileService D) → HasNotServedFiles meaning r
     → IsLineReported r.fault_before r.fault_after
 unserved_reported meaning r (inl none) = config_reported r.config_held r.fault_before r.fault_after none.reports
 unserved_reported meaning r (inr failed) =
-    over_reported meaning r.log_file failed.config r.streams r.fault_before r.fault_after failed.failed
+    over_reported meaning r.kept failed.config r.streams r.fault_before r.fault_after failed.failed
 
 -- the line of a secret that is not read is the line of a fault
 secret_reported : (old new : Known) (why : SecretFault) → IsTried old new (secret_line why) → IsLineReported old new
 secret_reported old new why reported =
     record { line = secret_line why; line_is = inr (inr (inr (inr (inr (inl (why, refl)))))); reported = reported }
-
--- so is that of `show`, of `issue`, and of a command over the lines of the input
-other_reported : (old new : Known) (line : List ℕ) → IsOtherFaultLine line → IsTried old new line → IsLineReported old new
-other_reported old new line line_is reported = record { line = line; line_is = inr (inr (inr (inr (inr (inr line_is))))); reported = reported }
 
 written_reported : (old new : Known) → IsTried old new (report_line WriteFailed) → IsLineReported old new
 written_reported old new line = command_reported old new (record { why = WriteFailed; line = line })
@@ -147,11 +168,17 @@ unissued_reported meaning known arguments s (inr (inr (inl none))) =
     issue_reported s.fault_before s.fault_after issue.LedgerUnopened none.reported.line
 unissued_reported meaning known arguments s (inr (inr (inr begun))) = over_ledger_reported _ _ _ begun.end
 
+-- where no journal is made, a line is reported
+pub unmade_reported : {D : Type 0} (meaning : DiskMeaning D) (known : MakingKnown D) (text : List ℕ) (old new : Known)
+    → HasNotMadeJournal meaning known text old new → IsLineReported old new
+unmade_reported meaning known text old new failed =
+    other_reported old new (new_journal_line failed.why) (inr (inr (inr (inr (inr (failed.why, refl)))))) failed.line
+
 -- where not all lines of the input are answered with those of the command, a line is reported
 batch_reported : (command : List ℕ → ItemCommand) (input : Input) (s : Streams) → IsBatchNotDone command input s
     → IsLineReported s.fault_before s.fault_after
 batch_reported command input s (inl refused) =
-    other_reported s.fault_before s.fault_after refused_line (inr (inr (inr refl))) refused.line
+    other_reported s.fault_before s.fault_after refused_line (inr (inr (inr (inl refl)))) refused.line
 batch_reported command input s (inr (inl unread)) =
     other_reported s.fault_before s.fault_after unread_line (inr (inr (inl refl))) unread.line
 batch_reported command input s (inr (inr unwritten)) = written_reported s.fault_before s.fault_after unwritten.line

@@ -15,3 +15,7 @@ if_err P Q (Err error) says is = says error is
 pub either : {T E : Type 0} (P Q : Type 0) (answer : Result T E) → OnOk answer P → OnErr answer Q → P ⊎ Q
 either P Q (Ok value) on_value on_error = inl on_value
 either P Q (Err error) on_value on_error = inr on_error
+
+pub on_ok : {T E : Type 0} (P Q : Type 0) (answer : Result T E) → (P → Q) → OnOk answer P → OnOk answer Q
+on_ok P Q (Ok value) says is = says is
+on_ok P Q (Err error) says is = tt

@@ -23,7 +23,8 @@ pub not_done_of : {D : Type 0} (meaning : DiskMeaning D) (s : Scene D) (asked ab
     → IsMeantFailed meaning s asked about ⊎ ((about ≡ asked) × HasUnreadSecret s asked)
     → IsNotDoneOf meaning s asked about
 not_done_of meaning s (request.Run config script) about over failed = absurd over
-not_done_of meaning s (request.Serve config log) about over failed = absurd over
+not_done_of meaning s (request.Serve config kept) about over failed = absurd over
+not_done_of meaning s (request.NewJournal file records) about over failed = absurd over
 not_done_of meaning s asked about over failed = failed
 
 -- a secret that is not read is explained of the request as it is written
@@ -57,7 +58,7 @@ told_of line heard about old new same told = rw (← same) told
 
 -- the scene in which faults are written to memory, which holds this before and this at the end
 abbrev pub heard_from : {D : Type 0} → Scene D → List ℕ → List ℕ → Scene D
-heard_from s empty line = scene s.held s.disks s.streams (holding empty) (holding line)
+heard_from s empty line = scene s.held s.disks s.making s.streams (holding empty) (holding line)
 
 -- what is answered of a request over what its secrets stand for, with a line that is told
 pub meant_explained : {D : Type 0} {q : Inquiry} (meaning : DiskMeaning D) (s : Scene D) (asked meant : Request) (input : Supply) (empty line : List ℕ) → empty ≡ [] → IsOverSecrets asked

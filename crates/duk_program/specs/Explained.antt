@@ -23,7 +23,7 @@ holding text = record { contents = Some text; failures = None }
 
 -- the scene in which faults are written to memory, which holds this at the end
 abbrev pub heard_in : {D : Type 0} → Scene D → List ℕ → Scene D
-heard_in s line = scene s.held s.disks s.streams (holding []) (holding line)
+heard_in s line = scene s.held s.disks s.making s.streams (holding []) (holding line)
 
 -- the line of a fault was written, but for what a failed write cut off, and behind it the line that
 -- explains it of this request, with what is found of the files that it is about
@@ -56,8 +56,11 @@ abbrev pub IsNotDoneOf : {D : Type 0} → DiskMeaning D → Scene D → Request 
 IsNotDoneOf meaning s (request.Run config script) about =
     (about ≡ request.Run config script)
     × IsRequestNotDone meaning s (request.Run config script)
-IsNotDoneOf meaning s (request.Serve config log) about =
-    (about ≡ request.Serve config log) × IsRequestNotDone meaning s (request.Serve config log)
+IsNotDoneOf meaning s (request.Serve config kept) about =
+    (about ≡ request.Serve config kept) × IsRequestNotDone meaning s (request.Serve config kept)
+IsNotDoneOf meaning s (request.NewJournal file records) about =
+    (about ≡ request.NewJournal file records)
+    × IsRequestNotDone meaning s (request.NewJournal file records)
 IsNotDoneOf meaning s asked about =
     IsMeantFailed meaning s asked about
     ⊎ ((about ≡ asked) × HasUnreadSecret s asked)

@@ -2,7 +2,7 @@
 use Rattle.std.specs.Prelude.{◌≡◌, ◌⊎◌, ◌<◌, ⊤, ℕ, List, Option, Some, None, [], codes, get_or, length}
 use Rattle.duk_arguments.specs.declared.request.Request.{Request}
 use Rattle.duk_explain.specs.Places.{IsLineOfFault}
-use Rattle.duk_explain.specs.Subject.{IsSubject, Subject, config, lockable, log, readable, secrets}
+use Rattle.duk_explain.specs.Subject.{IsSubject, Subject, config, lockable, log, makeable, readable, secrets}
 use Rattle.duk_explain.specs.declared.found.Facts.{Facts}
 use Rattle.duk_explain.specs.declared.found.Reason.{Reason}
 use Rattle.duk_explain.specs.declared.found.Reason.TheVariants.{Other}
@@ -23,15 +23,18 @@ abbrev pub IsReason : ReasonKnown → Option Reason → Type 0
 IsReason None reason = ⊤
 IsReason (Some known) reason = reason ≡ known
 
--- what files make known of each path: what it holds, why it cannot be read, and why it cannot be
--- opened to be written and locked
+-- what files make known of each path: what it holds, why it cannot be read, why it cannot be
+-- opened to be written and locked, and why no file can be made there
 pub record Inquiry : Type 0 where
   pub held : List ℕ → FileKnown
   pub reading : List ℕ → ReasonKnown
   pub opening : List ℕ → ReasonKnown
+  pub making : List ℕ → ReasonKnown
 
-abbrev pub inquiry : (List ℕ → FileKnown) → (List ℕ → ReasonKnown) → (List ℕ → ReasonKnown) → Inquiry
-inquiry held reading opening = record { held = held; reading = reading; opening = opening }
+abbrev pub inquiry : (List ℕ → FileKnown) → (List ℕ → ReasonKnown) → (List ℕ → ReasonKnown)
+    → (List ℕ → ReasonKnown) → Inquiry
+inquiry held reading opening making =
+    record { held = held; reading = reading; opening = opening; making = making }
 
 -- the line tells that the secret at this place cannot be read
 pub record IsToldUnread (asked : Request) (line : List ℕ) (place : ℕ) : Type 0 where
@@ -90,6 +93,8 @@ AreFactsOf q asked line (Some (readable path)) facts =
     IsReason (q.reading path) facts.reason × (facts.place ≡ None)
 AreFactsOf q asked line (Some (lockable path)) facts =
     IsReason (q.opening path) facts.reason × (facts.place ≡ None)
+AreFactsOf q asked line (Some (makeable path)) facts =
+    IsReason (q.making path) facts.reason × (facts.place ≡ None)
 AreFactsOf q asked line (Some (log path)) facts =
     (facts.reason ≡ None) × IsRecordOf (q.held path) facts.place
 AreFactsOf q asked line (Some (config path)) facts =

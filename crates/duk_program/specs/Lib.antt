@@ -11,6 +11,7 @@ pub mod IssueFiles
 pub mod Items
 pub mod LogFiles
 pub mod Meant
+pub mod NewJournal
 pub mod Program
 pub mod Run
 pub mod RunFiles
@@ -18,6 +19,7 @@ pub mod Scene
 pub mod Secrets
 pub mod Serve
 pub mod ServeFiles
+pub mod ServeJournal
 pub mod Show
 pub mod Status
 pub mod Reported

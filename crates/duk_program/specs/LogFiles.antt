@@ -1,5 +1,5 @@
 -- What contracts know of the files of logs (this project's own).
-use Rattle.std.specs.Prelude.{◌≡◌, ⊤, Option, Some, None}
+use Rattle.std.specs.Prelude.{◌≡◌, ⊤, ℕ, Bool, true, false, Option, Some, None}
 
 -- what files make known of a path: nothing, that no disk can be opened, or which one is
 abbrev pub DiskKnown : Type 0 → Type 0
@@ -16,3 +16,26 @@ abbrev pub IsNoDisk : {D : Type 0} → DiskKnown D → Type 0
 IsNoDisk None = ⊤
 IsNoDisk (Some None) = ⊤
 IsNoDisk (Some (Some held)) = ⊥
+
+-- what files make known of the folder of a path: nothing, or whether it can be synced
+abbrev pub FolderKnown : Type 0
+FolderKnown = Option Bool
+
+-- the folder is synced
+abbrev pub IsFolderSynced : FolderKnown → Type 0
+IsFolderSynced None = ⊤
+IsFolderSynced (Some can) = can ≡ true
+
+-- it is not
+abbrev pub IsFolderUnsynced : FolderKnown → Type 0
+IsFolderUnsynced None = ⊤
+IsFolderUnsynced (Some can) = can ≡ false
+
+-- what files make known of a new file under a path: by its size which disk is made there, or that
+-- none can be made, and of its folder
+pub record MakingKnown (D : Type 0) : Type 0 where
+  pub disk : ℕ → DiskKnown D
+  pub folder : FolderKnown
+
+abbrev pub unknown_making : {D : Type 0} → MakingKnown D
+unknown_making = record { disk = λ size. None; folder = None }

@@ -1,15 +1,17 @@
 -- What a run of the program does (this project's own, over its commands, the files that `run` and
 -- `serve` read, and their streams).
-use Rattle.std.specs.Prelude.{◌⊎◌, ℕ, List, Option}
-use Rattle.std.specs.Option.{option_map}
+use Rattle.std.specs.Prelude.{◌⊎◌, ℕ, List}
+use Rattle.duk_io.specs.Sink.{IsUntouched}
 use Rattle.duk_program.specs.Commands.{HasLostCommandOutput, HasShown, IsNotShown}
-use Rattle.duk_program.specs.LogFiles.{DiskKnown}
 use Rattle.duk_program.specs.Meant.{HasMeantDone, IsMeantNotDone}
+use Rattle.duk_program.specs.NewJournal.{HasMadeJournal, HasNotMadeJournal}
 use Rattle.duk_program.specs.RunFiles.{FileRun, HasRunFiles, HasReportedFault, file_run}
 use Rattle.duk_program.specs.Scene.{Scene, writers_of}
-use Rattle.duk_program.specs.ServeFiles.{FileService, HasNotServedFiles, HasServedFiles, file_service}
+use Rattle.duk_program.specs.Serve.{HasNothingServed}
+use Rattle.duk_program.specs.ServeFiles.{FileService, HasNotServedFiles, HasServedFiles, file_service, kept_known}
 use Rattle.duk_store.specs.Disk.{DiskMeaning}
 use Rattle.duk_arguments.specs.Asked.{Asks}
+use Rattle.duk_arguments.specs.declared.request.Kept.{Kept}
 use Rattle.duk_arguments.specs.declared.request.Request.{Request}
 use Rattle.duk_arguments.specs.declared.request.Request.TheVariants as request
 
@@ -18,25 +20,40 @@ abbrev pub run_in : {D : Type 0} → Scene D → List ℕ → List ℕ → FileR
 run_in s config script = file_run (s.held config) (s.held script)
     s.streams.output_before s.streams.output_after s.fault_before s.fault_after
 
--- a service under the configuration of a path, over the log of which this is known, where it is
--- given
-abbrev pub service_in : {D : Type 0} → Scene D → List ℕ → Option (DiskKnown D) → FileService D
-service_in s config log =
-    file_service (s.held config) log s.streams s.fault_before s.fault_after
+-- a service under the configuration of a path, where the used numbers are kept so
+abbrev pub service_in : {D : Type 0} → Scene D → List ℕ → Kept → FileService D
+service_in s config kept = file_service (s.held config) (kept_known s.disks kept) s.streams
+    s.fault_before s.fault_after
+
+-- a journal is made, and nothing is read, printed or reported
+pub record HasMadeIn {D : Type 0} (s : Scene D) (Made : Type 0) : Type 0 where
+  pub made : Made
+  pub idle : HasNothingServed s.streams
+  pub no_fault : IsUntouched s.fault_before s.fault_after
+
+-- none is made, which is reported, and nothing is read or printed
+pub record HasNotMadeIn {D : Type 0} (s : Scene D) (Unmade : Type 0) : Type 0 where
+  pub unmade : Unmade
+  pub idle : HasNothingServed s.streams
 
 -- status 0 of a request
 abbrev pub IsRequestDone : {D : Type 0} → DiskMeaning D → Scene D → Request → Type 0
 IsRequestDone meaning s (request.Run config script) = HasRunFiles (run_in s config.now script.now)
-IsRequestDone meaning s (request.Serve config log) =
-    HasServedFiles meaning (service_in s config.now (option_map (λ path. s.disks path.now) log))
+IsRequestDone meaning s (request.Serve config kept) =
+    HasServedFiles meaning (service_in s config.now kept)
+IsRequestDone meaning s (request.NewJournal file records) =
+    HasMadeIn s (HasMadeJournal meaning (s.making file.now) records.now)
 IsRequestDone meaning s asked = HasMeantDone meaning s asked
 
 -- status 1 of a request: of files, the first fault in the order that is reported there
 abbrev pub IsRequestNotDone : {D : Type 0} → DiskMeaning D → Scene D → Request → Type 0
 IsRequestNotDone meaning s (request.Run config script) =
     HasReportedFault (run_in s config.now script.now)
-IsRequestNotDone meaning s (request.Serve config log) =
-    HasNotServedFiles meaning (service_in s config.now (option_map (λ path. s.disks path.now) log))
+IsRequestNotDone meaning s (request.Serve config kept) =
+    HasNotServedFiles meaning (service_in s config.now kept)
+IsRequestNotDone meaning s (request.NewJournal file records) =
+    HasNotMadeIn s (HasNotMadeJournal meaning (s.making file.now) records.now s.fault_before
+    s.fault_after)
 IsRequestNotDone meaning s asked = IsMeantNotDone meaning s asked
 
 -- the arguments ask for a request that is done

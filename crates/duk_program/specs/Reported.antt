@@ -12,19 +12,29 @@ use Rattle.duk_show.specs.Fault.{show_line}
 use Rattle.duk_show.specs.declared.fault.ShowFault.{ShowFault}
 use Rattle.duk_io.specs.Sink.{IsTried}
 use Rattle.duk_program.specs.Configured.{config_line}
+use Rattle.duk_program.specs.NewJournal.{new_journal_line}
 use Rattle.duk_program.specs.Secrets.{secret_line}
 use Rattle.duk_program.specs.Serve.{serve_line}
-use Rattle.duk_program.specs.ServeFiles.{unopened_line}
+use Rattle.duk_program.specs.ServeFiles.{unopened_journal_line, unopened_line}
+use Rattle.duk_program.specs.ServeJournal.{journal_line}
 use Rattle.duk_program.specs.declared.file_system.FileFault.{FileFault}
+use Rattle.duk_program.specs.declared.new_journal.JournalFault.{JournalFault}
 use Rattle.duk_program.specs.declared.secrets.SecretFault.{SecretFault}
 use Rattle.duk_script.specs.FaultLine.{fault_line}
 
--- the line of a fault of `show`, of `issue`, or of a command over the lines of the input
+-- the line of a fault of serving over a journal, or of a journal's file
+abbrev pub IsJournalFaultLine : List ℕ → Type 0
+IsJournalFaultLine line =
+    ((why : HostFault) × (line ≡ journal_line why)) ⊎ (line ≡ unopened_journal_line)
+
+-- the line of a fault of `show`, of `issue`, of a command over the lines of the input, or of serving
+-- over a journal, or of one that makes a journal
 abbrev pub IsOtherFaultLine : List ℕ → Type 0
 IsOtherFaultLine line =
     ((why : ShowFault) × (line ≡ show_line why))
     ⊎ (((why : IssueFault) × (line ≡ issue_line why))
-    ⊎ ((line ≡ unread_line) ⊎ (line ≡ refused_line)))
+    ⊎ ((line ≡ unread_line) ⊎ ((line ≡ refused_line)
+    ⊎ (IsJournalFaultLine line ⊎ ((why : JournalFault) × (line ≡ new_journal_line why))))))
 
 -- the line of a fault: of a command over keys and PINs, of a configuration's file, of a
 -- configuration and a script, of serving, of a log's file, of a secret that is not read, or another

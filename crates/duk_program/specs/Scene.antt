@@ -5,22 +5,24 @@ use Rattle.duk_commands.specs.Answer.{Streams, streams}
 use Rattle.duk_host.specs.Serve.{Supply}
 use Rattle.duk_io.specs.Known.{Known}
 use Rattle.duk_program.specs.Files.{FileKnown}
-use Rattle.duk_program.specs.LogFiles.{DiskKnown}
+use Rattle.duk_program.specs.LogFiles.{DiskKnown, MakingKnown}
 use Rattle.duk_program.specs.Serve.{Serving, serving}
 
 -- what files make known of each path, and what the streams make known before and after
 pub record Scene (D : Type 0) : Type 0 where
   pub held : List ℕ → FileKnown
   pub disks : List ℕ → DiskKnown D
+  pub making : List ℕ → MakingKnown D
   pub streams : Serving
   pub fault_before : Known
   pub fault_after : Known
 
-abbrev pub scene : {D : Type 0} → (List ℕ → FileKnown) → (List ℕ → DiskKnown D) → Serving → Known
-    → Known → Scene D
-scene held disks streams fault_before fault_after = record {
+abbrev pub scene : {D : Type 0} → (List ℕ → FileKnown) → (List ℕ → DiskKnown D)
+    → (List ℕ → MakingKnown D) → Serving → Known → Known → Scene D
+scene held disks making streams fault_before fault_after = record {
   held = held;
   disks = disks;
+  making = making;
   streams = streams;
   fault_before = fault_before;
   fault_after = fault_after;
@@ -42,6 +44,6 @@ input_in s = input_of s.input_before.known s.input_after.known s.input_before.re
 
 -- the scene from the time on when the input makes this known
 abbrev pub reading_on : {D : Type 0} → Scene D → Supply → Scene D
-reading_on s input = scene s.held s.disks
+reading_on s input = scene s.held s.disks s.making
     (serving input s.streams.input_after s.streams.output_before s.streams.output_after)
     s.fault_before s.fault_after

@@ -238,7 +238,8 @@ HasWordsAlone asked = Each IsWord (secrets_of asked)
 -- a request whose command is over secrets, and not over a configuration
 abbrev pub IsOverSecrets : Request → Type 0
 IsOverSecrets (request.Run config script) = ⊥
-IsOverSecrets (request.Serve config log) = ⊥
+IsOverSecrets (request.Serve config kept) = ⊥
+IsOverSecrets (request.NewJournal file records) = ⊥
 IsOverSecrets asked = Unit {0}
 
 -- the name of a secret's argument in the help

@@ -1,13 +1,17 @@
 -- What `serve` answers over files (this project's own).
-use Rattle.std.specs.Prelude.{◌⊎◌, ℕ, List, Option, Some, None, codes}
+use Rattle.std.specs.Prelude.{◌⊎◌, ℕ, List, codes}
+use Rattle.duk_arguments.specs.declared.request.Kept.{Kept}
+use Rattle.duk_arguments.specs.declared.request.Kept.TheVariants.{InJournal, InLog, InMemory}
 use Rattle.duk_config.specs.NewHost.{new_host_of}
 use Rattle.duk_config.specs.Settings.{Settings}
 use Rattle.duk_io.specs.Known.{Known}
 use Rattle.duk_io.specs.Sink.{IsTried, IsUntouched}
+use Rattle.duk_journal.specs.DiskJournal.{disk_journal_meaning, new_disk_journal}
 use Rattle.duk_program.specs.Configured.{IsConfigFaultReported, IsConfigured}
 use Rattle.duk_program.specs.Files.{FileKnown}
 use Rattle.duk_program.specs.LogFiles.{DiskKnown, IsDisk, IsNoDisk}
 use Rattle.duk_program.specs.Serve.{HasNotServed, HasServed, HasNothingServed, Serving, over_log}
+use Rattle.duk_program.specs.ServeJournal.{HasNotServedJournal, HasServedJournal, journal_host_of, over_journal}
 use Rattle.duk_store.specs.Disk.{DiskMeaning}
 use Rattle.duk_store.specs.DiskLog.{disk_log_meaning, new_disk_log}
 use Rattle.duk_store.specs.MemoryLog.{memory_log_meaning, new_log}
@@ -16,20 +20,36 @@ use Rattle.duk_store.specs.MemoryLog.{memory_log_meaning, new_log}
 abbrev pub unopened_line : List ℕ
 unopened_line = codes "log: cannot open\n"
 
--- what the file of a configuration holds, which disk there is under the path of a log, where one is
--- given, and what the reader of frames and the writers of answers and of faults make known
+-- the line where the file of a journal cannot be opened
+abbrev pub unopened_journal_line : List ℕ
+unopened_journal_line = codes "journal: cannot open\n"
+
+-- where the used numbers are kept: in memory, or in a log or a journal, of whose disk this is known
+pub data KeptKnown (D : Type 0) : Type 0 where
+  in_memory : KeptKnown D
+  in_log : DiskKnown D → KeptKnown D
+  in_journal : DiskKnown D → KeptKnown D
+
+-- the same, by what is known of the disk under each path
+abbrev pub kept_known : {D : Type 0} → (List ℕ → DiskKnown D) → Kept → KeptKnown D
+kept_known disks InMemory = in_memory
+kept_known disks (InLog path) = in_log (disks path.now)
+kept_known disks (InJournal path) = in_journal (disks path.now)
+
+-- what the file of a configuration holds, where the used numbers are kept, and what the reader of
+-- frames and the writers of answers and of faults make known
 pub record FileService (D : Type 0) : Type 0 where
   pub config_held : FileKnown
-  pub log_file : Option (DiskKnown D)
+  pub kept : KeptKnown D
   pub streams : Serving
   pub fault_before : Known
   pub fault_after : Known
 
-abbrev pub file_service : {D : Type 0} → FileKnown → Option (DiskKnown D) → Serving → Known → Known
+abbrev pub file_service : {D : Type 0} → FileKnown → KeptKnown D → Serving → Known → Known
     → FileService D
-file_service config_held log_file streams fault_before fault_after = record {
+file_service config_held kept streams fault_before fault_after = record {
   config_held = config_held;
-  log_file = log_file;
+  kept = kept;
   streams = streams;
   fault_before = fault_before;
   fault_after = fault_after;
@@ -45,13 +65,24 @@ pub record IsServedOnDisk
   pub served : HasServed (over_log (disk_log_meaning meaning))
       (new_host_of config (new_disk_log disk)) s
 
--- the host of a configuration served to the end of the input, over the log of the file that is
--- given, or, where none is, over one in memory with the room that the configuration says
-abbrev pub IsServedOver : {D : Type 0} → DiskMeaning D → Option (DiskKnown D) → Settings → Serving
-    → Type 0
-IsServedOver meaning None config s =
+-- the disk of a journal's file is opened, and a host of the configuration over it served to the end
+-- of the input
+pub record IsServedOnJournal
+    {D : Type 0} (meaning : DiskMeaning D) (known : DiskKnown D) (config : Settings) (s : Serving)
+    : Type 0 where
+  pub disk : D
+  pub opened : IsDisk known disk
+  pub served : HasServedJournal (over_journal (disk_journal_meaning meaning))
+      (journal_host_of config (new_disk_journal disk)) s
+
+-- the host of a configuration served to the end of the input, over the log or the journal of the
+-- file that is given, or, where none is, over a log in memory with the room that the configuration
+-- says
+abbrev pub IsServedOver : {D : Type 0} → DiskMeaning D → KeptKnown D → Settings → Serving → Type 0
+IsServedOver meaning in_memory config s =
     HasServed (over_log memory_log_meaning) (new_host_of config (new_log config.log)) s
-IsServedOver meaning (Some known) config s = IsServedOnDisk meaning known config s
+IsServedOver meaning (in_log known) config s = IsServedOnDisk meaning known config s
+IsServedOver meaning (in_journal known) config s = IsServedOnJournal meaning known config s
 
 -- no disk can be opened for the log's file, nothing is read or written, and that is reported
 pub record HasNoDisk {D : Type 0} (known : DiskKnown D) (s : Serving) (reported reported' : Known)
@@ -77,13 +108,39 @@ abbrev pub IsUnservedOnDisk : {D : Type 0} → DiskMeaning D → DiskKnown D →
 IsUnservedOnDisk meaning known config s reported reported' =
     HasNoDisk known s reported reported' ⊎ HasDisk meaning known config s reported reported'
 
--- the same over that log or over one in memory
-abbrev pub IsUnservedOver : {D : Type 0} → DiskMeaning D → Option (DiskKnown D) → Settings → Serving
+-- no disk can be opened for the journal's file, nothing is read or written, and that is reported
+pub record HasNoJournal {D : Type 0} (known : DiskKnown D) (s : Serving) (reported reported' : Known)
+    : Type 0 where
+  pub unopened : IsNoDisk known
+  pub idle : HasNothingServed s
+  pub line : IsTried reported reported' unopened_journal_line
+
+-- the disk of a journal's file is opened, and there is no host over it, or it did not serve to the
+-- end of the input, or its answers could not be handed on, and that is reported
+pub record HasJournal
+    {D : Type 0} (meaning : DiskMeaning D) (known : DiskKnown D) (config : Settings) (s : Serving)
+    (reported reported' : Known) : Type 0 where
+  pub disk : D
+  pub opened : IsDisk known disk
+  pub failed : HasNotServedJournal (over_journal (disk_journal_meaning meaning))
+      (journal_host_of config (new_disk_journal disk)) s reported reported'
+
+-- the input is not served to its end over the journal of a file, and that is reported: the first of
+-- these
+abbrev pub IsUnservedOnJournal : {D : Type 0} → DiskMeaning D → DiskKnown D → Settings → Serving
     → Known → Known → Type 0
-IsUnservedOver meaning None config s reported reported' =
+IsUnservedOnJournal meaning known config s reported reported' =
+    HasNoJournal known s reported reported' ⊎ HasJournal meaning known config s reported reported'
+
+-- the same over that log, over that journal, or over a log in memory
+abbrev pub IsUnservedOver : {D : Type 0} → DiskMeaning D → KeptKnown D → Settings → Serving → Known
+    → Known → Type 0
+IsUnservedOver meaning in_memory config s reported reported' =
     HasNotServed (over_log memory_log_meaning) (new_host_of config (new_log config.log)) s reported reported'
-IsUnservedOver meaning (Some known) config s reported reported' =
+IsUnservedOver meaning (in_log known) config s reported reported' =
     IsUnservedOnDisk meaning known config s reported reported'
+IsUnservedOver meaning (in_journal known) config s reported reported' =
+    IsUnservedOnJournal meaning known config s reported reported'
 
 -- status 0: the configuration's file states one, and a host of it served to the end of the input,
 -- and nothing was reported as a fault
@@ -91,7 +148,7 @@ pub record HasServedFiles {D : Type 0} (meaning : DiskMeaning D) (r : FileServic
     : Type 0 where
   pub config : Settings
   pub configured : IsConfigured r.config_held config
-  pub served : IsServedOver meaning r.log_file config r.streams
+  pub served : IsServedOver meaning r.kept config r.streams
   pub no_fault : IsUntouched r.fault_before r.fault_after
 
 -- the configuration's file states none, and that is reported
@@ -104,7 +161,7 @@ pub record HasFailedService {D : Type 0} (meaning : DiskMeaning D) (r : FileServ
     : Type 0 where
   pub config : Settings
   pub configured : IsConfigured r.config_held config
-  pub failed : IsUnservedOver meaning r.log_file config r.streams r.fault_before r.fault_after
+  pub failed : IsUnservedOver meaning r.kept config r.streams r.fault_before r.fault_after
 
 -- status 1: the first of these
 abbrev pub HasNotServedFiles : {D : Type 0} → DiskMeaning D → FileService D → Type 0

@@ -38,10 +38,10 @@ where
     requires { IsOverSecrets request }
     ensures status { (result ≡ 0) ⊎ (result ≡ 1) }
     ensures done { result ≡ 0 → IsAnswered S.Disk.meaning (scene (S.held files.now)
-        (S.disks files.now) (serving_of R.known R.reads W.known input.old input.new output.old
+        (S.disks files.now) (S.making files.now) (serving_of R.known R.reads W.known input.old input.new output.old
         output.new) (F.known fault.old) (F.known fault.new)) request.entry }
     ensures not_done { result ≡ 1 → IsNotAnswered S.Disk.meaning (scene (S.held files.now)
-        (S.disks files.now) (serving_of R.known R.reads W.known input.old input.new output.old
+        (S.disks files.now) (S.making files.now) (serving_of R.known R.reads W.known input.old input.new output.old
         output.new) (F.known fault.old) (F.known fault.new)) request.entry }
 {
     match line_command(&request) {

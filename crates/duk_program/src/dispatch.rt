@@ -15,7 +15,7 @@ use crate::commands::do_command;
 use crate::ending::hand_on;
 use crate::items::line_command;
 use crate::references::has_reference;
-use duk_arguments::{NoRequest, Request, read_request};
+use duk_arguments::{Kept, NoRequest, Request, read_request};
 use duk_commands::{Fault, report};
 use duk_io::{Sink, write_text};
 use std::alloc::Global;
@@ -37,8 +37,15 @@ pub enum Todo<'a> {
     Serve {
         /// The path of the configuration.
         config: &'a str,
-        /// The path of the log of used numbers, or none for a log in memory.
-        log: Option<&'a str>,
+        /// Where the used numbers are kept.
+        kept: Kept<'a>,
+    },
+    /// To make a new journal. Nothing is written yet.
+    NewJournal {
+        /// The path of the journal.
+        file: &'a str,
+        /// For how many payments it has room, as written.
+        records: &'a str,
     },
     /// To do a command that needs files or the input: `show`, `issue`, one with a secret that is
     /// given by reference, or one over the lines of the input. Nothing is written yet.
@@ -135,7 +142,8 @@ fn do_request<'a, W: Sink, F: Sink>(
 {
     match request {
         Request::Run { config, script } => Todo::Run { config, script },
-        Request::Serve { config, log } => Todo::Serve { config, log },
+        Request::Serve { config, kept } => Todo::Serve { config, kept },
+        Request::NewJournal { file, records } => Todo::NewJournal { file, records },
         Request::Show { .. } | Request::Issue { .. } => Todo::Read(request),
         request if is_left(&request) => Todo::Read(request),
         request => Todo::Exit(do_command(alloc, request, output, fault)),

@@ -5,6 +5,7 @@ ghost use Rattle.duk_commands.specs.Fault.{report_line};
 ghost use Rattle.duk_io.specs.Sink.{IsTried, IsUntouched};
 ghost use Rattle.duk_program.specs.HandedOn.{IsFlushReported, IsReportedAfter};
 ghost use Rattle.duk_program.specs.Serve.{serve_line};
+ghost use Rattle.duk_program.specs.ServeJournal.{journal_line};
 ghost use Rattle.duk_script.specs.FaultLine.{fault_line};
 
 use duk_commands::{Fault, report};
@@ -65,6 +66,32 @@ fn host_line(why: HostFault) -> &'static str
         HostFault::Write => "serve: write failed\n",
         HostFault::Truncated => "serve: input ends in a frame\n",
         HostFault::TooLong => "serve: frame too long\n",
+    }
+}
+
+/// A fault of a host over a journal that serves.
+#[derive(Clone, Copy)]
+pub(crate) struct JournalFault {
+    /// Why it does not serve.
+    pub(crate) why: HostFault,
+}
+
+impl EndingFault for JournalFault {
+    ghost line = { λ fault. journal_line fault.why };
+
+    fn report<F: Sink>(&self, fault: &mut F) -> u8 {
+        let _ = write_text(fault, journal_host_line(self.why).as_bytes());
+        1
+    }
+}
+
+/// The line of the fault of a host over a journal, LF at its end.
+fn journal_host_line(why: HostFault) -> &'static str
+    ensures { result.now ≡ journal_line why }
+{
+    match why {
+        HostFault::Store(_) | HostFault::Stopped => "journal: failed\n",
+        why => host_line(why),
     }
 }
 

@@ -17,6 +17,7 @@ use crate::ending::EndingFault;
 use crate::file_system::FileSystem;
 use crate::log_files::LogFiles;
 use crate::meant::{keys_of, read_texts};
+use crate::new_journal::new_journal;
 use crate::reasons::facts_of;
 use crate::request_secrets::with_secrets;
 use crate::run_files::run_files;
@@ -46,10 +47,10 @@ where
         → Keeps (W.known output.old).contents (W.known output.new).contents }
     ensures arguments_refused { result ≡ 2 → AreRefused (texts_of arguments.now) }
     ensures done { result ≡ 0 → IsExplainedDone S.Disk.meaning (texts_of arguments.now) (scene
-        (S.held files.now) (S.disks files.now) (serving_of R.known R.reads W.known input.old
+        (S.held files.now) (S.disks files.now) (S.making files.now) (serving_of R.known R.reads W.known input.old
         input.new output.old output.new) (F.known fault.old) (F.known fault.new)) }
-    ensures not_done { result ≡ 1 → IsExplainedNotDone S.Disk.meaning (inquiry (S.held files.now) (S.reading files.now) (S.opening files.now)) (texts_of arguments.now)
-        (scene (S.held files.now) (S.disks files.now) (serving_of R.known R.reads W.known
+    ensures not_done { result ≡ 1 → IsExplainedNotDone S.Disk.meaning (inquiry (S.held files.now) (S.reading files.now) (S.opening files.now) (S.unmade files.now)) (texts_of arguments.now)
+        (scene (S.held files.now) (S.disks files.now) (S.making files.now) (serving_of R.known R.reads W.known
         input.old input.new output.old output.new) (F.known fault.old) (F.known fault.new)) }
 {
     match read_request(alloc, arguments) {
@@ -73,10 +74,10 @@ where
     ensures status { (result ≡ 0) ⊎ (result ≡ 1) }
     ensures no_fault { result ≡ 0 → IsUntouched (F.known fault.old) (F.known fault.new) }
     ensures done { result ≡ 0 → IsHeardDone S.Disk.meaning (scene (S.held files.now)
-        (S.disks files.now) (serving_of R.known R.reads W.known input.old input.new output.old
+        (S.disks files.now) (S.making files.now) (serving_of R.known R.reads W.known input.old input.new output.old
         output.new) (F.known fault.old) (F.known fault.new)) request.entry }
-    ensures not_done { result ≡ 1 → HasExplained S.Disk.meaning (inquiry (S.held files.now) (S.reading files.now) (S.opening files.now)) (scene (S.held files.now)
-        (S.disks files.now) (serving_of R.known R.reads W.known input.old input.new output.old
+    ensures not_done { result ≡ 1 → HasExplained S.Disk.meaning (inquiry (S.held files.now) (S.reading files.now) (S.opening files.now) (S.unmade files.now)) (scene (S.held files.now)
+        (S.disks files.now) (S.making files.now) (serving_of R.known R.reads W.known input.old input.new output.old
         output.new) (F.known fault.old) (F.known fault.new)) request.entry }
 {
     match request {
@@ -85,9 +86,14 @@ where
             let status = run_files(alloc, files, config, script, output, &mut line);
             tell(alloc, files, &request, status, line.as_slice(), fault)
         }
-        Request::Serve { config, log } => {
+        Request::Serve { config, kept } => {
             let mut line = Vec::new(alloc);
-            let status = serve_files(alloc, files, config, log, input, output, &mut line);
+            let status = serve_files(alloc, files, config, kept, input, output, &mut line);
+            tell(alloc, files, &request, status, line.as_slice(), fault)
+        }
+        Request::NewJournal { file, records } => {
+            let mut line = Vec::new(alloc);
+            let status = new_journal(alloc, files, file, records, &mut line);
             tell(alloc, files, &request, status, line.as_slice(), fault)
         }
         request => do_meant_explained(alloc, files, request, input, output, fault),
@@ -110,10 +116,10 @@ where
     ensures status { (result ≡ 0) ⊎ (result ≡ 1) }
     ensures no_fault { result ≡ 0 → IsUntouched (F.known fault.old) (F.known fault.new) }
     ensures done { result ≡ 0 → IsHeardDone S.Disk.meaning (scene (S.held files.now)
-        (S.disks files.now) (serving_of R.known R.reads W.known input.old input.new output.old
+        (S.disks files.now) (S.making files.now) (serving_of R.known R.reads W.known input.old input.new output.old
         output.new) (F.known fault.old) (F.known fault.new)) request.entry }
-    ensures not_done { result ≡ 1 → HasExplained S.Disk.meaning (inquiry (S.held files.now) (S.reading files.now) (S.opening files.now)) (scene (S.held files.now)
-        (S.disks files.now) (serving_of R.known R.reads W.known input.old input.new output.old
+    ensures not_done { result ≡ 1 → HasExplained S.Disk.meaning (inquiry (S.held files.now) (S.reading files.now) (S.opening files.now) (S.unmade files.now)) (scene (S.held files.now)
+        (S.disks files.now) (S.making files.now) (serving_of R.known R.reads W.known input.old input.new output.old
         output.new) (F.known fault.old) (F.known fault.new)) request.entry }
 {
     duk_io::laws::writes();
@@ -140,7 +146,7 @@ fn tell_unread<S: FileSystem + LogFiles, F: Sink>(
     fault: &mut F,
 ) -> u8
     ensures status { result ≡ 1 }
-    ensures told { IsTold (inquiry (S.held files.now) (S.reading files.now) (S.opening files.now)) (secret_line why) request.now (F.known fault.old) (F.known fault.new) }
+    ensures told { IsTold (inquiry (S.held files.now) (S.reading files.now) (S.opening files.now) (S.unmade files.now)) (secret_line why) request.now (F.known fault.old) (F.known fault.new) }
 {
     let line = why.line();
     tell(alloc, files, request, 1, line.as_slice(), fault)
@@ -159,7 +165,7 @@ fn tell<S: FileSystem + LogFiles, F: Sink>(
     ensures status { result ≡ status }
     ensures silent { status ≢ 1 → F.known fault.new ≡ F.known fault.old }
     ensures told { status ≡ 1
-        → IsTold (inquiry (S.held files.now) (S.reading files.now) (S.opening files.now)) line.now about.now (F.known fault.old) (F.known fault.new) }
+        → IsTold (inquiry (S.held files.now) (S.reading files.now) (S.opening files.now) (S.unmade files.now)) line.now about.now (F.known fault.old) (F.known fault.new) }
 {
     if status == 1 {
         let facts = facts_of(alloc, files, about, line);

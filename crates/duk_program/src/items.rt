@@ -143,6 +143,7 @@ pub(crate) fn line_command<'a>(request: &Request<'a>) -> Option<LineCommand<'a>>
         | Request::Unwrap { .. }
         | Request::Run { .. }
         | Request::Serve { .. }
+        | Request::NewJournal { .. }
         | Request::Initial { .. }
         | Request::Issue { .. }
         | Request::Registers { .. }

@@ -1,16 +1,18 @@
-//! Opens the file of a log as a disk, through a trait by which a contract can say which disk it is.
+//! Opens the file of a log as a disk, and makes such a file, through a trait by which a contract can
+//! say which disk it is.
 //!
 //! `LogFiles` asks of its disks only that they are small, and who opens one asks that it is a
 //! `Disk`: with `Disk` as the bound of the associated type the checker refuses an impl whose disk
 //! is a generic type.
 
 ghost use Rattle.std.proofs.Common.{rules};
-ghost use Rattle.std.specs.Prelude.{ℕ, List, None, Some, IfOk, OnErr};
+ghost use Rattle.std.specs.Prelude.{ℕ, List, None, Some, IfOk, OnErr, OnOk};
 ghost use Rattle.duk_program.specs.HostSize.{IsSmall};
 ghost use Rattle.duk_program.specs.Inquiry.{IsReason, ReasonKnown};
-ghost use Rattle.duk_program.specs.LogFiles.{DiskKnown, IsDisk, IsNoDisk};
+ghost use Rattle.duk_program.specs.LogFiles.{DiskKnown, IsDisk, IsFolderSynced, IsFolderUnsynced, IsNoDisk, MakingKnown, unknown_making};
 
 use crate::file_system::reason_of;
+use crate::new_files::{make_file, making_reason, remove_file, sync_folder_of};
 use duk_explain::Reason;
 use duk_store::{FileDisk, StoreFault};
 use std::fs::{File, OpenOptions, TryLockError};
@@ -43,6 +45,34 @@ pub trait LogFiles {
     fn opening_reason(&self, path: &str) -> Reason
         ensures { IsReason (opening self.now path.now) (Some result) };
 
+    /// What comes of making a file under a path, where the files make it known.
+    ghost making: { Self → List ℕ → MakingKnown Self.Disk };
+
+    /// Why the system refuses to make a file under a path, where the files make it known.
+    ghost unmade: { Self → List ℕ → ReasonKnown };
+
+    /// The disk over a new file of so many bytes under a path, locked. What they are is not known
+    /// until they are written.
+    ///
+    /// Refused with `Device` where no file can be made. One that is there is never opened.
+    fn make_disk(&self, path: &str, size: u64) -> Result<Self::Disk, StoreFault>
+        ensures made { IfOk result (IsDisk ((making self.now path.now).disk size)) }
+        ensures refused { OnErr result (IsNoDisk ((making self.now path.now).disk size)) };
+
+    /// Syncs the folder of a path, so that a file which was made there is found after a stop.
+    ///
+    /// Refused with `Device` where it cannot be synced.
+    fn sync_folder(&self, path: &str) -> Result<(), StoreFault>
+        ensures synced { OnOk result (IsFolderSynced (making self.now path.now).folder) }
+        ensures refused { OnErr result (IsFolderUnsynced (making self.now path.now).folder) };
+
+    /// Removes a file that was made under a path, with the disk over it, if it can be removed.
+    fn remove_made(&self, path: &str, disk: Self::Disk);
+
+    /// Why no file can be made under a path, as the system tells who asks once more.
+    fn making_reason(&self, path: &str) -> Reason
+        ensures { IsReason (unmade self.now path.now) (Some result) };
+
     /// Such a disk takes little memory.
     ghost small: { IsSmall Self.Disk.row };
 }
@@ -54,10 +84,30 @@ impl<R: Files<File = File>> LogFiles for R {
 
     ghost opening = { λ _ _. None };
 
+    ghost making = { λ _ _. unknown_making };
+
+    ghost unmade = { λ _ _. None };
+
     ghost small = { Prim.search rules };
 
     fn open_disk(&self, path: &str) -> Result<FileDisk, StoreFault> {
         FileDisk::new(self, path)
+    }
+
+    fn make_disk(&self, path: &str, size: u64) -> Result<FileDisk, StoreFault> {
+        make_file(self, path, size).map_err(|_| StoreFault::Device)
+    }
+
+    fn sync_folder(&self, path: &str) -> Result<(), StoreFault> {
+        sync_folder_of(self, path).map_err(|_| StoreFault::Device)
+    }
+
+    fn remove_made(&self, path: &str, _disk: FileDisk) {
+        remove_file(self, path);
+    }
+
+    fn making_reason(&self, path: &str) -> Reason {
+        making_reason(self, path)
     }
 
     fn opening_reason(&self, path: &str) -> Reason {

@@ -38,10 +38,10 @@ where
     requires { IsOverSecrets request }
     ensures status { (result ≡ 0) ⊎ (result ≡ 1) }
     ensures done { result ≡ 0 → HasMeantDone S.Disk.meaning (scene (S.held files.now)
-        (S.disks files.now) (serving_of R.known R.reads W.known input.old input.new output.old
+        (S.disks files.now) (S.making files.now) (serving_of R.known R.reads W.known input.old input.new output.old
         output.new) (F.known fault.old) (F.known fault.new)) request.entry }
     ensures not_done { result ≡ 1 → IsMeantNotDone S.Disk.meaning (scene (S.held files.now)
-        (S.disks files.now) (serving_of R.known R.reads W.known input.old input.new output.old
+        (S.disks files.now) (S.making files.now) (serving_of R.known R.reads W.known input.old input.new output.old
         output.new) (F.known fault.old) (F.known fault.new)) request.entry }
 {
     duk_io::laws::writes();
@@ -65,11 +65,11 @@ where
     requires { IsOverSecrets request }
     ensures status { IfOk result (λ status. (status ≡ 0) ⊎ (status ≡ 1)) }
     ensures done { IfOk result (λ status. status ≡ 0 → HasMeantDone S.Disk.meaning (scene
-        (S.held files.now) (S.disks files.now) (serving_of R.known R.reads W.known input.old
+        (S.held files.now) (S.disks files.now) (S.making files.now) (serving_of R.known R.reads W.known input.old
         input.new output.old output.new) (F.known fault.old) (F.known fault.new))
         request.entry) }
     ensures not_done { IfOk result (λ status. status ≡ 1 → HasMeantNotDone S.Disk.meaning (scene
-        (S.held files.now) (S.disks files.now) (serving_of R.known R.reads W.known input.old
+        (S.held files.now) (S.disks files.now) (S.making files.now) (serving_of R.known R.reads W.known input.old
         input.new output.old output.new) (F.known fault.old) (F.known fault.new))
         request.entry) }
     ensures refused { IfErr result (IsSecretFault (S.held files.now)

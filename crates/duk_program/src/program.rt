@@ -19,6 +19,7 @@ use crate::explained::run_explained;
 use crate::file_system::FileSystem;
 use crate::log_files::LogFiles;
 use crate::meant::do_over_secrets;
+use crate::new_journal::new_journal;
 use crate::run_files::run_files;
 use crate::serve_files::serve_files;
 use duk_io::{Sink, Source};
@@ -47,19 +48,20 @@ where
         → Keeps (W.known output.old).contents (W.known output.new).contents }
     ensures arguments_refused { result ≡ 2 → AreRefused (texts_of arguments.now) }
     ensures done { result ≡ 0 → IsProgramDone S.Disk.meaning (texts_of arguments.now) (scene
-        (S.held files.now) (S.disks files.now) (serving_of R.known R.reads W.known input.old
+        (S.held files.now) (S.disks files.now) (S.making files.now) (serving_of R.known R.reads W.known input.old
         input.new output.old output.new) (F.known fault.old) (F.known fault.new)) }
     ensures not_done { result ≡ 1 → IsProgramNotDone S.Disk.meaning (texts_of arguments.now)
-        (scene (S.held files.now) (S.disks files.now) (serving_of R.known R.reads W.known
+        (scene (S.held files.now) (S.disks files.now) (S.making files.now) (serving_of R.known R.reads W.known
         input.old input.new output.old output.new) (F.known fault.old) (F.known fault.new)) }
 {
     duk_io::laws::writes();
     match command(alloc, arguments, output, fault) {
         Todo::Exit(status) => status,
         Todo::Run { config, script } => run_files(alloc, files, config, script, output, fault),
-        Todo::Serve { config, log } => {
-            serve_files(alloc, files, config, log, input, output, fault)
+        Todo::Serve { config, kept } => {
+            serve_files(alloc, files, config, kept, input, output, fault)
         }
+        Todo::NewJournal { file, records } => new_journal(alloc, files, file, records, fault),
         Todo::Read(request) => do_over_secrets(alloc, files, request, input, output, fault),
     }
 }
@@ -90,11 +92,11 @@ where
         → AreRefused (without_explain (texts_of arguments.old.items)) }
     ensures done { result ≡ 0 → IsRunDone (is_marked (texts_of arguments.old.items))
         S.Disk.meaning (without_explain (texts_of arguments.old.items)) (scene
-        (S.held files.now) (S.disks files.now) (serving_of R.known R.reads W.known input.old
+        (S.held files.now) (S.disks files.now) (S.making files.now) (serving_of R.known R.reads W.known input.old
         input.new output.old output.new) (F.known fault.old) (F.known fault.new)) }
     ensures not_done { result ≡ 1 → IsRunNotDone (is_marked (texts_of arguments.old.items))
-        S.Disk.meaning (inquiry (S.held files.now) (S.reading files.now) (S.opening files.now)) (without_explain (texts_of arguments.old.items)) (scene
-        (S.held files.now) (S.disks files.now) (serving_of R.known R.reads W.known input.old
+        S.Disk.meaning (inquiry (S.held files.now) (S.reading files.now) (S.opening files.now) (S.unmade files.now)) (without_explain (texts_of arguments.old.items)) (scene
+        (S.held files.now) (S.disks files.now) (S.making files.now) (serving_of R.known R.reads W.known input.old
         input.new output.old output.new) (F.known fault.old) (F.known fault.new)) }
 {
     if take_explain(arguments) {

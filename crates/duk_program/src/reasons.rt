@@ -27,7 +27,7 @@ pub(crate) fn facts_of<S: FileSystem + LogFiles>(
     about: &Request<'_>,
     line: &[u8],
 ) -> Facts
-    ensures { AreFacts (inquiry (S.held files.now) (S.reading files.now) (S.opening files.now))
+    ensures { AreFacts (inquiry (S.held files.now) (S.reading files.now) (S.opening files.now) (S.unmade files.now))
         about.now line.now result }
 {
     match blamed_file(about, line) {
@@ -47,7 +47,7 @@ fn facts_by<S: FileSystem + LogFiles>(
     line: &[u8],
     blamed: Blamed<'_>,
 ) -> Facts
-    ensures { AreFactsOf (inquiry (S.held files.now) (S.reading files.now) (S.opening files.now))
+    ensures { AreFactsOf (inquiry (S.held files.now) (S.reading files.now) (S.opening files.now) (S.unmade files.now))
         about.now line.now (Some (subject_of blamed.entry)) result }
 {
     let mut facts = Facts {
@@ -58,6 +58,7 @@ fn facts_by<S: FileSystem + LogFiles>(
         Blamed::Secrets => facts.reason = unread_reason(files, about, line),
         Blamed::Readable(path) => facts.reason = files.reading_reason(path),
         Blamed::Lockable(path) => facts.reason = Some(files.opening_reason(path)),
+        Blamed::Makeable(path) => facts.reason = Some(files.making_reason(path)),
         Blamed::Log(path) => facts.place = damaged_record(alloc, files, path),
         Blamed::Config(path) => facts.place = faulty_line(alloc, files, path, line),
     }

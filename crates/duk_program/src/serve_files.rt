@@ -1,11 +1,11 @@
-//! The command `serve` with its files: reads the configuration, opens the log, and serves.
+//! The command `serve` with its files: reads the configuration, opens the log or the journal, and
+//! serves.
 
 ghost use Rattle.std.specs.Prelude.{◌≡◌, ◌⊎◌};
-ghost use Rattle.std.specs.Option.{option_map};
 ghost use Rattle.duk_config.specs.NewHost.{new_host_of};
 ghost use Rattle.duk_io.specs.Sink.{IsTried, IsUntouched};
 ghost use Rattle.duk_program.specs.Serve.{HasNotServed, HasServed, over_log, serving_of};
-ghost use Rattle.duk_program.specs.ServeFiles.{HasNotServedFiles, HasServedFiles, IsServedOnDisk, IsUnservedOnDisk, file_service, unopened_line};
+ghost use Rattle.duk_program.specs.ServeFiles.{HasNotServedFiles, HasServedFiles, IsServedOnDisk, IsUnservedOnDisk, file_service, kept_known, unopened_line};
 ghost use Rattle.duk_store.specs.MemoryLog.{memory_log_meaning, new_log};
 
 use crate::configuration::read_configuration;
@@ -13,23 +13,26 @@ use crate::ending::EndingFault;
 use crate::file_system::FileSystem;
 use crate::log_files::LogFiles;
 use crate::serve::serve_with;
+use crate::serve_journal_files::serve_on_journal;
+use duk_arguments::Kept;
 use duk_config::Config;
 use duk_host::HostFault;
 use duk_io::{Sink, Source, write_text};
 use duk_store::{Disk, DiskLog, MemLog};
 use std::alloc::Global;
 
-/// Serves the frames of `input` under the configuration of one file, over a log in another or in
-/// memory, and gives the status: 0, or 1 with a line on `fault`.
+/// Serves the frames of `input` under the configuration of one file, over a log or a journal in
+/// another or over a log in memory, and gives the status: 0, or 1 with a line on `fault`.
 ///
-/// The faults, in this order: those of the configuration's file; `log: cannot open`; those of
-/// serving, as `serve_with` reports them. Where the cause is that memory was refused, the line is
-/// `out of memory` instead.
+/// The faults, in this order: those of the configuration's file; `log: cannot open`, of a journal
+/// `journal: cannot open`; those of serving, as `serve_with` reports them, and of a journal
+/// `serve_with_journal`. Where the cause is that memory was refused, the line is `out of memory`
+/// instead.
 pub(crate) fn serve_files<S: FileSystem + LogFiles, R: Source, W: Sink, F: Sink>(
     alloc: Global,
     files: &S,
     config: &str,
-    log: Option<&str>,
+    kept: Kept<'_>,
     input: &mut R,
     output: &mut W,
     fault: &mut F,
@@ -38,11 +41,11 @@ where
     S::Disk: Disk,
     ensures status { (result ≡ 0) ⊎ (result ≡ 1) }
     ensures done { result ≡ 0 → HasServedFiles S.Disk.meaning (file_service (S.held files.now
-        config.now) (option_map (λ path. S.disks files.now path.now) log.entry) (serving_of
+        config.now) (kept_known (S.disks files.now) kept.entry) (serving_of
         R.known R.reads W.known input.old input.new output.old output.new) (F.known fault.old)
         (F.known fault.new)) }
     ensures reported { result ≡ 1 → HasNotServedFiles S.Disk.meaning (file_service (S.held
-        files.now config.now) (option_map (λ path. S.disks files.now path.now) log.entry)
+        files.now config.now) (kept_known (S.disks files.now) kept.entry)
         (serving_of R.known R.reads W.known input.old input.new output.old output.new) (F.known
         fault.old) (F.known fault.new)) }
 {
@@ -50,9 +53,12 @@ where
         Ok(config) => config,
         Err(status) => return status,
     };
-    match log {
-        None => serve_in_memory(alloc, &config, input, output, fault),
-        Some(path) => serve_on_file(alloc, files, &config, path, input, output, fault),
+    match kept {
+        Kept::InMemory => serve_in_memory(alloc, &config, input, output, fault),
+        Kept::InLog(path) => serve_on_file(alloc, files, &config, path, input, output, fault),
+        Kept::InJournal(path) => {
+            serve_on_journal(alloc, files, &config, path, input, output, fault)
+        }
     }
 }
 

@@ -2,8 +2,10 @@
 
 ghost use Rattle.std.proofs.Common.{rules};
 ghost use Rattle.std.specs.Option.{option_map};
-ghost use Rattle.std.specs.Prelude.{◌≡◌, IfErr, IfOk, None, Some};
+ghost use Rattle.std.specs.Prelude.{◌≡◌, IfErr, IfOk, None, Some, false};
+ghost use Rattle.duk_program.specs.LogFiles.{unknown_making};
 ghost use Rattle.duk_program.specs.declared.file_system.FileFault.TheVariants.{NoMemory};
+ghost use Rattle.duk_explain.specs.declared.found.Reason.TheVariants.{There};
 
 use crate::commands::arguments_of;
 use duk_program::{FileFault, FileSystem, LogFiles, Reason, run_arguments};
@@ -72,6 +74,10 @@ impl LogFiles for EveryFile {
 
     ghost opening = { λ _ _. None };
 
+    ghost making = { λ _ _. record { disk = λ _. Some None; folder = Some false } };
+
+    ghost unmade = { λ _ _. Some (Some There) };
+
     ghost small = { Prim.search rules };
 
     fn open_disk(&self, _path: &str) -> Result<MemDisk, StoreFault> {
@@ -80,6 +86,20 @@ impl LogFiles for EveryFile {
 
     fn opening_reason(&self, _path: &str) -> Reason {
         Reason::InUse
+    }
+
+    fn make_disk(&self, _path: &str, _size: u64) -> Result<MemDisk, StoreFault> {
+        Err(StoreFault::Device)
+    }
+
+    fn sync_folder(&self, _path: &str) -> Result<(), StoreFault> {
+        Err(StoreFault::Device)
+    }
+
+    fn remove_made(&self, _path: &str, _disk: MemDisk) {}
+
+    fn making_reason(&self, _path: &str) -> Reason {
+        Reason::There
     }
 }
 
@@ -126,6 +146,10 @@ impl LogFiles for Banks {
 
     ghost opening = { λ _ _. None };
 
+    ghost making = { λ _ _. unknown_making };
+
+    ghost unmade = { λ _ _. None };
+
     ghost small = { Prim.search rules };
 
     fn open_disk(&self, _path: &str) -> Result<MemDisk, StoreFault> {
@@ -133,6 +157,20 @@ impl LogFiles for Banks {
     }
 
     fn opening_reason(&self, _path: &str) -> Reason {
+        Reason::Other
+    }
+
+    fn make_disk(&self, _path: &str, size: u64) -> Result<MemDisk, StoreFault> {
+        MemDisk::new(self.alloc, size as usize)
+    }
+
+    fn sync_folder(&self, _path: &str) -> Result<(), StoreFault> {
+        Ok(())
+    }
+
+    fn remove_made(&self, _path: &str, _disk: MemDisk) {}
+
+    fn making_reason(&self, _path: &str) -> Reason {
         Reason::Other
     }
 }

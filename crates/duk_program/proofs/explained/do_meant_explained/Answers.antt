@@ -22,7 +22,7 @@ with_secrets-meant-requires-clause-count g c =
 
 pub returns-clause-done : goal.returns-clause-done
 returns-clause-done g c zero = meant_heard g.S.Disk.Disk.meaning
-    (scene (g.S.FileSystem.held c.args.files.now) (g.S.LogFiles.disks c.args.files.now)
+    (scene (g.S.FileSystem.held c.args.files.now) (g.S.LogFiles.disks c.args.files.now) (g.S.LogFiles.making c.args.files.now)
     (serving_of g.R.Source.known g.R.Source.reads g.W.Sink.known c.args.input.now c.answer-status.new.input c.args.output.now c.answer-status.new.output)
     (g.F.Sink.known c.args.fault.now) (g.F.Sink.known c.tell.new.fault))
     c.args.request c.with_secrets-meant.result (supply (g.R.Source.known c.read_texts.new.input) (g.R.Source.reads c.read_texts.new.input)) c.new-line.result.items c.answer-status.new.fault.items c.new-line.ensures.items c.requires
@@ -32,7 +32,7 @@ returns-clause-done g c zero = meant_heard g.S.Disk.Disk.meaning
 
 pub returns-clause-not_done : goal.returns-clause-not_done
 returns-clause-not_done g c one = meant_explained g.S.Disk.Disk.meaning
-    (scene (g.S.FileSystem.held c.args.files.now) (g.S.LogFiles.disks c.args.files.now)
+    (scene (g.S.FileSystem.held c.args.files.now) (g.S.LogFiles.disks c.args.files.now) (g.S.LogFiles.making c.args.files.now)
     (serving_of g.R.Source.known g.R.Source.reads g.W.Sink.known c.args.input.now c.answer-status.new.input c.args.output.now c.answer-status.new.output)
     (g.F.Sink.known c.args.fault.now) (g.F.Sink.known c.tell.new.fault))
     c.args.request c.with_secrets-meant.result (supply (g.R.Source.known c.read_texts.new.input) (g.R.Source.reads c.read_texts.new.input)) c.new-line.result.items c.answer-status.new.fault.items c.new-line.ensures.items c.requires

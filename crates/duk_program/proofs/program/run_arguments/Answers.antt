@@ -1,6 +1,6 @@
-use Rattle.std.proofs.Common.{inl}
+use Rattle.std.proofs.Common.{inl, refl}
 use Rattle.duk_program.proofs.Answered.{meant_done, meant_not_done, program_done, program_not_done}
-use Rattle.duk_program.proofs.FaultIsReported.{files_reported, meant_reported, unserved_reported}
+use Rattle.duk_program.proofs.FaultIsReported.{files_reported, meant_reported, unmade_reported, unserved_reported}
 use Rattle.duk_arguments.specs.declared.request.Request.TheVariants as request
 use Rattle.duk_program.proofs.program.run_arguments.Goals as goal
 
@@ -34,16 +34,41 @@ returns-in-Serve-clause-fault g c failed =
 
 pub returns-in-Serve-clause-done : goal.returns-in-Serve-clause-done
 returns-in-Serve-clause-done g c zero = inl (record {
-  request = request.Serve c.in-Serve.config c.in-Serve.log;
+  request = request.Serve c.in-Serve.config c.in-Serve.kept;
   asked = c.in-Serve.ensures.asked;
   done = rw (c.in-Serve.ensures.quiet tt, c.in-Serve.ensures.silent tt) at (c.serve_files.ensures.done zero);
 })
 
 pub returns-in-Serve-clause-not_done : goal.returns-in-Serve-clause-not_done
 returns-in-Serve-clause-not_done g c one = inl (record {
-  request = request.Serve c.in-Serve.config c.in-Serve.log;
+  request = request.Serve c.in-Serve.config c.in-Serve.kept;
   asked = c.in-Serve.ensures.asked;
   not_done = rw (c.in-Serve.ensures.quiet tt, c.in-Serve.ensures.silent tt) at (c.serve_files.ensures.reported one);
+})
+
+pub returns-in-NewJournal-clause-fault : goal.returns-in-NewJournal-clause-fault
+returns-in-NewJournal-clause-fault g c failed =
+    rw (← c.in-NewJournal.ensures.silent tt) (unmade_reported _ _ _ _ _ (c.new_journal.ensures.not_done failed))
+
+pub returns-in-NewJournal-clause-done : goal.returns-in-NewJournal-clause-done
+returns-in-NewJournal-clause-done g c zero = inl (record {
+  request = request.NewJournal c.in-NewJournal.file c.in-NewJournal.records;
+  asked = c.in-NewJournal.ensures.asked;
+  done = record {
+    made = c.new_journal.ensures.done zero;
+    idle = record { unread = refl; quiet = c.in-NewJournal.ensures.quiet tt };
+    no_fault = rw (← c.in-NewJournal.ensures.silent tt) (c.new_journal.ensures.no_fault zero);
+  };
+})
+
+pub returns-in-NewJournal-clause-not_done : goal.returns-in-NewJournal-clause-not_done
+returns-in-NewJournal-clause-not_done g c one = inl (record {
+  request = request.NewJournal c.in-NewJournal.file c.in-NewJournal.records;
+  asked = c.in-NewJournal.ensures.asked;
+  not_done = record {
+    unmade = rw (← c.in-NewJournal.ensures.silent tt) (c.new_journal.ensures.not_done one);
+    idle = record { unread = refl; quiet = c.in-NewJournal.ensures.quiet tt };
+  };
 })
 
 pub returns-in-Read-clause-fault : goal.returns-in-Read-clause-fault

@@ -1,16 +1,23 @@
 use Rattle.std.proofs.Common.{rules, inr}
 use Rattle.duk_program.proofs.serve_files.serve_files.Goals as goal
 
-pub returns-in-None-clause-reported : goal.returns-in-None-clause-reported
-returns-in-None-clause-reported g c one = inr (record {
+pub returns-in-InMemory-clause-reported : goal.returns-in-InMemory-clause-reported
+returns-in-InMemory-clause-reported g c one = inr (record {
   config = _;
   configured = c.in-Ok.ensures.configured;
   failed = search (rules, c.serve_in_memory.ensures.not_done one);
+})
+
+pub returns-in-InLog-clause-reported : goal.returns-in-InLog-clause-reported
+returns-in-InLog-clause-reported g c one = inr (record {
+  config = _;
+  configured = c.in-Ok.ensures.configured;
+  failed = search (rules, c.serve_on_file.ensures.not_done one);
 })
 
 pub returns-clause-reported : goal.returns-clause-reported
 returns-clause-reported g c one = inr (record {
   config = _;
   configured = c.in-Ok.ensures.configured;
-  failed = search (rules, c.serve_on_file.ensures.not_done one);
+  failed = search (rules, c.serve_on_journal.ensures.not_done one);
 })

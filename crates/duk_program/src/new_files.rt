@@ -1,0 +1,81 @@
+//! Makes real files, and syncs their folders.
+//!
+//! No contract says what a real file holds, so these bodies rest on being read.
+
+ghost use Rattle.std.specs.Prelude.{◌≡◌, IfOk};
+
+use duk_explain::Reason;
+use duk_store::{FileDisk, FileMedium, MediumDisk, ReadAhead};
+use std::fs::{File, OpenOptions};
+use std::io::ErrorKind;
+use std::path::Path;
+use std::rt::Files;
+use std::{fs, io};
+
+/// A disk over a new file of so many bytes, which this process alone has locked. Where a file is
+/// there already it stays as it is.
+pub(crate) fn make_file<R: Files<File = File>>(
+    files: &R,
+    path: &str,
+    size: u64,
+) -> io::Result<FileDisk> {
+    let file = open_new(files, path)?;
+    match lock_sized(&file, size) {
+        Ok(()) => {
+            let ahead = ReadAhead::over(file, size);
+            Ok(MediumDisk::over(FileMedium::over(ahead, size), size))
+        }
+        Err(error) => {
+            remove_file(files, path);
+            Err(error)
+        }
+    }
+}
+
+/// A file under a path where there is none, not even a link.
+fn open_new<R: Files<File = File>>(files: &R, path: &str) -> io::Result<File> {
+    OpenOptions::new()
+        .read(true)
+        .write(true)
+        .create_new(true)
+        .open(files, path)
+}
+
+/// Locks a new file, and gives it so many bytes.
+fn lock_sized(file: &File, size: u64) -> io::Result<()> {
+    file.try_lock()?;
+    file.set_len(size)
+}
+
+/// Syncs the folder that a path is in.
+pub(crate) fn sync_folder_of<R: Files<File = File>>(files: &R, path: &str) -> io::Result<()> {
+    let path = Path::new(path);
+    let folder = match path.parent() {
+        Some(folder) => folder.as_os_str(),
+        None => "",
+    };
+    let name = if folder.is_empty() { "." } else { folder };
+    File::open(files, name)?.sync_all()
+}
+
+/// Removes a file, if it can be removed.
+pub(crate) fn remove_file<R: Files>(files: &R, path: &str) {
+    let _ = fs::remove_file(files, path);
+}
+
+/// Why no file is made under a path, as the system tells who makes one once more, which is removed
+/// again.
+pub(crate) fn making_reason<R: Files<File = File>>(files: &R, path: &str) -> Reason {
+    match open_new(files, path) {
+        Ok(_made) => {
+            remove_file(files, path);
+            Reason::Other
+        }
+        Err(error) => match error.kind() {
+            ErrorKind::AlreadyExists => Reason::There,
+            ErrorKind::NotFound | ErrorKind::NotADirectory => Reason::NoFolder,
+            ErrorKind::PermissionDenied => Reason::NoPermission,
+            _ => Reason::Other,
+        },
+    }
+}
