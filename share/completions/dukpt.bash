@@ -19,7 +19,8 @@ declare -gA _dukpt_arguments=(
     [request]="BDK KSN PAN PIN AMOUNT --initial --explain -h --help"
     [reply]="BDK REQUEST ANSWER --initial --explain -h --help"
     [run]="CONFIG SCRIPT --explain -h --help"
-    [serve]="CONFIG --log=FILE --explain -h --help"
+    [serve]="CONFIG --log=FILE --journal=FILE --explain -h --help"
+    [new-journal]="FILE RECORDS --explain -h --help"
     [help]="COMMAND"
 )
 _dukpt_options="--explain -h --help -V --version"

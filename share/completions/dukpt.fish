@@ -117,8 +117,14 @@ complete -c dukpt -n '__fish_seen_subcommand_from run' -s h -l help -d 'Print he
 complete -c dukpt -n __fish_use_subcommand -a serve -d 'CONFIG: answer request frames'
 complete -c dukpt -n '__fish_seen_subcommand_from serve' -F
 complete -c dukpt -n '__fish_seen_subcommand_from serve' -l log -r -F -d 'FILE: keep the used numbers in FILE'
+complete -c dukpt -n '__fish_seen_subcommand_from serve' -l journal -r -F -d 'FILE: keep the payments in FILE'
 complete -c dukpt -n '__fish_seen_subcommand_from serve' -l explain -d 'Say more of a fault'
 complete -c dukpt -n '__fish_seen_subcommand_from serve' -s h -l help -d 'Print help'
 
+complete -c dukpt -n __fish_use_subcommand -a new-journal -d 'FILE RECORDS: make a new journal'
+complete -c dukpt -n '__fish_seen_subcommand_from new-journal' -F
+complete -c dukpt -n '__fish_seen_subcommand_from new-journal' -l explain -d 'Say more of a fault'
+complete -c dukpt -n '__fish_seen_subcommand_from new-journal' -s h -l help -d 'Print help'
+
 complete -c dukpt -n __fish_use_subcommand -a help -d 'COMMAND: print help'
-complete -c dukpt -n '__fish_seen_subcommand_from help' -a 'derive walk initial issue registers kcv mac pin unpin translate wrap unwrap show request reply run serve help'
+complete -c dukpt -n '__fish_seen_subcommand_from help' -a 'derive walk initial issue registers kcv mac pin unpin translate wrap unwrap show request reply run serve new-journal help'
