@@ -45,6 +45,13 @@ echo "sync $*: $(tr '\\n' ' ' <log.state)" >>words
 class Serving(Case):
     """The script that starts a service, here over a program that stands in for one."""
 
+    # What it serves, the words for that before its path, and the line behind which it starts none.
+    kind = "log"
+    option: tuple[str, ...] = ()
+    failed = FAILED
+    # The line of the other store, which is none of its own.
+    other = (b"journal: failed\n", 1)
+
     def setUp(self) -> None:
         super().setUp()
         self.home = self.folder()
@@ -60,9 +67,9 @@ class Serving(Case):
               given: Union[int, socket.socket] = subprocess.PIPE) -> subprocess.Popen:
         told = {"DUKPT": self.home / "stand-in", "SAYS": says, "STATUS": str(status)}
         script = subprocess.Popen(
-            [*way, SERVE, "bank.toml", log], cwd=self.home, stdin=given, stdout=subprocess.PIPE,
-            stderr=subprocess.PIPE, bufsize=0, env={**os.environ, **told},
-            start_new_session=True, preexec_fn=limits.prepare())
+            [*way, SERVE, "bank.toml", *self.option, log], cwd=self.home, stdin=given,
+            stdout=subprocess.PIPE, stderr=subprocess.PIPE, bufsize=0, env={**os.environ, **told},
+            start_new_session=True, preexec_fn=interruptible(limits.prepare()))
         self.addCleanup(end_of, script)
         return script
 
@@ -82,7 +89,7 @@ class Serving(Case):
         """How often the program was started, each time with the words of a service."""
         noted = self.home / "words"
         lines = noted.read_text().splitlines() if noted.exists() else []
-        self.assertEqual(lines, [f"serve bank.toml --log {self.log}"] * len(lines))
+        self.assertEqual(lines, [f"serve bank.toml --{self.kind} {self.log}"] * len(lines))
         return len(lines)
 
     def assert_refused(self, what: str, limits: Limits = NO_LIMITS,
@@ -97,14 +104,15 @@ class Serving(Case):
         """Streams and status are those of the service. But for one line it may be started again."""
         given = bytes(range(256)) * 3000
         ends = [(b"", 0), (b"log: cannot open\n", 1), (b"serve: read failed\n", 1),
-                (b"out of memory\n", 1), (b"log: failed or not\n", 1), (b"no log: failed\n", 1)]
+                (b"out of memory\n", 1), (b"log: failed or not\n", 1), (b"no log: failed\n", 1),
+                (b"journal: failed or not\n", 1), self.other]
         for at, (says, status) in enumerate(ends, 1):
             self.assertEqual(self.serve(says, status, given), Ended(status, given, says))
             self.assertEqual((self.runs(), self.state.read_bytes()), (at, b""), says)
 
     def test_a_log_that_failed(self) -> None:
         """Behind it no program is started, until an operator removes the state."""
-        for at, says in enumerate((FAILED, b"another line\n" + FAILED), 1):
+        for at, says in enumerate((self.failed, b"another line\n" + self.failed), 1):
             self.assertEqual(self.serve(says, 1, b"x"), Ended(1, b"x", says))
             for _ in range(3):
                 self.assert_refused("behind a log that failed")
@@ -117,7 +125,7 @@ class Serving(Case):
 
     def test_a_failure_that_nobody_reads(self) -> None:
         """It is kept all the same, before its line is passed on."""
-        script = self.start(FAILED, 1)
+        script = self.start(self.failed, 1)
         self.demand_running(script)
         script.stderr.close()
         script.stderr = None
@@ -130,7 +138,7 @@ class Serving(Case):
         (self.home / "more").mkdir()
         (self.home / "more" / "other").symlink_to("../link")
         (self.home / "link").symlink_to("log")
-        self.assertEqual(self.serve(FAILED, 1, log="more/other"), Ended(1, b"", FAILED))
+        self.assertEqual(self.serve(self.failed, 1, log="more/other"), Ended(1, b"", self.failed))
         for name in ("log", "./log", "link", "more/other", "more/../log", str(self.log)):
             self.assert_refused(f"as {name}", log=name)
         self.assertEqual(self.state.read_text(), f"{BOOT}failed\n")
@@ -150,7 +158,7 @@ class Serving(Case):
     def test_a_service_that_a_signal_ends(self) -> None:
         """It may have been told of a failed sync, and had no time to say so."""
         for way in (signal.SIGKILL, signal.SIGSEGV, signal.SIGTERM):
-            for says, left in ((b"", BOOT), (b"a line\n", BOOT), (FAILED, f"{BOOT}failed\n")):
+            for says, left in ((b"", BOOT), (b"a line\n", BOOT), (self.failed, f"{BOOT}failed\n")):
                 self.assertEqual(self.serve(says, 128 + way, b"x"), Ended(128 + way, b"x", says))
                 self.assertEqual(self.state.read_text(), left)
                 self.assert_refused("behind a service that a signal ended")
@@ -159,7 +167,7 @@ class Serving(Case):
     def test_told_to_end(self) -> None:
         """It waits for its service, which goes on, and sees how that ends."""
         for way, tell in self.ways_to_tell():
-            for says, status, left in ((b"", 0, ""), (FAILED, 1, f"{BOOT}failed\n")):
+            for says, status, left in ((b"", 0, ""), (self.failed, 1, f"{BOOT}failed\n")):
                 script = self.start(says, status)
                 self.demand_running(script)
                 tell(script.pid, way)
@@ -171,7 +179,7 @@ class Serving(Case):
     def test_the_end_of_a_socket(self) -> None:
         """It ends the input of its service where that is a socket, so that it ends by itself."""
         for way, tell in self.ways_to_tell():
-            for says, status, left in ((b"", 0, ""), (FAILED, 1, f"{BOOT}failed\n")):
+            for says, status, left in ((b"", 0, ""), (self.failed, 1, f"{BOOT}failed\n")):
                 client, connection = socket.socketpair()
                 with client, connection:
                     script = self.start(says, status, given=connection)
@@ -234,11 +242,11 @@ class Serving(Case):
         self.make_program(tools / "sync", SYNC)
         way = ("env", f"PATH={tools}:{os.environ['PATH']}")
         boot, folder = BOOT.strip(), self.home.resolve()
-        for says, status, left in ((b"", 0, ""), (FAILED, 1, f"{boot} failed ")):
+        for says, status, left in ((b"", 0, ""), (self.failed, 1, f"{boot} failed ")):
             self.assertEqual(self.serve(says, status, way=way), Ended(status, b"", says))
             noted = (self.home / "words").read_text()
             self.assertEqual(noted, f"sync -- {folder}/log.state {folder}/: {boot} \n"
-                                    f"serve bank.toml --log {self.log}\n"
+                                    f"serve bank.toml --{self.kind} {self.log}\n"
                                     f"sync -- {folder}/log.state: {left}\n")
             (self.home / "words").unlink()
             self.state.unlink()
@@ -443,6 +451,18 @@ def copied(old: Path, new: Path, limits: Limits = NO_LIMITS) -> Ended:
     done = subprocess.run([COPY, old, new], capture_output=True, timeout=SECONDS, check=False,
                           preexec_fn=limits.prepare())
     return Ended(done.returncode, done.stdout, done.stderr)
+
+
+def interruptible(prepare: Optional[Callable[[], None]]) -> Callable[[], None]:
+    """Lets interrupts reach a process, also where the bench runs in the background, which ignores
+    them and would pass that on."""
+
+    def prepare_for_interrupts() -> None:
+        signal.signal(signal.SIGINT, signal.SIG_DFL)
+        if prepare:
+            prepare()
+
+    return prepare_for_interrupts
 
 
 def end_of(script: subprocess.Popen, given: Optional[bytes] = b"") -> Ended:

@@ -86,33 +86,27 @@ class Recipes(ProgramCase):
     def test_components(self) -> None:
         self.run_recipe(2)
 
-    def test_secrets_by_reference(self) -> None:
+    def test_many_items(self) -> None:
         self.run_recipe(3)
 
-    def test_a_refused_argument(self) -> None:
+    def test_a_frame(self) -> None:
         self.run_recipe(4)
 
-    def test_many_items(self) -> None:
+    def test_a_trace(self) -> None:
         self.run_recipe(5)
 
-    def test_a_frame(self) -> None:
+    def test_a_translated_pin_block(self) -> None:
         self.run_recipe(6)
 
-    def test_a_trace(self) -> None:
+    def test_a_walk(self) -> None:
         self.run_recipe(7)
 
-    def test_a_translated_pin_block(self) -> None:
+    def test_a_request_and_its_answer(self) -> None:
         self.run_recipe(8)
 
-    def test_a_walk(self) -> None:
-        self.run_recipe(9)
-
-    def test_a_request_and_its_answer(self) -> None:
-        self.run_recipe(10)
-
     def test_a_file_of_frames(self) -> None:
-        self.run_recipe(11)
+        self.run_recipe(9)
 
     def test_there_are_no_others(self) -> None:
         """The last one is of the page, and has no command."""
-        self.assertEqual([bool(commands) for _, commands in recipes()], [True] * 12 + [False])
+        self.assertEqual([bool(commands) for _, commands in recipes()], [True] * 10 + [False])

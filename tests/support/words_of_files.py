@@ -174,7 +174,7 @@ def words_of_commands() -> Words:
 
 def words_of_bash() -> Words:
     words, text = Words(), text_of("share", "completions", "dukpt.bash")
-    for command, rest in re.findall(r'^    \[(\w+)\]="(.*)"$', text, re.M):
+    for command, rest in re.findall(r'^    \[([\w-]+)\]="(.*)"$', text, re.M):
         options = [it.partition("=") for it in rest.split() if it.startswith("-")]
         words.add(command, [it.rstrip(".") for it in rest.split() if not it.startswith("-")],
                   {name: value or None for name, _, value in options})
@@ -190,13 +190,13 @@ def words_of_zsh() -> Words:
     shared = dict(re.findall(r"local -a (\w+)=\((.*)\)$", text, re.M))
     first = "".join(re.findall(r"_arguments -C (.*?)&&", text, re.S))
     words.options[PROGRAM] = options_of_zsh(first, shared)
-    for command, rest in re.findall(r"^        (\w+)\) _arguments (.*?) ;;$", text, re.M | re.S):
+    for command, rest in re.findall(r"^        ([\w-]+)\) _arguments (.*?) ;;$", text, re.M | re.S):
         values = re.findall(r"'(\d+|\*):(\w+):", rest)
         places = [str(place) for place in range(1, len(values) + 1)]
         if [place for place, _ in values] not in (places, [*places[:-1], "*"]):
             raise Unreadable(f"{command}: its words are not numbered one after the other")
         words.add(command, [name for _, name in values], options_of_zsh(rest, shared))
-    named = re.findall(r"^        '([a-z]+):", text, re.M)
+    named = re.findall(r"^        '([a-z-]+):", text, re.M)
     if sorted([PROGRAM, *named]) != sorted(words.values):
         raise Unreadable("the commands that are offered are not those that are completed")
     return words
@@ -212,9 +212,9 @@ def options_of_zsh(text: str, shared: dict[str, str]) -> Options:
     return found
 
 
-OFFER_OF_FISH = r"^complete -c dukpt -n __fish_use_subcommand -a (\w+) -d '([^:']*):"
+OFFER_OF_FISH = r"^complete -c dukpt -n __fish_use_subcommand -a ([\w-]+) -d '([^:']*):"
 OPTION_OF_FISH = (
-    r"^complete -c dukpt -n (?:__fish_use_subcommand|'__fish_seen_subcommand_from (\w+)') (.*)$")
+    r"^complete -c dukpt -n (?:__fish_use_subcommand|'__fish_seen_subcommand_from ([\w-]+)') (.*)$")
 
 
 def words_of_fish() -> Words:

@@ -1,0 +1,66 @@
+"""A journal of payments as a file: making one, reading one strictly, and what appends make of it.
+
+docs/FORMATS.md has the layout, under "Disk of a journal".
+"""
+from __future__ import annotations
+
+import os
+from pathlib import Path
+from typing import Sequence
+
+from .page_journals import OPEN, RECORD, Group, Payment, Place, journal_of, read_journal
+
+# The bytes of a record behind its gate, which an append writes first.
+BODY = slice(1, RECORD)
+
+
+class DamagedJournal(AssertionError):
+    """That a file is no journal, or not the one that it was made as."""
+
+
+def make_journal(path: Path, room: int, groups: Sequence[Group] = ()) -> bytes:
+    """Makes a journal with room for so many payments that keeps these, written and synced, and
+    answers its bytes."""
+    image = journal_of(groups, room - sum(map(len, groups)))
+    with open(path, "wb") as it:
+        it.write(image)
+        it.flush()
+        os.fsync(it.fileno())
+    return image
+
+
+def groups_in(image: bytes) -> list[list[Payment]]:
+    """The groups that a journal keeps; what is damaged is an error."""
+    rows = read_journal(image)
+    if isinstance(rows, Place):
+        raise DamagedJournal(f"the journal breaks a rule at bytes {rows.first} to {rows.last}")
+    groups: list[list[Payment]] = []
+    for place, (first, _, payment) in enumerate(rows):
+        if place == first:
+            groups.append([])
+        groups[-1].append(payment)
+    if len({it.serial for _, _, it in rows}) < len(rows):
+        raise DamagedJournal("the journal has a number twice")
+    return groups
+
+
+def payments_in(image: bytes) -> list[Payment]:
+    """The payments that a journal keeps, in their order."""
+    return [it for group in groups_in(image) for it in group]
+
+
+def bodies_of(group: Group) -> list[bytes]:
+    """What an append writes of each record before it opens the first."""
+    return [it.record(OPEN, 0 if at else len(group) - 1)[BODY] for at, it in enumerate(group)]
+
+
+def appended(image: bytes, groups: Sequence[Group]) -> bytes:
+    """A journal to which groups were appended. No other byte of it is changed: neither the gate of
+    a record that follows nor what stands behind them."""
+    found, at = bytearray(image), RECORD * len(payments_in(image))
+    for group in groups:
+        found[at] = OPEN
+        for body in bodies_of(group):
+            found[at + 1 : at + RECORD] = body
+            at += RECORD
+    return bytes(found)
