@@ -8,6 +8,7 @@ mod RestartReadsAll
 mod Reasons
 mod NumberRefuses
 mod RefusalsAreRead
+mod UsedAgain
 mod OneAnswer
 mod ServedInTurn
 mod ReadAndServed

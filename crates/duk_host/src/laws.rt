@@ -5,6 +5,7 @@ ghost use Rattle.std.specs.List.{concat};
 ghost use Rattle.duk_hsm.specs.Keys.{HsmKeys};
 ghost use Rattle.duk_frame.specs.Answer.{IsRefusal, IsReply};
 ghost use Rattle.duk_frame.specs.Payment.{reply_mac};
+ghost use Rattle.duk_frame.specs.Request.{IsRequest};
 ghost use Rattle.duk_frame.specs.Stream.{BeginsTooLong, IsPart};
 ghost use Rattle.duk_frame.specs.declared.request.Request.{Request};
 ghost use Rattle.duk_io.specs.Sink.{IsWritten};
@@ -14,7 +15,7 @@ ghost use Rattle.duk_host.specs.Recent.{Exchange, exchange, most_exchanges, repl
 ghost use Rattle.duk_host.specs.Restart.{IsHostRestarted};
 ghost use Rattle.duk_host.specs.Serve.{FailsAtFrame, IsReadToEnd, IsServed, Serves, Service, ServiceFailed, Supply};
 ghost use Rattle.duk_host.specs.Served.{AreJudged, FailedAfter, IsServedStream, JudgesBy, WroteAllOf, WroteFirstOf};
-ghost use Rattle.duk_host.specs.Used.{AreUsable};
+ghost use Rattle.duk_host.specs.Used.{AreUsable, IsUsed};
 ghost use Rattle.duk_host.specs.View.{HaveOneRoom, host_view};
 ghost use Rattle.duk_host.specs.declared.fault.HostFault.{HostFault};
 ghost use Rattle.duk_host.specs.declared.host.Host.TheInside as host;
@@ -22,7 +23,7 @@ ghost use Rattle.duk_host.specs.declared.recent.EmptyRing.TheInside as ring;
 ghost use Rattle.duk_host.specs.declared.recent.EmptyRing.TheView as ring_view;
 ghost use Rattle.duk_host.specs.declared.recent.Recent.TheInside as recent;
 ghost use Rattle.duk_host.specs.declared.recent.Recent.TheView as recent_view;
-ghost use Rattle.duk_host.specs.Judgement.{Decision, IsAccepted, IsAnswerTo, IsMalformed, IsRefusedRequest, JudgementBasis, basis_with, no_serial, reason_number};
+ghost use Rattle.duk_host.specs.Judgement.{Decision, IsAccepted, IsAnswerTo, IsAuthentic, IsMalformed, IsRefusalFor, IsRefusedRequest, JudgementBasis, basis_with, no_serial, reason_number};
 
 use crate::issuer::Issuer;
 use duk_store::UsedLog;
@@ -61,6 +62,17 @@ pub fn refusals()
         → (refused : IsRefusedRequest basis bytes frame)
         → IsRefusal frame refused.request.ksn (reason_number refused.reason) }
 {}
+
+/// Where an authentic request of a used number is refused, it is for that number.
+pub fn used_again()
+    ensures { (basis : JudgementBasis) (bytes frame : List ℕ) (request : Request)
+        → IsRequest bytes request → IsAuthentic basis.keys request
+        → IsUsed basis.used request.ksn → IsRefusalFor basis bytes frame
+        → IsRefusal frame request.ksn 5 }
+{
+    duk_frame::laws::one_reading();
+    refusals();
+}
 
 /// The frame of an accepted reply is read as that reply, with the key serial number of the request.
 pub fn replies()
