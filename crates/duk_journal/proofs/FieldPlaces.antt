@@ -5,8 +5,7 @@ use Rattle.byteorder.specs.Endian.{big_bytes, big_number}
 use Rattle.byteorder.specs.Numbers.{big_number-reads_back, length-bytes_high_first}
 use Rattle.duk_tree.specs.Serial.{Serial, serial_bytes}
 use Rattle.duk_journal.specs.Payment.{number_of_code}
-use Rattle.duk_journal.specs.RecordFormat.{contents_of}
-use Rattle.duk_journal.specs.inner.RecordFormat.{AreContents}
+use Rattle.duk_journal.specs.RecordFormat.{AreContents, contents_of}
 use Rattle.duk_journal.specs.declared.record_format.Contents.{Contents}
 
 -- what stands where contents have their fields

@@ -1,20 +1,20 @@
 -- The meaning of a journal on a disk, from what its disk may leave.
-use Rattle.std.proofs.Common.{◌≡◌, ◌≢◌, ◌⊎◌, ◌↔◌, inl, inr, ℕ, ◌+◌, ◌*◌, ◌<◌, ◌≤◌, List, [], ◌++◌, Some, None, length, take, drop, replicate, refl, sym, ◌∙◌, ap, subst, arith, length-append, false, get_or}
+use Rattle.std.proofs.Common.{◌≡◌, ◌≢◌, ◌⊎◌, ◌↔◌, inl, inr, ℕ, ◌+◌, ◌*◌, ◌<◌, ◌≤◌, List, [], ◌++◌, Option, Some, None, length, take, drop, replicate, refl, sym, ◌∙◌, ap, subst, arith, length-append, false, true, get_or}
 use Rattle.std.proofs.lemmas.Grind.{same_number_lists}
 use Rattle.duk_store.specs.MemoryDisk.{memory_disk_state, new_disk}
-use Rattle.std.proofs.lemmas.Bool.{cases_eq, cases_lt}
+use Rattle.std.proofs.lemmas.Bool.{cases_eq, cases_lt, false≢true}
 use Rattle.std.proofs.lemmas.List.{append-nil, get_or-drop, get_or-replicate, get_or-take, get_or_past, length-replicate}
 use Rattle.duk_tree.specs.Serial.{IsSerial, Serial, serial_bytes, serial_of_bytes}
-use Rattle.duk_store.specs.Disk.{DiskMeaning, DiskState, LeavesItsSize, LeavesWithin, PreservesBytes, PreservesDisk, ReadsMayStay}
+use Rattle.duk_store.specs.Disk.{DiskMeaning, DiskState, LeavesItsSize, LeavesReads, LeavesWithin, PreservesBytes, PreservesDisk, ReadsMayStay}
 use Rattle.duk_store.specs.Restart.{RestartFailed}
 use Rattle.duk_store.specs.StoreState.{FindsAsBefore, IsNew, KeepsNothing, PreservesNature}
 use Rattle.duk_store.specs.declared.fault.StoreFault.{StoreFault}
 use Rattle.duk_store.specs.declared.fault.StoreFault.TheVariants as fault
-use Rattle.duk_journal.specs.DiskJournal.{DiskJournalOf, IsBlankJournalDisk, IsSoundJournalDisk, IsZeroJournalDisk, MayFindPayments, disk_journal_meaning, disk_journal_state, is_journal_running}
+use Rattle.duk_journal.specs.DiskJournal.{DiskJournalOf, IsBlankJournalDisk, IsSoundJournalDisk, IsZeroJournalDisk, MayFindPayments, count_in, disk_journal_meaning, disk_journal_state, is_journal_running}
 use Rattle.duk_journal.specs.Groups.{AreClosedFrom, KeepsPayments, Payments}
 use Rattle.duk_journal.specs.Journal.{ArePaymentsRead, GroupAppendFailed, IsGroupAppended, IsReadStopped, JournalRestarted, OldOrWithGroup, PaymentsUnread}
 use Rattle.duk_journal.specs.RecordFormat.{IsJournalSize, IsOpen, gate_of, record_at}
-use Rattle.duk_journal.specs.inner.DiskJournal.{IsDamagedJournal, IsJournalUp, IsKeptRead, JournalUpFailed, KeptUnread, KnowsCount}
+use Rattle.duk_journal.specs.inner.DiskJournal.{IsDamagedJournal, IsJournalUp, IsKeptRead, JournalUpFailed, KeptUnread, KnowsCount, KnowsJournal}
 use Rattle.duk_journal.specs.inner.GroupSteps.{GroupFailed, IsGroupTorn, IsGroupWritten, WritesGroup}
 use Rattle.duk_journal.specs.inner.Groups.{AreWritten}
 use Rattle.duk_journal.proofs.KeptPayments.{closed_behind, group_kept, kept_once, kept_onto}
@@ -322,3 +322,12 @@ new_records_are_blank records some =
         );
       };
     }
+
+-- what a journal knows of its disk, of one that may be stopped
+pub kept_inside : (disk : DiskState) (kept : Option ℕ) → KnowsJournal disk kept → 32 * count_in kept ≤ disk.size
+kept_inside disk None knows = omega arith
+kept_inside disk (Some count) knows = knows.fits
+
+pub leaves_one : (disk : DiskState) (kept : Option ℕ) → KnowsJournal disk kept → is_journal_running kept ≡ true → disk.honest → LeavesReads disk
+leaves_one disk None knows runs honest = absurd (false≢true runs)
+leaves_one disk (Some count) knows runs honest = (knows.holds honest).leaves

@@ -6,9 +6,8 @@ use Rattle.duk_frame.specs.declared.code.Code.TheVariants.{Approved, NoCard, Wro
 use Rattle.duk_tree.specs.Serial.{IsSerial, Serial, serial_bytes, serial_of_bytes}
 use Rattle.duk_journal.specs.Groups.{AreClosedFrom, AreKeptFrom, HasContents, Payments}
 use Rattle.duk_journal.specs.Payment.{number_of_code}
-use Rattle.duk_journal.specs.RecordFormat.{IsOpen, after_gate, record_at}
+use Rattle.duk_journal.specs.RecordFormat.{AreContents, IsOpen, after_gate, record_at}
 use Rattle.duk_journal.specs.inner.Groups.{AreWritten, SameRecords}
-use Rattle.duk_journal.specs.inner.RecordFormat.{AreContents}
 use Rattle.duk_journal.specs.declared.payment.Payment.{Payment}
 use Rattle.duk_journal.specs.declared.record_format.Contents.{Contents}
 use Rattle.duk_journal.proofs.FieldPlaces.{field_places, same_contents}

@@ -20,3 +20,9 @@ pub record IsPayment (payment : Payment) : Type 0 where
   pub usable : IsUsable payment.number.counter
   pub amount_fits : payment.amount < 2 ^ 32
   pub mac_length : length payment.mac ≡ 8
+
+-- what the type of a payment says of its fields
+pub record AreFields (payment : Payment) : Type 0 where
+  pub serial : IsSerial payment.number
+  pub amount_fits : payment.amount < 2 ^ 32
+  pub mac_length : length payment.mac ≡ 8

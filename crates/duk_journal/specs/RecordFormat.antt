@@ -1,10 +1,11 @@
 -- The disk of a journal: a format of this project's own. It is a positive number of records of 32
 -- bytes: a gate, and 31 bytes of contents.
-use Rattle.std.specs.Prelude.{◌≡◌, ◌≤◌, ◌*◌, ◌++◌, ◌∷◌, ℕ, List, take, drop, replicate, slice_index}
+use Rattle.std.specs.Prelude.{◌≡◌, ◌≤◌, ◌<◌, ◌*◌, ◌^◌, ◌++◌, ◌∷◌, ℕ, List, take, drop, replicate, slice_index}
 use Rattle.byteorder.specs.Endian.{big_bytes}
 use Rattle.duk_tree.specs.Serial.{serial_bytes}
-use Rattle.duk_journal.specs.Payment.{number_of_code}
+use Rattle.duk_journal.specs.Payment.{IsPayment, number_of_code}
 use Rattle.duk_journal.specs.declared.payment.Payment.{Payment}
+use Rattle.duk_journal.specs.declared.record_format.Contents.{Contents}
 
 -- the bytes of a record
 abbrev pub record_length : ℕ
@@ -36,3 +37,9 @@ unfoldable pub contents_of : ℕ → Payment → List ℕ
 contents_of followers payment =
     1 ∷ (big_bytes 2 followers ++ (serial_bytes payment.number ++ (big_bytes 4 payment.amount
     ++ (number_of_code payment.code ∷ (payment.mac ++ replicate 5 0)))))
+
+-- the bytes are those of these contents
+pub record AreContents (bytes : List ℕ) (contents : Contents) : Type 0 where
+  pub payment_is : IsPayment contents.payment
+  pub followers_fit : contents.followers < 2 ^ 16
+  pub written : bytes ≡ contents_of contents.followers contents.payment

@@ -3,4 +3,3 @@ pub mod Groups
 pub mod GroupSteps
 pub mod MemoryJournal
 pub mod Reading
-pub mod RecordFormat

@@ -1,10 +1,10 @@
 //! A journal of payments on a disk, and the device calls of an append.
 
-ghost use Rattle.std.specs.Prelude.{◌≡◌, ◌+◌, ◌≤◌, [], true, length, IfErr, IfOk, OnOk};
-ghost use Rattle.duk_store.specs.Disk.{LeavesWithin, StaysArmed};
+ghost use Rattle.std.specs.Prelude.{◌≡◌, ◌+◌, ◌*◌, ◌≤◌, [], true, length, IfErr, IfOk, OnOk};
+ghost use Rattle.duk_store.specs.Disk.{LeavesReads, LeavesWithin, StaysArmed};
 ghost use Rattle.duk_store.specs.Restart.{RestartFailed};
 ghost use Rattle.duk_store.specs.StoreState.{IsNew, KeepsNothing};
-ghost use Rattle.duk_journal.specs.DiskJournal.{IsBlankJournalDisk, IsZeroJournalDisk, disk_journal_meaning, new_disk_journal};
+ghost use Rattle.duk_journal.specs.DiskJournal.{IsBlankJournalDisk, IsZeroJournalDisk, count_in, disk_journal_meaning, is_journal_running, new_disk_journal};
 ghost use Rattle.duk_journal.specs.Groups.{IsGroup};
 ghost use Rattle.duk_journal.specs.Journal.{ArePaymentsRead, GroupAppendFailed, IsGroupAppended, JournalRestarted, PaymentsUnread};
 
@@ -67,9 +67,13 @@ impl<D: Disk> DiskJournal<D> {
         })
     }
 
-    /// The disk, as it stands.
+    /// The disk, as it stands. That of a running journal has room for the payments that are kept,
+    /// and a stop leaves what a read of it gives.
     pub fn into_disk(self) -> D
-        ensures { result ≡ self.disk }
+        ensures disk { result ≡ self.disk }
+        ensures inside { 32 * count_in self.kept ≤ (D.meaning.state_of result).size }
+        ensures one { is_journal_running self.kept ≡ true → (D.meaning.state_of result).honest
+            → LeavesReads (D.meaning.state_of result) }
     {
         self.disk
     }

@@ -19,4 +19,5 @@ pub use disk_journal::DiskJournal;
 pub use journal::Journal;
 pub use memory_journal::MemJournal;
 pub use payment::Payment;
-pub use record_format::RECORD_LENGTH;
+pub use reading::contents_of_record;
+pub use record_format::{Contents, OPEN, RECORD_LENGTH};

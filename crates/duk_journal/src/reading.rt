@@ -1,9 +1,10 @@
 //! The records of a journal, read one after the other.
 
-ghost use Rattle.std.specs.Prelude.{◌≡◌, ◌≢◌, ◌+◌, ◌*◌, ◌<◌, ◌≤◌, ◌/◌, ◌^◌, ℕ, List, length, IfErr, IfOk, OnOk};
+ghost use Rattle.std.specs.Prelude.{◌≡◌, ◌≢◌, ◌+◌, ◌*◌, ◌<◌, ◌≤◌, ◌/◌, ◌^◌, ℕ, List, length, IfErr, IfOk, IfSome, OnOk, Some};
 ghost use Rattle.duk_journal.specs.Groups.{HasContents};
 ghost use Rattle.duk_journal.specs.inner.Reading.{Breaks, BreaksIn, Continues, ContinuesBy, HasCount, HasNoContents, HasRead, HavePayments, KeepsNone, LacksPayment, kept_in};
 ghost use Rattle.duk_journal.specs.declared.reading.Reading.TheVariants.{Behind, Groups};
+ghost use Rattle.duk_journal.specs.declared.record_format.Contents.{Contents as ContentsOfRecord};
 
 use crate::payment::Payment;
 use crate::record_format::{Contents, OPEN, RECORD_LENGTH};
@@ -129,6 +130,21 @@ fn read_follower(kept: u64, left: u16, bytes: &[u8]) -> Result<Reading, StoreFau
     })
 }
 
+/// The contents of a record, open or closed, or `None` where it has none.
+pub fn contents_of_record(bytes: &[u8]) -> Option<Contents>
+    requires { length bytes.now ≡ 32 }
+    ensures found { IfSome result (λ contents.
+        HasContents contents.followers contents.payment bytes.now) }
+    ensures every { (contents : ContentsOfRecord)
+        → HasContents contents.followers contents.payment bytes.now → result ≡ Some contents }
+{
+    let contents = Contents::of_bytes(&bytes[1..])?;
+    if contents.followers as usize >= MOST_OF_GROUP {
+        return None;
+    }
+    Some(contents)
+}
+
 /// The contents of a record.
 ///
 /// Refused with `Damaged` where these are no contents.
@@ -139,13 +155,10 @@ fn contents_in(bytes: &[u8]) -> Result<Contents, StoreFault>
     ensures none { IfErr result (λ fault. (fault ≡ StoreFault.Damaged)
         × HasNoContents bytes.now) }
 {
-    let Some(contents) = Contents::of_bytes(&bytes[1..]) else {
-        return Err(StoreFault::Damaged);
-    };
-    if contents.followers as usize >= MOST_OF_GROUP {
-        return Err(StoreFault::Damaged);
+    match contents_of_record(bytes) {
+        Some(contents) => Ok(contents),
+        None => Err(StoreFault::Damaged),
     }
-    Ok(contents)
 }
 
 /// Reads the payments of a piece's records into all of `payments`.

@@ -3,8 +3,8 @@
 ghost use Rattle.std.specs.Prelude.{◌≡◌, ◌+◌, ◌^◌, ◌++◌, ◌<◌, ◌≤◌, ◌↔◌, IsTrue, IfSome, Some, length};
 ghost use Rattle.arrayvec.specs.ArrayVec.{array_vec_len};
 ghost use Rattle.duk_tree.specs.Path.{IsUsable};
-ghost use Rattle.duk_journal.specs.RecordFormat.{contents_of};
-ghost use Rattle.duk_journal.specs.inner.RecordFormat.{AreContents, AreFields};
+ghost use Rattle.duk_journal.specs.Payment.{AreFields};
+ghost use Rattle.duk_journal.specs.RecordFormat.{AreContents, contents_of};
 ghost use Rattle.duk_journal.specs.declared.record_format.Contents.{Contents};
 
 use crate::payment::{Payment, code_number, code_of_number};
