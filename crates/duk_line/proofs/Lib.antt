@@ -1,6 +1,7 @@
 pub mod Members
 pub mod InTurn
 pub mod OneNumber
+pub mod NotAnsweredAgain
 pub mod Ring
 pub mod Indexed
 pub mod Judging

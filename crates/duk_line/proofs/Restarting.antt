@@ -11,6 +11,7 @@ use Rattle.duk_store.specs.Restart.{Restarted, RestartFailed}
 use Rattle.duk_store.specs.StoreState.{FindsOnly, Stays, Stops, StoreState}
 use Rattle.duk_store.specs.declared.fault.StoreFault.{StoreFault}
 use Rattle.duk_store.specs.declared.fault.StoreFault.TheVariants as store_fault
+use Rattle.duk_line.specs.Check.{CheckRefused, IsChecked}
 use Rattle.duk_line.specs.Host.{HostMeaning, HostOf, IndexOf, KeepsAlone}
 use Rattle.duk_line.specs.Latest.{numbers_of}
 use Rattle.duk_line.specs.Restart.{HostRestartRefused, IsHostRestarted, PreservesEnds}
@@ -76,6 +77,15 @@ module _ {J : Type 0} (meaning : JournalMeaning J) (old mid new : J) (count : �
   pub holds_read : meaning.count new ≡ count → HoldsIndex meaning new index
   holds_read counted = record { payments = read.seen; index_is = read.index_is; kept = keeps_read counted }
 
+  pub is_checked : meaning.count new ≡ count → IsChecked meaning old new count
+  is_checked counted = record {
+    payments = read.seen;
+    journal = journal_read;
+    counted = read.counted;
+    kept = keeps_read counted;
+    usable = read.index_is.lists.usable;
+  }
+
 pub is_restarted :
     {J I : Type 0} (meaning : HostMeaning J I) (old new : HostOf J I) (mid : J) (count : ℕ) (index : IndexOf) → JournalRestarted meaning.journal old.journal mid count → AreRead meaning.journal mid new.journal count index
     → PreservesEnds old new → new.state ≡ Some index → meaning.journal.count new.journal ≡ count → IsHostRestarted meaning old new count
@@ -134,37 +144,45 @@ not_all_usable payments seen first bad are =
     let all : payments ≡ seen ++ rest = sym (take-append-drop (length seen) payments) ∙ ap (λ front. front ++ rest) first in
     bad (usable_front seen rest (subst (λ payments. AreUsable (numbers_of payments)) all are))
 
--- the payments are not read, and the host is stopped
+-- why the payments are not read
+pub check_refused :
+    {J : Type 0} (meaning : JournalMeaning J) (old mid new : J) (count : ℕ) (why : HostFault) → JournalRestarted meaning old mid count → ReadRefused meaning mid new count why → CheckRefused meaning old new why
+unfolding restarted_on
+check_refused meaning old mid new count fault.NoMemory restarted stays = (count, restarted_on meaning old mid new count restarted stays)
+check_refused meaning old mid new count (fault.Store why) restarted refused =
+    elim refused [
+      | inl unread ↦ inl (failed_on meaning old mid new count restarted why unread)
+      | inr damaged ↦
+          let bad = damaged.1 in
+          inr (
+            damaged.0,
+            record {
+              count = count;
+              journal = restarted_on meaning old mid new count restarted bad.read.stays;
+              not_usable = λ honest.
+                  let list = restarted.found honest in
+                  let is_found = (list.1.finds list.0).1 refl in
+                  not_all_usable list.0 bad.seen (bad.read.first (restarted.nature.honest.0 honest) list.0 is_found) bad.not_usable;
+            },
+          )
+    ]
+check_refused meaning old mid new count fault.Stopped restarted refused = absurd refused
+check_refused meaning old mid new count fault.Read restarted refused = absurd refused
+check_refused meaning old mid new count fault.Write restarted refused = absurd refused
+check_refused meaning old mid new count fault.Truncated restarted refused = absurd refused
+check_refused meaning old mid new count fault.TooLong restarted refused = absurd refused
+
+-- then the host is stopped
 pub restart_refused :
     {J I : Type 0} (meaning : JournalMeaning J) (old new : HostOf J I) (mid : J) (count : ℕ) (why : HostFault) → JournalRestarted meaning old.journal mid count → PreservesEnds old new → new.state ≡ None
     → ReadRefused meaning mid new.journal count why → HostRestartRefused meaning old new why
-unfolding restarted_on
-restart_refused meaning old new mid count fault.NoMemory restarted ends stopped stays = record {
-  count = count;
-  ends = ends;
-  stopped = stopped;
-  journal = restarted_on meaning old.journal mid new.journal count restarted stays;
-}
+restart_refused meaning old new mid count fault.NoMemory restarted ends stopped stays =
+    let checked : CheckRefused meaning old.journal new.journal fault.NoMemory = check_refused meaning old.journal mid new.journal count fault.NoMemory restarted stays in
+    record { count = checked.0; ends = ends; stopped = stopped; journal = checked.1 }
 restart_refused meaning old new mid count (fault.Store why) restarted ends stopped refused = record {
   ends = ends;
   stopped = stopped;
-  cause =
-      elim refused [
-        | inl unread ↦ inl (failed_on meaning old.journal mid new.journal count restarted why unread)
-        | inr damaged ↦
-            let bad = damaged.1 in
-            inr (
-              damaged.0,
-              record {
-                count = count;
-                journal = restarted_on meaning old.journal mid new.journal count restarted bad.read.stays;
-                not_usable = λ honest.
-                    let list = restarted.found honest in
-                    let is_found = (list.1.finds list.0).1 refl in
-                    not_all_usable list.0 bad.seen (bad.read.first (restarted.nature.honest.0 honest) list.0 is_found) bad.not_usable;
-              },
-            )
-      ];
+  cause = check_refused meaning old.journal mid new.journal count (fault.Store why) restarted refused;
 }
 restart_refused meaning old new mid count fault.Stopped restarted ends stopped refused = absurd refused
 restart_refused meaning old new mid count fault.Read restarted ends stopped refused = absurd refused

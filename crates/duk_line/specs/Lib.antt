@@ -3,7 +3,9 @@ pub mod Judgement
 pub mod Judged
 pub mod Host
 pub mod Restart
+pub mod Check
 pub mod Group
 pub mod Serve
 pub mod Lifetime
+pub mod View
 pub mod inner

@@ -4,6 +4,5 @@ pub mod Group
 pub mod Host
 pub mod Judged
 pub mod Keep
-pub mod View
 pub mod Reading
 pub mod Serve

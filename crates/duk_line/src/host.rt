@@ -33,8 +33,8 @@ pub struct JournalHost<const N: usize, J: Journal, I: Issuer> {
 
 impl<const N: usize, J: Journal, I: Issuer> Model for JournalHost<N, J, I> {
     ghost use Rattle.duk_line.specs.Host.{HostOf};
+    ghost use Rattle.duk_line.specs.View.{host_view};
     ghost use Rattle.duk_line.specs.inner.Host.{AgreesWithJournal};
-    ghost use Rattle.duk_line.specs.inner.View.{host_view};
 
     ghost Value = { HostOf J I };
 

@@ -1,7 +1,8 @@
 //! Laws of hosts over journals, each the contract of a function that does nothing.
 
-ghost use Rattle.std.specs.Prelude.{◌≡◌, ◌++◌, ℕ, [], List, Contains, length};
+ghost use Rattle.std.specs.Prelude.{◌≡◌, ◌≢◌, ◌++◌, ℕ, [], List, Contains, length};
 ghost use Rattle.std.specs.List.{concat};
+ghost use Rattle.duk_frame.specs.Answer.{IsRefusal};
 ghost use Rattle.duk_frame.specs.Request.{IsRequest};
 ghost use Rattle.duk_frame.specs.declared.request.Request.{Request};
 ghost use Rattle.duk_host.specs.Judgement.{Decision, IsAuthentic, IsReplyWith};
@@ -21,6 +22,12 @@ ghost use Rattle.duk_line.specs.Latest.{IsPaymentOf, latest_payments, numbers_of
 ghost use Rattle.duk_line.specs.Lifetime.{AreWrittenTo, IsLifetime, IsService, all_answers};
 ghost use Rattle.duk_line.specs.Restart.{IsHostRestarted};
 ghost use Rattle.duk_line.specs.Serve.{IsReadToEnd, Service, ServiceFailed};
+ghost use Rattle.duk_line.specs.View.{HaveOneRing, host_view};
+ghost use Rattle.duk_line.specs.declared.group.Group.TheInside as group;
+ghost use Rattle.duk_line.specs.declared.host.JournalHost.TheInside as host;
+ghost use Rattle.duk_line.specs.declared.index.Index.TheInside as index;
+ghost use Rattle.duk_line.specs.declared.index.Index.TheView as index_view;
+ghost use Rattle.duk_line.specs.declared.workspace.Workspace.TheInside as workspace;
 
 use duk_host::Issuer;
 use duk_journal::Journal;
@@ -76,6 +83,26 @@ pub fn answered_again()
     duk_frame::laws::one_reading();
 }
 
+/// An authentic request of a number that has a payment is refused as of a used number, and adds
+/// nothing, where it has another MAC than that payment, and where that is not one of the latest.
+pub fn not_answered_again()
+    ensures other_mac { (basis : LineBasis) (frame answer : List ℕ) (added : Payments)
+        → (request : Request) (payment : Payment) → AreUsable (numbers_of basis.payments)
+        → IsJudged basis frame answer added → IsRequest frame request
+        → IsAuthentic basis.keys request → Contains basis.payments payment
+        → payment.number ≡ request.ksn → payment.mac ≢ request.mac
+        → IsRefusal answer request.ksn 5 × (added ≡ []) }
+    ensures older { (basis : LineBasis) (frame answer : List ℕ) (added : Payments)
+        → (request : Request) (payment : Payment) → AreUsable (numbers_of basis.payments)
+        → IsJudged basis frame answer added → IsRequest frame request
+        → IsAuthentic basis.keys request → Contains basis.payments payment
+        → payment.number ≡ request.ksn → ¬ Contains (latest_payments basis.payments) payment
+        → IsRefusal answer request.ksn 5 × (added ≡ []) }
+{
+    duk_frame::laws::one_reading();
+    duk_host::laws::used_again();
+}
+
 /// All that services over one journal answer, one after the other, however each of them ends, and
 /// wherever a step of the journal's device fails. All accepted replies to a number that any of them
 /// gives are equal, byte for byte; and the journal keeps the payment of each.
@@ -112,3 +139,17 @@ pub fn each_service<J: Journal, I: Issuer>()
 {
     duk_io::laws::writes();
 }
+
+/// Nothing is hidden beside what contracts see, but for a host's allocator, spare room, and how the
+/// latest payments lie in an index: hosts, indexes, groups and workspaces that are equal to them are
+/// equal in each field.
+pub fn nothing_else<const N: usize, J: Journal, I: Issuer>()
+    ensures host { (one other : host.Inside N J I) → one.alloc ≡ other.alloc
+        → host_view one ≡ host_view other → one ≡ other }
+    ensures index { (one other : index.Inside) → HaveOneRing one other
+        → index_view.view one ≡ index_view.view other → one ≡ other }
+    ensures group { (one other : group.Inside) → one.answers ≡ other.answers
+        → one.payments ≡ other.payments → one ≡ other }
+    ensures workspace { (one other : workspace.Inside) → one.frames ≡ other.frames
+        → one.group ≡ other.group → one ≡ other }
+{}

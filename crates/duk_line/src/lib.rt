@@ -6,6 +6,7 @@
 //! in any run. A restart reads the journal by large pieces.
 #![tactic(auto)]
 
+mod check;
 mod group;
 mod host;
 mod index;
@@ -16,6 +17,7 @@ mod reading;
 mod service;
 mod workspace;
 
+pub use check::check_journal;
 pub use group::{Group, MOST_FRAMES};
 pub use host::JournalHost;
 pub use service::serve;

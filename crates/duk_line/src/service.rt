@@ -1,6 +1,6 @@
 //! A host over a journal as a service: frames in, answers out.
 
-ghost use Rattle.std.specs.Prelude.{◌≡◌, ◌<◌, ◌≤◌, ◌++◌, [], false, length, IfErr, IfOk, OnErr, OnOk, map, take};
+ghost use Rattle.std.specs.Prelude.{◌≡◌, ◌<◌, ◌≤◌, ◌*◌, ◌++◌, [], false, length, IfErr, IfOk, OnErr, OnOk, map, take};
 ghost use Rattle.std.specs.List.{concat};
 ghost use Rattle.duk_frame.specs.Stream.{IsPart};
 ghost use Rattle.duk_host.specs.Serve.{supply};
@@ -25,6 +25,12 @@ const PIECE: usize = 65_536;
 
 /// The most bytes of the answers of a group.
 const LONGEST_ANSWERS: usize = 65_536;
+
+/// A group of so many frames is small.
+const FEW: usize = 16;
+
+/// The most bytes of the answers of a small group.
+const FEW_ANSWERS: usize = 1_024;
 
 /// Answers the frames of the input. Those that a read ends are answered together, in groups: the
 /// payments of a group are kept before any of its answers is written.
@@ -187,7 +193,8 @@ fn answer_group<const N: usize, J: Journal, I: Issuer, W: Sink>(
     answered
 }
 
-/// Writes the answers of a group, together.
+/// Writes the answers of a group, together. Those of a small group are joined in a small buffer: to
+/// clear the large one takes longer than all else that one frame needs.
 fn write_answers<W: Sink>(answers: &[Frame], writer: &mut W) -> Result<(), HostFault>
     requires few { length answers.now ≤ most_frames }
     ensures written { OnOk result (IsWritten (W.known writer.old) (W.known writer.new)
@@ -196,16 +203,30 @@ fn write_answers<W: Sink>(answers: &[Frame], writer: &mut W) -> Result<(), HostF
         × IsCut (W.known writer.old) (W.known writer.new)
         (concat (map (λ answer. answer.items) answers.now))) }
 {
-    let text = joined(answers);
-    if write_text(writer, text.as_slice()).is_err() {
-        return Err(HostFault::Write);
+    if answers.len() <= FEW {
+        let text: ArrayVec<u8, FEW_ANSWERS> = joined(answers);
+        return write_bytes(text.as_slice(), writer);
     }
-    Ok(())
+    let text: ArrayVec<u8, LONGEST_ANSWERS> = joined(answers);
+    write_bytes(text.as_slice(), writer)
+}
+
+/// Writes bytes.
+fn write_bytes<W: Sink>(bytes: &[u8], writer: &mut W) -> Result<(), HostFault>
+    ensures written { OnOk result
+        (IsWritten (W.known writer.old) (W.known writer.new) bytes.now) }
+    ensures cut { IfErr result (λ why. (why ≡ fault.Write)
+        × IsCut (W.known writer.old) (W.known writer.new) bytes.now) }
+{
+    match write_text(writer, bytes) {
+        Ok(()) => Ok(()),
+        Err(_) => Err(HostFault::Write),
+    }
 }
 
 /// The bytes of answers, one after the other.
-fn joined(answers: &[Frame]) -> ArrayVec<u8, LONGEST_ANSWERS>
-    requires few { length answers.now ≤ most_frames }
+fn joined<const CAP: usize>(answers: &[Frame]) -> ArrayVec<u8, CAP>
+    requires fit { 64 * length answers.now ≤ CAP }
     ensures { result.items ≡ concat (map (λ answer. answer.items) answers.now) }
 {
     let mut text = ArrayVec::new();

@@ -3,7 +3,7 @@ use Rattle.duk_line.proofs.Collecting.{joined_next}
 use Rattle.duk_line.proofs.service.joined.Goals as goal
 
 pub loop-answer-preserved : goal.loop-answer-preserved
-loop-answer-preserved c =
+loop-answer-preserved g c =
     let next = joined_next (λ answer. answer.items) c.args.answers.now c.loop-answer.answer-index c.answer-item.result c.loop-answer-test.true (sym c.answer-item.is) in
     let fits = c.as_slice.ensures.fits in
     let longer = rw c.unwrap.ensures at c.try_extend_from_slice.ensures.ok in

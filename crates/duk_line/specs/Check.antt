@@ -1,0 +1,29 @@
+-- A journal that is checked as a host checks it: this project's own, over a host's restart.
+use Rattle.std.specs.Prelude.{◌≡◌, ◌⊎◌, ℕ, length}
+use Rattle.duk_host.specs.Used.{AreUsable}
+use Rattle.duk_host.specs.declared.fault.HostFault.{HostFault}
+use Rattle.duk_host.specs.declared.fault.HostFault.TheVariants as fault
+use Rattle.duk_journal.specs.Groups.{Payments}
+use Rattle.duk_journal.specs.Journal.{JournalMeaning, JournalRestarted}
+use Rattle.duk_store.specs.Restart.{Restarted, RestartFailed}
+use Rattle.duk_store.specs.declared.fault.StoreFault.TheVariants.{Damaged}
+use Rattle.duk_line.specs.Host.{KeepsAlone}
+use Rattle.duk_line.specs.Latest.{numbers_of}
+use Rattle.duk_line.specs.Restart.{FoundUnusable}
+
+-- a journal's restart found so many payments, it keeps them and nothing else, and a host may judge by
+-- them: each of their numbers numbers a transaction, and none occurs twice
+pub record IsChecked {J : Type 0} (meaning : JournalMeaning J) (old new : J) (found : ℕ) : Type 0 where
+  pub payments : Payments
+  pub journal : Restarted (meaning.state_of old) (meaning.state_of new) payments
+  pub counted : length payments ≡ found
+  pub kept : KeepsAlone meaning new payments
+  pub usable : AreUsable (numbers_of payments)
+
+-- why it is not: as the restart of a host is refused
+abbrev pub CheckRefused : {J : Type 0} → JournalMeaning J → J → J → HostFault → Type 0
+CheckRefused meaning old new (fault.Store why) =
+    RestartFailed (meaning.state_of old) (meaning.state_of new) why
+    ⊎ ((why ≡ Damaged) × FoundUnusable meaning old new)
+CheckRefused meaning old new fault.NoMemory = (count : ℕ) × JournalRestarted meaning old new count
+CheckRefused meaning old new _ = ⊥

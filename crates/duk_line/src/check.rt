@@ -1,0 +1,30 @@
+//! Whether a host would come up over a journal.
+
+ghost use Rattle.std.specs.Prelude.{◌≡◌, IfErr, IfOk};
+ghost use Rattle.duk_line.specs.Check.{CheckRefused, IsChecked};
+
+use crate::reading::index_of;
+use duk_host::HostFault;
+use duk_journal::Journal;
+use std::alloc::Global;
+
+/// Brings a journal up and reads all its payments, as the restart of a host over it does, and gives
+/// how many there are. A host comes up over it then.
+///
+/// Refused as that restart is: with `Store` of the journal's fault, or of `Damaged` where a number
+/// that it keeps occurs twice or numbers no transaction; and with `NoMemory`.
+pub fn check_journal<J: Journal>(alloc: Global, journal: &mut J) -> Result<u64, HostFault>
+    ensures checked { IfOk result (IsChecked J.meaning journal.old journal.new) }
+    ensures refused { IfErr result (CheckRefused J.meaning journal.old journal.new) }
+    ensures disarmed { J.meaning.disarmed journal.new }
+    ensures capacity { J.meaning.capacity journal.new ≡ J.meaning.capacity journal.old }
+{
+    let kept = match journal.restart() {
+        Ok(kept) => kept,
+        Err(fault) => return Err(HostFault::Store(fault)),
+    };
+    match index_of(alloc, journal, kept) {
+        Ok(_index) => Ok(kept),
+        Err(why) => Err(why),
+    }
+}
