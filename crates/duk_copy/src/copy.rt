@@ -1,7 +1,7 @@
 //! A journal that keeps what another does.
 
 ghost use Rattle.std.specs.Prelude.{◌≡◌, ◌+◌, ◌*◌, ◌≤◌, length, replicate, IfErr, OnOk};
-ghost use Rattle.duk_store.specs.Disk.{PreservesDisk};
+ghost use Rattle.duk_store.specs.Disk.{PreservesBytes, PreservesDisk};
 ghost use Rattle.duk_copy.specs.Copy.{CopyFailed, IsCopied};
 ghost use Rattle.duk_copy.specs.inner.Copy.{AreBytesCopied, BytesUncopied, IsPieceCopied};
 
@@ -40,6 +40,7 @@ pub fn write_copy<D: Disk, E: Disk>(
         (D.meaning.state_of old.old) (D.meaning.state_of old.new)
         (E.meaning.state_of new.old) (E.meaning.state_of new.new)) }
     ensures nature { PreservesDisk (D.meaning.state_of old.old) (D.meaning.state_of old.new) }
+    ensures bytes { PreservesBytes (D.meaning.state_of old.old) (D.meaning.state_of old.new) }
 {
     duk_journal::laws::one_list();
     let _size = old.size();

@@ -27,5 +27,6 @@ pub record IsPieceCopied (at count : ℕ) (old old' new new' : DiskState) : Type
 -- why they are not
 pub record BytesUncopied (old old' new new' : DiskState) (why : CopyFault) : Type 0 where
   pub nature : PreservesDisk old old'
+  pub bytes : PreservesBytes old old'
   pub new_nature : PreservesDisk new new'
   pub cause : CopyFailed old old' new new' why
