@@ -6,6 +6,9 @@ mod OptionalBlocks
 mod OptionalWalk
 mod ImageParts
 mod ImageStops
+mod JournalNumbers
+mod JournalRecords
+mod JournalTallies
 mod LinesAppended
 mod LogRecords
 mod TerminalTallies

@@ -7,7 +7,7 @@ use Rattle.duk_store.specs.SlotFormat.{IsOpen}
 use Rattle.duk_tree.specs.Serial.{Serial}
 use Rattle.duk_show.specs.Log.{BeginsLog, IsLogRefused, IsSomeLog, IsWrongRecord}
 use Rattle.duk_show.specs.declared.fault.ShowFault.{ShowFault}
-use Rattle.duk_show.specs.declared.fault.ShowFault.TheVariants.{BlockRefused, FrameRefused, ImageRefused, KindRefused, LogRefused, LogTooLong, LogUnread, OutOfMemory}
+use Rattle.duk_show.specs.declared.fault.ShowFault.TheVariants.{BlockRefused, FrameRefused, ImageRefused, JournalRefused, JournalTooLong, JournalUnread, KindRefused, LogRefused, LogTooLong, LogUnread, OutOfMemory}
 use Rattle.duk_show.specs.inner.Log.{AreFirstNumbers, IsNextRecord, IsRecordRefused}
 
 -- no log has a record that is wrong
@@ -33,6 +33,9 @@ refused bytes place numbers (Err (LogRefused other)) first why =
     (record { count = length numbers; begins = first.begins; wrong = inr wrong }, no_log bytes place (length numbers) first.begins wrong)
 refused bytes place numbers (Err OutOfMemory) first why = tt
 refused bytes place numbers (Err KindRefused) first why = absurd why
+refused bytes place numbers (Err JournalUnread) first why = absurd why
+refused bytes place numbers (Err JournalTooLong) first why = absurd why
+refused bytes place numbers (Err (JournalRefused other)) first why = absurd why
 refused bytes place numbers (Err LogUnread) first why = absurd why
 refused bytes place numbers (Err LogTooLong) first why = absurd why
 refused bytes place numbers (Err (FrameRefused other fault)) first why = absurd why

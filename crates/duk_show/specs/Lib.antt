@@ -7,5 +7,6 @@ pub mod Block
 pub mod ImageFault
 pub mod Image
 pub mod Log
+pub mod Journal
 pub mod ShownText
 pub mod inner

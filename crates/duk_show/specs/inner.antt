@@ -1,5 +1,7 @@
 pub mod Block
 pub mod Hexadecimal
 pub mod Image
+pub mod Journal
+pub mod JournalTallies
 pub mod Log
 pub mod Tallies

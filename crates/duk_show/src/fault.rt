@@ -47,6 +47,15 @@ pub enum ShowFault {
         /// The first record that is in no log.
         place: usize,
     },
+    /// The file of a journal cannot be read.
+    JournalUnread,
+    /// The file of a journal is too long.
+    JournalTooLong,
+    /// The bytes are not those of a journal.
+    JournalRefused {
+        /// The first record that is in no journal.
+        place: usize,
+    },
     /// Memory was refused.
     OutOfMemory,
 }
@@ -64,6 +73,9 @@ impl ShowFault {
             ShowFault::LogUnread => line_of("log: cannot read"),
             ShowFault::LogTooLong => line_of("log: too long"),
             ShowFault::LogRefused { place } => stopped_line("log", place, "Damaged"),
+            ShowFault::JournalUnread => line_of("journal: cannot read"),
+            ShowFault::JournalTooLong => line_of("journal: too long"),
+            ShowFault::JournalRefused { place } => stopped_line("journal", place, "Damaged"),
             ShowFault::OutOfMemory => line_of("out of memory"),
         }
     }
@@ -71,7 +83,7 @@ impl ShowFault {
 
 /// The line that says no more than this.
 fn line_of(text: &str) -> Lines
-    requires { length text.now ≤ 16 }
+    requires { length text.now ≤ 20 }
     ensures { result.items ≡ text.now ++ line_end }
 {
     let mut line = Lines::new();

@@ -187,7 +187,7 @@ fn push_reason(lines: &mut Lines, reason: u8)
 }
 
 /// A code in words.
-fn words_of_code(code: Code) -> &'static str
+pub(crate) fn words_of_code(code: Code) -> &'static str
     ensures words { result.now ≡ code_words code }
     ensures short { length result.now ≤ 21 }
 {

@@ -1,5 +1,5 @@
-//! The command `show`: what a frame, a key block, a terminal's image or a log of used numbers says,
-//! each as the lines that it makes of its argument, or the fault and the place at which reading it
+//! The command `show`: what a frame, a key block, a terminal's image, a log of used numbers or a
+//! journal of payments says, each as the lines that it makes of its argument, or the fault and the place at which reading it
 //! stops. Nothing is deciphered.
 #![tactic(auto)]
 
@@ -11,6 +11,8 @@ mod frame_fault;
 mod hexadecimal;
 mod image;
 mod image_fault;
+mod journal;
+mod journal_tallies;
 mod key_names;
 mod log;
 mod shown_text;
@@ -22,4 +24,5 @@ pub use frame::frame_lines;
 pub use frame_fault::FrameFault;
 pub use image::image_lines;
 pub use image_fault::ImageFault;
+pub use journal::journal_lines;
 pub use log::{damaged_record, log_lines};

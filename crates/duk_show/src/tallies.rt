@@ -79,7 +79,7 @@ fn one_more(tally: &Tally, number: Ksn) -> Tally
 }
 
 /// The number that an initial key serial number is.
-fn number_of(iksn: Iksn) -> u128
+pub(crate) fn number_of(iksn: Iksn) -> u128
     ensures { result ≡ iksn }
 {
     BigEndian::read_uint128(&iksn.bytes(), 10)
