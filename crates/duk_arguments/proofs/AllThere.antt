@@ -40,6 +40,7 @@ are_found rows (request.Unwrap kbpk block) f = (some f.0, (some f.1.0, tt))
 are_found rows (request.Run config script) f = (some f.0, (some f.1.0, tt))
 are_found rows (request.Serve config keeping) f = (some f.0, (tt, (tt, tt)))
 are_found rows (request.NewJournal file records) f = (some f.0, (some f.1.0, tt))
+are_found rows (request.CopyJournal old new) f = (some f.0, (some f.1.0, tt))
 are_found rows (request.Initial bdk iksn) f = (some f.0, (some f.1.0, tt))
 are_found rows (request.Registers bdk ksn initial) f = (some f.0, (some f.1.0, (tt, tt)))
 are_found rows (request.Kcv keys components show) f = (subst (λ (o : Option (List Text)). IsSomeAnd o HaveRoom) (sym f.0) (keys_have_room keys), (tt, (tt, tt)))
@@ -71,6 +72,7 @@ found_by_name command_name.Reply = refl
 found_by_name command_name.Run = refl
 found_by_name command_name.Serve = refl
 found_by_name command_name.NewJournal = refl
+found_by_name command_name.CopyJournal = refl
 
 -- all that this command needs is there, where it is the one of the request
 pub there_by : {name : Text} (rows : List Row) (asked : Request) (command : CommandName)

@@ -74,6 +74,10 @@ pub enters_new_journal : Enters (codes "new-journal") (leaf_of (codes "new-journ
 unfolding clap_on_literals
 enters_new_journal = record { met = refl; turn = refl; finds = refl }
 
+pub enters_copy_journal : Enters (codes "copy-journal") (leaf_of (codes "copy-journal"))
+unfolding clap_on_literals
+enters_copy_journal = record { met = refl; turn = refl; finds = refl }
+
 pub enters_show : Enters (codes "show") (leaf_of (codes "show"))
 unfolding clap_on_literals
 enters_show = record { met = refl; turn = refl; finds = refl }

@@ -43,6 +43,7 @@ keys_are (request.Unwrap kbpk block) = refl
 keys_are (request.Run config script) = refl
 keys_are (request.Serve config keeping) = refl
 keys_are (request.NewJournal file records) = refl
+keys_are (request.CopyJournal old new) = refl
 keys_are (request.Initial bdk iksn) = refl
 keys_are (request.Registers bdk ksn initial) = refl
 keys_are (request.Kcv keys components show) = refl

@@ -62,3 +62,16 @@ reads_new_journal file records plain = record {
   named = refl;
   shown = (refl, (refl, tt));
 }
+
+pub reads_copy_journal : (old new : Bor Text)
+    → IsPlainRequest (request.CopyJournal old new)
+    → IsRead (leaf_of (codes "copy-journal")) (all_marked (request.CopyJournal old new))
+    (request.CopyJournal old new)
+unfolding clap_on_literals
+reads_copy_journal old new plain = record {
+  goes = (plain.0, refl, refl, (plain.1.0, refl, refl, tt));
+  quiet = refl;
+  ends = refl;
+  named = refl;
+  shown = (refl, (refl, tt));
+}

@@ -4,10 +4,10 @@ use Rattle.clap.specs.Walk.{Text}
 use Rattle.duk_arguments.specs.Written.{IsPlainRequest, arguments_of}
 use Rattle.duk_arguments.specs.declared.request.Request.{Request}
 use Rattle.duk_arguments.specs.declared.request.Request.TheVariants as request
-use Rattle.duk_arguments.proofs.Entered.{leaf_of, enters_derive, enters_walk, enters_pin, enters_wrap, enters_unwrap, enters_run, enters_serve, enters_initial, enters_registers, enters_kcv, enters_mac, enters_unpin, enters_translate, enters_request, enters_reply, enters_show, enters_issue, enters_new_journal}
+use Rattle.duk_arguments.proofs.Entered.{leaf_of, enters_derive, enters_walk, enters_pin, enters_wrap, enters_unwrap, enters_run, enters_serve, enters_initial, enters_registers, enters_kcv, enters_mac, enters_unpin, enters_translate, enters_request, enters_reply, enters_show, enters_issue, enters_new_journal, enters_copy_journal}
 use Rattle.duk_arguments.proofs.TopLevel.{Make, make}
 use Rattle.duk_arguments.proofs.ReadBlocks.{reads_mac, reads_pin, reads_unpin, reads_translate, reads_wrap, reads_unwrap, reads_show}
-use Rattle.duk_arguments.proofs.ReadFiles.{reads_run, reads_serve, reads_new_journal}
+use Rattle.duk_arguments.proofs.ReadFiles.{reads_run, reads_serve, reads_new_journal, reads_copy_journal}
 use Rattle.duk_arguments.proofs.ReadFrames.{reads_request, reads_reply}
 use Rattle.duk_arguments.proofs.ReadKcv.{reads_kcv}
 use Rattle.duk_arguments.proofs.ReadKeys.{reads_derive, reads_walk, reads_initial, reads_issue, reads_registers}
@@ -39,6 +39,9 @@ all_made program (request.Serve config keeping) plain =
 all_made program (request.NewJournal file records) plain =
     make program (leaf_of (codes "new-journal")) (request.NewJournal file records) enters_new_journal
     (reads_new_journal file records plain)
+all_made program (request.CopyJournal old new) plain =
+    make program (leaf_of (codes "copy-journal")) (request.CopyJournal old new) enters_copy_journal
+    (reads_copy_journal old new plain)
 all_made program (request.Initial bdk iksn) plain =
     make program (leaf_of (codes "initial")) (request.Initial bdk iksn) enters_initial
     (reads_initial bdk iksn plain)

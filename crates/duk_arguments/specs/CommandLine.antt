@@ -134,6 +134,11 @@ abbrev pub new_journal_command : Shape
 new_journal_command = command (codes "new-journal")
     (argument_rule (codes "FILE") ∷ argument_rule (codes "RECORDS") ∷ [])
 
+-- copy-journal OLD NEW
+abbrev pub copy_journal_command : Shape
+copy_journal_command = command (codes "copy-journal")
+    (argument_rule (codes "OLD") ∷ argument_rule (codes "NEW") ∷ [])
+
 -- dukpt: it has a version, wants a command, and answers with its help where no arguments are given
 abbrev pub program_shape : Shape
 program_shape = record (new_shape (codes "dukpt")) {
@@ -165,7 +170,7 @@ frame_commands = request_command ∷ reply_command ∷ []
 
 -- the commands over files
 abbrev pub file_commands : List Shape
-file_commands = run_command ∷ serve_command ∷ new_journal_command ∷ []
+file_commands = run_command ∷ serve_command ∷ new_journal_command ∷ copy_journal_command ∷ []
 
 -- dukpt, and one of its commands
 abbrev pub command_line : App

@@ -37,6 +37,7 @@ name_of (request.Unwrap kbpk block) = codes "unwrap"
 name_of (request.Run config script) = codes "run"
 name_of (request.Serve config keeping) = codes "serve"
 name_of (request.NewJournal file records) = codes "new-journal"
+name_of (request.CopyJournal old new) = codes "copy-journal"
 name_of (request.Initial bdk iksn) = codes "initial"
 name_of (request.Registers bdk ksn initial) = codes "registers"
 name_of (request.Kcv keys components show) = codes "kcv"
@@ -72,6 +73,8 @@ given_of (request.Serve config keeping) =
     ∷ valued (codes "journal") (journal_in keeping) ∷ []
 given_of (request.NewJournal file records) =
     needed (codes "FILE") file.now ∷ needed (codes "RECORDS") records.now ∷ []
+given_of (request.CopyJournal old new) =
+    needed (codes "OLD") old.now ∷ needed (codes "NEW") new.now ∷ []
 given_of (request.Initial bdk iksn) =
     needed (codes "BDK") bdk.now ∷ needed (codes "IKSN") iksn.now ∷ []
 given_of (request.Registers bdk ksn initial) =

@@ -24,7 +24,7 @@ use std::alloc::{AllocError, Global};
 const VERSION: &str = "0.1.0";
 
 /// The program's commands, in the order in which help lists them.
-fn commands() -> [CommandName; 18]
+fn commands() -> [CommandName; 19]
     ensures { map shape_named result ≡ command_line.subs }
 {
     [
@@ -46,6 +46,7 @@ fn commands() -> [CommandName; 18]
         CommandName::Run,
         CommandName::Serve,
         CommandName::NewJournal,
+        CommandName::CopyJournal,
     ]
 }
 
@@ -72,6 +73,7 @@ pub(crate) fn usage_of<'a>(command: CommandName) -> Usage<'a>
         CommandName::Run => files::run(),
         CommandName::Serve => files::serve(),
         CommandName::NewJournal => files::new_journal(),
+        CommandName::CopyJournal => files::copy_journal(),
     }
 }
 

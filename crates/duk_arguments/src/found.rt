@@ -4,7 +4,7 @@ ghost use Rattle.std.specs.Prelude.{◌≡◌, ◌↔◌, IfSome, IsSome, IsSome
 ghost use Rattle.std.specs.Option.{option_copied};
 ghost use Rattle.clap.specs.Words.{all_of, first_of, found_of, rows_of, subcommand_rows_of};
 ghost use Rattle.duk_arguments.specs.Asked.{AsksAfter, AsksFor, IsFlag};
-ghost use Rattle.duk_arguments.specs.CommandLine.{derive_command, walk_command, initial_command, issue_command, registers_command, kcv_command, mac_command, pin_command, unpin_command, translate_command, wrap_command, unwrap_command, show_command, request_command, reply_command, run_command, serve_command, new_journal_command};
+ghost use Rattle.duk_arguments.specs.CommandLine.{derive_command, walk_command, initial_command, issue_command, registers_command, kcv_command, mac_command, pin_command, unpin_command, translate_command, wrap_command, unwrap_command, show_command, request_command, reply_command, run_command, serve_command, new_journal_command, copy_journal_command};
 ghost use Rattle.duk_arguments.specs.Given.{Each, journal_in, log_in};
 ghost use Rattle.duk_arguments.specs.Keys.{texts_of_keys};
 ghost use Rattle.duk_arguments.specs.declared.request.Request.{Request};
@@ -108,6 +108,7 @@ fn whole_request<'a>(command: CommandName, found: &ArgMatches<'a>) -> Option<Req
         CommandName::Run => Some(run_request(found)),
         CommandName::Serve => serve_request(found),
         CommandName::NewJournal => Some(new_journal_request(found)),
+        CommandName::CopyJournal => Some(copy_journal_request(found)),
     }
 }
 
@@ -335,6 +336,16 @@ fn new_journal_request<'a>(found: &ArgMatches<'a>) -> Request<'a>
     Request::NewJournal {
         file: text(found, "FILE"),
         records: text(found, "RECORDS"),
+    }
+}
+
+fn copy_journal_request<'a>(found: &ArgMatches<'a>) -> Request<'a>
+    requires { AreThere (rows_of (found_of found.now)) copy_journal_command }
+    ensures { AsksFor (codes "copy-journal") (rows_of (found_of found.now)) result }
+{
+    Request::CopyJournal {
+        old: text(found, "OLD"),
+        new: text(found, "NEW"),
     }
 }
 

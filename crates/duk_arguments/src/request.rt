@@ -81,6 +81,13 @@ pub enum Request<'a> {
         /// For how many payments it has room, as written.
         records: &'a str,
     },
+    /// A copy of what a journal keeps, as a new journal.
+    CopyJournal {
+        /// The path of the journal.
+        old: &'a str,
+        /// The path of the copy.
+        new: &'a str,
+    },
     /// The initial key of a terminal, and its check value.
     Initial {
         /// The base derivation key, as written.

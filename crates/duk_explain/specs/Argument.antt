@@ -150,6 +150,7 @@ log_of asked = None
 -- the path of the journal
 abbrev pub journal_of : Request → Option (List ℕ)
 journal_of (request.Serve config kept) = journal_in kept
+journal_of (request.CopyJournal old new) = Some old.now
 journal_of asked = None
 
 -- RECORDS
@@ -160,6 +161,7 @@ records_of asked = None
 -- the path of the journal that is made
 abbrev pub new_of : Request → Option (List ℕ)
 new_of (request.NewJournal file records) = Some file.now
+new_of (request.CopyJournal old new) = Some new.now
 new_of asked = None
 
 -- the path of the ledger

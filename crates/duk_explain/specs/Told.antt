@@ -129,7 +129,7 @@ row told.AnswerRefused =
     (codes "the frame of a reply or of a refusal") (codes "show frame tells its fields")
 row told.KindRefused =
     text_row (codes "KIND refused") (codes "KIND") argument.Kind Any
-    (codes "frame, block, image or log") []
+    (codes "frame, block, image, log or journal") []
 row told.HeaderField =
     words_row (codes "HeaderField") (codes "BLOCK") found.Header []
     (codes "a key block of version B") (codes "show block tells the place")
@@ -232,6 +232,15 @@ row told.LogUnread =
     (codes "a file that can be read") []
 row told.LogTooLong =
     words_row (codes "log: too long") (codes "WHAT") found.Words (codes "a longer file")
+    (codes "at most 1073741824 bytes") []
+row told.JournalDamaged =
+    shown_row (codes "journal") (codes "Damaged") found.Before (codes "record ")
+    (codes "32 zero bytes, or a payment as FORMATS has it")
+row told.JournalUnread =
+    words_row (codes "journal: cannot read") (codes "WHAT") (found.Reason file.What) []
+    (codes "a file that can be read") []
+row told.JournalTooLong =
+    words_row (codes "journal: too long") (codes "WHAT") found.Words (codes "a longer file")
     (codes "at most 1073741824 bytes") []
 row told.PaddingUnread =
     words_row (codes "padding: cannot read") (codes "/dev/urandom") (found.Reason file.Padding) []

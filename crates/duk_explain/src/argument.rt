@@ -321,6 +321,7 @@ pub(crate) fn journal_of<'a>(request: &Request<'a>) -> Option<&'a str>
             kept: Kept::InJournal(path),
             ..
         } => Some(*path),
+        Request::CopyJournal { old, .. } => Some(*old),
         _ => None,
     }
 }
@@ -341,6 +342,7 @@ pub(crate) fn new_of<'a>(request: &Request<'a>) -> Option<&'a str>
 {
     match request {
         Request::NewJournal { file, .. } => Some(*file),
+        Request::CopyJournal { new, .. } => Some(*new),
         _ => None,
     }
 }

@@ -107,7 +107,10 @@ impl Told {
             | Told::ImagePast
             | Told::LogDamaged
             | Told::LogUnread
-            | Told::LogTooLong => "WHAT",
+            | Told::LogTooLong
+            | Told::JournalDamaged
+            | Told::JournalUnread
+            | Told::JournalTooLong => "WHAT",
             Told::PaddingUnread => "/dev/urandom",
             Told::LedgerUnopened | Told::LedgerDamaged | Told::LedgerFailed | Told::LedgerFull =>
                 "ledger",
@@ -190,8 +193,8 @@ impl Told {
             | Told::ImageCounter
             | Told::ImageRegisters
             | Told::ImagePast => Found::Stopped,
-            Told::LogDamaged | Told::NotAnEvent => Found::Before,
-            Told::LogUnread => Found::Reason(File::What),
+            Told::LogDamaged | Told::JournalDamaged | Told::NotAnEvent => Found::Before,
+            Told::LogUnread | Told::JournalUnread => Found::Reason(File::What),
             Told::PaddingUnread => Found::Reason(File::Padding),
             Told::ConfigUnread => Found::Reason(File::Config),
             Told::ScriptUnread => Found::Reason(File::Script),
@@ -227,8 +230,9 @@ impl Told {
             Told::NotMine => "another key serial number",
             Told::BadMac | Told::Mac => "another MAC",
             Told::Payload => "no such key",
-            Told::LogDamaged => "record ",
-            Told::LogTooLong | Told::ConfigTooLong | Told::ScriptTooLong => "a longer file",
+            Told::LogDamaged | Told::JournalDamaged => "record ",
+            Told::LogTooLong | Told::JournalTooLong | Told::ConfigTooLong | Told::ScriptTooLong =>
+                "a longer file",
             Told::LedgerDamaged => "numbers that no ledger has",
             Told::SecretNotUtf8 => "other bytes",
             Told::LedgerFailed => "a step of its device failed",
@@ -281,7 +285,7 @@ impl Told {
             Told::AmountRefused => "a number up to 4294967295",
             Told::RequestRefused => "the frame of a request whose number is usable",
             Told::AnswerRefused => "the frame of a reply or of a refusal",
-            Told::KindRefused => "frame, block, image or log",
+            Told::KindRefused => "frame, block, image, log or journal",
             Told::HeaderField | Told::Length | Told::Version | Told::OptionalBlock | Told::Hex =>
                 "a key block of version B",
             Told::PadLength => "12 hexadecimal digits, and 16 for each further block",
@@ -313,9 +317,13 @@ impl Told {
             Told::ImageRegisters => "zeros in each register without a number",
             Told::ImagePast => "past numbers with counters of zero, each once, then zeros",
             Told::LogDamaged => "16 zero bytes, or a record as FORMATS has it",
-            Told::LogUnread | Told::ConfigUnread | Told::ScriptUnread | Told::SecretUnread =>
-                "a file that can be read",
-            Told::LogTooLong => "at most 1073741824 bytes",
+            Told::JournalDamaged => "32 zero bytes, or a payment as FORMATS has it",
+            Told::LogUnread
+            | Told::JournalUnread
+            | Told::ConfigUnread
+            | Told::ScriptUnread
+            | Told::SecretUnread => "a file that can be read",
+            Told::LogTooLong | Told::JournalTooLong => "at most 1073741824 bytes",
             Told::PaddingUnread => "a device that can be read",
             Told::LedgerUnopened | Told::LogUnopened =>
                 "a file of zeros, 16 bytes a number, that no other uses",

@@ -197,10 +197,16 @@ pub(crate) enum Told {
     JournalUnopened,
     /// `journal: failed`
     JournalFailed,
+    /// `journal refused at P: Damaged`
+    JournalDamaged,
+    /// `journal: cannot read`
+    JournalUnread,
+    /// `journal: too long`
+    JournalTooLong,
 }
 
 /// How many lines there are.
-pub(crate) const COUNT: usize = 97;
+pub(crate) const COUNT: usize = 100;
 
 /// All of them.
 pub(crate) static ALL: [Told; COUNT] = [
@@ -301,4 +307,7 @@ pub(crate) static ALL: [Told; COUNT] = [
     Told::SecretNotUtf8,
     Told::JournalUnopened,
     Told::JournalFailed,
+    Told::JournalDamaged,
+    Told::JournalUnread,
+    Told::JournalTooLong,
 ];

@@ -81,6 +81,9 @@ impl Told {
             | Told::ImagePast => "image refused at ",
             Told::LogDamaged => "log refused at ",
             Told::LogUnread => "log: cannot read",
+            Told::JournalDamaged => "journal refused at ",
+            Told::JournalUnread => "journal: cannot read",
+            Told::JournalTooLong => "journal: too long",
             Told::LogTooLong => "log: too long",
             Told::PaddingUnread => "padding: cannot read",
             Told::LedgerUnopened => "ledger: cannot open",
@@ -141,7 +144,7 @@ impl Told {
             Told::ImageCounter => ": Counter",
             Told::ImageRegisters => ": Registers",
             Told::ImagePast => ": Past",
-            Told::LogDamaged => ": Damaged",
+            Told::LogDamaged | Told::JournalDamaged => ": Damaged",
             Told::Issued => ": issued",
             Told::NotAnEvent => ": not an event",
             Told::SecretUnread => ": cannot read",
@@ -177,6 +180,7 @@ impl Told {
             | Told::ImageRegisters
             | Told::ImagePast
             | Told::LogDamaged
+            | Told::JournalDamaged
             | Told::BadBdkEntry
             | Told::BadCardEntry
             | Told::NotAnEvent => Middle::Place,

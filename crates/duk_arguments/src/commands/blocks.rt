@@ -125,13 +125,13 @@ pub(super) fn show<'a>() -> Usage<'a>
 {
     Usage {
         name: "show",
-        about: "Prints the fields of a frame, a key block, a terminal's image or a log",
+        about: "Prints the fields of a frame, a key block, a terminal's image, a log or a journal",
         after_help: help::SHOW,
         arguments: &[
-            Argument::Needed("KIND", "What WHAT is: frame, block, image or log"),
+            Argument::Needed("KIND", "What WHAT is: frame, block, image, log or journal"),
             Argument::Needed(
                 "WHAT",
-                "A frame or an image in hexadecimal, a key block, or the file of a log",
+                "A frame or an image in hexadecimal, a key block, or the file of a log or a journal",
             ),
             Argument::Flag("show", "Prints the keys of an image's registers too"),
         ],

@@ -1,7 +1,7 @@
 //! The commands over files.
 
 ghost use Rattle.std.specs.Prelude.{◌≡◌};
-ghost use Rattle.duk_arguments.specs.CommandLine.{new_journal_command, run_command, serve_command};
+ghost use Rattle.duk_arguments.specs.CommandLine.{copy_journal_command, new_journal_command, run_command, serve_command};
 ghost use Rattle.duk_arguments.specs.inner.CommandLine.{shape_of_usage};
 
 use super::arguments::{Argument, Usage};
@@ -62,6 +62,27 @@ pub(super) fn new_journal<'a>() -> Usage<'a>
             Argument::Needed(
                 "RECORDS",
                 "For how many payments it has room, 1 to 1000000000",
+            ),
+        ],
+    }
+}
+
+/// `copy-journal OLD NEW`
+pub(super) fn copy_journal<'a>() -> Usage<'a>
+    ensures { shape_of_usage result ≡ copy_journal_command }
+{
+    Usage {
+        name: "copy-journal",
+        about: "Copies what a journal keeps into the file of a new one",
+        after_help: help::COPY_JOURNAL,
+        arguments: &[
+            Argument::Needed(
+                "OLD",
+                "The file of the journal, which is read and not written",
+            ),
+            Argument::Needed(
+                "NEW",
+                "The file of the copy, which is made and must not be there",
             ),
         ],
     }

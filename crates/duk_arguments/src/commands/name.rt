@@ -39,4 +39,6 @@ pub(crate) enum CommandName {
     Serve,
     /// `new-journal`
     NewJournal,
+    /// `copy-journal`
+    CopyJournal,
 }

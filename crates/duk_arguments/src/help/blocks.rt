@@ -166,13 +166,14 @@ Faults, on standard error with status 1, the first alone; --explain says more:
 pub(crate) const SHOW: &str = "\
 Prints each field on a line, its name first. KIND says what WHAT is: `frame` a frame in hexadecimal,
 `block` a key block, `image` a terminal's image in hexadecimal, `log` the file of a log of used
-numbers. Nothing is deciphered and no MAC is tested. --show prints the keys of an image's registers.
+numbers, `journal` the file of a journal of payments. Nothing is deciphered and no MAC is tested.
+--show prints the keys of an image's registers.
 With - for WHAT of the first three, texts of KIND are read from standard input, one a line; one that
 is refused has the line of its fault in its place.
 
 WHAT is better written as @FILE (the first line of a file) or @- (of standard input): every user of
-the machine sees the words of a process, of a frame the PAN and of an image the keys. WHAT of a log is
-its path, with ./ before one that begins with @.
+the machine sees the words of a process, of a frame the PAN and of an image the keys. WHAT of a log or
+a journal is its path, with ./ before one that begins with @.
 
 Example:
   $ echo 002E0101FFFF9876543210E000010D34303132333435363738393039000003E81B9C1845EB993A7A25ECC2EEB37FB551 >frame.txt
@@ -186,12 +187,14 @@ Example:
 
 Faults, on standard error with status 1, the first alone; --explain says more:
   WHAT: ..                WHAT as @FILE or @-: cannot read, too long, not UTF-8
-  KIND refused            KIND is not frame, block, image or log
+  KIND refused            KIND is not frame, block, image, log or journal
   frame refused at N: ..  WHAT is no frame: the place where reading stopped, from 0, and why
   block refused at N: ..  WHAT is no key block: the same
   image refused at N: ..  WHAT is no image: the same
   log refused at N: ..    WHAT is a damaged log: the same, of its records
   log: ..                 WHAT is the path of a file: cannot read, too long
+  journal refused at N    WHAT is a damaged journal: the same, of its records
+  journal: ..             WHAT is the path of a file: cannot read, too long
   batch: ..               With - for WHAT: items refused, read failed
   write failed            Standard output takes no more
   out of memory           Memory was refused";

@@ -63,3 +63,18 @@ Faults, on standard error with status 1, the first alone; --explain says more:
   records refused        RECORDS is no decimal number of 1 to 1000000000
   journal: cannot make   FILE is there, cannot be made, written or synced, or its folder cannot be synced
   out of memory          Memory was refused";
+
+/// At the end of the help of `copy-journal`.
+pub(crate) const COPY_JOURNAL: &str = "\
+OLD is checked first, as a host checks its journal when it starts. NEW has its size, the payments that it
+keeps, in the same places, and zeros behind them. NEW and its folder are synced.
+
+Example:
+  $ dukpt new-journal payments.journal 1000
+  $ dukpt copy-journal payments.journal copy.journal
+
+Faults, on standard error with status 1, the first alone; --explain says more:
+  journal: cannot open   OLD is missing, cannot be opened, or is in use by a service
+  journal: failed        OLD is damaged, has a number twice, or a device step of it failed
+  journal: cannot make   NEW is there, cannot be made, written or synced, or its folder cannot be synced
+  out of memory          Memory was refused";

@@ -31,12 +31,13 @@ is_listed name (request.CheckReply bdk asked answer initial) others same = other
 is_listed name (request.Run config script) others same = others.1.1.1.1.1.1.1.1.1.1.1.1.1.1.1.0 (sym same)
 is_listed name (request.Serve config keeping) others same = others.1.1.1.1.1.1.1.1.1.1.1.1.1.1.1.1.0 (sym same)
 is_listed name (request.NewJournal file records) others same = others.1.1.1.1.1.1.1.1.1.1.1.1.1.1.1.1.1.0 (sym same)
+is_listed name (request.CopyJournal old new) others same = others.1.1.1.1.1.1.1.1.1.1.1.1.1.1.1.1.1.1.0 (sym same)
 
 pub returns-clause-all : goal.returns-clause-all
 returns-clause-all c = λ asked same.
     let commands = c.commands.result in
     let name = c.args.name.now in
-    let count : length commands ≡ 18 = sym (length-map _ _) ∙ ap length c.commands.ensures in
+    let count : length commands ≡ 19 = sym (length-map _ _) ∙ ap length c.commands.ensures in
     let each : Each (λ (command : CommandName). (shape_named command).name ≢ name) commands =
     each_so_far (λ (command : CommandName). (shape_named command).name ≢ name) commands
     c.loop-command.command-index (omega arith) c.loop-command.invariant in
