@@ -21,6 +21,7 @@ declare -gA _dukpt_arguments=(
     [run]="CONFIG SCRIPT --explain -h --help"
     [serve]="CONFIG --log=FILE --journal=FILE --explain -h --help"
     [new-journal]="FILE RECORDS --explain -h --help"
+    [copy-journal]="OLD NEW --explain -h --help"
     [help]="COMMAND"
 )
 _dukpt_options="--explain -h --help -V --version"
@@ -76,7 +77,7 @@ _dukpt() {
         case ${words[1]}:$(_dukpt_value "${words[@]}") in
             *:COMMAND) offered=${!_dukpt_arguments[*]} ;;
             *:KIND) offered="frame block image log" ;;
-            *:CONFIG | *:SCRIPT | *:FILE) _dukpt_files "$word"; return ;;
+            *:CONFIG | *:SCRIPT | *:FILE | *:OLD | *:NEW) _dukpt_files "$word"; return ;;
             unwrap:BLOCK) ;;
             # A secret may stand in a file.
             *:BDK | *:KBPK | *:LOADING | *:PIN | *:PAN | *:ZONE | *:KEY | *:KEY.. | *:BLOCK)

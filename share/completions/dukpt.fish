@@ -126,5 +126,10 @@ complete -c dukpt -n '__fish_seen_subcommand_from new-journal' -F
 complete -c dukpt -n '__fish_seen_subcommand_from new-journal' -l explain -d 'Say more of a fault'
 complete -c dukpt -n '__fish_seen_subcommand_from new-journal' -s h -l help -d 'Print help'
 
+complete -c dukpt -n __fish_use_subcommand -a copy-journal -d 'OLD NEW: copy what a journal keeps'
+complete -c dukpt -n '__fish_seen_subcommand_from copy-journal' -F
+complete -c dukpt -n '__fish_seen_subcommand_from copy-journal' -l explain -d 'Say more of a fault'
+complete -c dukpt -n '__fish_seen_subcommand_from copy-journal' -s h -l help -d 'Print help'
+
 complete -c dukpt -n __fish_use_subcommand -a help -d 'COMMAND: print help'
-complete -c dukpt -n '__fish_seen_subcommand_from help' -a 'derive walk initial issue registers kcv mac pin unpin translate wrap unwrap show request reply run serve new-journal help'
+complete -c dukpt -n '__fish_seen_subcommand_from help' -a 'derive walk initial issue registers kcv mac pin unpin translate wrap unwrap show request reply run serve new-journal copy-journal help'

@@ -72,6 +72,7 @@ request_done : {D : Type 0} (meaning : DiskMeaning D) (s : Scene D) (asked : Req
 request_done meaning s (request.Run config script) at_once done = absurd done.asked
 request_done meaning s (request.Serve config kept) at_once done = absurd done.asked
 request_done meaning s (request.NewJournal file records) at_once done = absurd done.asked
+request_done meaning s (request.CopyJournal old new) at_once done = absurd done.asked
 request_done meaning s (request.Show kind what show) at_once done = absurd done.asked
 request_done meaning s (request.Issue bdk loading iksn count ledger skip) at_once done = absurd done.asked
 request_done meaning s asked at_once done = record {
@@ -100,6 +101,8 @@ request_not_done meaning s (request.Serve config kept) at_once (inl refused) = a
 request_not_done meaning s (request.Serve config kept) at_once (inr short) = absurd short.asked
 request_not_done meaning s (request.NewJournal file records) at_once (inl refused) = absurd refused.cause
 request_not_done meaning s (request.NewJournal file records) at_once (inr short) = absurd short.asked
+request_not_done meaning s (request.CopyJournal old new) at_once (inl refused) = absurd refused.cause
+request_not_done meaning s (request.CopyJournal old new) at_once (inr short) = absurd short.asked
 request_not_done meaning s (request.Show kind what show) at_once (inl refused) = absurd refused.cause
 request_not_done meaning s (request.Show kind what show) at_once (inr short) = absurd short.asked
 request_not_done meaning s (request.Issue bdk loading iksn count ledger skip) at_once (inl refused) = absurd refused.cause
@@ -128,6 +131,7 @@ pub meant_done : {D : Type 0} (meaning : DiskMeaning D) (s : Scene D) (asked : R
 meant_done meaning s (request.Run config script) over done = absurd over
 meant_done meaning s (request.Serve config kept) over done = absurd over
 meant_done meaning s (request.NewJournal file records) over done = absurd over
+meant_done meaning s (request.CopyJournal old new) over done = absurd over
 meant_done meaning s asked over done = done
 
 pub meant_not_done : {D : Type 0} (meaning : DiskMeaning D) (s : Scene D) (asked : Request) → IsOverSecrets asked → IsMeantNotDone meaning s asked
@@ -135,6 +139,7 @@ pub meant_not_done : {D : Type 0} (meaning : DiskMeaning D) (s : Scene D) (asked
 meant_not_done meaning s (request.Run config script) over not_done = absurd over
 meant_not_done meaning s (request.Serve config kept) over not_done = absurd over
 meant_not_done meaning s (request.NewJournal file records) over not_done = absurd over
+meant_not_done meaning s (request.CopyJournal old new) over not_done = absurd over
 meant_not_done meaning s asked over not_done = not_done
 
 -- of a request over its arguments its command is done
@@ -158,6 +163,7 @@ pub no_file_needed : (asked : Request) → IsOverSecrets asked
 no_file_needed (request.Run config script) over no_show no_issue = absurd over
 no_file_needed (request.Serve config kept) over no_show no_issue = absurd over
 no_file_needed (request.NewJournal file records) over no_show no_issue = absurd over
+no_file_needed (request.CopyJournal old new) over no_show no_issue = absurd over
 no_file_needed (request.Show kind what show) over no_show no_issue = absurd (no_show kind what show refl)
 no_file_needed (request.Issue bdk loading iksn count ledger skip) over no_show no_issue = absurd (no_issue bdk loading iksn count ledger skip refl)
 no_file_needed asked over no_show no_issue = tt

@@ -23,6 +23,7 @@ use Rattle.duk_journal.specs.DiskJournal.{disk_journal_meaning}
 use Rattle.duk_line.specs.Host as journal
 use Rattle.duk_program.specs.Commands.{command_for}
 use Rattle.duk_program.specs.Configured.{IsConfigFaultReported}
+use Rattle.duk_program.specs.CopyJournal.{HasNotCopiedJournal, copy_journal_line}
 use Rattle.duk_program.specs.Files.{FileKnown}
 use Rattle.duk_program.specs.LogFiles.{DiskKnown, MakingKnown}
 use Rattle.duk_program.specs.NewJournal.{HasNotMadeJournal, new_journal_line}
@@ -37,9 +38,12 @@ use Rattle.duk_program.specs.ServeFiles.{FileService, HasNotServedFiles, IsUnser
 use Rattle.duk_program.specs.ServeJournal.{HasNotServedJournal, journal_line, over_journal}
 use Rattle.duk_program.specs.Reported.{IsLineReported, IsOtherFaultLine}
 use Rattle.duk_program.specs.Show.{HasNotShownText, ShowArguments}
+use Rattle.duk_program.specs.declared.copy_journal.CopyJournalFault.{CopyJournalFault}
+use Rattle.duk_program.specs.declared.copy_journal.CopyJournalFault.TheVariants as copy
 use Rattle.duk_program.specs.declared.file_system.FileFault.{FileFault}
 use Rattle.duk_program.specs.declared.file_system.FileFault.TheVariants as file
 use Rattle.duk_program.specs.declared.issue_files.IssueArguments.{IssueArguments}
+use Rattle.duk_program.specs.declared.new_journal.JournalFault.TheVariants.{OutOfMemory, Unmade}
 use Rattle.duk_program.specs.declared.secrets.SecretFault.{SecretFault}
 use Rattle.duk_show.specs.Fault.{show_line}
 use Rattle.duk_store.specs.Log.{LogMeaning}
@@ -47,6 +51,7 @@ use Rattle.duk_arguments.specs.declared.request.Request.{Request}
 use Rattle.duk_script.specs.FaultLine.{fault_line}
 use Rattle.duk_store.specs.Disk.{DiskMeaning}
 use Rattle.duk_store.specs.DiskLog.{disk_log_meaning}
+use Rattle.duk_store.specs.declared.fault.StoreFault.TheVariants.{Device}
 use Rattle.duk_store.specs.MemoryLog.{memory_log_meaning}
 
 -- the line of some fault is reported
@@ -173,6 +178,16 @@ pub unmade_reported : {D : Type 0} (meaning : DiskMeaning D) (known : MakingKnow
     → HasNotMadeJournal meaning known text old new → IsLineReported old new
 unmade_reported meaning known text old new failed =
     other_reported old new (new_journal_line failed.why) (inr (inr (inr (inr (inr (failed.why, refl)))))) failed.line
+
+copy_line_is : (why : CopyJournalFault) → IsOtherFaultLine (copy_journal_line why)
+copy_line_is copy.OutOfMemory = inr (inr (inr (inr (inr (OutOfMemory, refl)))))
+copy_line_is copy.Unopened = inr (inr (inr (inr (inl (inr refl)))))
+copy_line_is copy.Failed = inr (inr (inr (inr (inl (inl (host.Store Device, refl))))))
+copy_line_is copy.Unmade = inr (inr (inr (inr (inr (Unmade, refl)))))
+
+pub uncopied_reported : {D : Type 0} (meaning : DiskMeaning D) (known : DiskKnown D) (making : MakingKnown D) (old new : Known)
+    → HasNotCopiedJournal meaning known making old new → IsLineReported old new
+uncopied_reported meaning known making old new failed = other_reported old new (copy_journal_line failed.why) (copy_line_is failed.why) failed.line
 
 -- where not all lines of the input are answered with those of the command, a line is reported
 batch_reported : (command : List ℕ → ItemCommand) (input : Input) (s : Streams) → IsBatchNotDone command input s

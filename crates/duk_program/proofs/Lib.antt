@@ -1,4 +1,5 @@
 mod Answered
+mod CopiedJournal
 mod FaultIsReported
 mod Marked
 mod Results

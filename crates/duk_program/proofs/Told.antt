@@ -25,6 +25,7 @@ pub not_done_of : {D : Type 0} (meaning : DiskMeaning D) (s : Scene D) (asked ab
 not_done_of meaning s (request.Run config script) about over failed = absurd over
 not_done_of meaning s (request.Serve config kept) about over failed = absurd over
 not_done_of meaning s (request.NewJournal file records) about over failed = absurd over
+not_done_of meaning s (request.CopyJournal old new) about over failed = absurd over
 not_done_of meaning s asked about over failed = failed
 
 -- a secret that is not read is explained of the request as it is written

@@ -83,6 +83,7 @@ pub words_have_meaning : (held : List ℕ → FileKnown) (asked : Request) → I
 words_have_meaning held (request.Run config script) over words = absurd over
 words_have_meaning held (request.Serve config kept) over words = absurd over
 words_have_meaning held (request.NewJournal file records) over words = absurd over
+words_have_meaning held (request.CopyJournal old new) over words = absurd over
 words_have_meaning held (request.Derive bdk ksn initial trace all) over words =
     (word_means held bdk.now words.0, refl, refl, refl, refl)
 words_have_meaning held (request.Walk bdk iksn count skip alone initial) over words =

@@ -49,6 +49,7 @@ command_for (request.Unwrap kbpk block) = unwrap_of kbpk.now block.now
 command_for (request.Run config script) = no_command
 command_for (request.Serve config kept) = no_command
 command_for (request.NewJournal file records) = no_command
+command_for (request.CopyJournal old new) = no_command
 command_for (request.Show kind what show) = no_command
 command_for (request.Issue bdk loading iksn count ledger skip) = no_command
 command_for (request.Initial bdk iksn) = initial_of bdk.now iksn.now

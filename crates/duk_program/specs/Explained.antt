@@ -61,6 +61,9 @@ IsNotDoneOf meaning s (request.Serve config kept) about =
 IsNotDoneOf meaning s (request.NewJournal file records) about =
     (about ≡ request.NewJournal file records)
     × IsRequestNotDone meaning s (request.NewJournal file records)
+IsNotDoneOf meaning s (request.CopyJournal old new) about =
+    (about ≡ request.CopyJournal old new)
+    × IsRequestNotDone meaning s (request.CopyJournal old new)
 IsNotDoneOf meaning s asked about =
     IsMeantFailed meaning s asked about
     ⊎ ((about ≡ asked) × HasUnreadSecret s asked)

@@ -1,5 +1,6 @@
 pub mod Commands
 pub mod Configured
+pub mod CopyJournal
 pub mod Explain
 pub mod Explained
 pub mod Files

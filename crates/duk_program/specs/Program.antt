@@ -2,6 +2,7 @@
 -- `serve` read, and their streams).
 use Rattle.std.specs.Prelude.{◌⊎◌, ℕ, List}
 use Rattle.duk_io.specs.Sink.{IsUntouched}
+use Rattle.duk_program.specs.CopyJournal.{HasCopiedJournal, HasNotCopiedJournal}
 use Rattle.duk_program.specs.Commands.{HasLostCommandOutput, HasShown, IsNotShown}
 use Rattle.duk_program.specs.Meant.{HasMeantDone, IsMeantNotDone}
 use Rattle.duk_program.specs.NewJournal.{HasMadeJournal, HasNotMadeJournal}
@@ -43,6 +44,8 @@ IsRequestDone meaning s (request.Serve config kept) =
     HasServedFiles meaning (service_in s config.now kept)
 IsRequestDone meaning s (request.NewJournal file records) =
     HasMadeIn s (HasMadeJournal meaning (s.making file.now) records.now)
+IsRequestDone meaning s (request.CopyJournal old new) =
+    HasMadeIn s (HasCopiedJournal meaning (s.disks old.now) (s.making new.now))
 IsRequestDone meaning s asked = HasMeantDone meaning s asked
 
 -- status 1 of a request: of files, the first fault in the order that is reported there
@@ -53,6 +56,9 @@ IsRequestNotDone meaning s (request.Serve config kept) =
     HasNotServedFiles meaning (service_in s config.now kept)
 IsRequestNotDone meaning s (request.NewJournal file records) =
     HasNotMadeIn s (HasNotMadeJournal meaning (s.making file.now) records.now s.fault_before
+    s.fault_after)
+IsRequestNotDone meaning s (request.CopyJournal old new) =
+    HasNotMadeIn s (HasNotCopiedJournal meaning (s.disks old.now) (s.making new.now) s.fault_before
     s.fault_after)
 IsRequestNotDone meaning s asked = IsMeantNotDone meaning s asked
 

@@ -240,6 +240,7 @@ abbrev pub IsOverSecrets : Request → Type 0
 IsOverSecrets (request.Run config script) = ⊥
 IsOverSecrets (request.Serve config kept) = ⊥
 IsOverSecrets (request.NewJournal file records) = ⊥
+IsOverSecrets (request.CopyJournal old new) = ⊥
 IsOverSecrets asked = Unit {0}
 
 -- the name of a secret's argument in the help

@@ -11,15 +11,20 @@ use Rattle.duk_show.specs.Block.{IsBlockRefused, IsBlockText}
 use Rattle.duk_show.specs.Fault.{show_line}
 use Rattle.duk_show.specs.Frame.{IsFrameRefused, IsFrameText}
 use Rattle.duk_show.specs.Image.{IsImageRefused, IsImageText}
+use Rattle.duk_show.specs.Journal.{IsJournalRefused, IsJournalText}
 use Rattle.duk_show.specs.Log.{IsLogRefused, IsLogText}
 use Rattle.duk_show.specs.declared.fault.ShowFault.{ShowFault}
-use Rattle.duk_show.specs.declared.fault.ShowFault.TheVariants.{KindRefused, LogTooLong, LogUnread, OutOfMemory}
+use Rattle.duk_show.specs.declared.fault.ShowFault.TheVariants.{JournalTooLong, JournalUnread, KindRefused, LogTooLong, LogUnread, OutOfMemory}
 
 -- the most bytes of a log that is shown
 abbrev pub longest_log : ℕ
 longest_log = 2 ^ 30
 
--- the arguments of `show`: the kind, the text, or the path of a log, whether keys are shown, and
+-- the most bytes of a journal that is shown
+abbrev pub longest_journal : ℕ
+longest_journal = 2 ^ 30
+
+-- the arguments of `show`: the kind, the text, or the path of a log or of a journal, whether keys are shown, and
 -- what the file under that path holds
 pub record ShowArguments : Type 0 where
   pub kind : List ℕ
@@ -51,6 +56,25 @@ IsLogFileRefused held LogTooLong = IsLongerThan longest_log held
 IsLogFileRefused held OutOfMemory = ⊤
 IsLogFileRefused held why = HasNoLog held why
 
+-- the lines of the journal that a file holds
+pub record IsJournalFileText (held : FileKnown) (text : List ℕ) : Type 0 where
+  pub bytes : List ℕ
+  pub read : IsFileRead held longest_journal bytes
+  pub is_text : IsJournalText bytes text
+
+-- the file holds what is no journal
+pub record HasNoJournal (held : FileKnown) (why : ShowFault) : Type 0 where
+  pub bytes : List ℕ
+  pub read : IsFileRead held longest_journal bytes
+  pub cause : IsJournalRefused bytes why
+
+-- why the journal of a file is not shown; memory may be refused at any time
+abbrev pub IsJournalFileRefused : FileKnown → ShowFault → Type 0
+IsJournalFileRefused held JournalUnread = IsUnreadableFile held
+IsJournalFileRefused held JournalTooLong = IsLongerThan longest_journal held
+IsJournalFileRefused held OutOfMemory = ⊤
+IsJournalFileRefused held why = HasNoJournal held why
+
 -- the lines of a text of its kind
 abbrev pub IsShowText : ShowArguments → List ℕ → Type 0
 IsShowText arguments text =
@@ -58,6 +82,7 @@ IsShowText arguments text =
     ⊎ ((arguments.kind ≡ codes "block") × IsBlockText arguments.what text)
     ⊎ ((arguments.kind ≡ codes "image") × IsImageText arguments.what arguments.show text)
     ⊎ ((arguments.kind ≡ codes "log") × IsLogFileText arguments.held text)
+    ⊎ ((arguments.kind ≡ codes "journal") × IsJournalFileText arguments.held text)
 
 -- there is no such kind
 pub record IsNoKind (kind : List ℕ) : Type 0 where
@@ -65,6 +90,7 @@ pub record IsNoKind (kind : List ℕ) : Type 0 where
   pub no_block : kind ≢ codes "block"
   pub no_image : kind ≢ codes "image"
   pub no_log : kind ≢ codes "log"
+  pub no_journal : kind ≢ codes "journal"
 
 -- why nothing is shown; memory may be refused at any time
 abbrev pub IsShowRefused : ShowArguments → ShowFault → Type 0
@@ -73,6 +99,7 @@ IsShowRefused arguments why =
     ⊎ ((arguments.kind ≡ codes "block") × IsBlockRefused arguments.what why)
     ⊎ ((arguments.kind ≡ codes "image") × IsImageRefused arguments.what why)
     ⊎ ((arguments.kind ≡ codes "log") × IsLogFileRefused arguments.held why)
+    ⊎ ((arguments.kind ≡ codes "journal") × IsJournalFileRefused arguments.held why)
     ⊎ (IsNoKind arguments.kind × (why ≡ KindRefused))
     ⊎ (why ≡ OutOfMemory)
 

@@ -4,7 +4,7 @@ use Rattle.duk_arguments.specs.Asked.{Asks}
 use Rattle.duk_arguments.specs.declared.request.Request.TheVariants as request
 use Rattle.duk_program.specs.Secrets.{IsOverSecrets}
 use Rattle.duk_program.specs.declared.dispatch.Todo.{Todo}
-use Rattle.duk_program.specs.declared.dispatch.Todo.TheVariants.{Exit, NewJournal, Read, Run, Serve}
+use Rattle.duk_program.specs.declared.dispatch.Todo.TheVariants.{CopyJournal, Exit, NewJournal, Read, Run, Serve}
 
 -- 0 where all is done, 1 after the line of a fault, 2 where the arguments were refused
 abbrev pub IsStatus : ℕ → Type 0
@@ -17,6 +17,7 @@ IsLeftToDo (Exit status) = IsStatus status
 IsLeftToDo (Run config script) = Unit {0}
 IsLeftToDo (Serve config kept) = Unit {0}
 IsLeftToDo (NewJournal file records) = Unit {0}
+IsLeftToDo (CopyJournal old new) = Unit {0}
 IsLeftToDo (Read asked) = Unit {0}
 
 -- nothing is left but to end with this status
@@ -25,6 +26,7 @@ EndsWith (Exit status) wanted = status ≡ wanted
 EndsWith (Run config script) wanted = ⊥
 EndsWith (Serve config kept) wanted = ⊥
 EndsWith (NewJournal file records) wanted = ⊥
+EndsWith (CopyJournal old new) wanted = ⊥
 EndsWith (Read asked) wanted = ⊥
 
 -- a script is left to run, frames are left to serve, a journal is left to make, or a command is left
@@ -34,6 +36,7 @@ IsToRun (Exit status) = ⊥
 IsToRun (Run config script) = Unit {0}
 IsToRun (Serve config kept) = Unit {0}
 IsToRun (NewJournal file records) = Unit {0}
+IsToRun (CopyJournal old new) = Unit {0}
 IsToRun (Read asked) = Unit {0}
 
 -- a script is left to run, frames to serve, a journal to make, or a command to do over secrets, only
@@ -43,4 +46,5 @@ RunsAsked arguments (Exit status) = Unit {0}
 RunsAsked arguments (Run config script) = Asks arguments (request.Run config script)
 RunsAsked arguments (Serve config kept) = Asks arguments (request.Serve config kept)
 RunsAsked arguments (NewJournal file records) = Asks arguments (request.NewJournal file records)
+RunsAsked arguments (CopyJournal old new) = Asks arguments (request.CopyJournal old new)
 RunsAsked arguments (Read asked) = Asks arguments asked × IsOverSecrets asked

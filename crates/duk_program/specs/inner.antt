@@ -1,4 +1,5 @@
 pub mod Commands
+pub mod CopyJournal
 pub mod Status
 pub mod Items
 pub mod NewJournal

@@ -47,6 +47,13 @@ pub enum Todo<'a> {
         /// For how many payments it has room, as written.
         records: &'a str,
     },
+    /// To copy what a journal keeps into a new one. Nothing is written yet.
+    CopyJournal {
+        /// The path of the journal.
+        old: &'a str,
+        /// The path of the copy.
+        new: &'a str,
+    },
     /// To do a command that needs files or the input: `show`, `issue`, one with a secret that is
     /// given by reference, or one over the lines of the input. Nothing is written yet.
     Read(Request<'a>),
@@ -144,6 +151,7 @@ fn do_request<'a, W: Sink, F: Sink>(
         Request::Run { config, script } => Todo::Run { config, script },
         Request::Serve { config, kept } => Todo::Serve { config, kept },
         Request::NewJournal { file, records } => Todo::NewJournal { file, records },
+        Request::CopyJournal { old, new } => Todo::CopyJournal { old, new },
         Request::Show { .. } | Request::Issue { .. } => Todo::Read(request),
         request if is_left(&request) => Todo::Read(request),
         request => Todo::Exit(do_command(alloc, request, output, fault)),

@@ -12,6 +12,7 @@ ghost use Rattle.duk_program.specs.Serve.{serving_of};
 ghost use Rattle.duk_program.specs.Status.{IsStatus};
 
 use crate::answers::answer;
+use crate::copy_journal::copy_journal;
 use crate::dispatch::show_at_end;
 use crate::ending::EndingFault;
 use crate::file_system::FileSystem;
@@ -94,6 +95,11 @@ where
         Request::NewJournal { file, records } => {
             let mut line = Vec::new(alloc);
             let status = new_journal(alloc, files, file, records, &mut line);
+            tell(alloc, files, &request, status, line.as_slice(), fault)
+        }
+        Request::CopyJournal { old, new } => {
+            let mut line = Vec::new(alloc);
+            let status = copy_journal(alloc, files, old, new, &mut line);
             tell(alloc, files, &request, status, line.as_slice(), fault)
         }
         request => do_meant_explained(alloc, files, request, input, output, fault),

@@ -144,6 +144,7 @@ pub(crate) fn line_command<'a>(request: &Request<'a>) -> Option<LineCommand<'a>>
         | Request::Run { .. }
         | Request::Serve { .. }
         | Request::NewJournal { .. }
+        | Request::CopyJournal { .. }
         | Request::Initial { .. }
         | Request::Issue { .. }
         | Request::Registers { .. }

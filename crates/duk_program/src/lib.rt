@@ -4,6 +4,7 @@
 mod answers;
 mod commands;
 mod configuration;
+mod copy_journal;
 mod dispatch;
 mod ending;
 mod explain;

@@ -13,6 +13,7 @@ ghost use Rattle.duk_program.specs.Status.{IsStatus};
 ghost use Rattle.duk_program.specs.Reported.{IsLineReported};
 ghost use Rattle.duk_arguments.specs.Asked.{AreRefused, texts_of};
 
+use crate::copy_journal::copy_journal;
 use crate::dispatch::{Todo, command};
 use crate::explain::take_explain;
 use crate::explained::run_explained;
@@ -62,6 +63,7 @@ where
             serve_files(alloc, files, config, kept, input, output, fault)
         }
         Todo::NewJournal { file, records } => new_journal(alloc, files, file, records, fault),
+        Todo::CopyJournal { old, new } => copy_journal(alloc, files, old, new, fault),
         Todo::Read(request) => do_over_secrets(alloc, files, request, input, output, fault),
     }
 }

@@ -42,7 +42,10 @@ pub(crate) fn secrets_of<'a>(request: &Request<'a>) -> Option<Keys<'a>>
         } => Keys::from_slice(&[*block, *pan, *bdk, *zone]),
         Request::MakeRequest { bdk, pan, pin, .. } => Keys::from_slice(&[*bdk, *pan, *pin]),
         Request::Kcv { keys, .. } => Some(*keys),
-        Request::Run { .. } | Request::Serve { .. } | Request::NewJournal { .. } => None,
+        Request::Run { .. }
+        | Request::Serve { .. }
+        | Request::NewJournal { .. }
+        | Request::CopyJournal { .. } => None,
     }
 }
 

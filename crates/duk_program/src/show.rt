@@ -2,7 +2,7 @@
 
 ghost use Rattle.std.specs.Prelude.{◌≡◌, ◌⊎◌, IfErr, IfOk};
 ghost use Rattle.duk_commands.specs.Answer.{HasWriteFailed, HasWritten, streams};
-ghost use Rattle.duk_program.specs.Show.{HasNotShownText, HasShownText, IsLogFileRefused, IsLogFileText, IsShowRefused, IsShowText, show_arguments};
+ghost use Rattle.duk_program.specs.Show.{HasNotShownText, HasShownText, IsJournalFileRefused, IsJournalFileText, IsLogFileRefused, IsLogFileText, IsShowRefused, IsShowText, show_arguments};
 ghost use Rattle.duk_show.specs.Block.{IsBlockRefused, IsBlockText};
 ghost use Rattle.duk_show.specs.Frame.{IsFrameRefused, IsFrameText};
 ghost use Rattle.duk_show.specs.Image.{IsImageRefused, IsImageText};
@@ -12,14 +12,19 @@ use crate::ending::hand_on;
 use crate::file_system::{FileFault, FileSystem};
 use duk_commands::Fault;
 use duk_io::{Sink, write_text};
-use duk_show::{ShowFault, block_lines, frame_lines, image_lines, log_lines, report};
+use duk_show::{
+    ShowFault, block_lines, frame_lines, image_lines, journal_lines, log_lines, report,
+};
 use std::alloc::Global;
 
 /// The most bytes of a log.
 pub(crate) const LONGEST_LOG: usize = 1 << 30;
 
-/// Prints what a text of its kind says, or the log in the file under a path, and gives the status:
-/// 0, or 1 with a line on `fault`.
+/// The most bytes of a journal.
+const LONGEST_JOURNAL: usize = 1 << 30;
+
+/// Prints what a text of its kind says, or the log or the journal in the file under a path, and gives
+/// the status: 0, or 1 with a line on `fault`.
 pub(crate) fn show_text<S: FileSystem, W: Sink, F: Sink>(
     alloc: Global,
     files: &S,
@@ -65,7 +70,8 @@ fn print<W: Sink, F: Sink>(text: &[u8], output: &mut W, fault: &mut F) -> u8
     }
 }
 
-/// What is shown of a text of its kind, or of the log in the file under a path; or why not.
+/// What is shown of a text of its kind, or of the log or the journal in the file under a path; or
+/// why not.
 fn shown_text<S: FileSystem>(
     alloc: Global,
     files: &S,
@@ -83,6 +89,7 @@ fn shown_text<S: FileSystem>(
         "block" => block_text(alloc, what),
         "image" => image_text(alloc, what, show),
         "log" => log_text(alloc, files, what),
+        "journal" => journal_text(alloc, files, what),
         _ => Err(ShowFault::KindRefused),
     }
 }
@@ -138,5 +145,18 @@ fn log_text<S: FileSystem>(alloc: Global, files: &S, path: &str) -> Result<Vec<u
         Err(FileFault::NoMemory) => Err(ShowFault::OutOfMemory),
         Err(FileFault::TooLong) => Err(ShowFault::LogTooLong),
         Err(FileFault::CannotRead) => Err(ShowFault::LogUnread),
+    }
+}
+
+/// The text of the journal in the file under a path.
+fn journal_text<S: FileSystem>(alloc: Global, files: &S, path: &str) -> Result<Vec<u8>, ShowFault>
+    ensures text { IfOk result (λ text. IsJournalFileText (S.held files.now path.now) text.items) }
+    ensures refused { IfErr result (IsJournalFileRefused (S.held files.now path.now)) }
+{
+    match files.read_file(alloc, path, LONGEST_JOURNAL) {
+        Ok(bytes) => journal_lines(alloc, bytes.as_slice()),
+        Err(FileFault::NoMemory) => Err(ShowFault::OutOfMemory),
+        Err(FileFault::TooLong) => Err(ShowFault::JournalTooLong),
+        Err(FileFault::CannotRead) => Err(ShowFault::JournalUnread),
     }
 }

@@ -7,6 +7,7 @@ abbrev pub NeedsNoFile : Request → Type 0
 NeedsNoFile (request.Run config script) = ⊥
 NeedsNoFile (request.Serve config kept) = ⊥
 NeedsNoFile (request.NewJournal file records) = ⊥
+NeedsNoFile (request.CopyJournal old new) = ⊥
 NeedsNoFile (request.Show kind what show) = ⊥
 NeedsNoFile (request.Issue bdk loading iksn count ledger skip) = ⊥
 NeedsNoFile asked = Unit {0}

@@ -4,7 +4,7 @@ use Rattle.duk_arguments.specs.declared.request.Request.{Request}
 use Rattle.duk_arguments.specs.declared.request.Request.TheVariants as request
 use Rattle.duk_program.specs.Secrets.{IsOverSecrets}
 use Rattle.duk_program.specs.declared.dispatch.Todo.{Todo}
-use Rattle.duk_program.specs.declared.dispatch.Todo.TheVariants.{Exit, NewJournal, Read, Run, Serve}
+use Rattle.duk_program.specs.declared.dispatch.Todo.TheVariants.{CopyJournal, Exit, NewJournal, Read, Run, Serve}
 
 -- what is left to do is what the request asks
 abbrev pub RunsRequest : Request → Todo → Type 0
@@ -12,4 +12,5 @@ RunsRequest asked (Exit status) = Unit {0}
 RunsRequest asked (Run config script) = asked ≡ request.Run config script
 RunsRequest asked (Serve config kept) = asked ≡ request.Serve config kept
 RunsRequest asked (NewJournal file records) = asked ≡ request.NewJournal file records
+RunsRequest asked (CopyJournal old new) = asked ≡ request.CopyJournal old new
 RunsRequest asked (Read read) = (asked ≡ read) × IsOverSecrets read

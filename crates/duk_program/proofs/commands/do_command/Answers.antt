@@ -54,6 +54,7 @@ makes_lines (request.Unwrap kbpk block) no_file derive walk pin wrap unwrap = ab
 makes_lines (request.Run config script) no_file derive walk pin wrap unwrap = absurd no_file
 makes_lines (request.Serve config kept) no_file derive walk pin wrap unwrap = absurd no_file
 makes_lines (request.NewJournal file records) no_file derive walk pin wrap unwrap = absurd no_file
+makes_lines (request.CopyJournal old new) no_file derive walk pin wrap unwrap = absurd no_file
 makes_lines (request.Show kind what show) no_file derive walk pin wrap unwrap = absurd no_file
 makes_lines (request.Issue bdk loading iksn count ledger skip) no_file derive walk pin wrap unwrap = absurd no_file
 makes_lines asked no_file derive walk pin wrap unwrap = tt

@@ -1,6 +1,6 @@
 use Rattle.std.proofs.Common.{inl, refl}
 use Rattle.duk_program.proofs.Answered.{meant_done, meant_not_done, program_done, program_not_done}
-use Rattle.duk_program.proofs.FaultIsReported.{files_reported, meant_reported, unmade_reported, unserved_reported}
+use Rattle.duk_program.proofs.FaultIsReported.{files_reported, meant_reported, uncopied_reported, unmade_reported, unserved_reported}
 use Rattle.duk_arguments.specs.declared.request.Request.TheVariants as request
 use Rattle.duk_program.proofs.program.run_arguments.Goals as goal
 
@@ -68,6 +68,31 @@ returns-in-NewJournal-clause-not_done g c one = inl (record {
   not_done = record {
     unmade = rw (← c.in-NewJournal.ensures.silent tt) (c.new_journal.ensures.not_done one);
     idle = record { unread = refl; quiet = c.in-NewJournal.ensures.quiet tt };
+  };
+})
+
+pub returns-in-CopyJournal-clause-fault : goal.returns-in-CopyJournal-clause-fault
+returns-in-CopyJournal-clause-fault g c failed =
+    rw (← c.in-CopyJournal.ensures.silent tt) (uncopied_reported _ _ _ _ _ (c.copy_journal.ensures.not_done failed))
+
+pub returns-in-CopyJournal-clause-done : goal.returns-in-CopyJournal-clause-done
+returns-in-CopyJournal-clause-done g c zero = inl (record {
+  request = request.CopyJournal c.in-CopyJournal.old c.in-CopyJournal.new;
+  asked = c.in-CopyJournal.ensures.asked;
+  done = record {
+    made = c.copy_journal.ensures.done zero;
+    idle = record { unread = refl; quiet = c.in-CopyJournal.ensures.quiet tt };
+    no_fault = rw (← c.in-CopyJournal.ensures.silent tt) (c.copy_journal.ensures.no_fault zero);
+  };
+})
+
+pub returns-in-CopyJournal-clause-not_done : goal.returns-in-CopyJournal-clause-not_done
+returns-in-CopyJournal-clause-not_done g c one = inl (record {
+  request = request.CopyJournal c.in-CopyJournal.old c.in-CopyJournal.new;
+  asked = c.in-CopyJournal.ensures.asked;
+  not_done = record {
+    unmade = rw (← c.in-CopyJournal.ensures.silent tt) (c.copy_journal.ensures.not_done one);
+    idle = record { unread = refl; quiet = c.in-CopyJournal.ensures.quiet tt };
   };
 })
 
