@@ -32,15 +32,24 @@ class ServingJournals(Serving):
         self.assertIn(b"log.state: the journal failed, ", self.serve().faults)
 
     def test_words(self) -> None:
-        """The option stands before the path, and else the second word is a log."""
-        for words in (("log",), ("log", "--journal", "more"), ("--journals", "log")):
-            (self.home / "words").unlink(missing_ok=True)
-            subprocess.run(
-                [SERVE, "bank.toml", *words], cwd=self.home, input=b"", capture_output=True,
-                env={**os.environ, "DUKPT": str(self.home / "stand-in"), "SAYS": "", "STATUS": "0"},
-                timeout=SECONDS, check=False)
-            noted = (self.home / "words").read_text()
-            self.assertEqual(noted, f"serve bank.toml --log {self.home.resolve() / words[0]}\n")
+        """The option stands before the path. Without it there is a log, and nothing behind that."""
+        ended = self.serve_words("log")
+        self.assertEqual((ended.status, ended.faults), (0, b""))
+        noted = (self.home / "words").read_text()
+        self.assertEqual(noted, f"serve bank.toml --log {self.home.resolve() / 'log'}\n")
+        (self.home / "words").unlink()
+        takes = b"dukpt-serve: it takes CONFIG LOG, or CONFIG --journal JOURNAL\n"
+        for words in ((), ("log", "--journal", "more"), ("--journals", "log"), ("log", "more"),
+                      ("--journal", "log", "more")):
+            self.assertEqual(self.serve_words(*words), Ended(1, b"", takes), words)
+            self.assertFalse((self.home / "words").exists(), words)
+
+    def serve_words(self, *words: str) -> Ended:
+        done = subprocess.run(
+            [SERVE, "bank.toml", *words], cwd=self.home, input=b"", capture_output=True,
+            env={**os.environ, "DUKPT": str(self.home / "stand-in"), "SAYS": "", "STATUS": "0"},
+            timeout=SECONDS, check=False)
+        return Ended(done.returncode, done.stdout, done.stderr)
 
 
 class ScriptCase(JournalCase):
@@ -102,8 +111,8 @@ class Deployed(ScriptCase):
 
     def test_a_half_closed_connection(self) -> None:
         """A client that ends its side alone gets all its answers, and then the end."""
-        requests = payments(3000)
-        self.make_journal(3000)
+        requests = payments(1500)
+        self.make_journal(1500)
         client, connection = socket.socketpair()
         with client, connection:
             script = subprocess.Popen(
@@ -115,7 +124,7 @@ class Deployed(ScriptCase):
             client.sendall(stream_of(requests))
             client.shutdown(socket.SHUT_WR)
             answers = client.makefile("rb").read()
-        self.assertEqual(answers, answers_of(judged(requests, [], 3000)))
+        self.assertEqual(answers, answers_of(judged(requests, [], 1500)))
         self.assertEqual((end_of(script, None).faults, script.returncode), (b"", 0))
         self.assertEqual(self.state.read_bytes(), b"")
 

@@ -2,15 +2,19 @@
 the same. How it is grouped is seen in the journal."""
 from __future__ import annotations
 
+import itertools
 import os
 
-from .support.client import payments, refusal, refused_requests
+from .support.client import Exchange, payments, refusal, refused_requests
 from .support.journal_case import ON_JOURNAL, JournalCase, frames_of, stream_of
 from .support.journal_file import groups_in
-from .support.model_journal import MOST_FRAMES, READ, answers_of, judged
+from .support.model_journal import MOST_FRAMES, READ, answers_of, judged, payments_of_all
 from .support.service import NARROW, PACKETS, PLAIN, How, cuts
 from .support.service_case import (
     IN_A_FRAME, READ_FAILED, TOO_LONG, WRITE_FAILED, answers_to, numbers_of)
+
+# A run over a log ends behind so many reads.
+READS = 1_000_000
 
 
 class EndOfInput(JournalCase):
@@ -182,3 +186,21 @@ class LostOutput(JournalCase):
             self.assertEqual(kept, numbers_of(requests)[: len(kept)])
             self.assertGreater(len(kept), 9)
             self.check_file(requests, what="behind an output that was closed")
+
+
+class ManyReads(JournalCase):
+    """There is no end of a run's reads, as a run over a log has after a million."""
+
+    weight = 8
+
+    def test_more_than_a_million(self) -> None:
+        """Each byte of many malformed frames is a read, and behind them a payment is kept as ever."""
+        malformed = Exchange(b"\x00\x3e" + bytes(62), refusal(bytes(10), 1))
+        count, first = READS // len(malformed.frame) + 1, payments(1)[0]
+        pieces = (bytes([byte]) for byte in malformed.frame * count)
+        self.make_journal(1)
+        service = self.start(*ON_JOURNAL, how=PACKETS)
+        service.talk(itertools.chain(pieces, [first.frame, b"\x00"]))
+        wanted = malformed.answer * count + first.answer
+        self.assert_output(service.end(), wanted, IN_A_FRAME, "many reads")
+        self.assert_payments(payments_of_all([first]), "behind many reads")

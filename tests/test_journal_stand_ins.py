@@ -21,6 +21,7 @@ from .test_journal_failures import FailedCalls
 from .test_journal_files import Damaged, Right
 from .test_journal_input import EndOfInput, Groups
 from .test_journal_kills import KillsOneByOne
+from .test_journal_peers import NeverReads, Silent
 from .test_journal_service import Lives, Rows
 from .test_journal_torn import Torn
 
@@ -50,6 +51,11 @@ BY_TESTS = (
     (Lives, "test_far_repeats", (Way.NO_REPEATS, Way.IN_MEMORY)),
     (Rows, "test_one_of_each", (Way.ANY_MAC, Way.LOSES_THE_LAST)),
     (KillsOneByOne, "test_behind_each_answer", (Way.ANSWERS_FIRST, Way.IN_MEMORY)),
+    (NeverReads, "test_it_waits", (Way.NEVER_WAITS, Way.IN_MEMORY)),
+    (NeverReads, "test_it_goes_on", (Way.IN_MEMORY,)),
+    (NeverReads, "test_the_peer_goes_away", (Way.NEVER_WAITS,)),
+    (Silent, "test_silent_peers", (Way.GIVES_UP, Way.NO_LOCK)),
+    (Silent, "test_a_part_of_a_read", (Way.GIVES_UP,)),
     (Torn, "test_a_few", (Way.GATE_FIRST, Way.ONE_WRITE, Way.BODIES_UNSYNCED)),
 )
 

@@ -118,7 +118,7 @@ TEXTS = {
                         "show frame tells its fields"),
     "answer refused": ("ANSWER", HEX, "the frame of a reply or of a refusal",
                        "show frame tells its fields"),
-    "KIND refused": ("KIND", ANY, "frame, block, image or log"),
+    "KIND refused": ("KIND", ANY, "frame, block, image, log or journal"),
 }
 A_KEY_BLOCK = ("BLOCK", ANY, "a key block of version B", "show block tells the place")
 OF_UNWRAP = dict.fromkeys(("Length", "Version", "HeaderField", "OptionalBlock", "Hex"), A_KEY_BLOCK)

@@ -82,15 +82,18 @@ class JournalCase(ServiceCase):
         fault: str = "",
         words: Sequence[Word] = ON_JOURNAL,
         what: str = "",
+        kept: Optional[Sequence[Payment]] = None,
     ) -> list[Judged]:
         """The same where the requests stand in a file, whose reads are known, and with them each
-        byte of the journal."""
+        byte of the journal. To read the payments that it keeps takes long if they are very many,
+        and these may be known."""
         before, stream = self.journal.read_bytes(), stream_of(requests) + behind
-        found = judged(requests, payments_in(before), len(before) // RECORD)
+        kept = payments_in(before) if kept is None else kept
+        found = judged(requests, kept, len(before) // RECORD)
         ended = self.serve_file(stream, words)
         self.assert_output(ended, answers_of(found), fault, what)
         groups = groups_by_reads(requests, found, reads_of_file(len(stream)))
-        self.assert_bytes(appended(before, groups), what)
+        self.assert_bytes(appended(before, groups, len(kept)), what)
         return found
 
     def serve_file(

@@ -6,7 +6,7 @@ from __future__ import annotations
 
 import os
 from pathlib import Path
-from typing import Sequence
+from typing import Optional, Sequence
 
 from .page_journals import OPEN, RECORD, Group, Payment, Place, journal_of, read_journal
 
@@ -54,10 +54,12 @@ def bodies_of(group: Group) -> list[bytes]:
     return [it.record(OPEN, 0 if at else len(group) - 1)[BODY] for at, it in enumerate(group)]
 
 
-def appended(image: bytes, groups: Sequence[Group]) -> bytes:
-    """A journal to which groups were appended. No other byte of it is changed: neither the gate of
-    a record that follows nor what stands behind them."""
-    found, at = bytearray(image), RECORD * len(payments_in(image))
+def appended(image: bytes, groups: Sequence[Group], count: Optional[int] = None) -> bytes:
+    """A journal, which keeps so many payments, if that is known, to which groups were appended. No
+    other byte of it is changed: neither the gate of a record that follows nor what stands behind
+    them."""
+    found = bytearray(image)
+    at = RECORD * (len(payments_in(image)) if count is None else count)
     for group in groups:
         found[at] = OPEN
         for body in bodies_of(group):

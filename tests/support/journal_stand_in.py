@@ -7,6 +7,7 @@ from __future__ import annotations
 
 import fcntl
 import os
+import select
 import sys
 from enum import Enum
 from typing import Optional
@@ -19,6 +20,9 @@ AHEAD = READ = 1 << 16
 MOST_FRAMES = 1024
 # A small read takes so many bytes, and they are held.
 SMALL = 4096
+# One that does not wait writes so many bytes at once, where its output is ready for some. One that
+# gives up does so after so many seconds.
+A_FEW, PATIENCE = 500, 0.1
 
 
 class Way(Enum):
@@ -42,6 +46,9 @@ class Way(Enum):
     GOES_ON = "a sync that failed is tried again"
     LOSES_THE_LAST = "a start forgets the last payment of a group"
     LOOKS_AT_NOTHING = "a start takes damaged records as they are"
+    NEVER_WAITS = "it reads on where its output is full"
+    GIVES_UP = "it ends where its input is silent for a moment"
+    NO_LOCK = "the journal is not locked"
 
 
 class Journal:
@@ -51,7 +58,8 @@ class Journal:
         self.way = way
         try:
             self.file = os.open(path, os.O_RDWR)
-            fcntl.flock(self.file, fcntl.LOCK_EX | fcntl.LOCK_NB)
+            if way is not Way.NO_LOCK:
+                fcntl.flock(self.file, fcntl.LOCK_EX | fcntl.LOCK_NB)
         except OSError:
             os.write(2, b"journal: cannot open\n")
             sys.exit(1)
@@ -155,6 +163,7 @@ class Host:
     def __init__(self, journal: Journal, table: Table) -> None:
         self.journal, self.table, self.way = journal, table, journal.way
         self.earlier = set(journal.payments)
+        self.unwritten = b""
 
     def answer_all(self, frames: list[bytes]) -> None:
         most = 512 if self.way is Way.SMALL_GROUPS else MOST_FRAMES
@@ -175,14 +184,16 @@ class Host:
         if self.way is not Way.ANSWERS_FIRST:
             self.write(b"".join(answers))
 
-    @staticmethod
-    def write(data: bytes) -> None:
+    def write(self, data: bytes) -> None:
+        data = self.unwritten + data
+        most = A_FEW if self.way is Way.NEVER_WAITS else len(data)
         try:
-            while data:
-                data = data[os.write(1, data) :]
+            while data and (self.way is not Way.NEVER_WAITS or is_ready([], [1])):
+                data = data[os.write(1, data[:most]) :]
         except OSError:
             os.write(2, b"serve: write failed\n")
             sys.exit(1)
+        self.unwritten = data
 
     def judge(self, frame: bytes, more: int) -> tuple[bytes, Optional[bytes]]:
         answer, number = self.table[frame]
@@ -202,10 +213,18 @@ class Host:
                         + bytes(5))
 
 
+def is_ready(readers: list[int], writers: list[int], seconds: float = 0) -> bool:
+    """Whether one of these files can be read or written within so many seconds."""
+    return any(select.select(readers, writers, [], seconds))
+
+
 def serve(host: Host) -> Optional[bytes]:
     """What ended the service, if that was a fault."""
     stream = b""
-    while piece := os.read(0, 4096 if host.way is Way.SMALL_READS else READ):
+    while host.way is not Way.GIVES_UP or is_ready([0], [], PATIENCE):
+        piece = os.read(0, 4096 if host.way is Way.SMALL_READS else READ)
+        if not piece:
+            break
         stream += piece
         frames = []
         while len(stream) >= 2 and stream[:2] <= b"\x00\x3e":

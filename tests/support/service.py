@@ -23,6 +23,10 @@ SECONDS = 240
 # How much of an output is read at once.
 PIECE = 1 << 16
 FOREVER = float("inf")
+# How often a service is looked at before it is taken to be asleep, and the seconds between.
+LOOKS, BETWEEN_LOOKS = 6, 0.02
+# In so many parts of a second the system counts the time of a processor.
+TICKS = os.sysconf("SC_CLK_TCK")
 
 
 class Pipes(Enum):
@@ -34,6 +38,8 @@ class Pipes(Enum):
     NARROW = "narrow"
     # For the input a socket that keeps pieces apart: each of them is one read.
     PACKETS = "packets"
+    # One socket for both, as a connection is, that holds a few kilobytes each way.
+    CONNECTION = "connection"
 
 
 class Hung(AssertionError):
@@ -67,6 +73,7 @@ class How:
 PLAIN = How()
 PACKETS = How(Pipes.PACKETS)
 NARROW = How(Pipes.NARROW)
+CONNECTION = How(Pipes.CONNECTION)
 
 
 class Service:
@@ -84,7 +91,11 @@ class Service:
         self.deadline = time.monotonic() + seconds
         self.collected = bytearray()
         self.input, theirs = (None, how.given) if how.given is not None else input_pair(how.pipes)
-        self.output, taken = (None, how.taken) if how.taken is not None else os.pipe()
+        self.is_connection = how.pipes is Pipes.CONNECTION
+        if self.is_connection:
+            self.output, taken = os.dup(self.input), os.dup(theirs)
+        else:
+            self.output, taken = (None, how.taken) if how.taken is not None else os.pipe()
         if how.pipes is Pipes.NARROW:
             for mine in (self.input, self.output):
                 if mine is not None:
@@ -110,6 +121,9 @@ class Service:
 
     def close_input(self) -> None:
         if self.input is not None:
+            if self.is_connection:
+                with socket.socket(fileno=os.dup(self.input)) as it:
+                    it.shutdown(socket.SHUT_WR)
             os.close(self.input)
             self.input = None
 
@@ -135,6 +149,9 @@ class Service:
             piece = os.read(self.output, most)
         except BlockingIOError:
             return True
+        except ConnectionResetError:
+            # The end of a connection of which the other side left something unread.
+            piece = b""
         self.collected += piece
         if not piece:
             self.close_output()
@@ -212,6 +229,22 @@ class Service:
             raise AssertionError("the system does not show the memory of a process")
         return int(found[1])
 
+    def look(self) -> tuple[bool, float]:
+        """Whether it is asleep, as one is that waits for its input or its output; and how many
+        seconds of a processor it has taken so far."""
+        text = Path(f"/proc/{self.process.pid}/stat").read_text(errors="replace")
+        fields = text.rpartition(")")[2].split()
+        return fields[0] == "S", (int(fields[11]) + int(fields[12])) / TICKS
+
+    def sleeps(self) -> None:
+        """Waits until it is asleep at each of a few looks, and has taken no time between them."""
+        seen: list[tuple[bool, float]] = []
+        while len(seen) < LOOKS or not seen[-1][0] or len(set(seen[-LOOKS:])) > 1:
+            if time.monotonic() > self.deadline or self.process.poll() is not None:
+                raise AssertionError(f"{self.name}: it does not wait")
+            time.sleep(BETWEEN_LOOKS)
+            seen.append(self.look())
+
     def kill(self) -> None:
         self.process.kill()
 
@@ -241,6 +274,11 @@ def input_pair(pipes: Pipes) -> tuple[int, int]:
     """The end of an input that is written to, and the one that is read."""
     if pipes is Pipes.PACKETS:
         mine, theirs = socket.socketpair(socket.AF_UNIX, socket.SOCK_SEQPACKET)
+        return mine.detach(), theirs.detach()
+    if pipes is Pipes.CONNECTION:
+        mine, theirs = socket.socketpair()
+        for it in (mine, theirs):
+            it.setsockopt(socket.SOL_SOCKET, socket.SO_SNDBUF, 1)
         return mine.detach(), theirs.detach()
     theirs, mine = os.pipe()
     return mine, theirs

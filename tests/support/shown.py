@@ -1,5 +1,5 @@
-"""What `show` prints, by docs/COMMANDS.md: the fields of a frame, a key block, an image or a log,
-read by docs/FORMATS.md; or the first field that is wrong, and where it begins."""
+"""What `show` prints, by docs/COMMANDS.md: the fields of a frame, a key block, an image, a log or a
+journal, read by docs/FORMATS.md; or the first field that is wrong, and where it begins."""
 from __future__ import annotations
 
 import re
@@ -229,6 +229,54 @@ def log_lines(data: bytes) -> list[str]:
               for iksn, it in of.items())]
 
 
+# Journals of payments, whose records are of 32 bytes
+
+PAYMENT_BYTES = 32
+MOST_FOLLOWERS = 4095
+
+
+def journal_lines(data: bytes) -> list[str]:
+    """The lines of a journal, or the first record that does not go on with those before it."""
+    whole = len(data) // PAYMENT_BYTES
+    rows: list[tuple[int, bytes]] = []
+    left, first, ended, known = 0, 0, False, set[int]()
+    for place in range(whole):
+        record = data[PAYMENT_BYTES * place : PAYMENT_BYTES * (place + 1)]
+        inside, is_open = left > 0, record[0] == 1
+        if not inside and not is_open:
+            ended = True
+            continue
+        number, followers = int.from_bytes(record[4:14], "big"), int.from_bytes(record[2:4], "big")
+        if (ended or inside == is_open or record[1] != 1
+                or followers > (0 if inside else MOST_FOLLOWERS) or f"{record[18]:02}" not in CODES
+                or any(record[27:]) or not usable(counter_of(number)) or number in known):
+            stop("journal", place, "Damaged")
+        known.add(number)
+        left, first = (left - 1, first) if inside else (followers, place)
+        rows.append((first, record))
+    if left or not whole or len(data) % PAYMENT_BYTES:
+        stop("journal", whole, "Damaged")
+    return [*(payment_line(place, *row) for place, row in enumerate(rows)),
+            f"payments {len(rows)}", f"room {whole - len(rows)}",
+            *payer_lines([record for _, record in rows])]
+
+
+def payment_line(place: int, first: int, record: bytes) -> str:
+    code = f"{record[18]:02}"
+    return (f"payment {place} group {first} ksn {shown(record[4:14])}"
+            f" amount {int.from_bytes(record[14:18], 'big')} mac {shown(record[19:27])}"
+            f" code {code} {CODES[code]}")
+
+
+def payer_lines(records: list[bytes]) -> list[str]:
+    of: dict[int, list[bytes]] = {}
+    for it in records:
+        of.setdefault(iksn_of(int.from_bytes(it[4:14], "big")), []).append(it)
+    return [f"terminal {serial_text(iksn)} {len(own)} {shown(own[0][4:14])} {shown(own[-1][4:14])}"
+            f" approved {sum(int.from_bytes(it[14:18], 'big') for it in own if it[18] == 0)}"
+            for iksn, own in of.items()]
+
+
 # The whole
 
 
@@ -259,5 +307,13 @@ def log_ended(data: bytes) -> Ended:
     """How a run ends over a log of these bytes."""
     try:
         return Ended(0, printed(log_lines(data)), b"")
+    except Refused as why:
+        return Ended(1, b"", f"{why}\n".encode())
+
+
+def journal_ended(data: bytes) -> Ended:
+    """How a run ends over a journal of these bytes."""
+    try:
+        return Ended(0, printed(journal_lines(data)), b"")
     except Refused as why:
         return Ended(1, b"", f"{why}\n".encode())

@@ -1,0 +1,314 @@
+"""`copy-journal`: what it copies, what it refuses and leaves, and a service over a copy."""
+from __future__ import annotations
+
+import fcntl
+import os
+import re
+import shutil
+import subprocess
+from collections import Counter
+from dataclasses import dataclass
+from pathlib import Path
+from typing import Iterator
+
+from .support.client import payments
+from .support.journal_case import CANNOT_OPEN, JOURNAL_FAILED, ON_JOURNAL, JournalCase, alone
+from .support.journal_file import payments_in
+from .support.model_journal import payments_of_all
+from .support.page_journals import (
+    BY_HAND, DAMAGES, RECORD, Journals, Payment, Place, journal_of, read_journal, scratched)
+from .support.program import NO_LIMITS, SECONDS, Ended, Limits
+from .support.quick import QuickRuns
+
+CANNOT_MAKE = "journal: cannot make"
+ON_COPY = (*ON_JOURNAL[:3], "copy")
+
+# One line of strace: the call, its arguments, and what it gave.
+LINE = re.compile(r"^(\w+)\((.*)\) += (-?\d+)(.*)$", re.MULTILINE)
+CALLS = ("openat", "flock", "ftruncate", "pwrite64", "pread64", "fsync", "fdatasync", "unlink")
+QUOTED = re.compile(r'"([^"]*)"')
+
+
+def copied(image: bytes) -> bytes:
+    """What a copy of a journal is: the records that it keeps, and zeros."""
+    kept = RECORD * len(payments_in(image))
+    return image[:kept].ljust(len(image), b"\x00")
+
+
+class CopyCase(JournalCase):
+    @property
+    def copy(self) -> Path:
+        return self.home / "copy"
+
+    def copy_to(self, new: str = "copy", old: str = "journal", limits: Limits = NO_LIMITS) -> Ended:
+        return self.program.run("copy-journal", old, new, folder=self.home, limits=limits)
+
+    def check_copy(self, image: bytes, what: str) -> None:
+        """That the journal with these bytes is copied, and left as it is."""
+        self.journal.write_bytes(image)
+        self.assert_output(self.copy_to(), b"", "", what)
+        self.assert_bytes(image, f"{what}: copied and changed")
+        self.assertEqual(self.copy.read_bytes(), copied(image), what)
+        self.assertEqual(payments_in(self.copy.read_bytes()), payments_in(image), what)
+
+    def refuse(self, fault: str, what: str, new: str = "copy", old: str = "journal",
+               limits: Limits = NO_LIMITS) -> None:
+        """That nothing is copied, and that each file stays as it is."""
+        before = self.files()
+        self.assert_output(self.copy_to(new, old, limits), b"", fault, what)
+        self.assertEqual(self.files(), before, f"{what}: refused and changed")
+
+    def files(self) -> dict[str, bytes]:
+        return {os.fspath(it.relative_to(self.home)): it.read_bytes()
+                for it in sorted(self.home.rglob("*")) if it.is_file()}
+
+
+class Copied(CopyCase):
+    """What is a journal is copied byte by byte."""
+
+    weight = 3
+
+    def test_by_hand(self) -> None:
+        image = bytes.fromhex(BY_HAND.replace(" ", "").replace("\n", ""))
+        self.check_copy(image, "by hand")
+        self.assertEqual(self.copy.read_bytes(), image[: 3 * RECORD] + bytes(RECORD))
+
+    def test_none_and_full(self) -> None:
+        """Journals that keep nothing, that are full, and of a piece of 64 KiB and about."""
+        kept = payments_of_all(payments(4100))
+        for count, room in ((0, 1), (0, 5000), (1, 1), (2047, 2048), (2048, 2048), (2048, 2049),
+                            (2049, 5000), (4096, 4096), (4100, 4100)):
+            self.check_copy(journal_of(alone(kept[:count]), room - count), f"{count} of {room}")
+            self.copy.unlink()
+
+    def test_drawn(self) -> None:
+        """Journals of any groups, with any bytes behind them, which are not copied."""
+        made = payments_of_all(payments(200))
+        for _ in range(40 * self.times):
+            numbers, groups = self.chance.sample(made, self.chance.randrange(120)), []
+            while numbers:
+                count = self.chance.randint(1, 40)
+                groups.append(numbers[:count])
+                numbers = numbers[count:]
+            self.check_copy(journal_of(groups, self.chance.randrange(1, 90), self.chance), "drawn")
+            self.copy.unlink()
+
+    def test_a_torn_group(self) -> None:
+        """What a stop left of an append is not copied."""
+        requests = payments(9)
+        torn = journal_of([payments_of_all(requests[5:])], 3)
+        self.check_copy(journal_of([payments_of_all(requests[:5])], 0) + b"\x00" + torn[1:], "torn")
+        self.assertEqual(self.copy.read_bytes()[5 * RECORD :], bytes(7 * RECORD))
+
+    def test_by_links(self) -> None:
+        """The journal may be named by a link, and is the file behind it."""
+        self.make_journal(4, [payments_of_all(payments(2))])
+        (self.home / "link").symlink_to("journal")
+        self.assert_output(self.copy_to(old="link"), b"", "", "a link")
+        self.assertEqual(self.copy.read_bytes(), self.journal.read_bytes())
+
+    def test_a_service_goes_on_over_it(self) -> None:
+        """It answers again what the journal keeps, and accepts what it does not."""
+        requests = payments(60)
+        self.make_journal(50)
+        self.check_run(requests[:20], what="before")
+        self.assert_output(self.copy_to(), b"", "", "between two runs")
+        before = self.journal.read_bytes()
+        self.copy.rename(self.journal)
+        self.check_run(self.any_order(60), what="over the copy")
+        self.assertEqual(payments_in(before), self.kept()[:20])
+        self.assertEqual(len(self.kept()), 50)
+
+
+class Refused(CopyCase):
+    """What is not copied leaves all files as they are."""
+
+    weight = 3
+
+    def setUp(self) -> None:
+        super().setUp()
+        self.journals = Journals(self.chance)
+
+    def test_what_cannot_be_opened(self) -> None:
+        self.make_journal(3)
+        os.mkdir(self.home / "folder")
+        for old in ("missing", "missing/journal", "folder", ".", "", "bank.toml/journal"):
+            self.refuse(CANNOT_OPEN, f"the journal {old!r}", old=old)
+            self.refuse(CANNOT_OPEN, f"the journal {old!r}, before the copy", "journal", old)
+
+    def test_in_use(self) -> None:
+        """A journal of a service, or that any other has locked, is not copied, and can be once that
+        ended. Nor is it opened while it is copied."""
+        self.make_journal(9)
+        service = self.start(*ON_JOURNAL)
+        service.ask([it.frame for it in payments(2)])
+        os.link(self.journal, self.home / "second name")
+        self.refuse(CANNOT_OPEN, "in use")
+        self.refuse(CANNOT_OPEN, "in use by another name", old="second name")
+        service.end()
+        for kind in (fcntl.LOCK_SH, fcntl.LOCK_EX):
+            with open(self.journal, "rb") as other:
+                fcntl.flock(other, kind)
+                self.refuse(CANNOT_OPEN, f"lock {kind}")
+        self.check_copy(self.journal.read_bytes(), "no longer in use")
+
+    def test_sizes(self) -> None:
+        good = journal_of(alone(payments_of_all(payments(4))), 2)
+        for size in (0, 1, 16, 31, 33, 63, 65, len(good) - 1, len(good) + 1):
+            self.journal.write_bytes(good[:size].ljust(size, b"\x00"))
+            self.refuse(JOURNAL_FAILED, f"{size} bytes")
+
+    def test_each_damage(self) -> None:
+        for damage in DAMAGES:
+            for _ in range(4 * self.times):
+                groups = [[self.journals.payment(0)], [self.journals.payment(1 << 21)],
+                          [self.journals.payment(2 << 21), self.journals.payment(3 << 21)]]
+                image, place = damage(self.journals, groups, journal_of(groups, 3, self.chance))
+                self.assertEqual(read_journal(image), place)
+                self.journal.write_bytes(image)
+                self.refuse(JOURNAL_FAILED, damage.__name__)
+
+    def test_a_number_twice(self) -> None:
+        kept = payments_of_all(payments(3000))
+        for again in (kept[0], Payment(kept[0].serial, 9, 51, bytes(8))):
+            for groups in ([[kept[0], again]], [[kept[0]], [again]], [kept, [again]],
+                           [[*kept, again]]):
+                self.journal.write_bytes(journal_of(groups, 3))
+                self.refuse(JOURNAL_FAILED, "a number twice")
+
+    def test_scratched(self) -> None:
+        """Bytes that are changed anywhere: as the reader of the tests finds."""
+        kept = payments_of_all(payments(30))
+        right = count = 0
+        with QuickRuns(self.program) as runs:
+            for count in range(1, 1 + 600 * self.times):
+                groups = alone(self.chance.sample(kept, self.chance.randint(1, 12)))
+                image = journal_of(groups, self.chance.randrange(6), self.chance)
+                right += self.try_one(runs, scratched(self.journals, image))
+        self.tells(f"{right} right, {count - right} damaged")
+        self.assertTrue(0 < right < count)
+
+    def try_one(self, runs: QuickRuns, image: bytes) -> bool:
+        rows = read_journal(image)
+        is_right = (not isinstance(rows, Place)
+                    and len({it.serial for _, _, it in rows}) == len(rows))
+        self.journal.write_bytes(image)
+        ended = runs.run(["copy-journal", os.fspath(self.journal), os.fspath(self.copy)])
+        self.assert_output(ended, b"", "" if is_right else JOURNAL_FAILED, image.hex())
+        self.assert_bytes(image, "copied and changed")
+        self.assertEqual(self.copy.exists(), is_right)
+        if is_right:
+            self.assertEqual(self.copy.read_bytes(), copied(image))
+            self.copy.unlink()
+        return is_right
+
+    def test_what_cannot_be_made(self) -> None:
+        """What is there stays, be it a file, a folder or a link; and so does the journal itself."""
+        self.make_journal(5, [payments_of_all(payments(3))])
+        self.write("there", b"there")
+        os.mkdir(self.home / "folder")
+        (self.home / "broken").symlink_to("nothing")
+        for new in ("there", "folder", "broken", "journal", "bank.toml", ".", "", "no/copy",
+                    "there/copy"):
+            self.refuse(CANNOT_MAKE, f"the copy {new!r}", new)
+        self.assertFalse((self.home / "nothing").exists())
+
+    def test_the_order_of_faults(self) -> None:
+        """A damaged journal is told before a copy that cannot be made."""
+        self.journal.write_bytes(bytes(33))
+        self.refuse(JOURNAL_FAILED, "damaged, and the copy is there", "bank.toml")
+
+    def test_no_room(self) -> None:
+        """A copy that grows too long for a limit or a device is removed again."""
+        kept = payments_of_all(payments(4000))
+        self.make_journal(4096, [kept])
+        for size in (0, RECORD, 1 << 16, RECORD * 4096 - 1):
+            self.refuse(CANNOT_MAKE, f"a limit of {size} bytes", limits=Limits(file_size=size))
+        self.assert_output(self.copy_to(limits=Limits(file_size=RECORD * 4096)), b"", "", "room")
+        self.assertEqual(self.copy.read_bytes(), self.journal.read_bytes())
+
+
+@dataclass(frozen=True)
+class Call:
+    """A call of the program: which one of its name it is, as strace counts them from 1, its file,
+    and whether strace made it fail."""
+
+    name: str
+    count: int
+    file: str
+    is_changed: bool
+
+
+def calls_in(trace: str) -> Iterator[Call]:
+    """The calls of a trace, from the one that opens the journal."""
+    files: dict[str, str] = {}
+    counts: Counter[str] = Counter()
+    is_open = False
+    for name, words, gave, more in LINE.findall(trace):
+        counts[name] += 1
+        if name in ("openat", "unlink"):
+            file = QUOTED.findall(words)[0]
+            files[gave] = file if name == "openat" else ""
+        else:
+            file = files.get(words.split(",")[0], "")
+        is_open = is_open or file == "journal"
+        if is_open:
+            yield Call(name, counts[name], file, more.endswith("(INJECTED)"))
+
+
+class Calls(CopyCase):
+    """The calls of a copy, as the system sees them, and each one that fails."""
+
+    def setUp(self) -> None:
+        super().setUp()
+        self.made = self.home / "sub"
+        os.mkdir(self.made)
+        self.make_journal(7, [payments_of_all(payments(3))])
+
+    def traced(self, *changes: str) -> tuple[Ended, list[Call]]:
+        """How a copy ends in which strace makes these changes, and its calls."""
+        strace = shutil.which("strace")
+        self.assertIsNotNone(strace, "strace is not installed: apt-get install strace")
+        trace = self.folder() / "trace"
+        options = [it for one in (f"trace={','.join(CALLS)}", *changes) for it in ("-e", one)]
+        words = [strace or "", "-o", trace, *options, self.program.path, "copy-journal", "journal",
+                 "sub/copy"]
+        done = subprocess.run(words, cwd=self.home, capture_output=True, timeout=SECONDS,
+                              check=False)
+        return Ended(done.returncode, done.stdout, done.stderr), [*calls_in(trace.read_text())]
+
+    def test_calls(self) -> None:
+        """The journal is read and never written. The copy is made behind that, written, and synced
+        behind its last write; its folder is synced last."""
+        ended, calls = self.traced()
+        self.assert_output(ended, b"", "", "traced")
+        self.assertEqual([it.file for it in calls if it.name.endswith("sync")],
+                         ["journal", "sub/copy", "sub"])
+        self.assertEqual(calls[-1].file, "sub")
+        places = {(it.name, it.file): at for at, it in enumerate(calls)}
+        self.assertNotIn(("pwrite64", "journal"), places)
+        self.assertLess(places["pread64", "journal"], places["pwrite64", "sub/copy"])
+        self.assertLess(places["pwrite64", "sub/copy"],
+                        max(at for (name, file), at in places.items()
+                            if file == "sub/copy" and name.endswith("sync")))
+
+    def test_each_call_that_fails(self) -> None:
+        """Where it fails, and each later one of its name, there is no copy, and a line says which
+        file is at fault."""
+        image = self.journal.read_bytes()
+        calls = self.traced()[1]
+        (self.made / "copy").unlink()
+        for call in calls:
+            ended, changed = self.traced(f"inject={call.name}:error=EIO:when={call.count}+")
+            what = f"{call.name} of {call.file or 'no file'}"
+            self.assertEqual([it for it in changed if it.is_changed][:1],
+                             [Call(call.name, call.count, call.file, True)], what)
+            self.assert_output(ended, b"", self.fault_of(call), what)
+            self.assert_bytes(image, what)
+            self.assertEqual([*self.made.iterdir()], [], what)
+        self.tells(", ".join(f"{it.name} of {it.file}" for it in calls))
+
+    def fault_of(self, call: Call) -> str:
+        if call.file != "journal":
+            return CANNOT_MAKE
+        return CANNOT_OPEN if call.name in ("openat", "flock") else JOURNAL_FAILED

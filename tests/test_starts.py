@@ -1,0 +1,76 @@
+"""How long a service takes to start over a journal or a log that keeps very much, and the most memory
+that it has then."""
+from __future__ import annotations
+
+import time
+from typing import Sequence
+
+from .support.client import (
+    PURCHASES, Exchange, first_counters, payments, payments_of, refusal)
+from .support.journal_case import ON_JOURNAL, JournalCase
+from .support.large_stores import Rounds, numbers_in_rounds, payments_in_rounds
+from .support.model_journal import USED
+from .support.program import Word
+from .support.service_case import ON_LOG
+from .test_service_speed import EMPTY_FRAME
+
+TERMINALS = range(1000)
+# Each terminal has a thousand numbers; ten times as many with `--times 10`, and no more.
+NUMBERS, MOST_TIMES = 1000, 10
+# What a journal of ten million payments may take, in seconds and in bytes. So many of the bytes are
+# for the latest payments, which are no more than in a journal of a million.
+ALL, SECONDS, BYTES, OF_THE_LATEST = 10_000_000, 5.0, 120_000_000, 60_000_000
+# A shorter time is no share of that, but may be what the start of any process takes.
+LEAST_SECONDS = 1.5
+# A log of a million numbers may take so much, where they are in order, and where every second number
+# is missing.
+LOG_SECONDS, IN_ORDER, APART = 1.5, 6_000_000, 70_000_000
+
+
+class StartCase(JournalCase):
+    """The time is that of the processor, since other tests run beside this one."""
+
+    weight = 5
+
+    def start_over(
+        self, words: Sequence[Word], rounds: Rounds, counters: Sequence[int], new: Exchange
+    ) -> tuple[float, int]:
+        """The seconds that a start takes, and the most bytes. Then the first number is refused, and a
+        new one is accepted."""
+        rounds.write(self.home / words[-1], counters, 1)
+        used = payments(1)[0]
+        assert used.number is not None
+        began, service = time.monotonic(), self.start(*words)
+        service.ask([EMPTY_FRAME])
+        took, (_, seconds), peak = time.monotonic() - began, service.look(), 1024 * service.peak()
+        service.ask([used.frame, new.frame])
+        answers = refusal(bytes(10), 1) + refusal(used.number, USED) + new.answer
+        self.assert_output(service.end(), answers, "", "behind a start")
+        self.tells(f"{len(TERMINALS) * len(counters)} records: {seconds:.2f} s of a processor, within "
+                   f"{took:.2f} s, and {peak / 1e6:.1f} MB")
+        return seconds, peak
+
+
+class OverJournals(StartCase):
+    def test_numbers_in_order(self) -> None:
+        counters = first_counters(NUMBERS * min(self.times, MOST_TIMES) + 1)
+        new = payments_of(counters[-1:], PURCHASES[:1])[0]
+        seconds, peak = self.start_over(
+            ON_JOURNAL, payments_in_rounds(TERMINALS), counters[:-1], new)
+        share = len(TERMINALS) * len(counters[:-1]) / ALL
+        self.assertLess(seconds, max(LEAST_SECONDS, share * SECONDS))
+        self.assertLess(peak, OF_THE_LATEST + share * (BYTES - OF_THE_LATEST))
+
+
+class OverLogs(StartCase):
+    def test_numbers_in_order(self) -> None:
+        counters = first_counters(NUMBERS + 1)
+        self.start_over_log(counters[:-1], payments(len(counters))[-1], IN_ORDER)
+
+    def test_every_second_number(self) -> None:
+        self.start_over_log(first_counters(2 * NUMBERS)[::2], payments(2)[-1], APART)
+
+    def start_over_log(self, counters: Sequence[int], new: Exchange, most: int) -> None:
+        seconds, peak = self.start_over(ON_LOG, numbers_in_rounds(TERMINALS), counters, new)
+        self.assertLess(seconds, LOG_SECONDS)
+        self.assertLess(peak, most)
