@@ -1,5 +1,5 @@
-/* The work of duk_bench, and of `dukpt walk`, over OpenSSL's libcrypto: the same words, and the same
-   output. */
+/* The work of duk_bench, and of `dukpt walk` and `dukpt serve`, over OpenSSL's libcrypto: the same
+   output, and the same words but for a configuration. */
 #include "work.h"
 
 #include <stdio.h>
@@ -20,7 +20,7 @@ static const struct message_work message_works[] = {
 
 static int refuse(void)
 {
-    fputs("usage: walk BDK IKSN COUNT | derive COUNT |"
+    fputs("usage: walk BDK IKSN COUNT | derive COUNT | serve JOURNAL |"
           " cmac|retail|cbc-encrypt|cbc-decrypt LENGTH COUNT\n", stderr);
     return 2;
 }
@@ -37,6 +37,8 @@ int main(int words, char **word)
         derive_at_random(atol(word[2]));
         return 0;
     }
+    if (words == 3 && strcmp(word[1], "serve") == 0)
+        return serve(word[2]);
     for (size_t i = 0; i < sizeof message_works / sizeof *message_works; i++) {
         if (words == 4 && strcmp(word[1], message_works[i].name) == 0) {
             message_works[i].repeat(atol(word[2]), atol(word[3]));

@@ -25,6 +25,14 @@ void tdes_encrypt(const uint8_t key[KEY], const uint8_t in[BLOCK], uint8_t out[B
     DES_ecb2_encrypt((const_DES_cblock *)in, (DES_cblock *)out, &first, &second, DES_ENCRYPT);
 }
 
+void tdes_decrypt(const uint8_t key[KEY], const uint8_t in[BLOCK], uint8_t out[BLOCK])
+{
+    DES_key_schedule first, second;
+    DES_set_key_unchecked((const_DES_cblock *)key, &first);
+    DES_set_key_unchecked((const_DES_cblock *)(key + BLOCK), &second);
+    DES_ecb2_encrypt((const_DES_cblock *)in, (DES_cblock *)out, &first, &second, DES_DECRYPT);
+}
+
 static void initial_key(const uint8_t bdk[KEY], const uint8_t iksn[SERIAL], uint8_t out[KEY])
 {
     uint8_t other[KEY];
@@ -96,12 +104,23 @@ void walk(const uint8_t bdk[KEY], const uint8_t iksn[SERIAL], long count)
     }
 }
 
+static uint32_t counter_of(const uint8_t ksn[SERIAL])
+{
+    return (uint32_t)(ksn[7] & 0x1F) << 16 | (uint32_t)ksn[8] << 8 | ksn[9];
+}
+
+/* Whether a number is one of a transaction. */
+int has_usable_counter(const uint8_t ksn[SERIAL])
+{
+    int ones = __builtin_popcount(counter_of(ksn));
+    return 1 <= ones && ones <= MOST_ONES;
+}
+
 /* One step for each one bit of the counter, from the highest down. */
 void derive(const uint8_t bdk[KEY], const uint8_t ksn[SERIAL], uint8_t key[KEY])
 {
     uint8_t iksn[SERIAL], number[SERIAL], child[KEY];
-    uint32_t counter = (uint32_t)(ksn[7] & 0x1F) << 16 | (uint32_t)ksn[8] << 8 | ksn[9];
-    uint32_t reached = 0;
+    uint32_t counter = counter_of(ksn), reached = 0;
     memcpy(iksn, ksn, SERIAL);
     iksn[7] &= 0xE0;
     iksn[8] = iksn[9] = 0;

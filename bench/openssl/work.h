@@ -6,12 +6,14 @@
 #include <stddef.h>
 #include <stdint.h>
 
-enum { BLOCK = 8, KEY = 16, SERIAL = 10, IMAGE = 431, FIELDS = 7 };
+enum { BLOCK = 8, KEY = 16, SERIAL = 10, IMAGE = 431, FIELDS = 7, MOST_PIN = 12 };
 
 /* tree.c: keys of the key tree. */
 void walk(const uint8_t bdk[KEY], const uint8_t iksn[SERIAL], long count);
 void derive(const uint8_t bdk[KEY], const uint8_t ksn[SERIAL], uint8_t key[KEY]);
+int has_usable_counter(const uint8_t ksn[SERIAL]);
 void tdes_encrypt(const uint8_t key[KEY], const uint8_t in[BLOCK], uint8_t out[BLOCK]);
+void tdes_decrypt(const uint8_t key[KEY], const uint8_t in[BLOCK], uint8_t out[BLOCK]);
 void with_counter(const uint8_t iksn[SERIAL], uint32_t counter, uint8_t out[SERIAL]);
 void fill_below(uint8_t registers[][KEY], int places, const uint8_t key[KEY],
                 const uint8_t iksn[SERIAL], uint32_t counter);
@@ -32,7 +34,11 @@ void cmac(const uint8_t key[KEY], const uint8_t *message, long length, uint8_t *
 void cbc_decrypt(const uint8_t key[KEY], const uint8_t iv[BLOCK], const uint8_t *in, uint8_t *out,
                  long length);
 
-/* pins.c: the PIN block of a PIN and a PAN, enciphered under the PIN key of a transaction key. */
+/* pins.c: the PIN block of a PIN and a PAN, in clear, and enciphered under the PIN key of a
+   transaction key; the PIN of a block; and the variant of a key by its byte. */
+void pin_block(const char *pin, const char *pan, uint8_t block[BLOCK]);
+int read_pin(const uint8_t block[BLOCK], const char *pan, char pin[MOST_PIN + 1]);
+void variant(const uint8_t key[KEY], int byte, uint8_t out[KEY]);
 void encipher_pin(const uint8_t key[KEY], const char *pin, const char *pan, uint8_t block[BLOCK]);
 
 /* blocks.c: fields and key of a key block whose key has 16 bytes. Another text ends the program. */
@@ -40,6 +46,9 @@ void unwrap(const uint8_t kbpk[KEY], const char *text, uint8_t fields[FIELDS], u
 
 /* random.c: transaction keys of key serial numbers at random, the same ones in each run. */
 void derive_at_random(long count);
+
+/* serve.c: answers the requests of standard input over the journal in a file, and gives a status. */
+int serve(const char *path);
 
 /* text.c: hexadecimal in and out. */
 int read_hex(const char *text, uint8_t *bytes, size_t length);
