@@ -7,7 +7,6 @@ from pathlib import Path
 
 from definitions_of.code import NAMELESS
 from definitions_of.faults import GENERATED, PROVED, READING, faults
-from definitions_of.proved import named_in
 from definitions_of.reach import Reach
 from definitions_of.specs import INNER, SpecFile
 

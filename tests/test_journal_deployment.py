@@ -9,10 +9,8 @@ import subprocess
 from pathlib import Path
 
 from .support.client import payments
-from .support.journal_case import (
-    CANNOT_OPEN, JOURNAL_FAILED, JournalCase, alone, stream_of)
+from .support.journal_case import CANNOT_OPEN, JOURNAL_FAILED, JournalCase, stream_of
 from .support.model_journal import answers_of, judged, payments_of_all
-from .support.page_journals import RECORD
 from .support.program import NO_LIMITS, SECONDS, Ended, Limits
 from .support.service_case import LOG_FAILED
 from .test_deployment import BOOT, SERVE, Serving, end_of

@@ -6,7 +6,7 @@ import re
 import subprocess
 
 from .support.client import payments
-from .support.journal_case import ON_JOURNAL, JournalCase
+from .support.journal_case import JournalCase
 from .support.page_journals import RECORD
 from .support.program import NO_LIMITS, SECONDS, Ended, Limits
 

@@ -12,8 +12,7 @@ import time
 from pathlib import Path
 from typing import Iterator, Sequence
 
-from .support.packages import (
-    NAMES, TOOL, VERSION, Package, PackageCase, demand, make, packages_in)
+from .support.packages import NAMES, VERSION, Package, PackageCase, demand, make
 from .support.program import ROOT, Ended
 
 LIBRARIES = "usr/lib/x86_64-linux-gnu"

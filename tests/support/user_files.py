@@ -12,7 +12,7 @@ import os
 import signal
 import stat
 import struct
-from typing import Callable, Optional
+from typing import Callable
 
 from .cut_disk import PlannedDisk, PowerLost
 
