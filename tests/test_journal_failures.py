@@ -8,7 +8,6 @@ from __future__ import annotations
 
 import os
 import signal
-import subprocess
 from typing import Sequence
 
 from .support.client import Exchange, payments
@@ -16,12 +15,13 @@ from .support.cut_disk import Failure, Lost, Plan
 from .support.cut_file import CutFile
 from .support.journal_case import (
     JOURNAL_FAILED, ON_JOURNAL, JournalCase, alone, frames_of, stream_of)
-from .support.journal_file import appended, payments_in
+from .support.journal_file import appended, bodies_of, payments_in
 from .support.model_journal import groups_by_reads, judged, payments_of_all
 from .support.page_journals import RECORD, journal_of
-from .support.program import SECONDS, Ended, Limits
+from .support.program import Ended, Limits
 from .support.service import PACKETS, How
 from .support.service_case import LOG_FAILED, answers_to
+from .support.small_files import PAGE, SmallFiles
 
 # Groups of so many payments each; the journal has room for some more.
 SIZES, ROOM = (3, 1, 5), 12
@@ -214,56 +214,74 @@ class Limited(JournalCase):
         return ended, answers_to(done)
 
 
-# What a full file system needs: the size of its one page, and the program. The journal is copied
-# away from it, since it goes with the processes that see it.
-ON_A_FULL_FILE_SYSTEM = """
-mount -t tmpfs -o size="$1" none full && truncate -s $((4 * $1)) full/journal || exit 77
-"$2" serve wide.toml --journal full/journal <input
-status=$?
-cp full/journal journal || exit 78
-exit $status
-"""
-
-
 class FullFileSystem(JournalCase):
-    """A sparse journal on a file system that is full behind the first page of it."""
+    """A sparse journal on a file system that has room for the first pages of it alone, which groups
+    fill: then a write of a body fails for want of room."""
 
-    def test_a_full_file_system(self) -> None:
-        """The group that does not fit is not kept, and none of it is answered."""
-        page = os.sysconf("SC_PAGE_SIZE")
-        fits = page // RECORD
-        requests = payments(2 * fits)
-        for before in (0, fits - 5, fits):
-            given = requests[:before] + requests[: fits + 20]
-            self.write("input", stream_of(given))
-            os.makedirs(self.home / "full", exist_ok=True)
-            done = subprocess.run(
-                ["unshare", "--user", "--map-root-user", "--mount", "sh", "-c",
-                 ON_A_FULL_FILE_SYSTEM, "sh", str(page), self.program.path],
-                cwd=self.home, capture_output=True, timeout=SECONDS, check=False)
-            ended = Ended(done.returncode, done.stdout, done.stderr)
-            self.assertNotIn(ended.status, (77, 78), f"there is no such file system: {ended}")
-            self.assert_output(ended, b"", JOURNAL_FAILED, "a full file system")
-            self.assertEqual(self.kept(), [], "a full file system")
-            self.check_file(requests[: 4 * fits], what="behind a full file system")
+    weight = 3
+    pages, journal_pages = 2, 4
+    fits = pages * PAGE // RECORD
 
-    def test_groups_that_fit(self) -> None:
-        """Each request waits for its answer: those before the page is full are kept."""
-        page = os.sysconf("SC_PAGE_SIZE")
-        fits = page // RECORD
-        requests = payments(fits + 20)
-        os.makedirs(self.home / "full", exist_ok=True)
-        script = ON_A_FULL_FILE_SYSTEM.replace(" <input", "")
-        stream = b"".join(it.frame for it in requests)
-        done = subprocess.run(
-            ["unshare", "--user", "--map-root-user", "--mount", "sh", "-c", script, "sh", str(page),
-             self.program.path],
-            cwd=self.home, input=stream[: len(requests[0].frame) * fits], capture_output=True,
-            timeout=SECONDS, check=False)
-        ended = Ended(done.returncode, done.stdout, done.stderr)
-        self.assert_output(ended, answers_to(requests[:fits]), "", "a page that is filled")
-        self.assertEqual(self.kept(), payments_of_all(requests[:fits]))
-        self.check_file(requests, what="behind a page that was filled")
+    def setUp(self) -> None:
+        super().setUp()
+        self.small = SmallFiles(self.folder(), self.pages)
+        self.addCleanup(self.small.close)
+        self.path = self.small.folder / "journal"
+        self.words = ("serve", "wide.toml", "--journal", self.path)
+
+    def test_groups_until_it_is_full(self) -> None:
+        """Those that fit are kept and answered. Of the one that does not fit no answer goes out, and
+        its gate stays closed: its bodies end where the room does."""
+        for size in (1, 3, 100, 300):
+            self.fill(size)
+
+    def fill(self, size: int) -> None:
+        """Gives groups of so many payments, each by one read."""
+        what, requests = f"groups of {size}", payments(self.fits + 2 * size)
+        packets = [requests[at : at + size] for at in range(0, len(requests), size)]
+        done = size * (self.fits // size)
+        empty = self.make_sparse()
+        self.check(self.words, [stream_of(it) for it in packets], answers_to(requests[:done]),
+                   JOURNAL_FAILED, PACKETS, what)
+        self.assertEqual(self.small.free(), 0, f"{what}: the file system is not full")
+        wanted = bytearray(appended(empty, [payments_of_all(it) for it in packets[: done // size]]))
+        torn = bodies_of(payments_of_all(requests[done : done + size]))[: self.fits - done]
+        for place, body in enumerate(torn, done):
+            wanted[RECORD * place + 1 : RECORD * (place + 1)] = body
+        self.journal.write_bytes(self.path.read_bytes())
+        self.assert_bytes(bytes(wanted), what)
+        self.assert_payments(payments_of_all(requests[:done]), what)
+        self.still_full(requests, done, what)
+        self.check_file(requests, what=f"{what}: where there is room")
+
+    def still_full(self, requests: Sequence[Exchange], done: int, what: str) -> None:
+        """Another service over it answers again what is kept, and fails at the next number."""
+        again, more = requests[:done:50], requests[done : self.fits + 1]
+        self.check(self.words, [stream_of(again), stream_of(more)], answers_to(again),
+                   JOURNAL_FAILED, PACKETS, f"{what}: over it once more")
+        self.assertEqual(payments_in(self.path.read_bytes()), payments_of_all(requests[:done]), what)
+
+    def make_sparse(self) -> bytes:
+        """Makes the journal anew, of zeros that take no room."""
+        self.path.unlink(missing_ok=True)
+        with open(self.path, "wb") as it:
+            it.truncate(self.journal_pages * PAGE)
+        self.assertEqual(self.small.free(), self.pages, "the zeros of a sparse journal take room")
+        return bytes(self.journal_pages * PAGE)
+
+    def test_another_file_takes_the_room(self) -> None:
+        """While a service has the journal open: what the page that it has holds is kept."""
+        page = PAGE // RECORD
+        requests = payments(page + 20)
+        self.make_sparse()
+        service = self.start(*self.words)
+        service.ask(frames_of(requests[:5]))
+        (self.small.folder / "other").write_bytes(bytes(self.small.free() * PAGE))
+        service.ask(frames_of(requests[5:]))
+        self.assert_output(service.end(), answers_to(requests[:page]), JOURNAL_FAILED, "one by one")
+        self.journal.write_bytes(self.path.read_bytes())
+        self.assert_payments(payments_of_all(requests[:page]), "one by one")
+        self.check_file(requests, what="where there is room")
 
 
 class BothStores(JournalCase):

@@ -17,7 +17,7 @@ from .support.page_journals import RECORD
 from .support.program import ROOT, Program
 from .support.stand_in import write_table
 from .test_journal_calls import Calls
-from .test_journal_failures import FailedCalls
+from .test_journal_failures import FailedCalls, FullFileSystem
 from .test_journal_files import Damaged, Right
 from .test_journal_input import EndOfInput, Groups
 from .test_journal_kills import KillsOneByOne
@@ -42,6 +42,8 @@ BY_TESTS = (
         Way.NO_SYNC, Way.BODIES_UNSYNCED, Way.GATE_UNSYNCED, Way.ANSWERS_FIRST, Way.GATE_FIRST,
         Way.ONE_WRITE, Way.EACH_ALONE, Way.SMALL_GROUPS, Way.SMALL_READS)),
     (FailedCalls, "test_each_call", (Way.GOES_ON, Way.ANSWERS_FIRST)),
+    (FullFileSystem, "test_groups_until_it_is_full", (Way.LEAVES_OUT, Way.GATE_FIRST)),
+    (FullFileSystem, "test_another_file_takes_the_room", (Way.LEAVES_OUT, Way.ANSWERS_FIRST)),
     (Right, "test_closed_records", (Way.WHOLE_RECORDS, Way.OPEN_FOLLOWERS)),
     (Damaged, "test_sizes", (Way.LOOKS_AT_NOTHING,)),
     (Damaged, "test_a_number_twice", (Way.LOOKS_AT_NOTHING,)),

@@ -13,6 +13,7 @@
 | `little_memory` | the memory that a start needs |
 | `words_of_files` | the arguments that the help, the manual page and the completions name |
 | `cut_disk`, `user_files`, `cut_file` | a log on a file system in user space, whose power can be lost |
+| `small_files` | a file system that a few pages fill |
 | `lives`, `stand_in` | lives of a service on such a log, and their judge; what shows that it judges |
 | `driver`, `driver_keys` | the program `duk_driver`, and what it is asked |
 | `binding_cases`, `python_library`, `rust_library` | the packages over the library, and cases for them |

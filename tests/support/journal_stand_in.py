@@ -44,6 +44,7 @@ class Way(Enum):
     NO_REPEATS = "payments of earlier runs are not answered again"
     ANY_MAC = "a request with another MAC is answered again"
     GOES_ON = "a sync that failed is tried again"
+    LEAVES_OUT = "what finds no room is left out"
     LOSES_THE_LAST = "a start forgets the last payment of a group"
     LOOKS_AT_NOTHING = "a start takes damaged records as they are"
     NEVER_WAITS = "it reads on where its output is full"
@@ -153,7 +154,12 @@ class Journal:
         if os.fstat(self.file).st_size != self.size:
             raise OSError("the file has another length now")
         while data:
-            count = os.pwrite(self.file, data, at)
+            try:
+                count = os.pwrite(self.file, data, at)
+            except OSError:
+                if self.way is not Way.LEAVES_OUT:
+                    raise
+                return
             at, data = at + count, data[count:]
 
 
