@@ -19,6 +19,7 @@ from .support.page_journals import (
     BY_HAND, DAMAGES, RECORD, Journals, Payment, Place, journal_of, read_journal, scratched)
 from .support.program import NO_LIMITS, SECONDS, Ended, Limits
 from .support.quick import QuickRuns
+from .support.small_files import PAGE, SmallFiles
 
 CANNOT_MAKE = "journal: cannot make"
 ON_COPY = (*ON_JOURNAL[:3], "copy")
@@ -218,14 +219,33 @@ class Refused(CopyCase):
         self.journal.write_bytes(bytes(33))
         self.refuse(JOURNAL_FAILED, "damaged, and the copy is there", "bank.toml")
 
-    def test_no_room(self) -> None:
-        """A copy that grows too long for a limit or a device is removed again."""
-        kept = payments_of_all(payments(4000))
-        self.make_journal(4096, [kept])
+    def test_limits(self) -> None:
+        """A copy that may not get its size, which it gets before it is written, is removed again."""
+        self.make_journal(4096, [payments_of_all(payments(2100))])
         for size in (0, RECORD, 1 << 16, RECORD * 4096 - 1):
             self.refuse(CANNOT_MAKE, f"a limit of {size} bytes", limits=Limits(file_size=size))
         self.assert_output(self.copy_to(limits=Limits(file_size=RECORD * 4096)), b"", "", "room")
         self.assertEqual(self.copy.read_bytes(), self.journal.read_bytes())
+
+    def test_a_full_file_system(self) -> None:
+        """The copy gets its size, which takes no room, and some of its bytes: a part of a piece of what
+        is kept, a piece, and some of the zeros. Then it is removed, and all room is free again. With
+        the page that it lacks it is made."""
+        needed = RECORD * 4096 // PAGE
+        image = self.make_journal(4096, [payments_of_all(payments(2100))])
+        for pages in (1, 15, 16, 17, needed - 1, needed):
+            small, what = SmallFiles(self.folder(), pages), f"{pages} of {needed} pages"
+            self.addCleanup(small.close)
+            made = small.folder / "copy"
+            if pages < needed:
+                self.refuse(CANNOT_MAKE, what, os.fspath(made))
+                self.assertEqual([*small.folder.iterdir()], [], what)
+                self.assertEqual(small.free(), pages, what)
+            else:
+                self.assert_output(self.copy_to(os.fspath(made)), b"", "", what)
+                self.assertEqual(made.read_bytes(), image, what)
+                self.assertEqual(small.free(), 0, what)
+            self.assert_bytes(image, what)
 
 
 @dataclass(frozen=True)

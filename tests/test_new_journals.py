@@ -9,6 +9,7 @@ from .support.client import payments
 from .support.journal_case import JournalCase
 from .support.page_journals import RECORD
 from .support.program import NO_LIMITS, SECONDS, Ended, Limits
+from .support.small_files import PAGE, SmallFiles
 
 CANNOT_MAKE, RECORDS_REFUSED = "journal: cannot make", "records refused"
 CALLS = ("openat", "flock", "ftruncate", "pwrite64", "fsync", "fdatasync", "unlink")
@@ -55,10 +56,28 @@ class NewJournals(JournalCase):
             self.refuse(CANNOT_MAKE, name)
         self.assert_output(self.make("pipe", "3"), b"", CANNOT_MAKE, "a pipe")
 
-    def test_no_room(self) -> None:
-        """A file that cannot get its size is removed again."""
+    def test_limits(self) -> None:
+        """A file that may not get its size, which it gets before it is written, is removed again."""
         for size in (0, 1, RECORD - 1, 3 * RECORD - 1):
             self.refuse(CANNOT_MAKE, "journal", "3", Limits(file_size=size))
+
+    def test_a_full_file_system(self) -> None:
+        """The file gets its size, which takes no room, and some of its zeros. Then it is removed, and
+        all room is free again. With the page that it lacks it is made."""
+        needed = 40
+        for pages in (1, 15, 16, 17, needed - 1, needed):
+            small, what = SmallFiles(self.folder(), pages), f"{pages} of {needed} pages"
+            self.addCleanup(small.close)
+            made = small.folder / "journal"
+            ended = self.make(os.fspath(made), str(needed * PAGE // RECORD))
+            if pages < needed:
+                self.assert_output(ended, b"", CANNOT_MAKE, what)
+                self.assertEqual([*small.folder.iterdir()], [], what)
+                self.assertEqual(small.free(), pages, what)
+            else:
+                self.assert_output(ended, b"", "", what)
+                self.assertEqual(made.read_bytes(), bytes(needed * PAGE), what)
+                self.assertEqual(small.free(), 0, what)
 
     def test_calls(self) -> None:
         """It is made where none is, locked, written and synced, and then its folder. Where one of

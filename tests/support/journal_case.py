@@ -34,9 +34,9 @@ class JournalCase(ServiceCase):
     def journal(self) -> Path:
         return self.home / "journal"
 
-    def make_journal(self, room: int, groups: Sequence[Group] = ()) -> None:
-        """Makes the file `journal` anew."""
-        journal_file.make_journal(self.journal, room, groups)
+    def make_journal(self, room: int, groups: Sequence[Group] = ()) -> bytes:
+        """Makes the file `journal` anew, and answers its bytes."""
+        return journal_file.make_journal(self.journal, room, groups)
 
     def kept(self) -> list[Payment]:
         """The payments that the journal keeps."""
