@@ -1,15 +1,10 @@
-"""`copy-journal`: what it copies, what it refuses and leaves, and a service over a copy."""
+"""`copy-journal`: what it copies, what it refuses and leaves, and a service over a copy. Its calls stand in
+`test_journal_copy_calls`."""
 from __future__ import annotations
 
 import fcntl
 import os
-import re
-import shutil
-import subprocess
-from collections import Counter
-from dataclasses import dataclass
 from pathlib import Path
-from typing import Iterator
 
 from .support.client import payments
 from .support.journal_case import CANNOT_OPEN, JOURNAL_FAILED, ON_JOURNAL, JournalCase, alone
@@ -17,17 +12,12 @@ from .support.journal_file import payments_in
 from .support.model_journal import payments_of_all
 from .support.page_journals import (
     BY_HAND, DAMAGES, RECORD, Journals, Payment, Place, journal_of, read_journal, scratched)
-from .support.program import NO_LIMITS, SECONDS, Ended, Limits
+from .support.program import NO_LIMITS, Ended, Limits
 from .support.quick import QuickRuns
 from .support.small_files import PAGE, SmallFiles
 
 CANNOT_MAKE = "journal: cannot make"
 ON_COPY = (*ON_JOURNAL[:3], "copy")
-
-# One line of strace: the call, its arguments, and what it gave.
-LINE = re.compile(r"^(\w+)\((.*)\) += (-?\d+)(.*)$", re.MULTILINE)
-CALLS = ("openat", "flock", "ftruncate", "pwrite64", "pread64", "fsync", "fdatasync", "unlink")
-QUOTED = re.compile(r'"([^"]*)"')
 
 
 def copied(image: bytes) -> bytes:
@@ -246,89 +236,3 @@ class Refused(CopyCase):
                 self.assertEqual(made.read_bytes(), image, what)
                 self.assertEqual(small.free(), 0, what)
             self.assert_bytes(image, what)
-
-
-@dataclass(frozen=True)
-class Call:
-    """A call of the program: which one of its name it is, as strace counts them from 1, its file,
-    and whether strace made it fail."""
-
-    name: str
-    count: int
-    file: str
-    is_changed: bool
-
-
-def calls_in(trace: str) -> Iterator[Call]:
-    """The calls of a trace, from the one that opens the journal."""
-    files: dict[str, str] = {}
-    counts: Counter[str] = Counter()
-    is_open = False
-    for name, words, gave, more in LINE.findall(trace):
-        counts[name] += 1
-        if name in ("openat", "unlink"):
-            file = QUOTED.findall(words)[0]
-            files[gave] = file if name == "openat" else ""
-        else:
-            file = files.get(words.split(",")[0], "")
-        is_open = is_open or file == "journal"
-        if is_open:
-            yield Call(name, counts[name], file, more.endswith("(INJECTED)"))
-
-
-class Calls(CopyCase):
-    """The calls of a copy, as the system sees them, and each one that fails."""
-
-    def setUp(self) -> None:
-        super().setUp()
-        self.made = self.home / "sub"
-        os.mkdir(self.made)
-        self.make_journal(7, [payments_of_all(payments(3))])
-
-    def traced(self, *changes: str) -> tuple[Ended, list[Call]]:
-        """How a copy ends in which strace makes these changes, and its calls."""
-        strace = shutil.which("strace")
-        self.assertIsNotNone(strace, "strace is not installed: apt-get install strace")
-        trace = self.folder() / "trace"
-        options = [it for one in (f"trace={','.join(CALLS)}", *changes) for it in ("-e", one)]
-        words = [strace or "", "-o", trace, *options, self.program.path, "copy-journal", "journal",
-                 "sub/copy"]
-        done = subprocess.run(words, cwd=self.home, capture_output=True, timeout=SECONDS,
-                              check=False)
-        return Ended(done.returncode, done.stdout, done.stderr), [*calls_in(trace.read_text())]
-
-    def test_calls(self) -> None:
-        """The journal is read and never written. The copy is made behind that, written, and synced
-        behind its last write; its folder is synced last."""
-        ended, calls = self.traced()
-        self.assert_output(ended, b"", "", "traced")
-        self.assertEqual([it.file for it in calls if it.name.endswith("sync")],
-                         ["journal", "sub/copy", "sub"])
-        self.assertEqual(calls[-1].file, "sub")
-        places = {(it.name, it.file): at for at, it in enumerate(calls)}
-        self.assertNotIn(("pwrite64", "journal"), places)
-        self.assertLess(places["pread64", "journal"], places["pwrite64", "sub/copy"])
-        self.assertLess(places["pwrite64", "sub/copy"],
-                        max(at for (name, file), at in places.items()
-                            if file == "sub/copy" and name.endswith("sync")))
-
-    def test_each_call_that_fails(self) -> None:
-        """Where it fails, and each later one of its name, there is no copy, and a line says which
-        file is at fault."""
-        image = self.journal.read_bytes()
-        calls = self.traced()[1]
-        (self.made / "copy").unlink()
-        for call in calls:
-            ended, changed = self.traced(f"inject={call.name}:error=EIO:when={call.count}+")
-            what = f"{call.name} of {call.file or 'no file'}"
-            self.assertEqual([it for it in changed if it.is_changed][:1],
-                             [Call(call.name, call.count, call.file, True)], what)
-            self.assert_output(ended, b"", self.fault_of(call), what)
-            self.assert_bytes(image, what)
-            self.assertEqual([*self.made.iterdir()], [], what)
-        self.tells(", ".join(f"{it.name} of {it.file}" for it in calls))
-
-    def fault_of(self, call: Call) -> str:
-        if call.file != "journal":
-            return CANNOT_MAKE
-        return CANNOT_OPEN if call.name in ("openat", "flock") else JOURNAL_FAILED

@@ -1,0 +1,145 @@
+"""A stand-in for `copy-journal`: it copies in a right way or in a wrong one, and looks at no record.
+
+It shows that the tests of its calls and of kills find each of the wrong ways, and nothing in the right
+one.
+"""
+from __future__ import annotations
+
+import fcntl
+import os
+import sys
+from enum import Enum
+from typing import Iterator, Optional
+
+RECORD, PIECE = 32, 1 << 16
+
+
+class CopyWay(Enum):
+    """How it copies. In a right way what is there is no journal until a last small write: it lacks a byte
+    at its end, or its first record is none that a journal has."""
+
+    LAST_BYTE_LAST = "all but the last byte, sync, the last byte, sync, folder"
+    MARKED = "an open record of no kind, its size, all but the first record, sync, that record, sync, folder"
+    FIRST_TO_LAST = "its size, pieces from the first to the last"
+    FRONT_LAST = "its size, pieces from the last to the first"
+    MARKED_FRONT_LAST = "an open record of no kind, its size, pieces from the last to the first"
+    MADE_FIRST = "the copy is made before the journal is read"
+    READS_A_PART = "what the journal keeps is read, and no more"
+    LOCKED_LATE = "the copy is locked behind its first write"
+    NOT_LOCKED = "the copy is not locked"
+    OLD_NOT_LOCKED = "the journal is not locked"
+    NO_ZEROS = "zeros behind what is kept are not written"
+    SYNCED_EARLY = "the copy is synced before its last write"
+    NOT_SYNCED = "the copy is not synced"
+    FOLDER_FIRST = "the folder is synced before the copy"
+    FOLDER_NOT_SYNCED = "the folder is not synced"
+    OLD_WRITTEN = "a byte of the journal is written again"
+    OVERWRITES = "a file that is there is begun anew"
+    NOT_REMOVED = "a copy that failed is not removed"
+
+
+def write(file: int, image: bytes, first: int, last: int) -> None:
+    """Writes these bytes of an image to their place."""
+    while first < last:
+        first += os.pwrite(file, image[first : min(last, first + PIECE)], first)
+
+
+def kept_bytes(image: bytes) -> int:
+    """How many bytes of a journal are those of payments."""
+    at = 0
+    while at < len(image) and image[at] == 1:
+        at += RECORD * (1 + int.from_bytes(image[at + 2 : at + 4], "big"))
+    return at
+
+
+class Copy:
+    def __init__(self, old: str, new: str, way: CopyWay) -> None:
+        self.way, self.new = way, new
+        self.old = os.open(old, os.O_RDWR)
+        if way is not CopyWay.OLD_NOT_LOCKED:
+            fcntl.flock(self.old, fcntl.LOCK_EX | fcntl.LOCK_NB)
+        self.file: Optional[int] = self.make() if way is CopyWay.MADE_FIRST else None
+        image = b"".join(self.read())
+        self.kept = kept_bytes(image)
+        self.image = image[: self.kept].ljust(os.fstat(self.old).st_size, b"\x00")
+        if way is CopyWay.OLD_WRITTEN:
+            os.pwrite(self.old, image[:1], 0)
+        if self.file is None:
+            self.file = self.make()
+
+    def read(self) -> Iterator[bytes]:
+        at, piece = 0, b"-"
+        while piece:
+            piece = os.pread(self.old, PIECE, at)
+            at += len(piece)
+            yield piece
+            if self.way is CopyWay.READS_A_PART and piece and piece[-RECORD] == 0:
+                return
+
+    def make(self) -> int:
+        is_new = os.O_TRUNC if self.way is CopyWay.OVERWRITES else os.O_EXCL
+        file = os.open(self.new, os.O_RDWR | os.O_CREAT | is_new, 0o666)
+        if self.way not in (CopyWay.LOCKED_LATE, CopyWay.NOT_LOCKED):
+            fcntl.flock(file, fcntl.LOCK_EX | fcntl.LOCK_NB)
+        return file
+
+    def fill(self) -> None:
+        """Writes the copy, all or up to its last small write."""
+        size, way = len(self.image), self.way
+        if way in (CopyWay.FIRST_TO_LAST, CopyWay.NO_ZEROS):
+            os.ftruncate(self.file, size)
+            write(self.file, self.image, 0, self.kept if way is CopyWay.NO_ZEROS else size)
+        elif way in (CopyWay.FRONT_LAST, CopyWay.MARKED, CopyWay.MARKED_FRONT_LAST):
+            if way is not CopyWay.FRONT_LAST:
+                os.pwrite(self.file, b"\x01", 0)
+            os.ftruncate(self.file, size)
+            first = RECORD if way is CopyWay.MARKED else 0
+            for at in reversed(range(first, size, PIECE)):
+                write(self.file, self.image, at, min(at + PIECE, size))
+        else:
+            os.pwrite(self.file, bytes(RECORD - 1), size - RECORD)
+            if way is CopyWay.LOCKED_LATE:
+                fcntl.flock(self.file, fcntl.LOCK_EX | fcntl.LOCK_NB)
+            write(self.file, self.image, 0, size - 1)
+
+    def end(self) -> None:
+        """The last small write."""
+        if self.way is CopyWay.MARKED:
+            write(self.file, self.image, 0, min(RECORD, len(self.image)))
+        elif self.way not in (CopyWay.FIRST_TO_LAST, CopyWay.NO_ZEROS, CopyWay.FRONT_LAST,
+                              CopyWay.MARKED_FRONT_LAST):
+            write(self.file, self.image, len(self.image) - 1, len(self.image))
+
+    def sync(self) -> None:
+        if self.way is not CopyWay.NOT_SYNCED:
+            os.fdatasync(self.file)
+
+    def sync_folder(self) -> None:
+        if self.way is not CopyWay.FOLDER_NOT_SYNCED:
+            folder = os.open(os.path.dirname(self.new) or ".", os.O_RDONLY)
+            os.fsync(folder)
+
+    def run(self) -> None:
+        self.fill()
+        self.sync()
+        self.end()
+        if self.way is CopyWay.FOLDER_FIRST:
+            self.sync_folder()
+        if self.way is not CopyWay.SYNCED_EARLY:
+            self.sync()
+        if self.way is not CopyWay.FOLDER_FIRST:
+            self.sync_folder()
+
+
+def main(way: str) -> int:
+    _, _, old, new = sys.argv
+    copy = None
+    try:
+        copy = Copy(old, new, CopyWay(way))
+        copy.run()
+    except OSError:
+        if copy is not None and copy.way is not CopyWay.NOT_REMOVED:
+            os.unlink(new)
+        os.write(2, b"journal: cannot make\n")
+        return 1
+    return 0

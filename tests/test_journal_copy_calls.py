@@ -1,0 +1,277 @@
+"""The calls of `copy-journal`, as the system sees them: their order, each one that fails, and each one in
+which it is killed.
+
+What a kill leaves under the name of a copy is never taken for a journal, unless it is the whole copy: a
+service over a part of one would accept numbers again that are used.
+"""
+from __future__ import annotations
+
+import itertools
+import os
+import re
+import shutil
+import signal
+import subprocess
+from collections import Counter
+from dataclasses import dataclass
+from pathlib import Path
+from typing import Iterator, Sequence
+
+from .support.client import payments
+from .support.journal_case import CANNOT_OPEN, JOURNAL_FAILED, alone
+from .support.model_journal import payments_of_all
+from .support.page_journals import RECORD
+from .support.program import SECONDS, Ended, Word
+from .support.small_files import PAGE, SmallFiles
+from .test_copy_journals import CANNOT_MAKE, CopyCase, copied
+
+# One line of strace: the call, its arguments, what it gave, and whether strace made it fail.
+LINE = re.compile(r"^(\w+)\((.*)\) += (-?\d+|\?)(.*)$", re.MULTILINE)
+OPENS = ("open", "openat", "openat2", "creat")
+READS = ("read", "pread64", "readv", "preadv", "preadv2")
+WRITES = ("write", "pwrite64", "writev", "pwritev", "pwritev2", "ftruncate", "fallocate", "sendfile",
+          "copy_file_range", "splice")
+SYNCS = ("fsync", "fdatasync")
+REMOVES = ("unlink", "unlinkat")
+CALLS = (*OPENS, "flock", *READS, *WRITES, *SYNCS, *REMOVES)
+QUOTED = re.compile(r'"([^"]*)"')
+OLD, NEW, FOLDER = "journal", "sub/copy", "sub"
+# So many records are a piece of a copy, of 64 KiB.
+PIECE = (1 << 16) // RECORD
+
+
+@dataclass(frozen=True)
+class Call:
+    """A call of the program: which one of its name it is, as strace counts them from 1, its file and
+    its arguments, the bytes that it read or wrote, and whether strace made it fail."""
+
+    name: str
+    count: int
+    file: str
+    words: str
+    span: range
+    is_changed: bool
+
+    def __str__(self) -> str:
+        return f"{self.name} of {self.file or 'no file'}"
+
+
+def calls_in(trace: str) -> Iterator[Call]:
+    """The calls of a trace, from the one that opens the journal."""
+    files: dict[str, str] = {}
+    counts: Counter[str] = Counter()
+    is_open = False
+    for name, words, gave, more in LINE.findall(trace):
+        counts[name] += 1
+        if name in (*OPENS, *REMOVES):
+            file = QUOTED.findall(words)[0]
+            files[gave] = file
+        else:
+            file = files.get(words.split(",")[0], "")
+        is_open = is_open or file == OLD
+        if is_open:
+            yield Call(name, counts[name], file, words, span_of(name, words, gave),
+                       more.endswith("(INJECTED)"))
+
+
+def span_of(name: str, words: str, gave: str) -> range:
+    """The bytes that a call read or wrote, where it says at what place."""
+    if name not in ("pread64", "pwrite64") or not gave.isdigit():
+        return range(0)
+    first = int(words.split(", ")[-1])
+    return range(first, first + int(gave))
+
+
+def covered(calls: Sequence[Call]) -> list[range]:
+    """The bytes of all the calls, as stretches apart from one another."""
+    found: list[range] = []
+    for it in sorted((it.span for it in calls if it.span), key=lambda it: it.start):
+        if found and it.start <= found[-1].stop:
+            found[-1] = range(found[-1].start, max(found[-1].stop, it.stop))
+        else:
+            found.append(it)
+    return found
+
+
+class CallCase(CopyCase):
+    def setUp(self) -> None:
+        super().setUp()
+        # What copies: the program, or a stand-in.
+        self.copier: Sequence[Word] = [self.program.path]
+        self.made = self.home / FOLDER
+        os.mkdir(self.made)
+
+    def traced(self, *changes: str, new: Word = NEW) -> tuple[Ended, list[Call]]:
+        """How a copy ends in which strace makes these changes, and its calls."""
+        strace = shutil.which("strace")
+        self.assertIsNotNone(strace, "strace is not installed: apt-get install strace")
+        trace = self.folder() / "trace"
+        options = [it for one in (f"trace={','.join(CALLS)}", *changes) for it in ("-e", one)]
+        words = [strace or "", "-o", trace, *options, *self.copier, "copy-journal", OLD, new]
+        done = subprocess.run(words, cwd=self.home, capture_output=True, timeout=SECONDS,
+                              check=False)
+        return Ended(done.returncode, done.stdout, done.stderr), [*calls_in(trace.read_text())]
+
+
+class Calls(CallCase):
+    """Their order, and each one that fails."""
+
+    def test_calls(self) -> None:
+        """Of a small journal, and of one of several pieces with zeros behind what it keeps."""
+        for kept, room in ((3, 7), (0, 3), (PIECE + 52, 2 * PIECE + 100)):
+            image = self.make_journal(room, alone(payments_of_all(payments(kept))))
+            ended, calls = self.traced()
+            what = f"{kept} of {room}"
+            self.assert_output(ended, b"", "", what)
+            self.assert_order(calls, len(image), what)
+            self.assert_bytes(image, what)
+            self.assertEqual((self.made / "copy").read_bytes(), copied(image), what)
+            (self.made / "copy").unlink()
+
+    def assert_order(self, calls: Sequence[Call], size: int, what: str) -> None:
+        """The journal is opened, locked and read to its end before the copy is made, and never
+        written. The copy is made where no file is, and locked before it is written. All its bytes
+        are written, and synced behind the last write; its folder is synced behind all."""
+        def at(names: Sequence[str], file: str, part: Sequence[Call] = calls) -> list[int]:
+            return [place for place, it in enumerate(part) if it.file == file and it.name in names]
+
+        made, opened, locked = at(OPENS, NEW), at(OPENS, OLD), at(("flock",), OLD)
+        self.assertEqual((len(opened), len(made), len(locked)), (1, 1, 1), what)
+        read = at(READS, OLD, calls[: made[0]])
+        self.assertTrue(read, f"{what}: the copy is made before the journal is read")
+        self.assertLess(opened[0], locked[0], what)
+        self.assertLess(locked[0], read[0], what)
+        self.assertIn("LOCK_EX|LOCK_NB", calls[locked[0]].words, what)
+        self.assertEqual(covered([calls[it] for it in read]), [range(size)],
+                         f"{what}: read before the copy is made")
+        self.assertEqual(at(WRITES, OLD), [], f"{what}: the journal is written")
+        self.assertIn("O_CREAT|O_EXCL", calls[made[0]].words, what)
+        written, synced = at(WRITES, NEW), at(SYNCS, NEW)
+        own = at(("flock",), NEW)
+        self.assertEqual(len(own), 1, f"{what}: the lock of the copy")
+        self.assertLess(own[0], written[0], f"{what}: written before its lock")
+        self.assertEqual(covered([calls[it] for it in written]), [range(size)], f"{what}: written")
+        self.assertGreater(max(synced, default=-1), written[-1], f"{what}: written behind its sync")
+        self.assertEqual(at(SYNCS, FOLDER), [len(calls) - 1], f"{what}: its folder is synced last")
+        self.assertEqual(at(REMOVES, NEW), [], what)
+
+    def test_each_call_that_fails(self) -> None:
+        """Where it fails, and each later one of its name, there is no copy, and a line says which
+        file is at fault."""
+        image = self.make_journal(7, [payments_of_all(payments(3))])
+        calls = self.traced()[1]
+        (self.made / "copy").unlink()
+        for call in calls:
+            ended, changed = self.traced(f"inject={call.name}:error=EIO:when={call.count}+")
+            first = next((it for it in changed if it.is_changed), None)
+            self.assertEqual(first and (first.name, first.count, first.file),
+                             (call.name, call.count, call.file), str(call))
+            self.assert_output(ended, b"", self.fault_of(call), str(call))
+            self.assert_bytes(image, str(call))
+            self.assertEqual([*self.made.iterdir()], [], str(call))
+        self.tells(", ".join(map(str, calls)))
+
+    def fault_of(self, call: Call) -> str:
+        if call.file != OLD:
+            return CANNOT_MAKE
+        return CANNOT_OPEN if call.name in (*OPENS, "flock") else JOURNAL_FAILED
+
+
+class Kills(CallCase):
+    """A copy that is killed in a call, before the system does it; and in the removal of one that found no
+    room, which ends within a piece."""
+
+    weight = 6
+
+    def setUp(self) -> None:
+        super().setUp()
+        # What was taken for a journal, and is no whole copy.
+        self.taken: list[str] = []
+
+    def test_less_than_a_piece(self) -> None:
+        """Payments each alone, of which any first ones are a journal, and one group, which is closed
+        where its first gate is."""
+        kept = payments_of_all(payments(5))
+        for groups in (alone(kept), [kept]):
+            self.kill_in_each_call(self.make_journal(7, groups))
+
+    def test_many_pieces(self) -> None:
+        """Of four pieces, and zeros behind them; the last of them has a few records."""
+        kept = payments_of_all(payments(3 * PIECE + 9))
+        self.kill_in_each_call(self.make_journal(3 * PIECE + 300, alone(kept)))
+
+    def kill_in_each_call(self, image: bytes) -> None:
+        calls, found = self.traced()[1], Counter[str]()
+        self.assertEqual((self.made / "copy").read_bytes(), copied(image))
+        (self.made / "copy").unlink()
+        for call in calls:
+            ended, made = self.traced(f"inject={call.name}:signal=KILL:when={call.count}")
+            self.assertEqual(ended.status, -signal.SIGKILL, f"killed in {call}")
+            self.assertEqual((made[-1].name, made[-1].count, made[-1].file),
+                             (call.name, call.count, call.file), f"killed in {call}")
+            found[self.judge(self.made / "copy", image, f"killed in {call} ({call.count})")] += 1
+        self.assertEqual(self.taken, [])
+        self.assertEqual(set(found), {"absent", "refused", "whole"}, "what kills leave")
+        self.tells(", ".join(f"{count} {it}" for it, count in found.items()))
+
+    def test_in_its_removal(self) -> None:
+        """The file system is full behind these pages. The call that would remove the copy kills."""
+        found = Counter[str]()
+        for kept, room in ((5 * PAGE // RECORD, 6 * PAGE // RECORD), (PIECE + 900, 2 * PIECE)):
+            image = self.make_journal(room, alone(payments_of_all(payments(kept))))
+            needed = len(image) // PAGE
+            for pages in sorted({1, needed // 2, needed // 2 + 1, needed - 1}):
+                small, what = SmallFiles(self.folder(), pages), f"{pages} of {needed} pages"
+                self.addCleanup(small.close)
+                ended, _ = self.traced(*(f"inject={it}:signal=KILL" for it in REMOVES),
+                                       new=small.folder / "copy")
+                self.assertEqual(ended.status, -signal.SIGKILL, f"{what}: it removes nothing")
+                self.assertEqual(small.free(), 0, f"{what}: the file system is not full")
+                found[self.judge(small.folder / "copy", image, what)] += 1
+        self.assertEqual(self.taken, [])
+        self.assertNotIn("absent", found)
+        self.assertGreater(found["refused"], 0)
+
+    # What is left
+
+    def judge(self, made: Path, image: bytes, what: str) -> str:
+        """What was left under the name of a copy: it is absent, the whole copy, refused by all that takes
+        journals, or noted as taken by one of them. The journal is as before."""
+        self.assert_bytes(image, what)
+        left = made.read_bytes() if made.exists() else None
+        if left is None:
+            return "absent"
+        taken = []
+        if left != copied(image):
+            taken = [words[0] for words in self.takers(made) if not self.is_refused(words)]
+            self.assertEqual(made.read_bytes(), left, f"{what}: refused and changed")
+            if taken:
+                self.taken.append(f"{about(left, copied(image), what)}, taken for a journal by {taken}")
+        made.unlink()
+        return "taken" if taken else "whole" if left == copied(image) else "refused"
+
+    def takers(self, made: Path) -> list[Sequence[Word]]:
+        return [("serve", "bank.toml", "--journal", made), ("copy-journal", made, "another"),
+                ("show", "journal", made)]
+
+    def is_refused(self, words: Sequence[Word]) -> bool:
+        """Whether a file is refused as a damaged journal, and nothing is made of it."""
+        ended = self.program.run(*words, folder=self.home)
+        is_copied = (self.home / "another").exists()
+        (self.home / "another").unlink(missing_ok=True)
+        if ended.status == 0:
+            return False
+        self.assertFalse(is_copied)
+        self.assertEqual((ended.status, ended.output), (1, b""), words[0])
+        self.assertRegex(ended.faults, rb"\A(journal: failed|journal refused at \d+: Damaged)\n\Z")
+        return True
+
+
+def about(left: bytes, wanted: bytes, what: str) -> str:
+    """What a kill left, told by its length and the pages that are not those of the copy."""
+    pages = [at // PAGE for at in range(0, len(wanted), PAGE)
+             if left[at : at + PAGE] != wanted[at : at + PAGE]]
+    stretches = [[it[1] for it in group] for _, group in
+                 itertools.groupby(enumerate(pages), key=lambda it: it[1] - it[0])]
+    told = ", ".join(f"{it[0]} to {it[-1]}" for it in stretches)
+    return f"{what}: it left {len(left)} bytes of {len(wanted)}, of other bytes in pages {told}"
