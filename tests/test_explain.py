@@ -2,6 +2,7 @@
 of files stands in test_explain_files."""
 from __future__ import annotations
 
+import re
 from collections import Counter
 from pathlib import Path
 
@@ -11,9 +12,9 @@ from .support.everyday_rows import BASE, FIRST, PAN, RIGHT, SERIAL
 from .support.everyday_rows import rows as everyday_rows
 from .support.explain_case import EXPLAIN, ExplainCase, places, rows, with_explain
 from .support.explained import (
-    CONSTANT, OF_ONE, OF_UNWRAP, SHOWN, TEXTS, Asked, expected, explained)
+    CONSTANT, OF_ONE, OF_UNWRAP, REASONED, SHOWN, TEXTS, Asked, expected, explained)
 from .support.leaks import leaks
-from .support.program import Ended, Limits, spoken
+from .support.program import ROOT, Ended, Limits, spoken
 from .support.quick import QuickRuns
 from .support.shown import ended as shown_ended
 from .test_everyday_references import secrets_of
@@ -23,8 +24,14 @@ BATCHES = (["derive", BASE, "-"], ["kcv", "-"], ["pin", "-", PAN])
 # Of faults that no argument makes.
 OF_STREAMS = {"write failed", "script: write failed", "serve: write failed", "serve: read failed",
               "serve: input ends in a frame", "serve: frame too long", "batch: items refused",
-              "batch: read failed", "out of memory", "log: too long", "config: too long",
-              "script: too long", "ledger: failed"}
+              "batch: read failed", "out of memory", "log: too long", "journal: too long",
+              "config: too long", "script: too long", "ledger: failed", "padding: cannot read"}
+# Faults as the manual page has them, whose rows are no command of this folder; and what else stands
+# there for a part of a line.
+ELSEWHERE = {"batch: ..", "padding: ..", "IKSN: issued"}
+FAULT = re.compile(r'^\.B "(.*)"$', re.M)
+PARTS = {r"^[A-Z]+: \.\.$": "[A-Z]+: .*", r"\.\.": ".*", r"\bNAME\b": "[A-Z]+",
+         r"\b[NI]\b": "[0-9]+"}
 LOST = "output: a write failed; wanted: a device with room, or a reader"
 # Bytes that no key, PIN or number has, and no three of which stand in an explanation.
 NO_DIGITS = "GHJQXZ"
@@ -64,8 +71,21 @@ class Rows(ExplainCase):
         shown = {f"{kind}: {why}" for kind, table in SHOWN.items() for why in table}
         had = {f"{it.split()[0]}: {it.split()[-1]}" for it in found if " refused at " in it}
         self.assertEqual(sorted(shown - had), [], "shown fields without a row")
-        wanted = ({*CONSTANT} - OF_STREAMS) | {*TEXTS} | {*OF_ONE} | {*OF_UNWRAP}
-        self.assertEqual(sorted(wanted - found), [], "faults without a row")
+        wanted = {*CONSTANT} | {*REASONED} | {*TEXTS} | {*OF_ONE} | {*OF_UNWRAP}
+        self.assertEqual(sorted(wanted - OF_STREAMS - found), [], "faults without a row")
+
+    def test_each_fault_of_the_manual_page(self) -> None:
+        """It has a row, or is one of streams, of memory or of long files, and is explained here."""
+        page = (ROOT / "share" / "man" / "dukpt.1").read_text().replace(r"\-", "-")
+        named = {*FAULT.findall(page)}
+        self.assertLessEqual(ELSEWHERE, named)
+        found = {fault for _, fault, _ in (*rows(), *image_rows())} | OF_STREAMS
+        for fault in named - ELSEWHERE:
+            line = fault
+            for part, stands_for in PARTS.items():
+                line = re.sub(part, stands_for, line)
+            self.assertTrue(any(re.match(line, it) for it in found), f"{fault} has no row")
+        self.tells(f"{len(named)} faults")
 
     def test_by_reference(self) -> None:
         """Of a secret in a file the line is explained that was read."""
@@ -251,7 +271,7 @@ class Secrets(ExplainCase):
     def test_rows_and_their_secrets(self) -> None:
         """No written row has a secret of its command in its explanation."""
         for words, fault, line in rows():
-            if words[0] in everyday_words.COMMANDS and "log" not in words:
+            if words[0] in everyday_words.COMMANDS and words[1] not in ("log", "journal"):
                 ended = Ended(1, b"", f"{fault}\n{line}\n".encode())
                 self.assertEqual(leaks(Case(words), ended), [], spoken(words))
 
@@ -281,7 +301,8 @@ class Lost(ExplainCase):
     def test_no_faults(self) -> None:
         """Without standard error status, output and files are the same."""
         before = {it: it.read_bytes() for it in self.home.rglob("*") if it.is_file()}
-        of_files = [it for it in rows() if it[0][0] in ("issue", "serve", "run", "show")]
+        of_files = [it for it in rows() if it[0][0] in (
+            "issue", "serve", "run", "show", "new-journal", "copy-journal")]
         for words, _, _ in [*self.chance.sample(rows(), 30), *of_files]:
             for way in ("2>&-", "2>/dev/full", ">&- 2>&-", "<&- >&- 2>&-"):
                 ended = self.in_bash(with_explain(words, 0), way)

@@ -19,6 +19,8 @@ from .shown import log_lines
 # Why a file is refused.
 MISSING, NO_PERMISSION, A_FOLDER, IN_USE = "no such file", "no permission", "a folder", "in use"
 OTHER, READ_BEFORE = "the system refuses it", "standard input, read before"
+# Why a file is not made.
+THERE, NO_FOLDER = "there already", "no such folder"
 
 HEX = frozenset(b"0123456789ABCDEFabcdef")
 DECIMAL = frozenset(b"0123456789")
@@ -29,6 +31,8 @@ ONE_KEY, ANY_KEY = "32 hexadecimal digits", "32 or 48 hexadecimal digits"
 PAIRS = "pairs of hexadecimal digits"
 READABLE = "a file that can be read"
 A_LOG = "a file of zeros, 16 bytes a number, that no other uses"
+A_JOURNAL = "a file of zeros, 32 bytes a payment, that no other uses"
+A_NEW_FILE = "a name that no file has, in a folder with room"
 BEFORE_16 = "write FFFF before it"
 COUNTER_BITS = 21
 
@@ -119,6 +123,7 @@ TEXTS = {
     "answer refused": ("ANSWER", HEX, "the frame of a reply or of a refusal",
                        "show frame tells its fields"),
     "KIND refused": ("KIND", ANY, "frame, block, image, log or journal"),
+    "records refused": ("RECORDS", DECIMAL, "1 to 1000000000"),
 }
 A_KEY_BLOCK = ("BLOCK", ANY, "a key block of version B", "show block tells the place")
 OF_UNWRAP = dict.fromkeys(("Length", "Version", "HeaderField", "OptionalBlock", "Hex"), A_KEY_BLOCK)
@@ -209,6 +214,9 @@ CONSTANT = {
     "Mac": Explanation("BLOCK", "another MAC", "the key block as it was made, and its KBPK"),
     "Payload": Explanation("BLOCK", "no such key", "a key of 16 or 24 bytes"),
     "log: too long": Explanation("WHAT", "a longer file", "at most 1073741824 bytes"),
+    "journal: too long": Explanation("WHAT", "a longer file", "at most 1073741824 bytes"),
+    "journal: failed": Explanation("journal", "wrong records, or a step that failed",
+                                   "a journal as it was kept, on a device that works"),
     "ledger: failed": Explanation("ledger", "a step of its device failed", "a device that works",
                                   "the next number may stand in it"),
     "ledger: full": Explanation("ledger", "too little room", "16 bytes of zeros for each number"),
@@ -230,11 +238,14 @@ CONSTANT = {
 
 REASONED = {
     "log: cannot read": ("WHAT", READABLE),
+    "journal: cannot read": ("WHAT", READABLE),
     "config: cannot read": ("CONFIG", READABLE),
     "script: cannot read": ("SCRIPT", READABLE),
     "padding: cannot read": ("/dev/urandom", "a device that can be read"),
     "log: cannot open": ("log", A_LOG),
     "ledger: cannot open": ("ledger", A_LOG),
+    "journal: cannot open": ("journal", A_JOURNAL),
+    "journal: cannot make": ("journal", A_NEW_FILE),
 }
 
 
@@ -347,15 +358,17 @@ SHOWN = {
         "Past": "past numbers with counters of zero, each once, then zeros",
     },
 }
+A_RECORD = {"log": "16 zero bytes, or a record as FORMATS has it",
+            "journal": "32 zero bytes, or a payment as FORMATS has it"}
 
 
 def of_show(asked: Asked, fault: str) -> Optional[Explanation]:
-    found = re.fullmatch("(frame|block|image|log) refused at ([0-9]+): ([A-Za-z]+)", fault)
+    found = re.fullmatch("(frame|block|image|log|journal) refused at ([0-9]+): ([A-Za-z]+)", fault)
     if not found:
         return None
     kind, place, why = found.groups()
-    if kind == "log":
-        return Explanation("WHAT", f"record {place}", "16 zero bytes, or a record as FORMATS has it")
+    if kind in A_RECORD:
+        return Explanation("WHAT", f"record {place}", A_RECORD[kind])
     wrong = int(place) if why == "Hex" else None
     return Explanation("WHAT", measured(asked.texts["WHAT"], wrong), SHOWN[kind][why])
 
