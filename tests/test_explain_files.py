@@ -5,18 +5,26 @@ from __future__ import annotations
 import fcntl
 import os
 import re
+import stat
 from collections import Counter
+from pathlib import Path
 from typing import Sequence
 
 from .support.bank import BANK, LONGEST
 from .support.client import payments
 from .support.everyday_rows import BASE, SERIAL
 from .support.explain_case import EXPLAIN, ISSUE, SCRIPT, WITHOUT_RIGHTS, ExplainCase
-from .support.explained import A_FOLDER, A_LOG, IN_USE, MISSING, NO_PERMISSION, OTHER, READABLE
+from .support.explained import (
+    A_FOLDER, A_JOURNAL, A_LOG, A_NEW_FILE, IN_USE, MISSING, NO_FOLDER, NO_PERMISSION, OTHER, READABLE,
+    THERE)
 from .support.little_memory import AMPLE, OUT_OF_MEMORY, least_to_start
 from .support.log_file import RECORD, log_image, record
+from .support.model_journal import payments_of_all
+from .support.page_journals import RECORD as JOURNAL_RECORD
+from .support.page_journals import journal_of
 from .support.program import Ended, Limits, spoken
 from .support.service import Service
+from .support.small_files import PAGE, SmallFiles
 
 # Commands over a file whose name stands behind them, with the fault where it is not opened or read, and
 # what the explanation calls it.
@@ -24,9 +32,11 @@ READERS = (
     (["serve"], "config: cannot read", "CONFIG"), (["run"], "config: cannot read", "CONFIG"),
     (["run", "bank.toml"], "script: cannot read", "SCRIPT"),
     (["show", "log"], "log: cannot read", "WHAT"),
+    (["show", "journal"], "journal: cannot read", "WHAT"),
 )
-LOCKERS = ((["serve", "bank.toml", "--log"], "log: cannot open", "log"),
-           (ISSUE, "ledger: cannot open", "ledger"))
+LOCKERS = ((["serve", "bank.toml", "--log"], "log: cannot open", "log", A_LOG),
+           (["serve", "bank.toml", "--journal"], "journal: cannot open", "journal", A_JOURNAL),
+           (ISSUE, "ledger: cannot open", "ledger", A_LOG))
 
 
 def reader_words(words: list[str], name: str) -> list[str]:
@@ -47,8 +57,8 @@ class Refused(ExplainCase):
 
     def refused_lock(self, name: str, reason: str, front: Sequence[str] = ()) -> None:
         """A file to be opened and locked."""
-        for words, fault, called in LOCKERS:
-            line = f"{called}: {reason}; wanted: {A_LOG}"
+        for words, fault, called, wanted in LOCKERS:
+            line = f"{called}: {reason}; wanted: {wanted}"
             self.explained([*words, name], fault, line, front=front)
 
     def test_reasons(self) -> None:
@@ -107,6 +117,18 @@ class Refused(ExplainCase):
         self.assertEqual(service.end(), Ended(0, answers, b""))
         self.assertEqual((self.home / "log").read_bytes(), log_image([it.number for it in two], 3))
 
+    def test_in_use_by_a_service_over_a_journal(self) -> None:
+        two = payments(2)
+        self.write("journal", bytes(2 * JOURNAL_RECORD))
+        service = Service(self.program, self.home, "serve", "bank.toml", "--journal", "journal", EXPLAIN)
+        self.addCleanup(service.release)
+        service.ask([two[0].frame])
+        self.refused_lock("journal", IN_USE)
+        service.ask([two[1].frame])
+        self.assertEqual(service.end(), Ended(0, b"".join(it.answer for it in two), b""))
+        kept = journal_of([[it] for it in payments_of_all(two)], 0)
+        self.assertEqual((self.home / "journal").read_bytes(), kept)
+
     def test_references(self) -> None:
         """Of several references the one is explained that could not be read."""
         self.write("it", BASE.encode())
@@ -154,6 +176,8 @@ class Refused(ExplainCase):
              "SCRIPT: a longer file; wanted: at most 1048576 bytes"),
             (["show", "log", "longer"], "log: too long",
              "WHAT: a longer file; wanted: at most 1073741824 bytes"),
+            (["show", "journal", "longer"], "journal: too long",
+             "WHAT: a longer file; wanted: at most 1073741824 bytes"),
         ):
             self.explained(words, fault, line)
 
@@ -166,6 +190,95 @@ class Refused(ExplainCase):
                      f'{way} && exec "$@"', "sh"]
             line = f"/dev/urandom: {reason}; wanted: a device that can be read"
             self.explained([*ISSUE, "ledger"], "padding: cannot read", line, front=front)
+
+
+class Makers(ExplainCase):
+    """Files that are not made. To learn why, the program makes one once more: what it made is gone then,
+    and what was there is as it was."""
+
+    def setUp(self) -> None:
+        super().setUp()
+        self.write("journal", bytes(3 * JOURNAL_RECORD))
+        self.write("there", b"there")
+        (self.home / "folder").mkdir()
+        (self.home / "link").symlink_to("there")
+        (self.home / "broken").symlink_to("nowhere")
+        (self.home / "loop").symlink_to("loop")
+        os.mkfifo(self.home / "pipe")
+
+    def state(self) -> dict[str, tuple[object, ...]]:
+        """What is in the folder: of a file and a link also when it was changed last, in any way."""
+        return {os.fspath(it.relative_to(self.home)): about(it) for it in self.home.rglob("*")}
+
+    def not_made(self, name: str, reason: str, front: Sequence[str] = (), **how: object) -> None:
+        line = f"journal: {reason}; wanted: {A_NEW_FILE}"
+        for words in (["new-journal", name, "3"], ["copy-journal", "journal", name]):
+            before = self.state()
+            self.explained(words, "journal: cannot make", line, front=front, **how)
+            changed = sorted({it[0] for it in before.items() ^ self.state().items()})
+            self.assertEqual(changed, [], f"{spoken(words)}: made, changed or removed")
+
+    def test_reasons(self) -> None:
+        for name, reason in (("there", THERE), ("folder", THERE), ("link", THERE), ("broken", THERE),
+                             ("loop", THERE), ("pipe", THERE), ("journal", THERE), ("bank.toml", THERE),
+                             ("", NO_FOLDER), ("missing/it", NO_FOLDER), ("there/it", NO_FOLDER),
+                             ("broken/it", NO_FOLDER), ("x" * 300, OTHER), ("loop/it", OTHER)):
+            self.not_made(name, reason)
+
+    def test_rights(self) -> None:
+        front = WITHOUT_RIGHTS if os.geteuid() == 0 else ()
+        (self.home / "folder" / "it").write_bytes(b"it")
+        for mode in (0o500, 0o600, 0):
+            (self.home / "folder").chmod(mode)
+            self.not_made("folder/new", NO_PERMISSION, front)
+            if mode != 0o500:
+                self.not_made("folder/it", NO_PERMISSION, front)
+        (self.home / "folder").chmod(0o700)
+
+    def test_no_room(self) -> None:
+        """It can be made, and does not get its size, or its bytes: no reason is known, and none is left."""
+        for size in (0, 1, 3 * JOURNAL_RECORD - 1):
+            self.not_made("new", OTHER, limits=Limits(file_size=size))
+            self.not_made("folder/new", OTHER, limits=Limits(file_size=size))
+        small = SmallFiles(self.folder(), 1)
+        self.addCleanup(small.close)
+        self.write("journal", bytes(2 * PAGE))
+        new = os.fspath(small.folder / "new")
+        for words in (["new-journal", new, str(2 * PAGE // JOURNAL_RECORD)],
+                      ["copy-journal", "journal", new]):
+            self.explained(words, "journal: cannot make", f"journal: {OTHER}; wanted: {A_NEW_FILE}")
+            self.assertEqual(([*small.folder.iterdir()], small.free()), ([], 1), spoken(words))
+
+    def test_calls(self) -> None:
+        """Only a file that was made is removed, and never one that was there."""
+        trace = self.home / "trace"
+        for name, change, wanted in (("there", "none", 2 * ["refused"]), ("new", "none", ["made"]),
+                                     ("newer", "ftruncate:error=EFBIG", 2 * ["made", "removed"])):
+            self.run_with(["new-journal", name, "3", EXPLAIN], front=[
+                "strace", "-o", os.fspath(trace), "-e", f"trace={','.join((*MAKES, *REMOVES))},ftruncate",
+                *(["-e", f"inject={change}"] if change != "none" else [])])
+            found = [step_of(*it) for it in CALL.findall(trace.read_text()) if f'"{name}"' in it[1]]
+            self.assertEqual(found, wanted, name)
+        self.assertEqual((self.home / "there").read_bytes(), b"there")
+
+
+MAKES, REMOVES = ("open", "openat", "creat"), ("unlink", "unlinkat", "rename", "renameat2", "truncate")
+CALL = re.compile(r"^(\w+)\((.*)\) += (-?\d+)", re.MULTILINE)
+
+
+def step_of(call: str, words: str, gave: str) -> str:
+    """What a call does with a file to be made."""
+    if call in MAKES and "O_CREAT|O_EXCL" in words:
+        return "made" if int(gave) >= 0 else "refused"
+    return "removed" if call in ("unlink", "unlinkat") else call
+
+
+def about(path: Path) -> tuple[object, ...]:
+    found = path.lstat()
+    if stat.S_ISDIR(found.st_mode):
+        return found.st_mode, found.st_ino
+    data = path.read_bytes() if stat.S_ISREG(found.st_mode) else b""
+    return (found.st_mode, found.st_ino, found.st_nlink, found.st_mtime_ns, found.st_ctime_ns, data)
 
 
 class Ends(ExplainCase):
@@ -204,6 +317,9 @@ class Ends(ExplainCase):
         for way in ("2>&-", ">&- 2>&-", "<&- >&- 2>&-"):
             for words, before in ((["serve", "bank.toml", "--log", "it"], damaged),
                                   ([*ISSUE, "it"], damaged), ([*ISSUE, "it"], bytes(17)),
+                                  (["serve", "bank.toml", "--journal", "it"], damaged + b"\x00"),
+                                  (["copy-journal", "it", "new"], damaged + b"\x00"),
+                                  (["new-journal", "it", "3"], damaged), (["show", "journal", "it"], b"\x00"),
                                   (["show", "log", "it"], damaged), (["run", "it", SCRIPT], b"x = 1\n"),
                                   (["run", "bank.toml", "it"], b"up\n"),
                                   (["derive", "@it", SERIAL], b"x\n")):
