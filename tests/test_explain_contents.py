@@ -1,11 +1,12 @@
-"""`--explain` over what files hold: which record of a log or a ledger is damaged, and which line of a
-configuration or a script is wrong."""
+"""`--explain` over what files hold: which record of a log or a ledger is damaged, that a journal is, and
+which line of a configuration or a script is wrong."""
 from __future__ import annotations
 
 import os
 import threading
 from typing import Optional
 
+from .support import page_journals
 from .support.bank import BANK, BDK, CARD, FRONT
 from .support.client import payments
 from .support.dukpt import SPENT, serial_text
@@ -14,11 +15,15 @@ from .support.explain_case import EXPLAIN, ISSUE, SCRIPT, ExplainCase
 from .support.explained import Asked, Facts, damaged_record, explained, line_of
 from .support.issuing import bytes_of, numbers_from
 from .support.log_file import RECORD, log_image, record
+from .support.model_journal import payments_of_all
 from .support.program import SECONDS, Limits, spoken
+from .support.service import How, Service
+from .support.shown import journal_ended
 from .test_service_logs import turn_of_devices
 from .test_show import Damaged
 
 A_GOOD_LOG = "a log as it was kept, on a device that works"
+A_GOOD_JOURNAL = "a journal as it was kept, on a device that works"
 NUMBERS = "initial key serial numbers"
 
 
@@ -131,6 +136,51 @@ class Logs(ExplainCase):
         self.assertEqual((self.home / "it").read_bytes(), image)
         ended = self.run_with([*ISSUE[:4], "2", "--ledger", "it", "--skip-issued", EXPLAIN])
         self.assertEqual((ended.status, ended.faults, ended.output.count(b"\n")), (0, b"", 1))
+
+
+class Journals(ExplainCase):
+    """Of a damaged journal only `show journal` tells the record; a service and a copy tell that there is
+    damage, or that a step failed."""
+
+    line = f"journal: wrong records, or a step that failed; wanted: {A_GOOD_JOURNAL}"
+
+    def failed(self, image: bytes, what: str) -> None:
+        """That each command over it tells so, and changes nothing."""
+        self.write("it", image)
+        for words in (["serve", "bank.toml", "--journal", "it"], ["copy-journal", "it", "new"],
+                      ["copy-journal", "it", "bank.toml"]):
+            self.explained(words, "journal: failed", self.line)
+        fault = journal_ended(image).faults.decode()[:-1]
+        self.assertRegex(fault, r"journal refused at \d+: Damaged")
+        self.explained(["show", "journal", "it"], fault, explained(Asked("show"), fault))
+        self.assertEqual((self.home / "it").read_bytes(), image, what)
+        self.assertFalse((self.home / "new").exists(), what)
+
+    def test_each_damage(self) -> None:
+        journals = page_journals.Journals(self.chance)
+        for damage in page_journals.DAMAGES:
+            groups = [[journals.payment(0)], [journals.payment(2 << 21), journals.payment(3 << 21)]]
+            image = page_journals.journal_of(groups, 3, self.chance)
+            self.failed(damage(journals, groups, image)[0], damage.__name__)
+
+    def test_sizes_and_numbers(self) -> None:
+        for size in (0, 1, 31, 33, 32 * 1000 + 5):
+            self.failed(bytes(size), f"{size} bytes")
+        kept = payments_of_all(payments(3))
+        self.failed(page_journals.journal_of([kept, kept[1:2]], 1), "a number twice")
+
+    def test_writes_that_fail(self) -> None:
+        """The journal itself is sound then. Its groups were answered up to the limit."""
+        requests = payments(3)
+        for room in (0, 5, 32, 40):
+            self.write("it", bytes(5 * 32))
+            service = Service(self.program, self.home, "serve", "bank.toml", "--journal", "it", EXPLAIN,
+                              how=How(limits=Limits(file_size=room)))
+            self.addCleanup(service.release)
+            service.ask([it.frame for it in requests])
+            answers = b"".join(it.answer for it in requests[: room // 32])
+            self.assert_ended(service.end(), 1, answers, f"journal: failed\n{self.line}\n".encode(),
+                              f"{room} bytes")
 
 
 class Configurations(ExplainCase):
