@@ -8,89 +8,24 @@ from __future__ import annotations
 
 import itertools
 import os
-import re
-import shutil
 import signal
-import subprocess
 from collections import Counter
-from dataclasses import dataclass
 from pathlib import Path
-from typing import Iterator, Sequence
+from typing import Sequence
 
 from .support.client import payments
 from .support.journal_case import CANNOT_OPEN, JOURNAL_FAILED, alone
 from .support.model_journal import payments_of_all
 from .support.page_journals import RECORD
-from .support.program import SECONDS, Ended, Word
+from .support.program import Ended, Word
 from .support.small_files import PAGE, SmallFiles
+from .support.traced_files import (
+    OPENS, READS, REMOVES, WRITES, Call, assert_kept, covered, places, traced)
 from .test_copy_journals import CANNOT_MAKE, CopyCase, copied
 
-# One line of strace: the call, its arguments, what it gave, and whether strace made it fail.
-LINE = re.compile(r"^(\w+)\((.*)\) += (-?\d+|\?)(.*)$", re.MULTILINE)
-OPENS = ("open", "openat", "openat2", "creat")
-READS = ("read", "pread64", "readv", "preadv", "preadv2")
-WRITES = ("write", "pwrite64", "writev", "pwritev", "pwritev2", "ftruncate", "fallocate", "sendfile",
-          "copy_file_range", "splice")
-SYNCS = ("fsync", "fdatasync")
-REMOVES = ("unlink", "unlinkat")
-CALLS = (*OPENS, "flock", *READS, *WRITES, *SYNCS, *REMOVES)
-QUOTED = re.compile(r'"([^"]*)"')
 OLD, NEW, FOLDER = "journal", "sub/copy", "sub"
 # So many records are a piece of a copy, of 64 KiB.
 PIECE = (1 << 16) // RECORD
-
-
-@dataclass(frozen=True)
-class Call:
-    """A call of the program: which one of its name it is, as strace counts them from 1, its file and
-    its arguments, the bytes that it read or wrote, and whether strace made it fail."""
-
-    name: str
-    count: int
-    file: str
-    words: str
-    span: range
-    is_changed: bool
-
-    def __str__(self) -> str:
-        return f"{self.name} of {self.file or 'no file'}"
-
-
-def calls_in(trace: str) -> Iterator[Call]:
-    """The calls of a trace, from the one that opens the journal."""
-    files: dict[str, str] = {}
-    counts: Counter[str] = Counter()
-    is_open = False
-    for name, words, gave, more in LINE.findall(trace):
-        counts[name] += 1
-        if name in (*OPENS, *REMOVES):
-            file = QUOTED.findall(words)[0]
-            files[gave] = file
-        else:
-            file = files.get(words.split(",")[0], "")
-        is_open = is_open or file == OLD
-        if is_open:
-            yield Call(name, counts[name], file, words, span_of(name, words, gave),
-                       more.endswith("(INJECTED)"))
-
-
-def span_of(name: str, words: str, gave: str) -> range:
-    """The bytes that a call read or wrote, where it says at what place."""
-    if name not in ("pread64", "pwrite64") or not gave.isdigit():
-        return range(0)
-    first = int(words.split(", ")[-1])
-    return range(first, first + int(gave))
-
-
-def covered(calls: Sequence[Call]) -> list[range]:
-    """The bytes of all the calls, as stretches apart from one another."""
-    found: list[range] = []
-    for it in sorted((it.span for it in calls if it.span), key=lambda it: it.start):
-        if found and it.start <= found[-1].stop:
-            found[-1] = range(found[-1].start, max(found[-1].stop, it.stop))
-        else:
-            found.append(it)
-    return found
 
 
 class CallCase(CopyCase):
@@ -103,14 +38,8 @@ class CallCase(CopyCase):
 
     def traced(self, *changes: str, new: Word = NEW) -> tuple[Ended, list[Call]]:
         """How a copy ends in which strace makes these changes, and its calls."""
-        strace = shutil.which("strace")
-        self.assertIsNotNone(strace, "strace is not installed: apt-get install strace")
-        trace = self.folder() / "trace"
-        options = [it for one in (f"trace={','.join(CALLS)}", *changes) for it in ("-e", one)]
-        words = [strace or "", "-o", trace, *options, *self.copier, "copy-journal", OLD, new]
-        done = subprocess.run(words, cwd=self.home, capture_output=True, timeout=SECONDS,
-                              check=False)
-        return Ended(done.returncode, done.stdout, done.stderr), [*calls_in(trace.read_text())]
+        return traced([*self.copier, "copy-journal", OLD, new], self.home, self.folder() / "trace", OLD,
+                      changes)
 
 
 class Calls(CallCase):
@@ -129,31 +58,20 @@ class Calls(CallCase):
             (self.made / "copy").unlink()
 
     def assert_order(self, calls: Sequence[Call], size: int, what: str) -> None:
-        """The journal is opened, locked and read to its end before the copy is made, and never
-        written. The copy is made where no file is, and locked before it is written. All its bytes
-        are written, and synced behind the last write; its folder is synced behind all."""
-        def at(names: Sequence[str], file: str, part: Sequence[Call] = calls) -> list[int]:
-            return [place for place, it in enumerate(part) if it.file == file and it.name in names]
-
-        made, opened, locked = at(OPENS, NEW), at(OPENS, OLD), at(("flock",), OLD)
-        self.assertEqual((len(opened), len(made), len(locked)), (1, 1, 1), what)
-        read = at(READS, OLD, calls[: made[0]])
+        """The journal is opened, locked and read to its end before the copy is made, and never written;
+        the copy is made and kept in order."""
+        opened, locked, made = (places(calls, names, file) for names, file in (
+            (OPENS, OLD), (("flock",), OLD), (OPENS, NEW)))
+        self.assertEqual((len(opened), len(locked), len(made)), (1, 1, 1), what)
+        read = places(calls[: made[0]], READS, OLD)
         self.assertTrue(read, f"{what}: the copy is made before the journal is read")
         self.assertLess(opened[0], locked[0], what)
         self.assertLess(locked[0], read[0], what)
         self.assertIn("LOCK_EX|LOCK_NB", calls[locked[0]].words, what)
-        self.assertEqual(covered([calls[it] for it in read]), [range(size)],
+        self.assertEqual(covered([calls[at] for at in read]), [range(size)],
                          f"{what}: read before the copy is made")
-        self.assertEqual(at(WRITES, OLD), [], f"{what}: the journal is written")
-        self.assertIn("O_CREAT|O_EXCL", calls[made[0]].words, what)
-        written, synced = at(WRITES, NEW), at(SYNCS, NEW)
-        own = at(("flock",), NEW)
-        self.assertEqual(len(own), 1, f"{what}: the lock of the copy")
-        self.assertLess(own[0], written[0], f"{what}: written before its lock")
-        self.assertEqual(covered([calls[it] for it in written]), [range(size)], f"{what}: written")
-        self.assertGreater(max(synced, default=-1), written[-1], f"{what}: written behind its sync")
-        self.assertEqual(at(SYNCS, FOLDER), [len(calls) - 1], f"{what}: its folder is synced last")
-        self.assertEqual(at(REMOVES, NEW), [], what)
+        self.assertEqual(places(calls, WRITES, OLD), [], f"{what}: the journal is written")
+        assert_kept(calls, NEW, FOLDER, size)
 
     def test_each_call_that_fails(self) -> None:
         """Where it fails, and each later one of its name, there is no copy, and a line says which

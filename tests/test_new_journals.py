@@ -2,17 +2,18 @@
 from __future__ import annotations
 
 import os
-import re
-import subprocess
+import signal
+from collections import Counter
+from pathlib import Path
 
 from .support.client import payments
-from .support.journal_case import JournalCase
+from .support.journal_case import JOURNAL_FAILED, JournalCase
 from .support.page_journals import RECORD
-from .support.program import NO_LIMITS, SECONDS, Ended, Limits
+from .support.program import NO_LIMITS, Ended, Limits
 from .support.small_files import PAGE, SmallFiles
+from .support.traced_files import Call, assert_kept, traced
 
 CANNOT_MAKE, RECORDS_REFUSED = "journal: cannot make", "records refused"
-CALLS = ("openat", "flock", "ftruncate", "pwrite64", "fsync", "fdatasync", "unlink")
 
 
 class NewJournals(JournalCase):
@@ -80,35 +81,47 @@ class NewJournals(JournalCase):
                 self.assertEqual(small.free(), 0, what)
 
     def test_calls(self) -> None:
-        """It is made where none is, locked, written and synced, and then its folder. Where one of
-        these calls fails, no file is left."""
-        made = self.traced()
-        names = [name for name, _ in made]
-        self.assertEqual(names[:3], ["openat", "flock", "ftruncate"], names)
-        self.assertIn("O_CREAT|O_EXCL", made[0][1])
-        syncs = [at for at, name in enumerate(names) if name in ("fsync", "fdatasync")]
-        writes = [at for at, name in enumerate(names) if name == "pwrite64"]
-        self.assertEqual(len(syncs), 2, names)
-        self.assertTrue(max(writes) < syncs[0] < syncs[1], names)
-        self.assertNotIn("unlink", names)
-        for name in ("flock", "ftruncate", "pwrite64", "fsync", "fdatasync"):
-            self.journal.unlink(missing_ok=True)
-            if name in names:
-                failed = self.traced(f"--inject={name}:error=EIO:when=1+", CANNOT_MAKE)
-                self.assertIn("unlink", [it for it, _ in failed], name)
-                self.assertFalse(self.journal.exists(), name)
+        """It is made, locked, written and synced, and then its folder."""
+        for records in (1, 5000):
+            ended, calls = self.traced(records)
+            self.assert_output(ended, b"", "", "traced")
+            assert_kept(calls, "sub/journal", "sub", RECORD * records)
+            self.assertEqual(self.made.read_bytes(), bytes(RECORD * records))
 
-    def traced(self, inject: str = "--signal=none", fault: str = "") -> list[tuple[str, str]]:
-        """The calls about the journal and behind its making, each with its arguments."""
-        self.journal.unlink(missing_ok=True)
-        trace = self.home / "trace"
-        done = subprocess.run(
-            ["strace", "-f", "-o", trace, f"--trace={','.join(CALLS)}", inject, self.program.path,
-             "new-journal", "journal", "5000"], cwd=self.home, capture_output=True, timeout=SECONDS,
-            check=False)
-        ended = Ended(done.returncode, done.stdout, done.stderr)
-        self.assert_output(ended, b"", fault, inject)
-        calls = re.findall(r"^\d+ +(\w+)\((.*)\) += ", trace.read_text(), re.MULTILINE)
-        first = next(at for at, it in enumerate(calls) if '"journal"' in it[1])
-        trace.unlink()
-        return [it for it in calls[first:] if it[0] != "openat" or '"journal"' in it[1]]
+    def test_each_call_that_fails(self) -> None:
+        """Where it fails, and each later one of its name, no file is left."""
+        calls = self.traced(5000)[1]
+        for call in calls:
+            ended, changed = self.traced(5000, f"inject={call.name}:error=EIO:when={call.count}+")
+            self.assertTrue(any(it.is_changed for it in changed), str(call))
+            self.assert_output(ended, b"", CANNOT_MAKE, str(call))
+            self.assertEqual([*self.made.parent.iterdir()], [], str(call))
+        self.tells(", ".join(map(str, calls)))
+
+    def test_killed_in_each_call(self) -> None:
+        """What is left is absent, whole, or no journal."""
+        found = Counter[str]()
+        for call in self.traced(5000)[1]:
+            ended, _ = self.traced(5000, f"inject={call.name}:signal=KILL:when={call.count}")
+            self.assertEqual(ended.status, -signal.SIGKILL, f"killed in {call}")
+            found[self.judge(f"killed in {call}")] += 1
+        self.assertEqual(set(found), {"absent", "refused", "whole"})
+
+    def judge(self, what: str) -> str:
+        left = self.made.read_bytes() if self.made.exists() else None
+        if left in (None, bytes(RECORD * 5000)):
+            return "absent" if left is None else "whole"
+        self.check(("serve", "bank.toml", "--journal", self.made), [], b"", JOURNAL_FAILED, what=what)
+        return "refused"
+
+    @property
+    def made(self) -> Path:
+        return self.home / "sub" / "journal"
+
+    def traced(self, records: int, *changes: str) -> tuple[Ended, list[Call]]:
+        """How a journal is made anew where strace makes these changes, and the calls on it and its
+        folder."""
+        self.made.parent.mkdir(exist_ok=True)
+        self.made.unlink(missing_ok=True)
+        words = (self.program.path, "new-journal", "sub/journal", str(records))
+        return traced(words, self.home, self.folder() / "trace", "sub/journal", changes)
