@@ -345,6 +345,9 @@ class Memory(ExplainCase):
         self.write("bad.toml", BANK.replace(b"log = 100", b"log = 0").ljust(LONGEST, b"#"))
         for words in (["kcv", "x"], ["run", "bad.toml", SCRIPT], ["run", "long.toml", SCRIPT],
                       ["kcv", "@missing"], ["show", "log", "logs/of_31_bytes.log"],
+                      ["show", "journal", "long.toml"], ["new-journal", "bank.toml", "3000"],
+                      ["copy-journal", "logs/of_33_bytes.log", "new"],
+                      ["serve", "bank.toml", "--journal", "logs/of_33_bytes.log"],
                       ["derive", *["0" * 50_000] * 4]):
             ample = self.run_with([EXPLAIN, *words], limits=Limits(memory=AMPLE))
             for _ in range(40 * self.times):

@@ -4,13 +4,16 @@ from __future__ import annotations
 from typing import Optional, Sequence
 
 from .support.bank import BANK, LONGEST, BankCase
+from .support.client import payments
 from .support.dukpt import SPENT
 from .support.everyday_rows import BASE
 from .support.images import log_disk
 from .support.issuing import numbers_from
 from .support.little_memory import AMPLE, OUT_OF_MEMORY, PAGE, least_to_start
+from .support.model_journal import payments_of_all
+from .support.page_journals import RECORD, journal_of
 from .support.program import Ended, Limits, Word, spoken
-from .support.shown import log_ended
+from .support.shown import journal_ended, log_ended
 from .test_lost_output import WRITERS
 
 # Of the bytes of a word that a system takes.
@@ -19,18 +22,22 @@ LONGEST_WORD = 100_000
 NEAR = 4 * PAGE
 
 
-class LittleMemory(BankCase):
+class MemoryCase(BankCase):
     """With any size with which the program starts at all, a command is done, or it reports that it
     is out of memory behind the first lines."""
 
     weight = 6
 
+    def behind(self, is_done: bool, what: str) -> None:
+        """Looks at what a run left."""
+
     def try_size(self, words: Sequence[Word], output: bytes, memory: int) -> Optional[int]:
         """How many bytes were written before memory was refused; `None` where it was not."""
         ended = self.program.run(*words, folder=self.home, limits=Limits(memory=memory))
+        what = f"{spoken(words)} with {memory >> 10} KiB"
+        self.behind(ended.status == 0, what)
         if ended == Ended(0, output, b""):
             return None
-        what = f"{spoken(words)} with {memory >> 10} KiB"
         self.assertEqual((ended.status, ended.faults), (1, OUT_OF_MEMORY), what)
         is_front = output.startswith(ended.output) and ended.output[-1:] in (b"", b"\n")
         self.assertTrue(is_front, f"{what}: the output is no first lines: {ended}")
@@ -53,6 +60,10 @@ class LittleMemory(BankCase):
         self.tells(f"{words[0]}: out of memory {len(told)} times, "
                    f"{least >> 10} to {ample >> 10} KiB")
         return told
+
+
+class LittleMemory(MemoryCase):
+    """Commands over no journal."""
 
     def test_a_shown_log(self) -> None:
         """All of it is printed, or nothing."""
@@ -134,6 +145,43 @@ class LittleMemory(BankCase):
                 tried += written > 0
         self.assertGreater(tried, 0, "no line was written before memory was refused")
         self.tells(f"{tried} sizes")
+
+
+class JournalMemory(MemoryCase):
+    """A journal is shown, copied or made whole, or not at all: where memory is refused no file is left. A
+    service over a journal stands in `test_journal_memory`."""
+
+    def setUp(self) -> None:
+        super().setUp()
+        # Every second number, since those in order take little.
+        kept = payments_of_all(payments(6000)[::2])
+        self.image = journal_of([[it] for it in kept], 50)
+        self.write("journal", self.image)
+        # What a run makes, where it is done.
+        self.wanted = b""
+
+    def behind(self, is_done: bool, what: str) -> None:
+        self.assertEqual((self.home / "journal").read_bytes(), self.image, what)
+        made = self.home / "made"
+        left = made.read_bytes() if made.exists() else b""
+        self.assertEqual(left, self.wanted if is_done else b"", f"{what}: {len(left)} bytes are left")
+        self.assertTrue(left or not made.exists(), f"{what}: an empty file is left")
+        made.unlink(missing_ok=True)
+
+    def test_a_shown_journal(self) -> None:
+        """All of it is printed, or nothing."""
+        told = self.try_sizes(("show", "journal", "journal"), journal_ended(self.image).output, 20)
+        self.assertEqual(set(told), {0})
+
+    def test_a_copy(self) -> None:
+        self.wanted = self.image
+        self.assertEqual(set(self.try_sizes(("copy-journal", "journal", "made"), b"", 20)), {0})
+
+    def test_a_new_journal(self) -> None:
+        """It takes the memory of a piece of zeros."""
+        self.wanted = bytes(3000 * RECORD)
+        told = self.try_sizes(("new-journal", "made", "3000"), b"", 20)
+        self.assertLessEqual(set(told), {0})
 
 
 def lines_of_begins(count: int) -> bytes:
