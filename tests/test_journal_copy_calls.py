@@ -20,7 +20,7 @@ from .support.page_journals import RECORD
 from .support.program import Ended, Word
 from .support.small_files import PAGE, SmallFiles
 from .support.traced_files import (
-    OPENS, READS, REMOVES, WRITES, Call, assert_kept, covered, places, traced)
+    OPENS, READS, REMOVES, SYNCS, WRITES, Call, assert_kept, covered, places, traced)
 from .test_copy_journals import CANNOT_MAKE, CopyCase, copied
 
 OLD, NEW, FOLDER = "journal", "sub/copy", "sub"
@@ -72,6 +72,22 @@ class Calls(CallCase):
                          f"{what}: read before the copy is made")
         self.assertEqual(places(calls, WRITES, OLD), [], f"{what}: the journal is written")
         assert_kept(calls, NEW, FOLDER, size)
+
+    def test_syncs_for_a_loss_of_power(self) -> None:
+        """It leaves any of the writes since the last sync. So a file that has no journal's size, or begins
+        as none does, is synced before it gets its size; and all of a copy but a last write of a record
+        or less is synced before that one."""
+        for kept, room in ((3, 7), (PIECE + 52, 2 * PIECE + 100)):
+            self.make_journal(room, alone(payments_of_all(payments(kept))))
+            calls, what = self.traced()[1], f"{kept} of {room}"
+            written, synced = places(calls, WRITES, NEW), places(calls, SYNCS, NEW)
+            sized = [at for at in written if calls[at].name == "ftruncate"]
+            self.assertLessEqual(len(calls[written[-1]].span), RECORD, f"{what}: the last write")
+            for last in (*sized, written[-1]):
+                before = max((at for at in written if at < last), default=-1)
+                self.assertTrue(any(before < at < last for at in synced),
+                                f"{what}: no sync before {calls[last]} ({calls[last].count})")
+            (self.made / "copy").unlink()
 
     def test_each_call_that_fails(self) -> None:
         """Where it fails, and each later one of its name, there is no copy, and a line says which

@@ -19,10 +19,13 @@ class CopyWay(Enum):
     at its end, or its first record is none that a journal has."""
 
     LAST_BYTE_LAST = "all but the last byte, sync, the last byte, sync, folder"
-    MARKED = "an open record of no kind, its size, all but the first record, sync, that record, sync, folder"
+    MARKED = ("the first byte of an open record, sync, its size, all but the first record, sync, that "
+              "record, sync, folder")
     FIRST_TO_LAST = "its size, pieces from the first to the last"
     FRONT_LAST = "its size, pieces from the last to the first"
-    MARKED_FRONT_LAST = "an open record of no kind, its size, pieces from the last to the first"
+    MARKED_FRONT_LAST = "the first byte of an open record, its size, pieces from the last to the first"
+    MARK_NOT_SYNCED = "that byte is not synced before the size"
+    LAST_WITH_THE_REST = "nothing is synced before the last small write"
     MADE_FIRST = "the copy is made before the journal is read"
     READS_A_PART = "what the journal keeps is read, and no more"
     LOCKED_LATE = "the copy is locked behind its first write"
@@ -89,11 +92,14 @@ class Copy:
         if way in (CopyWay.FIRST_TO_LAST, CopyWay.NO_ZEROS):
             os.ftruncate(self.file, size)
             write(self.file, self.image, 0, self.kept if way is CopyWay.NO_ZEROS else size)
-        elif way in (CopyWay.FRONT_LAST, CopyWay.MARKED, CopyWay.MARKED_FRONT_LAST):
+        elif way in (CopyWay.FRONT_LAST, CopyWay.MARKED, CopyWay.MARKED_FRONT_LAST,
+                     CopyWay.MARK_NOT_SYNCED):
             if way is not CopyWay.FRONT_LAST:
                 os.pwrite(self.file, b"\x01", 0)
+            if way is not CopyWay.MARK_NOT_SYNCED:
+                self.sync()
             os.ftruncate(self.file, size)
-            first = RECORD if way is CopyWay.MARKED else 0
+            first = RECORD if way in (CopyWay.MARKED, CopyWay.MARK_NOT_SYNCED) else 0
             for at in reversed(range(first, size, PIECE)):
                 write(self.file, self.image, at, min(at + PIECE, size))
         else:
@@ -104,7 +110,7 @@ class Copy:
 
     def end(self) -> None:
         """The last small write."""
-        if self.way is CopyWay.MARKED:
+        if self.way in (CopyWay.MARKED, CopyWay.MARK_NOT_SYNCED):
             write(self.file, self.image, 0, min(RECORD, len(self.image)))
         elif self.way not in (CopyWay.FIRST_TO_LAST, CopyWay.NO_ZEROS, CopyWay.FRONT_LAST,
                               CopyWay.MARKED_FRONT_LAST):
@@ -121,7 +127,8 @@ class Copy:
 
     def run(self) -> None:
         self.fill()
-        self.sync()
+        if self.way is not CopyWay.LAST_WITH_THE_REST:
+            self.sync()
         self.end()
         if self.way is CopyWay.FOLDER_FIRST:
             self.sync_folder()
