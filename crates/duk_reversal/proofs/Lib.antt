@@ -1,0 +1,2 @@
+mod PlacesOfNumbers
+mod OneReading

@@ -1,0 +1,6 @@
+pub mod Numbers
+pub mod State
+pub mod Reversal
+pub mod Reply
+pub mod Authentic
+pub mod Answer
