@@ -9,10 +9,12 @@ use Rattle.duk_store.specs.Cell.{CellMeaning, IsPut, Kept, PutFailed}
 use Rattle.duk_store.specs.StoreState.{StoreState}
 use Rattle.duk_store.specs.declared.fault.StoreFault.{StoreFault}
 use Rattle.duk_store.specs.declared.fault.StoreFault.TheVariants as store_fault
+use Rattle.duk_tree.specs.Serial.{Serial}
 use Rattle.duk_term.specs.Begin.{BeginRefused, TakesFrom}
 use Rattle.duk_term.specs.Body.{body_bytes}
 use Rattle.duk_term.specs.Load.{IsFirstSet, IsTerminalLoaded, KeepsState, LoadRefused, Loading, MayTake}
 use Rattle.duk_term.specs.Loading.{term_fault_of}
+use Rattle.duk_term.specs.Reversal.{MayReverse, ReversalRefused}
 use Rattle.duk_term.specs.Terminal.{HasRegistersIn, PromisesBody, TerminalOf}
 use Rattle.duk_term.specs.inner.Terminal.{Agrees, CellHoldsRegisters, IsImageNotKept}
 use Rattle.duk_term.specs.declared.fault.TermFault.{TermFault}
@@ -55,6 +57,15 @@ begin_stopped meaning old mid new set left key (fault.Store why) agrees takes ce
       };
     }
 begin_stopped meaning old mid new set left key _ agrees takes cell left_are not = absurd not
+
+-- nor does a reversal
+pub reversal_stopped :
+    {C : Type 0} (meaning : CellMeaning C) (reversed : Serial) (old mid new : TerminalOf C) (set left : RegisterSet) (key : List ℕ) (why : TermFault) → Agrees (meaning.state_of old.cell) old.state
+    → MayReverse old.state reversed → TakesFrom old.state set key left → mid.cell ≡ old.cell → HaveSixteenBytes left.registers → IsImageNotKept meaning (body_bytes left) mid new why
+    → ReversalRefused meaning reversed old new why
+reversal_stopped meaning reversed old mid new set left key (fault.Store why) agrees may takes cell left_are not =
+    record { may = may; stopped = begin_stopped meaning old mid new set left key (fault.Store why) agrees takes cell left_are not }
+reversal_stopped meaning reversed old mid new set left key _ agrees may takes cell left_are not = absurd not
 
 -- what the cell of a running terminal keeps
 kept_by_state : (cell : StoreState Kept) (state : State) (kept : Kept) → state ≢ Stopped → Agrees cell state → cell.honest → cell.found kept → KeepsState state kept

@@ -1,2 +1,3 @@
 pub mod BodyIsFoundAgain
 mod ImageNotKept
+mod Reversals

@@ -6,5 +6,6 @@ pub mod Restart
 pub mod Load
 pub mod Begin
 pub mod Reply
+pub mod Reversal
 pub mod View
 pub mod inner

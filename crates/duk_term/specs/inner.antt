@@ -1,3 +1,4 @@
 pub mod Begin
 pub mod Load
+pub mod Reversal
 pub mod Terminal

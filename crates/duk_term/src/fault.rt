@@ -30,7 +30,8 @@ pub enum TermFault {
     Malformed,
     /// No transaction is pending.
     NotPending,
-    /// The answer is to another key serial number than the pending one.
+    /// The answer is to another key serial number than the pending one, or the number that is to be
+    /// reversed is none that the terminal used under its initial key serial number.
     NotMine,
     /// The MAC of the reply is not that of the host.
     BadMac,

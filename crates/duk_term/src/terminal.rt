@@ -9,12 +9,13 @@ ghost use Rattle.duk_term.specs.Body.{body_bytes};
 ghost use Rattle.duk_store.specs.Cell.{IsPut};
 ghost use Rattle.duk_term.specs.Load.{IsTerminalLoaded, LoadRefused, loading_of};
 ghost use Rattle.duk_term.specs.Reply.{ReportsAnswer, ReplyRefused, after_answer};
+ghost use Rattle.duk_term.specs.Reversal.{IsReversalBegun, ReportsReversal, ReversalRefused, ReversalReplyRefused, after_reversal, pending_number_of};
 ghost use Rattle.duk_term.specs.Restart.{IsTerminalRestarted, TerminalRestartRefused};
 ghost use Rattle.duk_term.specs.Terminal.{PromisesBody, next_of};
 ghost use Rattle.duk_term.specs.inner.Terminal.{IsImageNotKept};
 ghost use Rattle.duk_term.specs.declared.state.State.TheVariants as state;
 
-use crate::answer::{Answer, Begun, Next};
+use crate::answer::{Answer, Begun, Next, ReversalAnswer};
 use crate::body::{body_of, registers_in};
 use crate::fault::TermFault;
 use crate::purchase::Purchase;
@@ -22,9 +23,10 @@ use crate::state::{Pending, State};
 use duk_block::{KeyUse, unwrap_double_for};
 use duk_frame::{Frame, payment_request};
 use duk_regs::Registers;
+use duk_reversal::reversal_under;
 use duk_store::{Cell, StoreFault};
 use duk_tdes::Key;
-use duk_tree::{Iksn, response_key};
+use duk_tree::{Iksn, Ksn, response_key};
 use std::marker::Model;
 
 /// A terminal: it keeps the image of its registers in a cell. It is made stopped.
@@ -195,6 +197,62 @@ impl<C: Cell> Terminal<C> {
     {
         let answer = self.state.judge(bytes)?;
         if let Answer::Done(_) = answer {
+            self.state.complete();
+        }
+        Ok(answer)
+    }
+
+    /// Begins the reversal of a number that the terminal used: takes the next number, keeps the image
+    /// of the registers that are left, and only then hands out the reversal's frame. What was
+    /// pending is given up, and the reversal is pending under the number taken.
+    ///
+    /// Refused with, in this order: `Stopped`; `NotLoaded`; `Spent`; `NotMine`, where the terminal
+    /// did not use the number under its initial key serial number; `Store`, where the image could
+    /// not be kept, and then the terminal is stopped. The others change nothing.
+    pub fn begin_reversal(&mut self, reversed: Ksn) -> Result<Begun, TermFault>
+        ensures begun { IfOk result (λ begun. IsReversalBegun
+            C.meaning reversed begun.ksn begun.frame.items self.old self.new) }
+        ensures after_put { IfOk result (λ _. PromisesBody C.meaning self.new) }
+        ensures refused { IfErr result
+            (ReversalRefused C.meaning reversed self.old self.new) }
+    {
+        let numbers = self.state.reversal_of(reversed)?;
+        let (key, number, left) = self.state.take_number()?;
+        let begun = Begun {
+            ksn: number,
+            frame: reversal_under(&key, numbers),
+        };
+        let reversal = Pending::of_number(number, &key);
+        self.keep(left, Some(reversal))?;
+        Ok(begun)
+    }
+
+    /// The number of the transaction or the reversal that is pending, if one is.
+    pub fn pending_number(&self) -> Option<Ksn>
+        ensures { result ≡ pending_number_of self.now.state }
+    {
+        self.state.pending_number()
+    }
+
+    /// Takes what came back to the reversal of this number: the reply to it ends the pending
+    /// reversal, and a refusal leaves it pending.
+    ///
+    /// Refused with, in this order, and nothing changes: `Stopped`; `Malformed`, where the bytes
+    /// are neither a reply to a reversal nor a refusal; `NotPending`; `NotMine`, where the answer
+    /// has another key serial number, or the reply another reversed one; `BadMac`, of a reply.
+    pub fn reversal_reply(
+        &mut self,
+        reversed: Ksn,
+        bytes: &[u8],
+    ) -> Result<ReversalAnswer, TermFault>
+        ensures reported { IfOk result (ReportsReversal self.old.state reversed bytes.now) }
+        ensures answered { IfOk result (λ answer. self.new
+            ≡ record { cell = self.old.cell; state = after_reversal self.old.state answer }) }
+        ensures refused { IfErr result (ReversalReplyRefused self.old.state reversed bytes.now) }
+        ensures same { IfErr result (λ _. self.new ≡ self.old) }
+    {
+        let answer = self.state.judge_reversal(reversed, bytes)?;
+        if let ReversalAnswer::Done(_) = answer {
             self.state.complete();
         }
         Ok(answer)
