@@ -3,8 +3,9 @@ use Rattle.std.proofs.Common.{◌≡◌, ◌∙◌, ◌+◌, ◌*◌, ◌-◌, �
 use Rattle.std.proofs.Math.Seq.{take-add, take-append_seam}
 use Rattle.std.proofs.lemmas.List.{drop-append-le, drop-take, get_or-drop, get_or-take, length-take-le, places, take-append-le}
 use Rattle.duk_journal.specs.DiskJournal.{disk_journal_state}
-use Rattle.duk_journal.specs.Groups.{AreKeptFrom, KeepsPayments, Payments}
-use Rattle.duk_journal.specs.RecordFormat.{IsOpen, gate_of, record_at}
+use Rattle.duk_journal.specs.Groups.{AreKeptFrom, HasContents, KeepsPayments, Payments}
+use Rattle.duk_journal.specs.RecordFormat.{IsOpen, after_gate, contents_of, gate_of, record_at}
+use Rattle.duk_journal.specs.declared.payment.Payment.{Payment}
 use Rattle.duk_store.specs.Disk.{DiskState, LeavesReads}
 use Rattle.duk_store.specs.StoreState.{FindsOnly}
 
@@ -72,3 +73,17 @@ finds_them one_list disk bytes payments leaves reads keeps other = (
       (subst (λ (b : List ℕ). KeepsPayments b other) ((leaves found.0).0 found.1 ∙ reads) found.2) keeps,
   λ same. (bytes, (leaves bytes).1 (sym reads), subst (λ (p : Payments). KeepsPayments bytes p) (sym same) keeps),
 )
+
+-- an open record of zeros is the first of no group
+open_zeros : (first : List ℕ) → first ≡ 1 ∷ replicate 31 0 → IsOpen first
+open_zeros first is = ap gate_of is
+
+no_contents : (followers : ℕ) (payment : Payment) (first : List ℕ) → first ≡ 1 ∷ replicate 31 0 → ¬ HasContents followers payment first
+unfolding contents_of
+no_contents followers payment first is has =
+    let kind : 0 ≡ 1 = ap (λ (l : List ℕ). get_or l 0 0) (ap after_gate (sym is) ∙ has.written) in
+    omega (arith, kind)
+
+pub none_kept : (bytes : List ℕ) (payments : Payments) → take 32 bytes ≡ 1 ∷ replicate 31 0 → ¬ KeepsPayments bytes payments
+none_kept bytes [] first are = are 0 (omega arith) (open_zeros (record_at 0 bytes) first)
+none_kept bytes (p ∷ later) first are = no_contents are.0 p (record_at 0 bytes) first are.2

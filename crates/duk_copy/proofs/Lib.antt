@@ -1,2 +1,5 @@
+mod Copied
 mod KeptFront
-mod Zeroed
+mod Results
+mod WrittenDisks
+mod WrittenLists

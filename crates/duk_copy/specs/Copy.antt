@@ -1,18 +1,27 @@
 -- A journal's disk that is written with what another keeps: this project's own.
-use Rattle.std.specs.Prelude.{◌≡◌, ℕ, None, length}
+use Rattle.std.specs.Prelude.{◌≡◌, ◌*◌, ◌-◌, ◌++◌, List, ℕ, None, length, replicate, take}
 use Rattle.duk_copy.specs.declared.copy.CopyFault.{CopyFault}
 use Rattle.duk_copy.specs.declared.copy.CopyFault.TheVariants as fault
 use Rattle.duk_journal.specs.DiskJournal.{disk_journal_state}
 use Rattle.duk_journal.specs.Groups.{KeepsPayments, Payments}
-use Rattle.duk_store.specs.Disk.{DiskState, HasFailed, PreservesDisk}
+use Rattle.duk_journal.specs.RecordFormat.{record_length}
+use Rattle.duk_store.specs.Disk.{DiskState, HasFailed, LeavesReads, PreservesDisk}
 use Rattle.duk_store.specs.StoreState.{FindsOnly}
 use Rattle.duk_store.specs.declared.fault.StoreFault.TheVariants.{Device}
 
--- a disk is written anew, over all its bytes: a journal over it finds the payments that the old disk
--- keeps, which are so many, and nothing else, whenever it is stopped
+-- the bytes of a copy of this size: the first records of a journal, so many, and zeros behind them
+abbrev pub copied_bytes : ℕ → ℕ → List ℕ → List ℕ
+copied_bytes kept size bytes =
+    take (record_length * kept) bytes ++ replicate (size - record_length * kept) 0
+
+-- a disk is written anew, over all its bytes, and a stop leaves what was written. A journal over it
+-- finds the payments that the old disk keeps, which are so many, and nothing else, whenever it is
+-- stopped
 pub record IsCopied (kept : ℕ) (old before after : DiskState) : Type 0 where
   pub nature : PreservesDisk before after
   pub no_failure : after.failures ≡ before.failures
+  pub bytes : old.honest → before.honest → after.reads ≡ copied_bytes kept before.size old.reads
+  pub leaves : before.honest → LeavesReads after
   pub keeps : old.honest → before.honest → (payments : Payments)
       → KeepsPayments old.reads payments → length payments ≡ kept
       → FindsOnly (disk_journal_state after None) payments

@@ -1,3 +1,4 @@
 pub mod Blank
 pub mod Copy
+pub mod InPart
 pub mod inner

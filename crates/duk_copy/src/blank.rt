@@ -1,17 +1,20 @@
 //! A journal that keeps nothing: zeros over all of a disk.
 
-ghost use Rattle.std.specs.Prelude.{◌≡◌, ◌≤◌, replicate, IfErr, OnOk};
-ghost use Rattle.duk_store.specs.Disk.{HasFailed};
+ghost use Rattle.std.specs.Prelude.{◌≡◌, ◌≤◌, replicate, IfErr, OnErr, OnOk};
+ghost use Rattle.duk_store.specs.Disk.{HasFailed, PreservesDisk};
 ghost use Rattle.duk_copy.specs.Blank.{IsBlankWritten};
-ghost use Rattle.duk_copy.specs.inner.Blank.{AreZerosKept, AreZerosWritten};
+ghost use Rattle.duk_copy.specs.InPart.{LeavesInPart};
+ghost use Rattle.duk_copy.specs.inner.Blank.{AreZerosKept, AreZerosWritten, LeavesOutside};
 
+use duk_journal::RECORD_LENGTH;
 use duk_store::{Disk, StoreFault};
 
 /// The bytes of a piece: what is written to a disk at once.
 pub const PIECE_LENGTH: usize = 65_536;
 
 /// Writes zeros over all bytes of a disk, whatever they were, a piece of zeros at a time, and syncs
-/// them. A journal over it keeps nothing then.
+/// them. A journal over it keeps nothing then. The first record is written last, once all behind it
+/// is synced.
 ///
 /// Refused with `Device` where a device step failed.
 pub fn write_blank<D: Disk>(disk: &mut D, zeros: &[u8]) -> Result<(), StoreFault>
@@ -20,36 +23,56 @@ pub fn write_blank<D: Disk>(disk: &mut D, zeros: &[u8]) -> Result<(), StoreFault
         (D.meaning.state_of disk.old) (D.meaning.state_of disk.new)) }
     ensures failed { IfErr result
         (HasFailed (D.meaning.state_of disk.old) (D.meaning.state_of disk.new)) }
+    ensures in_part { OnErr result
+        (LeavesInPart (replicate (D.meaning.state_of disk.old).size 0)
+        (D.meaning.state_of disk.old) (D.meaning.state_of disk.new)) }
 {
-    write_rest(disk, zeros, 0)
+    let size = disk.size();
+    let first = size.min(RECORD_LENGTH as u64);
+    write_synced(disk, zeros, first, size)?;
+    write_synced(disk, zeros, 0, first)
 }
 
-/// Writes zeros over all bytes of a disk from a place on, and syncs it.
-pub(crate) fn write_rest<D: Disk>(disk: &mut D, zeros: &[u8], from: u64) -> Result<(), StoreFault>
+/// Writes zeros over the bytes of a disk from one place to another, and syncs it.
+pub(crate) fn write_synced<D: Disk>(
+    disk: &mut D,
+    zeros: &[u8],
+    from: u64,
+    to: u64,
+) -> Result<(), StoreFault>
     requires zeros { zeros.now ≡ replicate 65536 0 }
-    requires inside { from ≤ (D.meaning.state_of disk.old).size }
-    ensures written { OnOk result (AreZerosKept from
+    requires order { from ≤ to }
+    requires inside { to ≤ (D.meaning.state_of disk.old).size }
+    ensures written { OnOk result (AreZerosKept from to
         (D.meaning.state_of disk.old) (D.meaning.state_of disk.new)) }
     ensures failed { IfErr result
         (HasFailed (D.meaning.state_of disk.old) (D.meaning.state_of disk.new)) }
+    ensures nature { PreservesDisk
+        (D.meaning.state_of disk.old) (D.meaning.state_of disk.new) }
+    ensures outside { LeavesOutside from to
+        (D.meaning.state_of disk.old) (D.meaning.state_of disk.new) }
 {
-    write_zeros(disk, zeros, from)?;
+    write_zeros(disk, zeros, from, to)?;
     disk.sync()
 }
 
-/// Writes zeros over all bytes of a disk from a place on.
-fn write_zeros<D: Disk>(disk: &mut D, zeros: &[u8], from: u64) -> Result<(), StoreFault>
+/// Writes zeros over the bytes of a disk from one place to another.
+fn write_zeros<D: Disk>(disk: &mut D, zeros: &[u8], from: u64, to: u64) -> Result<(), StoreFault>
     requires zeros { zeros.now ≡ replicate 65536 0 }
-    requires inside { from ≤ (D.meaning.state_of disk.old).size }
-    ensures written { OnOk result (AreZerosWritten from
+    requires order { from ≤ to }
+    requires inside { to ≤ (D.meaning.state_of disk.old).size }
+    ensures written { OnOk result (AreZerosWritten from to
         (D.meaning.state_of disk.old) (D.meaning.state_of disk.new)) }
     ensures failed { IfErr result
         (HasFailed (D.meaning.state_of disk.old) (D.meaning.state_of disk.new)) }
+    ensures nature { PreservesDisk
+        (D.meaning.state_of disk.old) (D.meaning.state_of disk.new) }
+    ensures outside { LeavesOutside from to
+        (D.meaning.state_of disk.old) (D.meaning.state_of disk.new) }
 {
-    let size = disk.size();
     let mut at = from;
-    while at < size {
-        let count = (size - at).min(PIECE_LENGTH as u64);
+    while at < to {
+        let count = (to - at).min(PIECE_LENGTH as u64);
         disk.write_at(at, &zeros[..count as usize])?;
         at += count;
     }

@@ -1,11 +1,13 @@
 //! A journal that keeps what another does.
 
-ghost use Rattle.std.specs.Prelude.{◌≡◌, ◌+◌, ◌*◌, ◌≤◌, length, replicate, IfErr, OnOk};
+ghost use Rattle.std.specs.Prelude.{◌≡◌, ◌+◌, ◌*◌, ◌≤◌, length, replicate, IfErr, OnErr, OnOk};
 ghost use Rattle.duk_store.specs.Disk.{PreservesBytes, PreservesDisk};
-ghost use Rattle.duk_copy.specs.Copy.{CopyFailed, IsCopied};
-ghost use Rattle.duk_copy.specs.inner.Copy.{AreBytesCopied, BytesUncopied, IsPieceCopied};
+ghost use Rattle.duk_copy.specs.Copy.{CopyFailed, IsCopied, copied_bytes};
+ghost use Rattle.duk_copy.specs.InPart.{LeavesInPart};
+ghost use Rattle.duk_copy.specs.inner.Blank.{LeavesOutside};
+ghost use Rattle.duk_copy.specs.inner.Copy.{AreBytesCopied, BytesUncopied, IsFirstCopied, IsRestCopied};
 
-use crate::blank::{PIECE_LENGTH, write_rest};
+use crate::blank::{PIECE_LENGTH, write_blank, write_synced};
 use duk_journal::RECORD_LENGTH;
 use duk_store::Disk;
 
@@ -20,7 +22,7 @@ pub enum CopyFault {
 
 /// Writes the records that a journal keeps, so many, over the front of another disk, in pieces, and
 /// zeros over all bytes behind them, and syncs them. A journal over that disk keeps the same payments
-/// then.
+/// then. The first record is written last, once all behind it is synced.
 ///
 /// Refused where a device step failed.
 pub fn write_copy<D: Disk, E: Disk>(
@@ -41,37 +43,101 @@ pub fn write_copy<D: Disk, E: Disk>(
         (E.meaning.state_of new.old) (E.meaning.state_of new.new)) }
     ensures nature { PreservesDisk (D.meaning.state_of old.old) (D.meaning.state_of old.new) }
     ensures bytes { PreservesBytes (D.meaning.state_of old.old) (D.meaning.state_of old.new) }
+    ensures in_part { OnErr result ((D.meaning.state_of old.old).honest → LeavesInPart
+        (copied_bytes kept (E.meaning.state_of new.old).size (D.meaning.state_of old.old).reads)
+        (E.meaning.state_of new.old) (E.meaning.state_of new.new)) }
 {
     duk_journal::laws::one_list();
     let _size = old.size();
-    let bytes = RECORD_LENGTH as u64 * kept;
-    copy_bytes(old, bytes, new, piece)?;
-    match write_rest(new, zeros, bytes) {
-        Ok(()) => Ok(()),
-        Err(_) => Err(CopyFault::New),
+    if kept == 0 {
+        return match write_blank(new, zeros) {
+            Ok(()) => Ok(()),
+            Err(_) => Err(CopyFault::New),
+        };
     }
+    let bytes = RECORD_LENGTH as u64 * kept;
+    copy_rest(old, bytes, new, zeros, piece)?;
+    copy_first(old, new, piece)
 }
 
-/// Writes the first bytes of a disk, so many, over those of another.
-fn copy_bytes<D: Disk, E: Disk>(
+/// Writes the bytes of a disk behind the first record over those of another, up to a place, and zeros
+/// from there on, and syncs them.
+fn copy_rest<D: Disk, E: Disk>(
     old: &mut D,
-    bytes: u64,
+    to: u64,
     new: &mut E,
+    zeros: &[u8],
     piece: &mut [u8],
 ) -> Result<(), CopyFault>
+    requires zeros { zeros.now ≡ replicate 65536 0 }
     requires piece { length piece.old ≡ 65536 }
-    requires inside { bytes ≤ (D.meaning.state_of old.old).size }
-    requires room { bytes ≤ (E.meaning.state_of new.old).size }
-    ensures copied { OnOk result (AreBytesCopied bytes
+    requires some { 32 ≤ to }
+    requires inside { to ≤ (D.meaning.state_of old.old).size }
+    requires room { to ≤ (E.meaning.state_of new.old).size }
+    ensures copied { OnOk result (IsRestCopied to
         (D.meaning.state_of old.old) (D.meaning.state_of old.new)
         (E.meaning.state_of new.old) (E.meaning.state_of new.new)) }
     ensures failed { IfErr result (BytesUncopied
         (D.meaning.state_of old.old) (D.meaning.state_of old.new)
         (E.meaning.state_of new.old) (E.meaning.state_of new.new)) }
+    ensures outside { LeavesOutside 32 (E.meaning.state_of new.old).size
+        (E.meaning.state_of new.old) (E.meaning.state_of new.new) }
+    ensures length { length piece.new ≡ length piece.old }
 {
-    let mut at = 0;
-    while at < bytes {
-        let count = (bytes - at).min(PIECE_LENGTH as u64);
+    copy_bytes(old, RECORD_LENGTH as u64, to, new, piece)?;
+    let end = new.size();
+    match write_synced(new, zeros, to, end) {
+        Ok(()) => Ok(()),
+        Err(_) => Err(CopyFault::New),
+    }
+}
+
+/// Writes the first record of a disk over that of another, and syncs it.
+fn copy_first<D: Disk, E: Disk>(old: &mut D, new: &mut E, piece: &mut [u8]) -> Result<(), CopyFault>
+    requires piece { length piece.old ≡ 65536 }
+    requires inside { 32 ≤ (D.meaning.state_of old.old).size }
+    requires room { 32 ≤ (E.meaning.state_of new.old).size }
+    ensures copied { OnOk result (IsFirstCopied
+        (D.meaning.state_of old.old) (D.meaning.state_of old.new)
+        (E.meaning.state_of new.old) (E.meaning.state_of new.new)) }
+    ensures failed { IfErr result (BytesUncopied
+        (D.meaning.state_of old.old) (D.meaning.state_of old.new)
+        (E.meaning.state_of new.old) (E.meaning.state_of new.new)) }
+    ensures outside { LeavesOutside 0 32
+        (E.meaning.state_of new.old) (E.meaning.state_of new.new) }
+{
+    copy_piece(old, 0, new, &mut piece[..RECORD_LENGTH])?;
+    match new.sync() {
+        Ok(()) => Ok(()),
+        Err(_) => Err(CopyFault::New),
+    }
+}
+
+/// Writes the bytes of a disk from one place to another over those of another disk.
+fn copy_bytes<D: Disk, E: Disk>(
+    old: &mut D,
+    from: u64,
+    to: u64,
+    new: &mut E,
+    piece: &mut [u8],
+) -> Result<(), CopyFault>
+    requires piece { length piece.old ≡ 65536 }
+    requires order { from ≤ to }
+    requires inside { to ≤ (D.meaning.state_of old.old).size }
+    requires room { to ≤ (E.meaning.state_of new.old).size }
+    ensures copied { OnOk result (AreBytesCopied from to
+        (D.meaning.state_of old.old) (D.meaning.state_of old.new)
+        (E.meaning.state_of new.old) (E.meaning.state_of new.new)) }
+    ensures failed { IfErr result (BytesUncopied
+        (D.meaning.state_of old.old) (D.meaning.state_of old.new)
+        (E.meaning.state_of new.old) (E.meaning.state_of new.new)) }
+    ensures outside { LeavesOutside from to
+        (E.meaning.state_of new.old) (E.meaning.state_of new.new) }
+    ensures length { length piece.new ≡ length piece.old }
+{
+    let mut at = from;
+    while at < to {
+        let count = (to - at).min(PIECE_LENGTH as u64);
         copy_piece(old, at, new, &mut piece[..count as usize])?;
         at += count;
     }
@@ -88,12 +154,14 @@ fn copy_piece<D: Disk, E: Disk>(
 ) -> Result<(), CopyFault>
     requires inside { at + length piece.old ≤ (D.meaning.state_of old.old).size }
     requires room { at + length piece.old ≤ (E.meaning.state_of new.old).size }
-    ensures copied { OnOk result (IsPieceCopied at (length piece.old)
+    ensures copied { OnOk result (AreBytesCopied at (at + length piece.old)
         (D.meaning.state_of old.old) (D.meaning.state_of old.new)
         (E.meaning.state_of new.old) (E.meaning.state_of new.new)) }
     ensures failed { IfErr result (BytesUncopied
         (D.meaning.state_of old.old) (D.meaning.state_of old.new)
         (E.meaning.state_of new.old) (E.meaning.state_of new.new)) }
+    ensures outside { LeavesOutside at (at + length piece.old)
+        (E.meaning.state_of new.old) (E.meaning.state_of new.new) }
     ensures length { length piece.new ≡ length piece.old }
 {
     if old.read_at(at, piece).is_err() {

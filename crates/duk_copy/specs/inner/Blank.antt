@@ -1,20 +1,18 @@
 -- What only private functions and proofs say beside `Blank.antt`: this project's own.
-use Rattle.std.specs.Prelude.{◌≡◌, ◌-◌, ◌++◌, ℕ, List, replicate, take}
-use Rattle.duk_store.specs.Disk.{DiskState, LeavesReads, PreservesDisk}
+use Rattle.std.specs.Prelude.{◌≡◌, ◌-◌, ℕ, replicate}
+use Rattle.duk_store.specs.Disk.{DiffersWithin, DiskState, LeavesChanged, LeavesReads, PreservesDisk, written}
 
--- bytes with zeros from a place on, to the end of a disk of this size
-abbrev pub zeros_from : ℕ → ℕ → List ℕ → List ℕ
-zeros_from from size bytes = take from bytes ++ replicate (size - from) 0
+-- a stop leaves all bytes of a disk as they were, but for those from one place to another
+abbrev pub LeavesOutside : ℕ → ℕ → DiskState → DiskState → Type 0
+LeavesOutside from to old new = LeavesChanged (DiffersWithin from (to - from)) old new
 
--- zeros were written from a place on: what is read before it is as it was
-pub record AreZerosWritten (from : ℕ) (old new : DiskState) : Type 0 where
+-- zeros were written from one place to another
+pub record AreZerosWritten (from to : ℕ) (old new : DiskState) : Type 0 where
   pub nature : PreservesDisk old new
   pub no_failure : new.failures ≡ old.failures
-  pub zeros : old.honest → new.reads ≡ zeros_from from old.size old.reads
+  pub zeros : old.honest → new.reads ≡ written old.reads from (replicate (to - from) 0)
 
 -- and they were synced: a stop leaves what is read
-pub record AreZerosKept (from : ℕ) (old new : DiskState) : Type 0 where
-  pub nature : PreservesDisk old new
-  pub no_failure : new.failures ≡ old.failures
-  pub zeros : old.honest → new.reads ≡ zeros_from from old.size old.reads
+pub record AreZerosKept (from to : ℕ) (old new : DiskState) : Type 0 where
+  pub written : AreZerosWritten from to old new
   pub leaves : old.honest → LeavesReads new

@@ -1,8 +1,9 @@
 -- What only private functions and proofs say beside `Copy.antt`: this project's own.
-use Rattle.std.specs.Prelude.{◌≡◌, ℕ, take}
+use Rattle.std.specs.Prelude.{◌≡◌, ◌-◌, ◌++◌, ℕ, drop, replicate, take}
 use Rattle.duk_copy.specs.Copy.{CopyFailed}
 use Rattle.duk_copy.specs.declared.copy.CopyFault.{CopyFault}
-use Rattle.duk_store.specs.Disk.{DiskState, PreservesBytes, PreservesDisk, range_of, written}
+use Rattle.duk_journal.specs.RecordFormat.{record_length}
+use Rattle.duk_store.specs.Disk.{DiskState, LeavesReads, PreservesBytes, PreservesDisk, range_of, written}
 
 -- the bytes of the old disk stay
 pub record StaysRead (old old' : DiskState) : Type 0 where
@@ -10,21 +11,35 @@ pub record StaysRead (old old' : DiskState) : Type 0 where
   pub no_failure : old'.failures ≡ old.failures
   pub bytes : PreservesBytes old old'
 
--- the first bytes of a disk are written over those of another
-pub record AreBytesCopied (count : ℕ) (old old' new new' : DiskState) : Type 0 where
+-- the bytes of a disk from one place to another are written over those of another disk
+pub record AreBytesCopied (from to : ℕ) (old old' new new' : DiskState) : Type 0 where
   pub stays : StaysRead old old'
   pub nature : PreservesDisk new new'
   pub no_failure : new'.failures ≡ new.failures
-  pub copied : old.honest → new.honest → take count new'.reads ≡ take count old.reads
+  pub copied : old.honest → new.honest
+      → new'.reads ≡ written new.reads from (range_of from (to - from) old.reads)
 
--- so many from a place on are
-pub record IsPieceCopied (at count : ℕ) (old old' new new' : DiskState) : Type 0 where
+-- all is copied that stands behind the first record, up to a place, with zeros from there on, and
+-- synced
+pub record IsRestCopied (to : ℕ) (old old' new new' : DiskState) : Type 0 where
   pub stays : StaysRead old old'
   pub nature : PreservesDisk new new'
   pub no_failure : new'.failures ≡ new.failures
-  pub copied : old.honest → new.honest → new'.reads ≡ written new.reads at (range_of at count old.reads)
+  pub rest : old.honest → new.honest
+      → drop record_length new'.reads
+      ≡ drop record_length (take to old.reads ++ replicate (new.size - to) 0)
+  pub leaves : new.honest → LeavesReads new'
 
--- why they are not
+-- the first record is copied, and synced
+pub record IsFirstCopied (old old' new new' : DiskState) : Type 0 where
+  pub stays : StaysRead old old'
+  pub nature : PreservesDisk new new'
+  pub no_failure : new'.failures ≡ new.failures
+  pub first : old.honest → new.honest
+      → new'.reads ≡ take record_length old.reads ++ drop record_length new.reads
+  pub leaves : new.honest → LeavesReads new'
+
+-- why bytes are not copied
 pub record BytesUncopied (old old' new new' : DiskState) (why : CopyFault) : Type 0 where
   pub nature : PreservesDisk old old'
   pub bytes : PreservesBytes old old'
