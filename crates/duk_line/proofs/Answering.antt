@@ -1,15 +1,16 @@
 -- What a host does with a group, from what its parts do.
-use Rattle.std.proofs.Common.{◌≡◌, ◌≤◌, ◌-◌, ◌++◌, ℕ, List, [], All, Option, Some, None, IsSome, if◌then◌else◌, length, take, refl, ap, subst, ◌∙◌, ◌∷◌, arith}
-use Rattle.duk_host.specs.Judgement.{Decision}
+use Rattle.std.proofs.Common.{◌≡◌, ◌≢◌, ◌≤◌, ◌-◌, ◌++◌, ℕ, List, [], All, Option, Some, None, IsSome, if◌then◌else◌, length, take, refl, sym, ap, subst, ◌∙◌, ◌∷◌, arith}
+use Rattle.duk_host.specs.Judgement.{Decision, IsAcceptable}
 use Rattle.duk_hsm.specs.Keys.{HsmKeys}
 use Rattle.duk_journal.specs.Groups.{Payments}
 use Rattle.duk_journal.specs.Journal.{JournalMeaning, room_of}
 use Rattle.duk_store.specs.declared.fault.StoreFault.{StoreFault}
 use Rattle.duk_tree.specs.Path.{IsUsable}
-use Rattle.duk_line.specs.Group.{AnswersFrames, IsGroupNotKept, most_frames}
+use Rattle.duk_line.specs.Group.{AnswersFrames, IsGroupNotKept, WouldAccept, most_frames}
 use Rattle.duk_line.specs.Host.{HostMeaning, HostOf, IndexOf, IsIndexOf, JudgesBy}
 use Rattle.duk_line.specs.inner.Host.{AgreesWithJournal, HoldsIndex, JournalAgrees}
-use Rattle.duk_line.specs.inner.Judged.{JudgesFrames}
+use Rattle.duk_line.specs.Judgement.{line_basis, without_repeats}
+use Rattle.duk_line.specs.inner.Judged.{JudgesFrames, MayBeAccepted}
 use Rattle.duk_line.specs.inner.Keep.{AreKept, KeepFailed, MayBeKept}
 
 -- the index of a running host is that of payments which its journal keeps
@@ -44,6 +45,13 @@ holds_after meaning keys decides room frames old new before after answers added 
 one_index : (state : Option IndexOf) (one other : IndexOf) → state ≡ Some one → state ≡ Some other → one ≡ other
 one_index state one other is same = cc
 
+-- a running host is not stopped
+pub not_stopped : (state : Option IndexOf) (index : IndexOf) → state ≡ Some index → state ≢ None
+not_stopped state index is none = absurd (some_is_none index (sym is ∙ none))
+  where
+    some_is_none : (index : IndexOf) → Some index ≡ None → ⊥
+    some_is_none index is = absurd (cc)
+
 abbrev pub host_with : {J I : Type 0} → HsmKeys → I → J → Option IndexOf → HostOf J I
 host_with keys issuer journal state = record { keys = keys; issuer = issuer; journal = journal; state = state }
 
@@ -65,11 +73,21 @@ module _ {J I : Type 0} (meaning : HostMeaning J I) (keys : HsmKeys) (issuer : I
     answered = λ payments judges.
         let both = by_capacity payments (judged_by payments judges) in
         (added, both.0, record { index = after; runs = refl; index_is = both.1; kept = kept.kept payments judges.kept });
+    stopped = λ none. absurd (not_stopped state before runs none);
   }
+
+  pub would_accept : (bytes : List ℕ) → AreKept meaning.journal old new added → meaning.journal.capacity new ≡ meaning.journal.capacity old → MayBeAccepted keys after (room - length added) bytes
+      → WouldAccept meaning (host_with keys issuer new (Some after)) bytes
+  would_accept bytes kept capacity may payments judges =
+      let is_index = subst (λ index. IsIndexOf payments index) (one_index (Some after) judges.index after judges.runs refl) judges.index_is in
+      let left : room - length added ≡ meaning.journal.capacity new - meaning.journal.count new = omega (arith, room_is, capacity, kept.counted) in
+      let acceptable = may.2 payments (meaning.decides issuer) is_index in
+      (may.0, may.1, subst (λ (left : ℕ). IsAcceptable (without_repeats (line_basis keys payments left (meaning.decides issuer))) may.0) left acceptable)
 
   pub not_kept : (why : StoreFault) → KeepFailed meaning.journal old new added why → IsGroupNotKept meaning frames (host_with keys issuer old state) (host_with keys issuer new None) why
   not_kept why failed = record {
     ends = record { keys = refl; issuer = refl };
+    was_running = not_stopped state before runs;
     stopped = refl;
     not_kept = λ payments judges. (length answers, answers, added, (by_capacity payments (judged_by payments judges)).0, failed.failed);
   }

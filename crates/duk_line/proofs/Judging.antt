@@ -2,6 +2,7 @@
 use Rattle.std.proofs.Common.{◌≡◌, ◌<◌, ◌≤◌, ◌-◌, ◌+◌, ◌++◌, ◌∷◌, ℕ, zero, suc, List, [], Bool, true, false, Contains, Option, Some, None, Result, Ok, Err, IfOk, IfSome, All, length, drop, take, get_or, map, inl, inr, refl, sym, ap, subst, ◌∙◌, append_assoc, arith, length-append, length-drop}
 use Rattle.std.specs.Bool.{MatchBool}
 use Rattle.std.specs.Option.{option_to_list}
+use Rattle.std.specs.Prelude.{OnErr}
 use Rattle.std.proofs.lemmas.List.{append-nil, drop-append-le, take_more}
 use Rattle.std.proofs.lemmas.List.Elements.{All-append, All-cons, All-nil}
 use Rattle.duk_frame.specs.Request.{IsRequest}
@@ -160,3 +161,14 @@ pub item_of : {A B : Type 0} (f : A → B) (things : List A) (i : ℕ) (thing : 
 item_of f [] i thing within is = absurd (omega (arith, within))
 item_of f (first ∷ things) zero thing within is = ap f is
 item_of f (first ∷ things) (suc i) thing within is = item_of f things i thing (omega (arith, within)) is
+
+-- whatever is given where there is none
+pub item_at : {A B : Type 0} (f : A → B) (things : List A) (i : ℕ) (thing : A) (none : B) → i < length things → get_or things i thing ≡ thing → get_or (map f things) i none ≡ f thing
+item_at f [] i thing none within is = absurd (omega (arith, within))
+item_at f (first ∷ things) zero thing none within is = ap f is
+item_at f (first ∷ things) (suc i) thing none within is = item_at f things i thing none (omega (arith, within)) is
+
+-- what is so may be said of each error
+pub on_err : {T E : Type 0} (P : Type 0) (result : Result T E) → P → OnErr result P
+on_err P (Ok value) is = tt
+on_err P (Err error) is = is

@@ -2,7 +2,6 @@
 use Rattle.std.proofs.Common.{◌≡◌, inl, inr, ℕ, List, [], ◌∷◌, ◌++◌, Contains, sym, ◌∙◌, ap, subst, arith, append_assoc}
 use Rattle.std.proofs.lemmas.List.{append-nil}
 use Rattle.std.proofs.lemmas.List.Elements.{Contains-append_cases}
-use Rattle.duk_host.specs.Judgement.{Decision}
 use Rattle.duk_host.specs.Lifetime.{AcceptsAlike}
 use Rattle.duk_host.specs.Used.{AreUsable}
 use Rattle.duk_host.specs.declared.fault.HostFault.{HostFault}
@@ -33,7 +32,7 @@ none_in thing (k, within, is) = omega (arith, within)
 abbrev LeavesAll : HsmKeys → List (List ℕ) → (Payments → Type 0) → Type 0
 LeavesAll keys answers left = (payments : Payments) → left payments → AreRepliesOf keys payments answers
 
-module _ {J I : Type 0} (laws : ReplyLaws) (meaning : HostMeaning J I) (keys : HsmKeys) (decides : Decision) where
+module _ {J I : Type 0} (laws : ReplyLaws) (meaning : HostMeaning J I) (keys : HsmKeys) where
   abbrev found_of : HostOf J I → Payments → Type 0
   found_of host = (meaning.journal.state_of host.journal).found
 
@@ -88,7 +87,7 @@ module _ {J I : Type 0} (laws : ReplyLaws) (meaning : HostMeaning J I) (keys : H
   alike_by payments answers usable replies ksn one other in_one in_other a b = laws.equal keys payments ksn one other usable (replies one ksn in_one a) (replies other ksn in_other b)
 
   -- one service that was brought up
-  run_up : (before : List (List ℕ)) (left : Payments → Type 0) (made last : HostOf J I) (answers : List (List ℕ)) → IsSound before left → IsMadeOver meaning keys decides left made → IsServiceBroughtUp meaning made answers last → IsSound (before ++ answers) (found_of last)
+  run_up : (before : List (List ℕ)) (left : Payments → Type 0) (made last : HostOf J I) (answers : List (List ℕ)) → IsSound before left → IsMadeOver meaning keys left made → IsServiceBroughtUp meaning made answers last → IsSound (before ++ answers) (found_of last)
   run_up before left made last answers sound is_made run =
       let h = is_made.honest in
       let payments = run.restarted.payments in
@@ -109,7 +108,7 @@ module _ {J I : Type 0} (laws : ReplyLaws) (meaning : HostMeaning J I) (keys : H
         ];
       }
 
-  run_of : (before : List (List ℕ)) (left : Payments → Type 0) (made last : HostOf J I) (answers : List (List ℕ)) → IsSound before left → IsMadeOver meaning keys decides left made → IsService meaning made answers last → IsSound (before ++ answers) (found_of last)
+  run_of : (before : List (List ℕ)) (left : Payments → Type 0) (made last : HostOf J I) (answers : List (List ℕ)) → IsSound before left → IsMadeOver meaning keys left made → IsService meaning made answers last → IsSound (before ++ answers) (found_of last)
   run_of before left made last answers sound is_made (inl refused) =
       let none : before ≡ before ++ answers = sym (ap (λ (l : List (List ℕ)). before ++ l) refused.no_answers ∙ append-nil before) in
       subst (λ all. IsSound all (found_of last)) none (record {
@@ -119,7 +118,7 @@ module _ {J I : Type 0} (laws : ReplyLaws) (meaning : HostMeaning J I) (keys : H
   run_of before left made last answers sound is_made (inr up) = run_up before left made last answers sound is_made up
 
   -- all of them
-  runs_of : (before : List (List ℕ)) (left after : Payments → Type 0) (runs : List (List (List ℕ))) → IsSound before left → IsLifetime meaning keys decides left runs after → IsSound (before ++ all_answers runs) after
+  runs_of : (before : List (List ℕ)) (left after : Payments → Type 0) (runs : List (List (List ℕ))) → IsSound before left → IsLifetime meaning keys left runs after → IsSound (before ++ all_answers runs) after
   runs_of before left after [] sound life =
       subst (λ all. IsSound all after) (sym (append-nil before)) (record { alike = sound.alike; leaves = λ payments found. sound.leaves payments (life payments found) })
   runs_of before left after (answers ∷ later) sound (made, last, is_made, run, rest) =
@@ -132,8 +131,8 @@ module _ {J I : Type 0} (laws : ReplyLaws) (meaning : HostMeaning J I) (keys : H
     leaves = λ payments found answer ksn is_in. absurd (none_in answer is_in);
   }
 
-  pub alike_in_lifetime : (left after : Payments → Type 0) (runs : List (List (List ℕ))) → IsLifetime meaning keys decides left runs after → AcceptsAlike (all_answers runs)
+  pub alike_in_lifetime : (left after : Payments → Type 0) (runs : List (List (List ℕ))) → IsLifetime meaning keys left runs after → AcceptsAlike (all_answers runs)
   alike_in_lifetime left after runs life = (runs_of [] left after runs (start left) life).alike
 
-  pub kept_in_lifetime : (left after : Payments → Type 0) (runs : List (List (List ℕ))) → IsLifetime meaning keys decides left runs after → (payments : Payments) → after payments → AreRepliesOf keys payments (all_answers runs)
+  pub kept_in_lifetime : (left after : Payments → Type 0) (runs : List (List (List ℕ))) → IsLifetime meaning keys left runs after → (payments : Payments) → after payments → AreRepliesOf keys payments (all_answers runs)
   kept_in_lifetime left after runs life = (runs_of [] left after runs (start left) life).leaves

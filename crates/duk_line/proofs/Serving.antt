@@ -45,6 +45,7 @@ module _ {J I : Type 0} (meaning : HostMeaning J I) where
     nature = nature_stays (meaning.journal.state_of now.journal);
     capacity = refl;
     answered = λ payments judges. ([], refl, subst (λ payments. JudgesBy meaning now payments) (sym (append-nil payments)) judges);
+    stopped = λ none. record { no_frames = refl; no_answers = refl; same = refl };
   }
 
   -- what is left to judge by
@@ -74,6 +75,14 @@ module _ {J I : Type 0} (meaning : HostMeaning J I) where
         let basis = basis_after old mid new frames answers payments one.0 first judges one.2 in
         let judged = joined (basis_of meaning old payments) frames others answers more one.0 two.0 one.1 (subst (λ basis. AreJudged basis others more two.0) basis two.1) in
         (one.0 ++ two.0, judged, subst (λ payments. JudgesBy meaning new payments) (append_assoc payments one.0 two.0) two.2);
+    stopped = λ none.
+        let one = first.stopped none in
+        let two = second.stopped (ap (λ (host : HostOf J I). host.state) one.same ∙ none) in
+        record {
+          no_frames = ap (λ (front : List (List ℕ)). front ++ others) one.no_frames ∙ two.no_frames;
+          no_answers = ap (λ (front : List (List ℕ)). front ++ more) one.no_answers ∙ two.no_answers;
+          same = two.same ∙ one.same;
+        };
   }
 
   pub begins_then : (bytes rest piece last : List ℕ) (frames others : List (List ℕ)) → BeginsWith bytes frames rest → BeginsWith (rest ++ piece) others last → BeginsWith (bytes ++ piece) (frames ++ others) last

@@ -1,5 +1,8 @@
 -- What a host over a journal does with a group of frames: this project's own.
-use Rattle.std.specs.Prelude.{◌≡◌, ◌<◌, ◌++◌, ℕ, List, [], None, length, take}
+use Rattle.std.specs.Prelude.{◌≡◌, ◌≢◌, ◌<◌, ◌++◌, ℕ, List, [], None, get_or, length, take}
+use Rattle.duk_frame.specs.Request.{IsRequest}
+use Rattle.duk_frame.specs.declared.request.Request.{Request}
+use Rattle.duk_host.specs.Judgement.{IsAcceptable}
 use Rattle.duk_host.specs.declared.fault.HostFault.{HostFault}
 use Rattle.duk_host.specs.declared.fault.HostFault.TheVariants as fault
 use Rattle.duk_journal.specs.Groups.{Payments}
@@ -8,6 +11,7 @@ use Rattle.duk_store.specs.StoreState.{PreservesNature}
 use Rattle.duk_store.specs.declared.fault.StoreFault.{StoreFault}
 use Rattle.duk_line.specs.Host.{HostMeaning, HostOf, JudgesBy, basis_of}
 use Rattle.duk_line.specs.Judged.{AreJudged}
+use Rattle.duk_line.specs.Judgement.{without_repeats}
 use Rattle.duk_line.specs.Restart.{PreservesEnds}
 
 -- the most frames of a group
@@ -20,8 +24,16 @@ pub record GroupOf : Type 0 where
   pub answers : List (List ℕ)
   pub payments : Payments
 
+-- there are no frames and no answers, and the host is as it was
+pub record AnswersNone
+    {J I : Type 0} (frames : List (List ℕ)) (old new : HostOf J I) (answers : List (List ℕ))
+    : Type 0 where
+  pub no_frames : frames ≡ []
+  pub no_answers : answers ≡ []
+  pub same : new ≡ old
+
 -- frames are answered: whatever payments the host judged by, these are the answers, and it now
--- judges by those payments and the ones that the frames add
+-- judges by those payments and the ones that the frames add. A stopped host answers none
 pub record AnswersFrames
     {J I : Type 0} (meaning : HostMeaning J I) (frames : List (List ℕ)) (old new : HostOf J I)
     (answers : List (List ℕ)) : Type 0 where
@@ -32,13 +44,23 @@ pub record AnswersFrames
   pub answered : (payments : Payments) → JudgesBy meaning old payments → (added : Payments)
       × AreJudged (basis_of meaning old payments) frames answers added
       × JudgesBy meaning new (payments ++ added)
+  pub stopped : old.state ≡ None → AnswersNone frames old new answers
 
--- memory was refused at a frame: the frames before it are answered
+-- the bytes are a request, and by the payments that a host judges by there is no reason against it
+abbrev pub WouldAccept : {J I : Type 0} → HostMeaning J I → HostOf J I → List ℕ → Type 0
+WouldAccept meaning host bytes = (payments : Payments) → JudgesBy meaning host payments
+    → (request : Request) × IsRequest bytes request
+    × IsAcceptable (without_repeats (basis_of meaning host payments)) request
+
+-- memory was refused at a frame: the frames before it are answered, and it is a request that would
+-- be accepted after them
 pub record AnswersFirst
     {J I : Type 0} (meaning : HostMeaning J I) (frames : List (List ℕ)) (old new : HostOf J I)
     (answers : List (List ℕ)) : Type 0 where
+  pub was_running : old.state ≢ None
   pub fewer : length answers < length frames
   pub answers_are : AnswersFrames meaning (take (length answers) frames) old new answers
+  pub would_accept : WouldAccept meaning new (get_or frames (length answers) [])
 
 -- payments of a group are not kept: the host is stopped, and there are no answers. A restart finds
 -- the payments that it judged by, or these and all that the first frames of the group add
@@ -46,6 +68,7 @@ pub record IsGroupNotKept
     {J I : Type 0} (meaning : HostMeaning J I) (frames : List (List ℕ)) (old new : HostOf J I)
     (why : StoreFault) : Type 0 where
   pub ends : PreservesEnds old new
+  pub was_running : old.state ≢ None
   pub stopped : new.state ≡ None
   pub not_kept : (payments : Payments) → JudgesBy meaning old payments
       → (count : ℕ) × (answers : List (List ℕ)) × (added : Payments)

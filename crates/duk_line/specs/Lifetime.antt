@@ -2,7 +2,6 @@
 -- this project's own.
 use Rattle.std.specs.Prelude.{◌≡◌, ◌⊎◌, ◌++◌, ℕ, List, [], ◌∷◌}
 use Rattle.std.specs.List.{concat}
-use Rattle.duk_host.specs.Judgement.{Decision}
 use Rattle.duk_host.specs.declared.fault.HostFault.{HostFault}
 use Rattle.duk_host.specs.declared.fault.HostFault.TheVariants as fault
 use Rattle.duk_hsm.specs.Keys.{HsmKeys}
@@ -15,13 +14,12 @@ use Rattle.duk_line.specs.Group.{AnswersFrames, IsGroupNotKept}
 use Rattle.duk_line.specs.Host.{HostMeaning, HostOf}
 use Rattle.duk_line.specs.Restart.{HostRestartRefused, IsHostRestarted}
 
--- a host is made for a service, with these keys and this issuer. Its journal is honest, and finds
+-- a host is made for a service, with these keys and any issuer. Its journal is honest, and finds
 -- nothing but what the service before may have left
 pub record IsMadeOver
-    {J I : Type 0} (meaning : HostMeaning J I) (keys : HsmKeys) (decides : Decision)
+    {J I : Type 0} (meaning : HostMeaning J I) (keys : HsmKeys)
     (left : Payments → Type 0) (host : HostOf J I) : Type 0 where
   pub keys_are : host.keys ≡ keys
-  pub decides_are : meaning.decides host.issuer ≡ decides
   pub honest : (meaning.journal.state_of host.journal).honest
   pub within : FindsWithin (meaning.journal.state_of host.journal) left
 
@@ -71,10 +69,10 @@ all_answers (answers ∷ later) = answers ++ all_answers later
 
 -- the answers of services, one after the other, each over what the one before may have left, and
 -- what the journal may keep after the last
-abbrev pub IsLifetime : {J I : Type 0} → HostMeaning J I → HsmKeys → Decision
+abbrev pub IsLifetime : {J I : Type 0} → HostMeaning J I → HsmKeys
     → (Payments → Type 0) → List (List (List ℕ)) → (Payments → Type 0) → Type 0
-IsLifetime meaning keys decides left [] after = (payments : Payments) → after payments → left payments
-IsLifetime {J} {I} meaning keys decides left (answers ∷ later) after =
-    (made : HostOf J I) × (last : HostOf J I) × IsMadeOver meaning keys decides left made
+IsLifetime meaning keys left [] after = (payments : Payments) → after payments → left payments
+IsLifetime {J} {I} meaning keys left (answers ∷ later) after =
+    (made : HostOf J I) × (last : HostOf J I) × IsMadeOver meaning keys left made
     × IsService meaning made answers last
-    × IsLifetime meaning keys decides (meaning.journal.state_of last.journal).found later after
+    × IsLifetime meaning keys (meaning.journal.state_of last.journal).found later after

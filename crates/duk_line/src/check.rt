@@ -9,7 +9,7 @@ use duk_journal::Journal;
 use std::alloc::Global;
 
 /// Brings a journal up and reads all its payments, as the restart of a host over it does, and gives
-/// how many there are. A host comes up over it then.
+/// how many there are. A host may judge by them then.
 ///
 /// Refused as that restart is: with `Store` of the journal's fault, or of `Damaged` where a number
 /// that it keeps occurs twice or numbers no transaction; and with `NoMemory`.

@@ -1,6 +1,6 @@
 //! How the frames of a group are judged.
 
-ghost use Rattle.std.specs.Prelude.{◌≡◌, ◌≤◌, ◌<◌, ℕ, List, [], All, IfErr, IfOk, IfSome, IsSome, OnErr, OnOk, length, map, take};
+ghost use Rattle.std.specs.Prelude.{◌≡◌, ◌≤◌, ◌<◌, ◌-◌, ℕ, List, [], All, IfErr, IfOk, IfSome, IsSome, OnErr, OnOk, get_or, length, map, take};
 ghost use Rattle.std.specs.Option.{option_to_list};
 ghost use Rattle.duk_frame.specs.Request.{IsRequest};
 ghost use Rattle.duk_host.specs.Judgement.{IsAuthentic};
@@ -9,7 +9,7 @@ ghost use Rattle.duk_hsm.specs.TransactionKeys.{AreTransactionKeys};
 ghost use Rattle.duk_tree.specs.Path.{IsUsable};
 ghost use Rattle.duk_line.specs.Group.{most_frames};
 ghost use Rattle.duk_line.specs.Judgement.{payment_of};
-ghost use Rattle.duk_line.specs.inner.Judged.{AcceptableBy, JudgesFrame, JudgesFrames, SettlesBy};
+ghost use Rattle.duk_line.specs.inner.Judged.{AcceptableBy, JudgesFrame, JudgesFrames, MayBeAccepted, SettlesBy};
 
 use crate::group::Group;
 use crate::index::Index;
@@ -27,7 +27,8 @@ pub(crate) struct Judged {
 }
 
 /// Judges frames in turn, each with the index as the earlier ones leave it, and adds their answers
-/// and payments to the group. Where memory is refused, the frames before are judged.
+/// and payments to the group. Where memory is refused, the frames before are judged, and
+/// the next is a request that would be accepted.
 pub(crate) fn judge_frames<const N: usize, I: Issuer>(
     hsm: &Hsm<N>,
     issuer: &I,
@@ -45,6 +46,9 @@ pub(crate) fn judge_frames<const N: usize, I: Issuer>(
         index.old index.new group.new.answers group.new.payments }
     ensures all { OnOk result (length group.new.answers ≡ length frames.now) }
     ensures fewer { OnErr result (length group.new.answers < length frames.now) }
+    ensures refused { OnErr result (MayBeAccepted hsm.now index.new
+        (room - length group.new.payments) (get_or
+        (map (λ frame. frame.items) frames.now) (length group.new.answers) [])) }
     ensures usable { All (λ payment. IsUsable payment.number.counter) group.new.payments }
     ensures fits { length group.new.payments ≤ room }
     ensures most { length group.new.payments ≤ most_frames }
@@ -57,7 +61,8 @@ pub(crate) fn judge_frames<const N: usize, I: Issuer>(
     Ok(())
 }
 
-/// Judges a frame. Where memory is refused, nothing changes.
+/// Judges a frame. Where memory is refused, which comes only of a request that would be accepted,
+/// nothing changes.
 fn judge_frame<const N: usize, I: Issuer>(
     hsm: &Hsm<N>,
     issuer: &I,
@@ -72,6 +77,7 @@ fn judge_frame<const N: usize, I: Issuer>(
         (λ payment. IsUsable payment.number.counter)) }
     ensures room { IfOk result (λ judged. length (option_to_list judged.added) ≤ room) }
     ensures same { OnErr result (index.new ≡ index.old) }
+    ensures refused { OnErr result (MayBeAccepted hsm.now index.old room frame.now) }
 {
     match settle(hsm, index, room, frame) {
         Ok(opened) => accept(issuer, index, &opened),

@@ -5,7 +5,7 @@ ghost use Rattle.std.specs.List.{concat};
 ghost use Rattle.duk_frame.specs.Answer.{IsRefusal};
 ghost use Rattle.duk_frame.specs.Request.{IsRequest};
 ghost use Rattle.duk_frame.specs.declared.request.Request.{Request};
-ghost use Rattle.duk_host.specs.Judgement.{Decision, IsAuthentic, IsReplyWith};
+ghost use Rattle.duk_host.specs.Judgement.{IsAuthentic, IsReplyWith};
 ghost use Rattle.duk_host.specs.Lifetime.{AcceptsAlike};
 ghost use Rattle.duk_host.specs.Serve.{Supply};
 ghost use Rattle.duk_host.specs.Used.{AreUsable};
@@ -107,14 +107,14 @@ pub fn not_answered_again()
 /// wherever a step of the journal's device fails. All accepted replies to a number that any of them
 /// gives are equal, byte for byte; and the journal keeps the payment of each.
 pub fn lifetimes<J: Journal, I: Issuer>()
-    ensures alike { (keys : HsmKeys) (decides : Decision) (first last : J)
+    ensures alike { (keys : HsmKeys) (first last : J)
         → (services : List (List (List ℕ)))
-        → IsLifetime (host_meaning_of J.meaning I.decides) keys decides
+        → IsLifetime (host_meaning_of J.meaning I.decides) keys
         (J.meaning.state_of first).found services (J.meaning.state_of last).found
         → AcceptsAlike (all_answers services) }
-    ensures kept { (keys : HsmKeys) (decides : Decision) (first last : J)
+    ensures kept { (keys : HsmKeys) (first last : J)
         → (services : List (List (List ℕ))) (payments : Payments)
-        → IsLifetime (host_meaning_of J.meaning I.decides) keys decides
+        → IsLifetime (host_meaning_of J.meaning I.decides) keys
         (J.meaning.state_of first).found services (J.meaning.state_of last).found
         → (J.meaning.state_of last).found payments
         → AreRepliesOf keys payments (all_answers services) }

@@ -35,12 +35,12 @@ const FEW_ANSWERS: usize = 1_024;
 /// Answers the frames of the input. Those that a read ends are answered together, in groups: the
 /// payments of a group are kept before any of its answers is written.
 ///
-/// Refused with the first of these: `Read`, where a read failed, and `Truncated`, where the input
-/// ends inside a frame, each after all whole frames are answered; `TooLong`, where a length above
-/// 62 stands in the place of a frame, after all before it are; what `answer` refuses, where
-/// `Store` leaves the whole group without an answer, and `NoMemory` the frames from the first on
-/// for which memory is refused; `Write`, where a write failed or took no byte. A run makes
-/// 2^64 - 1 reads at most, and gives `Read` after them.
+/// Refused, as they come, with `Read`, where a read failed, and `Truncated`, where the input ends
+/// inside a frame, each after all whole frames are answered; with what `answer` refuses of a group,
+/// where `Store` leaves it without an answer, and `NoMemory` the frames from the first on for which
+/// memory is refused; with `Write`, where a write of answers failed or took no byte; and with
+/// `TooLong`, where a length above 62 stands in the place of a frame, after the group before it. A
+/// run makes 2^64 - 1 reads at most, and gives `Read` after them.
 pub fn serve<const N: usize, J: Journal, I: Issuer, R: Source, W: Sink>(
     host: &mut JournalHost<N, J, I>,
     work: &mut Workspace,

@@ -1,6 +1,7 @@
 -- What single functions make of a frame and of the index of some payments: this project's own.
 use Rattle.std.specs.Prelude.{◌≡◌, ◌≤◌, ◌++◌, ℕ, List, All, Option, length, take}
 use Rattle.std.specs.Option.{option_to_list}
+use Rattle.duk_frame.specs.Request.{IsRequest}
 use Rattle.duk_frame.specs.declared.request.Request.{Request}
 use Rattle.duk_host.specs.Judgement.{Decision, IsAcceptable}
 use Rattle.duk_hsm.specs.Keys.{HsmKeys}
@@ -21,6 +22,11 @@ abbrev pub AcceptableBy : HsmKeys → IndexOf → ℕ → Request → Type 0
 AcceptableBy keys index room request = (payments : Payments) (decides : Decision)
     → IsIndexOf payments index
     → IsAcceptable (without_repeats (line_basis keys payments room decides)) request
+
+-- the bytes are a request that may be accepted by any such payments
+abbrev pub MayBeAccepted : HsmKeys → IndexOf → ℕ → List ℕ → Type 0
+MayBeAccepted keys index room bytes =
+    (request : Request) × IsRequest bytes request × AcceptableBy keys index room request
 
 -- by any such payments, the bytes are judged so, and the new index is of these and what is added
 abbrev pub JudgesFrame :

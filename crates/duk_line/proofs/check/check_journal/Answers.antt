@@ -1,4 +1,4 @@
-use Rattle.std.proofs.Common.{◌∙◌, inl}
+use Rattle.std.proofs.Common.{◌∙◌}
 use Rattle.duk_line.proofs.Restarting.{check_refused, is_checked}
 use Rattle.duk_line.proofs.check.check_journal.Goals as goal
 

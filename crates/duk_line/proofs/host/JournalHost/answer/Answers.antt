@@ -1,9 +1,9 @@
-use Rattle.std.proofs.Common.{◌<◌, None, Some, length, map, take, sym, subst, ◌∙◌, arith}
+use Rattle.std.proofs.Common.{◌≢◌, ◌<◌, [], None, Some, get_or, length, map, take, sym, subst, ◌∙◌, arith}
 use Rattle.std.proofs.lemmas.List.{length-map}
 use Rattle.duk_line.specs.Group.{AnswersFrames, IsGroupNotKept}
 use Rattle.duk_line.specs.Host.{HostOf, host_meaning_of}
 use Rattle.duk_line.specs.inner.Keep.{AreKept, KeepFailed}
-use Rattle.duk_line.proofs.Answering.{answers_first, held, holds_after, host_with, not_kept, room_left, take_all}
+use Rattle.duk_line.proofs.Answering.{answers_first, held, holds_after, host_with, not_kept, not_stopped, room_left, take_all, would_accept}
 use Rattle.duk_line.proofs.host.JournalHost.answer.Goals as goal
 
 pub invariant_of-self-in-Ok : goal.invariant_of-self-in-Ok
@@ -56,7 +56,11 @@ returns-in-Err-judged-clause-refused g c =
     let by_fields = answers_first meaning inside.hsm inside.issuer inside.journal c.keep.new.journal inside.state c.in-Some.index c.judge_frames-judged.new.index c.room-room.result frames group.answers group.payments
     c.in-Some.is room c.judge_frames-judged.ensures.judged kept c.keep.ensures.capacity in
     let fewer : length group.answers < length frames = omega (arith, c.in-Err-judged.ensures.fewer, length-map c.args.frames.now (λ frame. frame.items)) in
+    let next = would_accept meaning inside.hsm inside.issuer inside.journal c.keep.new.journal inside.state c.in-Some.index c.judge_frames-judged.new.index c.room-room.result frames group.answers group.payments
+    c.in-Some.is room c.judge_frames-judged.ensures.judged (get_or frames (length group.answers) []) kept c.keep.ensures.capacity c.in-Err-judged.ensures.refused in
     record {
+      was_running = subst (λ (old : HostOf g.row.J.Denot g.row.I.Denot). old.state ≢ None) c.self.view_is (not_stopped inside.state c.in-Some.index c.in-Some.is);
       fewer = fewer;
       answers_are = subst (λ (old : HostOf g.row.J.Denot g.row.I.Denot). AnswersFrames meaning (take (length group.answers) frames) old (host_with inside.hsm inside.issuer c.keep.new.journal (Some c.judge_frames-judged.new.index)) group.answers) c.self.view_is by_fields;
+      would_accept = next;
     }
