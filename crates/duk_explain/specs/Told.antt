@@ -364,7 +364,7 @@ row told.SecretNotUtf8 =
     (codes "a line of UTF-8") []
 row told.JournalUnopened =
     words_row (codes "journal: cannot open") (codes "journal") (found.Locking file.Journal) []
-    (codes "a file of zeros, 32 bytes a payment, that no other uses") []
+    (codes "a journal, as new-journal makes one, that no other uses") []
 row told.JournalFailed =
     words_row (codes "journal: failed") (codes "journal") found.Words
     (codes "wrong records, or a step that failed")

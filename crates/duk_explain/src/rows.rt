@@ -327,7 +327,7 @@ impl Told {
             Told::PaddingUnread => "a device that can be read",
             Told::LedgerUnopened | Told::LogUnopened =>
                 "a file of zeros, 16 bytes a number, that no other uses",
-            Told::JournalUnopened => "a file of zeros, 32 bytes a payment, that no other uses",
+            Told::JournalUnopened => "a journal, as new-journal makes one, that no other uses",
             Told::LedgerDamaged => "initial key serial numbers",
             Told::LedgerFailed => "a device that works",
             Told::Issued => "numbers that do not",

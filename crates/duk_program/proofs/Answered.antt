@@ -11,9 +11,9 @@ use Rattle.duk_io.specs.Sink.{IsUntouched}
 use Rattle.duk_program.proofs.Words.{words_have_meaning, words_untouched}
 use Rattle.duk_program.proofs.WrittenStaysWritten.{untouched_still, written_still}
 use Rattle.duk_program.specs.Commands.{HasShown, IsCommandLineDone, IsCommandLineFailed, command_for}
-use Rattle.duk_program.specs.Files.{FileKnown}
+use Rattle.duk_service.specs.Files.{FileKnown}
 use Rattle.duk_program.specs.Items.{IsAtOnce, LineItems, items_of}
-use Rattle.duk_program.specs.LogFiles.{DiskKnown}
+use Rattle.duk_service.specs.LogFiles.{DiskKnown}
 use Rattle.duk_program.specs.Meant.{HasLostLines, HasMeantDone, IsDoneAlone, IsMeantNotDone, IsNotDoneAlone, IsOverItemsDone, IsOverItemsNotDone, referred_in}
 use Rattle.duk_program.specs.Program.{IsProgramDone, IsProgramNotDone, IsRequestDone, IsRequestNotDone}
 use Rattle.duk_program.specs.Scene.{Scene, writers_of}

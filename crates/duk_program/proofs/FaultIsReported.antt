@@ -23,27 +23,29 @@ use Rattle.duk_journal.specs.DiskJournal.{disk_journal_meaning}
 use Rattle.duk_line.specs.Host as journal
 use Rattle.duk_program.specs.Commands.{command_for}
 use Rattle.duk_program.specs.Configured.{IsConfigFaultReported}
-use Rattle.duk_program.specs.CopyJournal.{HasNotCopiedJournal, copy_journal_line}
-use Rattle.duk_program.specs.Files.{FileKnown}
-use Rattle.duk_program.specs.LogFiles.{DiskKnown, MakingKnown}
-use Rattle.duk_program.specs.NewJournal.{HasNotMadeJournal, new_journal_line}
+use Rattle.duk_service.specs.CopyJournal.{HasNotCopiedJournal, copy_journal_line}
+use Rattle.duk_service.specs.Files.{FileKnown}
+use Rattle.duk_service.specs.LogFiles.{DiskKnown, MakingKnown}
+use Rattle.duk_service.specs.NewJournal.{HasNotMadeJournal, new_journal_line}
 use Rattle.duk_program.specs.IssueFiles.{HasNotIssuedFiles, IsNotIssuedOver, IssueFilesKnown, Issuing}
 use Rattle.duk_program.specs.Items.{LineItems, command_of_line, items_of}
 use Rattle.duk_program.specs.Meant.{HasLostLines, IsMeantNotDone, IsNotAnswered, IsNotDoneAlone, IsOverItemsNotDone}
 use Rattle.duk_program.specs.RunFiles.{FileRun, HasReportedFault, script_line}
 use Rattle.duk_program.specs.Scene.{Scene, input_in, reading_on, writers_of}
 use Rattle.duk_program.specs.Secrets.{secret_line}
-use Rattle.duk_program.specs.Serve.{HasNotServed, Serving, over_log, serve_line}
-use Rattle.duk_program.specs.ServeFiles.{FileService, HasNotServedFiles, IsUnservedOver, KeptKnown, in_journal, in_log, in_memory, unopened_journal_line, unopened_line}
-use Rattle.duk_program.specs.ServeJournal.{HasNotServedJournal, journal_line, over_journal}
+use Rattle.duk_service.specs.Serve.{HasNotServed, Serving, over_log, serve_line}
+use Rattle.duk_program.specs.ServeFiles.{FileService, HasNotServedFiles, IsUnservedOver, KeptKnown, in_journal, in_log, in_memory}
+use Rattle.duk_service.specs.ServeJournal.{HasNotServedJournal, journal_line, over_journal}
 use Rattle.duk_program.specs.Reported.{IsLineReported, IsOtherFaultLine}
 use Rattle.duk_program.specs.Show.{HasNotShownText, ShowArguments}
-use Rattle.duk_program.specs.declared.copy_journal.CopyJournalFault.{CopyJournalFault}
-use Rattle.duk_program.specs.declared.copy_journal.CopyJournalFault.TheVariants as copy
-use Rattle.duk_program.specs.declared.file_system.FileFault.{FileFault}
-use Rattle.duk_program.specs.declared.file_system.FileFault.TheVariants as file
+use Rattle.duk_service.specs.ServeJournalFiles.{unopened_journal_line}
+use Rattle.duk_service.specs.ServeLogFiles.{unopened_line}
+use Rattle.duk_service.specs.declared.copy_journal.CopyJournalFault.{CopyJournalFault}
+use Rattle.duk_service.specs.declared.copy_journal.CopyJournalFault.TheVariants as copy
+use Rattle.duk_service.specs.declared.file_system.FileFault.{FileFault}
+use Rattle.duk_service.specs.declared.file_system.FileFault.TheVariants as file
 use Rattle.duk_program.specs.declared.issue_files.IssueArguments.{IssueArguments}
-use Rattle.duk_program.specs.declared.new_journal.JournalFault.TheVariants.{OutOfMemory, Unmade}
+use Rattle.duk_service.specs.declared.new_journal.JournalFault.TheVariants.{OutOfMemory, Unmade}
 use Rattle.duk_program.specs.declared.secrets.SecretFault.{SecretFault}
 use Rattle.duk_show.specs.Fault.{show_line}
 use Rattle.duk_store.specs.Log.{LogMeaning}

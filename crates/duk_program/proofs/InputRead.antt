@@ -1,5 +1,5 @@
 -- What is read of the input: its first line, a byte at a time, for one of the secrets in turn.
-use Rattle.std.proofs.Common.{◌≡◌, ◌≢◌, ◌==◌, ◌||◌, ◌+◌, ◌<◌, ◌≤◌, ◌⊎◌, ℕ, suc, Bool, true, false, List, [], ◌∷◌, ◌++◌, Option, Some, None, length, map, take, get_or, option_map, codes, inl, inr, refl, sym, subst, ap, ◌∙◌, append_assoc, append-nil, length-append, arith}
+use Rattle.std.proofs.Common.{◌≡◌, ◌≢◌, ◌==◌, ◌||◌, ◌+◌, ◌<◌, ◌≤◌, ℕ, suc, Bool, true, false, List, [], ◌∷◌, ◌++◌, Option, Some, None, length, map, take, get_or, option_map, codes, inl, inr, refl, sym, subst, ap, ◌∙◌, append_assoc, append-nil, length-append, arith}
 use Rattle.std.proofs.Math.Seq.{take-append_seam}
 use Rattle.std.specs.Borrow.{Bor}
 use Rattle.std.specs.Prelude.{Result, Ok, Err, IfErr, IfOk, IsOkAnd, MatchResult, bytes_eq, if◌then◌else◌}
@@ -16,15 +16,15 @@ use Rattle.duk_host.specs.Serve.{Supply}
 use Rattle.duk_io.specs.Known.{Known}
 use Rattle.duk_io.specs.Source.{AreBytesRead, AreReadsMade, IsBroken}
 use Rattle.duk_program.proofs.Words.{means_push}
-use Rattle.duk_program.specs.Files.{FileKnown, IsLineRead, IsLineUnread, first_line, has_end, without_return}
-use Rattle.duk_program.specs.InputLine.{HasEnded, HasLineTaken, HasNoEnd, IsInputBroken, IsInputOver, IsLineTaken, input_file, longest_line, with_input}
+use Rattle.duk_service.specs.Files.{FileKnown, IsLineRead, IsLineUnread, first_line, has_end, without_return}
+use Rattle.duk_program.specs.InputLine.{HasLineTaken, IsInputBroken, IsLineTaken, input_file, with_input}
 use Rattle.duk_program.specs.Secrets.{AreRead, IsInputTaken, IsNextUnread, IsSecretFault, IsUnread, Means, StandsFor, inputs_in, is_input_reference, reference_in, secret_at, secrets_of}
 use Rattle.duk_program.specs.declared.secrets.Secret.{Secret}
 use Rattle.duk_program.specs.declared.secrets.SecretFault.{SecretFault}
 use Rattle.duk_program.specs.declared.secrets.SecretFault.TheVariants.{NoMemory, Unread}
 use Rattle.duk_program.specs.declared.secrets.Unread.TheVariants.{CannotRead, NotUtf8, TooLong}
-use Rattle.duk_program.specs.declared.file_system.FileFault.{FileFault}
-use Rattle.duk_program.specs.declared.file_system.FileFault.TheVariants as file
+use Rattle.duk_service.specs.declared.file_system.FileFault.{FileFault}
+use Rattle.duk_service.specs.declared.file_system.FileFault.TheVariants as file
 use Rattle.duk_program.specs.inner.Secrets.{IsAnyLineUnread, IsOnceUnread, IsReadOnce, IsSecretRead, IsSecretRefused, IsTextRefused, inputs_read, line_fault}
 
 -- ---- a line that has no end, and one that has

@@ -1,8 +1,6 @@
 mod Answered
-mod CopiedJournal
 mod FaultIsReported
 mod Marked
-mod Results
 mod WrittenStaysWritten
 mod Endings
 mod InputRead

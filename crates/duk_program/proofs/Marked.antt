@@ -1,5 +1,5 @@
 -- The texts of arguments, and those of some of them.
-use Rattle.std.proofs.Common.{◌≡◌, ◌∷◌, ◌∙◌, ◌+◌, List, [], ℕ, zero, suc, Bool, String, Option, Some, None, ap, cond, length, map, nat_lt, not, option_map, position, refl, remove, string_bytes, sym, take}
+use Rattle.std.proofs.Common.{◌≡◌, ◌∷◌, ◌∙◌, ◌+◌, List, [], ℕ, zero, suc, Bool, String, Option, Some, None, ap, cond, length, nat_lt, not, option_map, position, refl, remove, string_bytes, sym, take}
 use Rattle.std.proofs.lemmas.List.{take-map}
 use Rattle.std.specs.List.{prefix_len}
 use Rattle.std.specs.Option.{unwrap_or}

@@ -1,6 +1,6 @@
 -- Why the log or the journal of a file is not shown.
 use Rattle.std.proofs.Common.{ℕ, List, Result, Ok, Err, IfErr}
-use Rattle.duk_program.specs.Files.{FileKnown, IsFileRead}
+use Rattle.duk_service.specs.Files.{FileKnown, IsFileRead}
 use Rattle.duk_program.specs.Show.{IsJournalFileRefused, IsLogFileRefused, longest_journal, longest_log}
 use Rattle.duk_show.specs.Journal.{IsJournalRefused}
 use Rattle.duk_show.specs.Log.{IsLogRefused}

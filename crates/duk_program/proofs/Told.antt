@@ -8,7 +8,7 @@ use Rattle.duk_io.specs.Known.{Known}
 use Rattle.duk_io.specs.Sink.{IsUntouched}
 use Rattle.duk_program.specs.Explained.{HasExplained, IsHeardDone, IsMeantFailed, IsNotDoneOf, IsTold, heard_in, holding}
 use Rattle.duk_program.proofs.Answered.{meant_done}
-use Rattle.duk_program.specs.Files.{FileKnown}
+use Rattle.duk_service.specs.Files.{FileKnown}
 use Rattle.duk_program.specs.Inquiry.{Inquiry}
 use Rattle.duk_program.specs.Meant.{AreSecretsRead, HasUnreadSecret, IsAnswered, IsNotAnswered, referred_in}
 use Rattle.duk_program.specs.Program.{run_in}

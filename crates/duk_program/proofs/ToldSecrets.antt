@@ -4,11 +4,12 @@ use Rattle.std.specs.Borrow.{Bor}
 use Rattle.std.proofs.lemmas.List.{get_or-map, length-map}
 use Rattle.duk_arguments.specs.declared.request.Request.{Request}
 use Rattle.duk_explain.specs.declared.found.Reason.{Reason}
-use Rattle.duk_program.specs.Inquiry.{IsInputTold, IsReasonOfSecret, IsReferenceReason, IsToldUnread, ReasonKnown}
+use Rattle.duk_program.specs.Inquiry.{IsInputTold, IsReasonOfSecret, IsReferenceReason, IsToldUnread}
 use Rattle.duk_program.specs.Secrets.{secret_at, secret_line, secrets_of}
 use Rattle.duk_program.specs.declared.secrets.Secret.{Secret}
 use Rattle.duk_program.specs.declared.secrets.SecretFault.TheVariants.{Unread}
 use Rattle.duk_program.specs.declared.secrets.Unread.TheVariants.{CannotRead}
+use Rattle.duk_service.specs.Reasons.{ReasonKnown}
 
 -- the secret at a place, as it is written
 as_written : (asked : Request) (written : List (Bor (List ℕ))) (place : ℕ) (d : Bor (List ℕ))

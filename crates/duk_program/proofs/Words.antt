@@ -10,8 +10,8 @@ use Rattle.duk_arguments.specs.Keys.{texts_of_keys}
 use Rattle.duk_arguments.specs.declared.request.Request.{Request}
 use Rattle.duk_arguments.specs.declared.request.Request.TheVariants as request
 use Rattle.duk_host.specs.Serve.{Supply}
-use Rattle.duk_program.specs.Files.{FileKnown}
-use Rattle.duk_program.specs.Secrets.{EachMeans, HasMeaning, HasWordsAlone, IsInputTaken, IsOverSecrets, IsWord, Means, OptionMeans, inputs_in, is_input_reference, secrets_of}
+use Rattle.duk_service.specs.Files.{FileKnown}
+use Rattle.duk_program.specs.Secrets.{EachMeans, HasMeaning, HasWordsAlone, IsInputTaken, IsOverSecrets, IsWord, Means, OptionMeans, inputs_in, is_input_reference}
 
 pub each_push : {A : Type 0} (P : A → Type 0) (xs : List A) (x : A) → Each P xs → P x → Each P (xs ++ x ∷ [])
 each_push P [] x each one = (one, tt)

@@ -20,7 +20,7 @@ use Rattle.duk_tools.specs.PinBlocks.{translate_arguments, translate_of, unpin_a
 use Rattle.duk_tools.specs.Registers.{registers_of}
 use Rattle.duk_io.specs.Known.{Known}
 use Rattle.duk_io.specs.Sink.{IsTried}
-use Rattle.duk_program.specs.HandedOn.{IsFlushLost}
+use Rattle.duk_service.specs.HandedOn.{IsFlushLost}
 use Rattle.duk_program.specs.Items.{IsAtOnce}
 use Rattle.duk_arguments.specs.Keys.{texts_of_keys}
 use Rattle.duk_arguments.specs.Asked.{AskForHelp, Asks}

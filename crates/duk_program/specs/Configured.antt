@@ -7,9 +7,9 @@ use Rattle.duk_config.specs.declared.fault.ScriptFault.{ScriptFault}
 use Rattle.duk_config.specs.declared.fault.ScriptFault.TheVariants as fault
 use Rattle.duk_io.specs.Known.{Known}
 use Rattle.duk_io.specs.Sink.{IsTried}
-use Rattle.duk_program.specs.Files.{FileKnown, IsFileUnread, HasBytes}
-use Rattle.duk_program.specs.declared.file_system.FileFault.{FileFault}
-use Rattle.duk_program.specs.declared.file_system.FileFault.TheVariants as file
+use Rattle.duk_service.specs.Files.{FileKnown, IsFileUnread, HasBytes}
+use Rattle.duk_service.specs.declared.file_system.FileFault.{FileFault}
+use Rattle.duk_service.specs.declared.file_system.FileFault.TheVariants as file
 use Rattle.duk_script.specs.FaultLine.{fault_line}
 
 -- the file states this configuration

@@ -1,12 +1,12 @@
 -- What is read of the input for `@-` (this project's own): its first line with its end, a byte at a
 -- time, and nothing of what stands behind it.
-use Rattle.std.specs.Prelude.{◌≡◌, ◌<◌, ◌≤◌, ◌+◌, ◌⊎◌, ◌++◌, ℕ, Bool, false, List, Option, Some, codes, length, option_map, if◌then◌else◌}
+use Rattle.std.specs.Prelude.{◌≡◌, ◌<◌, ◌≤◌, ◌+◌, ◌⊎◌, ◌++◌, ℕ, false, List, Some, codes, length, option_map, if◌then◌else◌}
 use Rattle.std.specs.Io.KnownBytes.{IsAtEnd}
 use Rattle.std.specs.Str.{IsUtf8, bytes_eq}
 use Rattle.duk_commands.specs.Fault.{line_end}
 use Rattle.duk_host.specs.Serve.{Supply}
 use Rattle.duk_io.specs.Source.{AreBytesRead, AreReadsMade, IsBroken}
-use Rattle.duk_program.specs.Files.{FileKnown, first_line, has_end}
+use Rattle.duk_service.specs.Files.{FileKnown, first_line, has_end}
 use Rattle.duk_program.specs.declared.secrets.Unread.{Unread as Why}
 use Rattle.duk_program.specs.declared.secrets.Unread.TheVariants.{CannotRead, TooLong, NotUtf8}
 

@@ -6,22 +6,13 @@ use Rattle.duk_explain.specs.Subject.{IsSubject, Subject, config, lockable, log,
 use Rattle.duk_explain.specs.declared.found.Facts.{Facts}
 use Rattle.duk_explain.specs.declared.found.Reason.{Reason}
 use Rattle.duk_explain.specs.declared.found.Reason.TheVariants.{Other}
-use Rattle.duk_program.specs.Files.{FileKnown, HasBytes}
+use Rattle.duk_service.specs.Files.{FileKnown, HasBytes}
 use Rattle.duk_program.specs.Secrets.{reference_in, secret_at, secret_line, secrets_of}
 use Rattle.duk_program.specs.Show.{HasNoLog}
 use Rattle.duk_program.specs.declared.secrets.SecretFault.TheVariants.{Unread}
 use Rattle.duk_program.specs.declared.secrets.Unread.TheVariants.{CannotRead}
+use Rattle.duk_service.specs.Reasons.{IsReason, ReasonKnown}
 use Rattle.duk_show.specs.declared.fault.ShowFault.TheVariants.{LogRefused}
-
--- what files make known of why the system refuses what there is under a path: nothing, or a reason,
--- or that there is none
-abbrev pub ReasonKnown : Type 0
-ReasonKnown = Option (Option Reason)
-
--- the system refuses it for this reason, or does not refuse it
-abbrev pub IsReason : ReasonKnown → Option Reason → Type 0
-IsReason None reason = ⊤
-IsReason (Some known) reason = reason ≡ known
 
 -- what files make known of each path: what it holds, why it cannot be read, why it cannot be
 -- opened to be written and locked, and why no file can be made there

@@ -11,9 +11,9 @@ use Rattle.duk_issue.specs.Order.{IsOrderOf, IsOrderRefused, OrderArguments, ord
 use Rattle.duk_issue.specs.declared.fault.IssueFault.{IssueFault}
 use Rattle.duk_issue.specs.declared.fault.IssueFault.TheVariants as fault
 use Rattle.duk_issue.specs.declared.order.Order.{Order}
-use Rattle.duk_program.specs.Files.{FileKnown, IsFrontRead, IsShorterThan}
-use Rattle.duk_program.specs.HandedOn.{IsFlushReported, IsReportedAfter}
-use Rattle.duk_program.specs.LogFiles.{DiskKnown, IsDisk, IsNoDisk}
+use Rattle.duk_service.specs.Files.{FileKnown, IsFrontRead, IsShorterThan}
+use Rattle.duk_service.specs.HandedOn.{IsFlushReported, IsReportedAfter}
+use Rattle.duk_service.specs.LogFiles.{DiskKnown, IsDisk, IsNoDisk}
 use Rattle.duk_program.specs.declared.issue_files.IssueArguments.{IssueArguments}
 use Rattle.duk_store.specs.Disk.{DiskMeaning}
 use Rattle.duk_store.specs.DiskLog.{disk_log_meaning, new_disk_log}

@@ -11,12 +11,12 @@ use Rattle.duk_host.specs.Serve.{Supply}
 use Rattle.duk_io.specs.Known.{Known}
 use Rattle.duk_io.specs.Sink.{IsTried, IsUntouched}
 use Rattle.duk_program.specs.Commands.{command_for}
-use Rattle.duk_program.specs.Files.{FileKnown}
-use Rattle.duk_program.specs.HandedOn.{IsFlushLost}
+use Rattle.duk_service.specs.Files.{FileKnown}
+use Rattle.duk_service.specs.HandedOn.{IsFlushLost}
 use Rattle.duk_program.specs.InputLine.{with_input}
 use Rattle.duk_program.specs.IssueFiles.{HasIssuedFiles, HasNotIssuedFiles, issue_arguments, issue_files_known}
 use Rattle.duk_program.specs.Items.{LineItems, command_of_line, items_of}
-use Rattle.duk_program.specs.LogFiles.{DiskKnown}
+use Rattle.duk_service.specs.LogFiles.{DiskKnown}
 use Rattle.duk_program.specs.Scene.{Scene, input_in, reading_on, writers_of}
 use Rattle.duk_program.specs.Secrets.{HasMeaning, IsInputTaken, IsSecretFault, inputs_in, secret_line, secrets_of}
 use Rattle.duk_program.specs.Show.{HasNotShownText, HasShownText, show_arguments}

@@ -2,13 +2,13 @@
 -- `serve` read, and their streams).
 use Rattle.std.specs.Prelude.{◌⊎◌, ℕ, List}
 use Rattle.duk_io.specs.Sink.{IsUntouched}
-use Rattle.duk_program.specs.CopyJournal.{HasCopiedJournal, HasNotCopiedJournal}
+use Rattle.duk_service.specs.CopyJournal.{HasCopiedJournal, HasNotCopiedJournal}
 use Rattle.duk_program.specs.Commands.{HasLostCommandOutput, HasShown, IsNotShown}
 use Rattle.duk_program.specs.Meant.{HasMeantDone, IsMeantNotDone}
-use Rattle.duk_program.specs.NewJournal.{HasMadeJournal, HasNotMadeJournal}
+use Rattle.duk_service.specs.NewJournal.{HasMadeJournal, HasNotMadeJournal}
 use Rattle.duk_program.specs.RunFiles.{FileRun, HasRunFiles, HasReportedFault, file_run}
 use Rattle.duk_program.specs.Scene.{Scene, writers_of}
-use Rattle.duk_program.specs.Serve.{HasNothingServed}
+use Rattle.duk_service.specs.Serve.{HasNothingServed}
 use Rattle.duk_program.specs.ServeFiles.{FileService, HasNotServedFiles, HasServedFiles, file_service, kept_known}
 use Rattle.duk_store.specs.Disk.{DiskMeaning}
 use Rattle.duk_arguments.specs.Asked.{Asks}

@@ -8,17 +8,18 @@ use Rattle.duk_host.specs.declared.fault.HostFault.{HostFault}
 use Rattle.duk_io.specs.Known.{Known}
 use Rattle.duk_issue.specs.Fault.{issue_line}
 use Rattle.duk_issue.specs.declared.fault.IssueFault.{IssueFault}
+use Rattle.duk_service.specs.ServeJournalFiles.{unopened_journal_line}
+use Rattle.duk_service.specs.ServeLogFiles.{unopened_line}
 use Rattle.duk_show.specs.Fault.{show_line}
 use Rattle.duk_show.specs.declared.fault.ShowFault.{ShowFault}
 use Rattle.duk_io.specs.Sink.{IsTried}
 use Rattle.duk_program.specs.Configured.{config_line}
-use Rattle.duk_program.specs.NewJournal.{new_journal_line}
+use Rattle.duk_service.specs.NewJournal.{new_journal_line}
 use Rattle.duk_program.specs.Secrets.{secret_line}
-use Rattle.duk_program.specs.Serve.{serve_line}
-use Rattle.duk_program.specs.ServeFiles.{unopened_journal_line, unopened_line}
-use Rattle.duk_program.specs.ServeJournal.{journal_line}
-use Rattle.duk_program.specs.declared.file_system.FileFault.{FileFault}
-use Rattle.duk_program.specs.declared.new_journal.JournalFault.{JournalFault}
+use Rattle.duk_service.specs.Serve.{serve_line}
+use Rattle.duk_service.specs.ServeJournal.{journal_line}
+use Rattle.duk_service.specs.declared.file_system.FileFault.{FileFault}
+use Rattle.duk_service.specs.declared.new_journal.JournalFault.{JournalFault}
 use Rattle.duk_program.specs.declared.secrets.SecretFault.{SecretFault}
 use Rattle.duk_script.specs.FaultLine.{fault_line}
 

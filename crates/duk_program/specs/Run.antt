@@ -5,8 +5,8 @@ use Rattle.duk_config.specs.declared.fault.ScriptFault.{ScriptFault}
 use Rattle.duk_config.specs.declared.fault.ScriptFault.TheVariants.{NoMemory, WriteFailed}
 use Rattle.duk_io.specs.Known.{Known}
 use Rattle.duk_io.specs.Sink.{IsTried, IsUntouched}
-use Rattle.duk_program.specs.HandedOn.{IsFlushReported}
 use Rattle.duk_script.specs.FaultLine.{fault_line}
+use Rattle.duk_service.specs.HandedOn.{IsFlushReported}
 
 -- status 0: the script is done, and no fault is reported
 pub record HasRun (Done : Known → Type 0) (output' fault fault' : Known) : Type 0 where

@@ -4,9 +4,9 @@ use Rattle.duk_batch.specs.Batch.{Input, input_of}
 use Rattle.duk_commands.specs.Answer.{Streams, streams}
 use Rattle.duk_host.specs.Serve.{Supply}
 use Rattle.duk_io.specs.Known.{Known}
-use Rattle.duk_program.specs.Files.{FileKnown}
-use Rattle.duk_program.specs.LogFiles.{DiskKnown, MakingKnown}
-use Rattle.duk_program.specs.Serve.{Serving, serving}
+use Rattle.duk_service.specs.Files.{FileKnown}
+use Rattle.duk_service.specs.LogFiles.{DiskKnown, MakingKnown}
+use Rattle.duk_service.specs.Serve.{Serving, serving}
 
 -- what files make known of each path, and what the streams make known before and after
 pub record Scene (D : Type 0) : Type 0 where

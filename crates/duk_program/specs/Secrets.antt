@@ -9,7 +9,7 @@ use Rattle.duk_arguments.specs.declared.request.Request.{Request}
 use Rattle.duk_arguments.specs.declared.request.Request.TheVariants as request
 use Rattle.duk_commands.specs.Fault.{line_end}
 use Rattle.duk_host.specs.Serve.{Supply}
-use Rattle.duk_program.specs.Files.{FileKnown, HasLongLine, IsLineRead, IsUnreadableFile}
+use Rattle.duk_service.specs.Files.{FileKnown, HasLongLine, IsLineRead, IsUnreadableFile}
 use Rattle.duk_program.specs.InputLine.{IsInputFault, IsLineTaken, longest_line, with_input}
 use Rattle.duk_program.specs.declared.secrets.Secret.{Secret}
 use Rattle.duk_program.specs.declared.secrets.Secret.TheVariants.{Bdk, Kbpk, Pin, Pan, Zone, Key, Block, Loading, What}

@@ -1,28 +1,19 @@
 -- What `serve` answers over files (this project's own).
-use Rattle.std.specs.Prelude.{◌⊎◌, ℕ, List, codes}
+use Rattle.std.specs.Prelude.{◌⊎◌, ℕ, List}
 use Rattle.duk_arguments.specs.declared.request.Kept.{Kept}
 use Rattle.duk_arguments.specs.declared.request.Kept.TheVariants.{InJournal, InLog, InMemory}
 use Rattle.duk_config.specs.NewHost.{new_host_of}
 use Rattle.duk_config.specs.Settings.{Settings}
 use Rattle.duk_io.specs.Known.{Known}
-use Rattle.duk_io.specs.Sink.{IsTried, IsUntouched}
-use Rattle.duk_journal.specs.DiskJournal.{disk_journal_meaning, new_disk_journal}
+use Rattle.duk_io.specs.Sink.{IsUntouched}
 use Rattle.duk_program.specs.Configured.{IsConfigFaultReported, IsConfigured}
-use Rattle.duk_program.specs.Files.{FileKnown}
-use Rattle.duk_program.specs.LogFiles.{DiskKnown, IsDisk, IsNoDisk}
-use Rattle.duk_program.specs.Serve.{HasNotServed, HasServed, HasNothingServed, Serving, over_log}
-use Rattle.duk_program.specs.ServeJournal.{HasNotServedJournal, HasServedJournal, journal_host_of, over_journal}
+use Rattle.duk_service.specs.Files.{FileKnown}
+use Rattle.duk_service.specs.LogFiles.{DiskKnown}
+use Rattle.duk_service.specs.Serve.{HasNotServed, HasServed, HasNothingServed, Serving, over_log}
+use Rattle.duk_service.specs.ServeJournalFiles.{IsServedOnJournal, IsUnservedOnJournal}
+use Rattle.duk_service.specs.ServeLogFiles.{IsServedOnDisk, IsUnservedOnDisk}
 use Rattle.duk_store.specs.Disk.{DiskMeaning}
-use Rattle.duk_store.specs.DiskLog.{disk_log_meaning, new_disk_log}
 use Rattle.duk_store.specs.MemoryLog.{memory_log_meaning, new_log}
-
--- the line where the file of a log cannot be opened
-abbrev pub unopened_line : List ℕ
-unopened_line = codes "log: cannot open\n"
-
--- the line where the file of a journal cannot be opened
-abbrev pub unopened_journal_line : List ℕ
-unopened_journal_line = codes "journal: cannot open\n"
 
 -- where the used numbers are kept: in memory, or in a log or a journal, of whose disk this is known
 pub data KeptKnown (D : Type 0) : Type 0 where
@@ -55,26 +46,6 @@ file_service config_held kept streams fault_before fault_after = record {
   fault_after = fault_after;
 }
 
--- the disk of a log's file is opened, and a host of the configuration over it served to the end of
--- the input
-pub record IsServedOnDisk
-    {D : Type 0} (meaning : DiskMeaning D) (known : DiskKnown D) (config : Settings) (s : Serving)
-    : Type 0 where
-  pub disk : D
-  pub opened : IsDisk known disk
-  pub served : HasServed (over_log (disk_log_meaning meaning))
-      (new_host_of config (new_disk_log disk)) s
-
--- the disk of a journal's file is opened, and a host of the configuration over it served to the end
--- of the input
-pub record IsServedOnJournal
-    {D : Type 0} (meaning : DiskMeaning D) (known : DiskKnown D) (config : Settings) (s : Serving)
-    : Type 0 where
-  pub disk : D
-  pub opened : IsDisk known disk
-  pub served : HasServedJournal (over_journal (disk_journal_meaning meaning))
-      (journal_host_of config (new_disk_journal disk)) s
-
 -- the host of a configuration served to the end of the input, over the log or the journal of the
 -- file that is given, or, where none is, over a log in memory with the room that the configuration
 -- says
@@ -83,54 +54,6 @@ IsServedOver meaning in_memory config s =
     HasServed (over_log memory_log_meaning) (new_host_of config (new_log config.log)) s
 IsServedOver meaning (in_log known) config s = IsServedOnDisk meaning known config s
 IsServedOver meaning (in_journal known) config s = IsServedOnJournal meaning known config s
-
--- no disk can be opened for the log's file, nothing is read or written, and that is reported
-pub record HasNoDisk {D : Type 0} (known : DiskKnown D) (s : Serving) (reported reported' : Known)
-    : Type 0 where
-  pub unopened : IsNoDisk known
-  pub idle : HasNothingServed s
-  pub line : IsTried reported reported' unopened_line
-
--- the disk of a log's file is opened, and there is no host over it, or it did not serve to the end
--- of the input, or its answers could not be handed on, and that is reported
-pub record HasDisk
-    {D : Type 0} (meaning : DiskMeaning D) (known : DiskKnown D) (config : Settings) (s : Serving)
-    (reported reported' : Known) : Type 0 where
-  pub disk : D
-  pub opened : IsDisk known disk
-  pub failed : HasNotServed (over_log (disk_log_meaning meaning))
-      (new_host_of config (new_disk_log disk)) s reported reported'
-
--- the input is not served to its end over the log of a file, and that is reported: the first of
--- these
-abbrev pub IsUnservedOnDisk : {D : Type 0} → DiskMeaning D → DiskKnown D → Settings → Serving
-    → Known → Known → Type 0
-IsUnservedOnDisk meaning known config s reported reported' =
-    HasNoDisk known s reported reported' ⊎ HasDisk meaning known config s reported reported'
-
--- no disk can be opened for the journal's file, nothing is read or written, and that is reported
-pub record HasNoJournal {D : Type 0} (known : DiskKnown D) (s : Serving) (reported reported' : Known)
-    : Type 0 where
-  pub unopened : IsNoDisk known
-  pub idle : HasNothingServed s
-  pub line : IsTried reported reported' unopened_journal_line
-
--- the disk of a journal's file is opened, and there is no host over it, or it did not serve to the
--- end of the input, or its answers could not be handed on, and that is reported
-pub record HasJournal
-    {D : Type 0} (meaning : DiskMeaning D) (known : DiskKnown D) (config : Settings) (s : Serving)
-    (reported reported' : Known) : Type 0 where
-  pub disk : D
-  pub opened : IsDisk known disk
-  pub failed : HasNotServedJournal (over_journal (disk_journal_meaning meaning))
-      (journal_host_of config (new_disk_journal disk)) s reported reported'
-
--- the input is not served to its end over the journal of a file, and that is reported: the first of
--- these
-abbrev pub IsUnservedOnJournal : {D : Type 0} → DiskMeaning D → DiskKnown D → Settings → Serving
-    → Known → Known → Type 0
-IsUnservedOnJournal meaning known config s reported reported' =
-    HasNoJournal known s reported reported' ⊎ HasJournal meaning known config s reported reported'
 
 -- the same over that log, over that journal, or over a log in memory
 abbrev pub IsUnservedOver : {D : Type 0} → DiskMeaning D → KeptKnown D → Settings → Serving → Known

@@ -5,8 +5,8 @@ use Rattle.duk_commands.specs.Fault.{report_line}
 use Rattle.duk_commands.specs.declared.fault.Fault.TheVariants.{WriteFailed}
 use Rattle.duk_io.specs.Known.{Known}
 use Rattle.duk_io.specs.Sink.{IsTried, IsUntouched, IsWritten}
-use Rattle.duk_program.specs.Files.{FileKnown, IsFileRead, IsLongerThan, IsUnreadableFile}
-use Rattle.duk_program.specs.HandedOn.{IsFlushReported}
+use Rattle.duk_service.specs.Files.{FileKnown, IsFileRead, IsLongerThan, IsUnreadableFile}
+use Rattle.duk_service.specs.HandedOn.{IsFlushReported}
 use Rattle.duk_show.specs.Block.{IsBlockRefused, IsBlockText}
 use Rattle.duk_show.specs.Fault.{show_line}
 use Rattle.duk_show.specs.Frame.{IsFrameRefused, IsFrameText}

@@ -6,20 +6,18 @@ ghost use Rattle.duk_program.specs.Commands.{command_for};
 ghost use Rattle.duk_program.specs.Meant.{HasLostLines, IsAnswered, IsDoneAlone, IsNotAnswered, IsNotDoneAlone};
 ghost use Rattle.duk_program.specs.Scene.{scene};
 ghost use Rattle.duk_program.specs.Secrets.{IsOverSecrets};
-ghost use Rattle.duk_program.specs.Serve.{serving_of};
+ghost use Rattle.duk_service.specs.Serve.{serving_of};
 ghost use Rattle.duk_program.specs.inner.Commands.{NeedsNoFile};
 
 use crate::commands::do_command;
-use crate::ending::hand_on;
-use crate::file_system::FileSystem;
 use crate::issue_files::{IssueArguments, issue_files};
 use crate::items::line_command;
-use crate::log_files::LogFiles;
 use crate::show::show_text;
 use duk_arguments::Request;
 use duk_batch::do_batch;
 use duk_commands::Fault;
 use duk_io::{Sink, Source};
+use duk_service::{FileSystem, LogFiles, hand_on};
 use duk_store::Disk;
 use std::alloc::Global;
 

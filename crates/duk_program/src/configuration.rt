@@ -4,10 +4,10 @@ ghost use Rattle.std.specs.Prelude.{◌≡◌, IfErr, IfOk, OnErr, OnOk};
 ghost use Rattle.duk_io.specs.Sink.{IsTried};
 ghost use Rattle.duk_program.specs.Configured.{IsConfigFaultReported, IsConfigured, config_line};
 
-use crate::ending::EndingFault;
-use crate::file_system::{FileFault, FileSystem};
+use crate::script_ending::report_script;
 use duk_config::{Config, LONGEST_FILE, ScriptFault, read_config};
 use duk_io::{Sink, write_text};
+use duk_service::{FileFault, FileSystem};
 use std::alloc::Global;
 
 /// The configuration that the file under a path states. Where it states none, the line of the fault
@@ -34,7 +34,7 @@ pub(crate) fn read_configuration<S: FileSystem, F: Sink>(
     };
     match read_config(alloc, bytes.as_slice()) {
         Ok(config) => Ok(config),
-        Err(why) => Err(why.report(fault)),
+        Err(why) => Err(report_script(why, fault)),
     }
 }
 
@@ -45,8 +45,8 @@ fn refuse_config<F: Sink>(why: FileFault, fault: &mut F) -> u8
 {
     match why {
         FileFault::CannotRead => refuse_unread(fault),
-        FileFault::TooLong => ScriptFault::ConfigTooLong.report(fault),
-        FileFault::NoMemory => ScriptFault::NoMemory.report(fault),
+        FileFault::TooLong => report_script(ScriptFault::ConfigTooLong, fault),
+        FileFault::NoMemory => report_script(ScriptFault::NoMemory, fault),
     }
 }
 

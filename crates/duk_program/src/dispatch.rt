@@ -12,12 +12,12 @@ ghost use Rattle.duk_program.specs.inner.Status.{RunsRequest};
 ghost use Rattle.duk_arguments.specs.Asked.{AreRefused, IsNoRequestOf, texts_of};
 
 use crate::commands::do_command;
-use crate::ending::hand_on;
 use crate::items::line_command;
 use crate::references::has_reference;
 use duk_arguments::{Kept, NoRequest, Request, read_request};
 use duk_commands::{Fault, report};
 use duk_io::{Sink, write_text};
+use duk_service::hand_on;
 use std::alloc::Global;
 
 /// What is left to do when the arguments are dealt with.

@@ -8,17 +8,12 @@ ghost use Rattle.duk_program.specs.Explained.{HasExplained, IsExplainedDone, IsE
 ghost use Rattle.duk_program.specs.Inquiry.{inquiry};
 ghost use Rattle.duk_program.specs.Scene.{scene};
 ghost use Rattle.duk_program.specs.Secrets.{IsOverSecrets, secret_line};
-ghost use Rattle.duk_program.specs.Serve.{serving_of};
+ghost use Rattle.duk_service.specs.Serve.{serving_of};
 ghost use Rattle.duk_program.specs.Status.{IsStatus};
 
 use crate::answers::answer;
-use crate::copy_journal::copy_journal;
 use crate::dispatch::show_at_end;
-use crate::ending::EndingFault;
-use crate::file_system::FileSystem;
-use crate::log_files::LogFiles;
 use crate::meant::{keys_of, read_texts};
-use crate::new_journal::new_journal;
 use crate::reasons::facts_of;
 use crate::request_secrets::with_secrets;
 use crate::run_files::run_files;
@@ -27,6 +22,9 @@ use crate::serve_files::serve_files;
 use duk_arguments::{Request, read_request};
 use duk_explain::explanation;
 use duk_io::{Sink, Source, write_text};
+use duk_service::copy_journal::copy_journal;
+use duk_service::new_journal::new_journal;
+use duk_service::{EndingFault, FileSystem, LogFiles};
 use duk_store::Disk;
 use std::alloc::Global;
 

@@ -5,14 +5,12 @@ ghost use Rattle.duk_commands.specs.Answer.{streams};
 ghost use Rattle.duk_issue.specs.Fault.{issue_line};
 ghost use Rattle.duk_issue.specs.Issue.{job};
 ghost use Rattle.duk_issue.specs.Order.{IsOrderOf, IsOrderRefused};
-ghost use Rattle.duk_program.specs.Files.{IsFrontRead};
+ghost use Rattle.duk_service.specs.Files.{IsFrontRead};
 ghost use Rattle.duk_program.specs.IssueFiles.{HasIssuedFiles, HasNotIssuedFiles, IsIssuedOver, IsNotIssuedOver, IsPaddingRefused, issue_files_known, issuing, order_in, random_device};
 
-use crate::ending::{EndingFault, hand_on, report_after};
-use crate::file_system::{FileFault, FileSystem};
-use crate::log_files::LogFiles;
 use duk_io::Sink;
 use duk_issue::{IssueFault, Order, PADDING_LENGTH, issue, report};
+use duk_service::{EndingFault, FileFault, FileSystem, LogFiles, hand_on, report_after};
 use duk_store::{Disk, DiskLog, UsedLog};
 use std::alloc::Global;
 
@@ -29,11 +27,18 @@ pub(crate) struct IssueArguments<'a> {
     pub(crate) skip_issued: bool,
 }
 
-impl EndingFault for IssueFault {
-    ghost line = { issue_line };
+/// A fault with which `issue` ends.
+#[derive(Clone, Copy)]
+struct IssueEnding {
+    /// Why it ends.
+    why: IssueFault,
+}
+
+impl EndingFault for IssueEnding {
+    ghost line = { λ ending. issue_line ending.why };
 
     fn report<F: Sink>(&self, fault: &mut F) -> u8 {
-        report(fault, *self)
+        report(fault, self.why)
     }
 }
 
@@ -138,8 +143,11 @@ fn issue_over<L: UsedLog, W: Sink, F: Sink>(
         (F.known fault.old) (F.known fault.new))) }
 {
     let mut ledger = ledger;
+    let lost = IssueEnding {
+        why: IssueFault::WriteFailed,
+    };
     match issue(alloc, order, skip_issued, padding, &mut ledger, output) {
-        Ok(()) => hand_on(&IssueFault::WriteFailed, output, fault),
-        Err(why) => report_after(&why, &IssueFault::WriteFailed, output, fault),
+        Ok(()) => hand_on(&lost, output, fault),
+        Err(why) => report_after(&IssueEnding { why }, &lost, output, fault),
     }
 }

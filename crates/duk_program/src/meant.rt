@@ -6,17 +6,15 @@ ghost use Rattle.duk_host.specs.Serve.{supply};
 ghost use Rattle.duk_program.specs.Meant.{HasMeantDone, HasMeantNotDone, IsMeantNotDone};
 ghost use Rattle.duk_program.specs.Scene.{scene};
 ghost use Rattle.duk_program.specs.Secrets.{AreRead, IsOverSecrets, IsSecretFault, secrets_of};
-ghost use Rattle.duk_program.specs.Serve.{serving_of};
+ghost use Rattle.duk_service.specs.Serve.{serving_of};
 
 use crate::answers::answer;
-use crate::ending::EndingFault;
-use crate::file_system::FileSystem;
-use crate::log_files::LogFiles;
 use crate::references::read_secrets;
 use crate::request_secrets::{secrets_of, with_secrets};
 use crate::secrets::SecretFault;
 use duk_arguments::{Keys, Request};
 use duk_io::{Sink, Source};
+use duk_service::{EndingFault, FileSystem, LogFiles};
 use duk_store::Disk;
 use std::alloc::Global;
 

@@ -8,22 +8,21 @@ ghost use Rattle.duk_program.specs.Explained.{IsRunDone, IsRunNotDone};
 ghost use Rattle.duk_program.specs.Inquiry.{inquiry};
 ghost use Rattle.duk_program.specs.Program.{IsProgramDone, IsProgramNotDone};
 ghost use Rattle.duk_program.specs.Scene.{scene};
-ghost use Rattle.duk_program.specs.Serve.{serving_of};
+ghost use Rattle.duk_service.specs.Serve.{serving_of};
 ghost use Rattle.duk_program.specs.Status.{IsStatus};
 ghost use Rattle.duk_program.specs.Reported.{IsLineReported};
 ghost use Rattle.duk_arguments.specs.Asked.{AreRefused, texts_of};
 
-use crate::copy_journal::copy_journal;
 use crate::dispatch::{Todo, command};
 use crate::explain::take_explain;
 use crate::explained::run_explained;
-use crate::file_system::FileSystem;
-use crate::log_files::LogFiles;
 use crate::meant::do_over_secrets;
-use crate::new_journal::new_journal;
 use crate::run_files::run_files;
 use crate::serve_files::serve_files;
 use duk_io::{Sink, Source};
+use duk_service::copy_journal::copy_journal;
+use duk_service::new_journal::new_journal;
+use duk_service::{FileSystem, LogFiles};
 use duk_store::Disk;
 use std::alloc::Global;
 

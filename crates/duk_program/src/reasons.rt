@@ -8,8 +8,6 @@ ghost use Rattle.duk_program.specs.Secrets.{secret_line, secrets_of};
 ghost use Rattle.duk_program.specs.declared.secrets.SecretFault.TheVariants as fault;
 ghost use Rattle.duk_program.specs.declared.secrets.Unread.TheVariants as unread;
 
-use crate::file_system::FileSystem;
-use crate::log_files::LogFiles;
 use crate::references::path_in;
 use crate::request_secrets::{secret_at, secrets_of};
 use crate::secrets::{Secret, SecretFault, Unread};
@@ -17,6 +15,7 @@ use crate::show::LONGEST_LOG;
 use duk_arguments::Request;
 use duk_config::LONGEST_FILE;
 use duk_explain::{Blamed, Facts, Reason, blamed_file, line_of_fault};
+use duk_service::{FileSystem, LogFiles};
 use duk_show::{ShowFault, log_lines};
 use std::alloc::Global;
 

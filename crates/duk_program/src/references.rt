@@ -8,11 +8,11 @@ ghost use Rattle.duk_program.specs.InputLine.{HasLineTaken};
 ghost use Rattle.duk_program.specs.Secrets.{AreRead, HasWordsAlone, IsSecretFault, IsWord, reference_in, secrets_of};
 ghost use Rattle.duk_program.specs.inner.Secrets.{IsAnyLineUnread, IsNextByte, IsOnceUnread, IsReadOnce, IsSecretRead, IsSecretRefused, IsTextRefused, line_fault};
 
-use crate::file_system::{FileFault, FileSystem, strip_return};
 use crate::request_secrets::{secret_at, secrets_of};
 use crate::secrets::{Secret, SecretFault, Unread};
 use duk_arguments::Request;
 use duk_io::Source;
+use duk_service::{FileFault, FileSystem, strip_return};
 use std::alloc::Global;
 use std::{io, str};
 

@@ -3,7 +3,7 @@
 ghost use Rattle.std.specs.Prelude.{◌≡◌, ◌∷◌, ◌+◌, ◌<◌, [], ℕ, List, IsSomeAnd, MatchOption, get_or, length, option_map, option_to_list};
 ghost use Rattle.std.specs.Option.{option_copied};
 ghost use Rattle.duk_arguments.specs.Keys.{texts_of_keys};
-ghost use Rattle.duk_program.specs.Files.{FileKnown};
+ghost use Rattle.duk_service.specs.Files.{FileKnown};
 ghost use Rattle.duk_program.specs.Secrets.{EachMeans, HasMeaning, IsOverSecrets, secret_at, secret_names, secrets_of};
 
 use crate::secrets::Secret;

@@ -2,15 +2,16 @@
 
 ghost use Rattle.std.specs.Prelude.{◌≡◌, ◌⊎◌};
 ghost use Rattle.duk_config.specs.declared.fault.ScriptFault.{ScriptFault};
-ghost use Rattle.duk_program.specs.HandedOn.{IsReportedAfter};
+ghost use Rattle.duk_service.specs.HandedOn.{IsReportedAfter};
 ghost use Rattle.duk_program.specs.Run.{HasNotRun, HasRun};
 ghost use Rattle.duk_script.specs.FaultLine.{fault_line};
 ghost use Rattle.duk_script.specs.Session.{IsRunDone, IsRunRefused, IsScriptDone, IsScriptRefused, session};
 
-use crate::ending::{EndingFault, hand_on, report_after};
+use crate::script_ending::{RunEnding, report_script};
 use duk_config::{Config, ScriptFault};
 use duk_io::{Sink, Source};
 use duk_script::{play_script, run_script};
+use duk_service::{hand_on, report_after};
 use std::alloc::Global;
 
 /// Runs the script that a reader gives, under the configuration with these bytes, and writes a line
@@ -39,9 +40,9 @@ pub fn run_status<R: Source, W: Sink, F: Sink>(
         (W.known output.new) (F.known fault.old) (F.known fault.new) }
 {
     match run_script(alloc, config, reader, output) {
-        Ok(()) => hand_on(&ScriptFault::WriteFailed, output, fault),
+        Ok(()) => hand_on(&RunEnding::WriteFailed, output, fault),
         Err(ScriptFault::NoMemory) => refuse_memory(output, fault),
-        Err(why) => why.report(fault),
+        Err(why) => report_script(why, fault),
     }
 }
 
@@ -62,9 +63,9 @@ pub(crate) fn play_status<W: Sink, F: Sink>(
         (W.known output.new) (F.known fault.old) (F.known fault.new) }
 {
     match play_script(alloc, config, script, output) {
-        Ok(()) => hand_on(&ScriptFault::WriteFailed, output, fault),
+        Ok(()) => hand_on(&RunEnding::WriteFailed, output, fault),
         Err(ScriptFault::NoMemory) => refuse_memory(output, fault),
-        Err(cause) => cause.report(fault),
+        Err(cause) => report_script(cause, fault),
     }
 }
 
@@ -74,6 +75,5 @@ fn refuse_memory<W: Sink, F: Sink>(output: &mut W, fault: &mut F) -> u8
     ensures reported { IsReportedAfter (fault_line ScriptFault.NoMemory) (fault_line ScriptFault.WriteFailed)
         (W.known output.old) (W.known output.new) (F.known fault.old) (F.known fault.new) }
 {
-    let (why, lost) = (ScriptFault::NoMemory, ScriptFault::WriteFailed);
-    report_after(&why, &lost, output, fault)
+    report_after(&RunEnding::NoMemory, &RunEnding::WriteFailed, output, fault)
 }

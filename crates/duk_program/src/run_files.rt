@@ -5,11 +5,11 @@ ghost use Rattle.duk_io.specs.Sink.{IsTried};
 ghost use Rattle.duk_program.specs.RunFiles.{HasRunFiles, HasReportedFault, file_run, script_line};
 
 use crate::configuration::read_configuration;
-use crate::ending::EndingFault;
-use crate::file_system::{FileFault, FileSystem};
 use crate::run::play_status;
+use crate::script_ending::report_script;
 use duk_config::{LONGEST_FILE, ScriptFault};
 use duk_io::Sink;
+use duk_service::{FileFault, FileSystem};
 use std::alloc::Global;
 
 /// Runs the script of one file under the configuration of another, and gives the status: 0, or 1
@@ -54,8 +54,8 @@ fn refuse_script<F: Sink>(why: FileFault, fault: &mut F) -> u8
     ensures line { IsTried (F.known fault.old) (F.known fault.new) (script_line why) }
 {
     match why {
-        FileFault::CannotRead => ScriptFault::CannotRead.report(fault),
-        FileFault::TooLong => ScriptFault::TooLong.report(fault),
-        FileFault::NoMemory => ScriptFault::NoMemory.report(fault),
+        FileFault::CannotRead => report_script(ScriptFault::CannotRead, fault),
+        FileFault::TooLong => report_script(ScriptFault::TooLong, fault),
+        FileFault::NoMemory => report_script(ScriptFault::NoMemory, fault),
     }
 }

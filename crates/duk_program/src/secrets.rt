@@ -3,9 +3,9 @@
 ghost use Rattle.std.specs.Prelude.{◌≡◌, ◌≤◌, length};
 ghost use Rattle.duk_program.specs.Secrets.{secret_line, secret_name, unread_text};
 
-use crate::ending::EndingFault;
 use duk_commands::{Lines, push_end, push_text};
 use duk_io::{Sink, write_text};
+use duk_service::EndingFault;
 
 /// An argument that is a secret, by its name in the help.
 #[derive(Clone, Copy, Debug, PartialEq, Eq)]

@@ -8,10 +8,9 @@ ghost use Rattle.duk_show.specs.Frame.{IsFrameRefused, IsFrameText};
 ghost use Rattle.duk_show.specs.Image.{IsImageRefused, IsImageText};
 ghost use Rattle.duk_show.specs.declared.fault.ShowFault.TheVariants.{OutOfMemory};
 
-use crate::ending::hand_on;
-use crate::file_system::{FileFault, FileSystem};
 use duk_commands::Fault;
 use duk_io::{Sink, write_text};
+use duk_service::{FileFault, FileSystem, hand_on};
 use duk_show::{
     ShowFault, block_lines, frame_lines, image_lines, journal_lines, log_lines, report,
 };

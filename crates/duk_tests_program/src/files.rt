@@ -3,8 +3,8 @@
 ghost use Rattle.std.proofs.Common.{rules};
 ghost use Rattle.std.specs.Option.{option_map};
 ghost use Rattle.std.specs.Prelude.{◌≡◌, IfErr, IfOk, None, Some, false};
-ghost use Rattle.duk_program.specs.LogFiles.{unknown_making};
-ghost use Rattle.duk_program.specs.declared.file_system.FileFault.TheVariants.{NoMemory};
+ghost use Rattle.duk_service.specs.LogFiles.{unknown_making};
+ghost use Rattle.duk_service.specs.declared.file_system.FileFault.TheVariants.{NoMemory};
 ghost use Rattle.duk_explain.specs.declared.found.Reason.TheVariants.{There};
 
 use crate::commands::arguments_of;
@@ -84,6 +84,10 @@ impl LogFiles for EveryFile {
         Err(StoreFault::Device)
     }
 
+    fn open_to_read(&self, path: &str) -> Result<MemDisk, StoreFault> {
+        self.open_disk(path)
+    }
+
     fn opening_reason(&self, _path: &str) -> Reason {
         Reason::InUse
     }
@@ -154,6 +158,10 @@ impl LogFiles for Banks {
 
     fn open_disk(&self, _path: &str) -> Result<MemDisk, StoreFault> {
         MemDisk::new(self.alloc, 64)
+    }
+
+    fn open_to_read(&self, path: &str) -> Result<MemDisk, StoreFault> {
+        self.open_disk(path)
     }
 
     fn opening_reason(&self, _path: &str) -> Reason {

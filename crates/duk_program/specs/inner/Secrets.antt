@@ -1,15 +1,15 @@
 -- What only private functions and proofs say beside `Secrets.antt`: this project's own.
-use Rattle.std.specs.Prelude.{◌≡◌, ◌≢◌, ◌≤◌, ◌<◌, ◌⊎◌, ⊤, ℕ, Bool, true, false, List, [], ◌∷◌, Option, Some, None, codes, length}
+use Rattle.std.specs.Prelude.{◌≡◌, ◌≢◌, ◌≤◌, ◌⊎◌, ⊤, ℕ, Bool, true, false, List, [], ◌∷◌, Option, Some, None, codes, length}
 use Rattle.std.specs.Io.KnownBytes.{IsAtEnd}
 use Rattle.std.specs.Str.{IsUtf8}
 use Rattle.duk_host.specs.Serve.{Supply}
 use Rattle.duk_io.specs.Known.{Known}
 use Rattle.duk_io.specs.Source.{AreBytesRead}
-use Rattle.duk_program.specs.Files.{FileKnown}
+use Rattle.duk_service.specs.Files.{FileKnown}
 use Rattle.duk_program.specs.InputLine.{HasLineTaken, IsInputBroken, IsInputTooLong, longest_line}
 use Rattle.duk_program.specs.Secrets.{IsNextUnread, Means}
-use Rattle.duk_program.specs.declared.file_system.FileFault.{FileFault}
-use Rattle.duk_program.specs.declared.file_system.FileFault.TheVariants as fault
+use Rattle.duk_service.specs.declared.file_system.FileFault.{FileFault}
+use Rattle.duk_service.specs.declared.file_system.FileFault.TheVariants as fault
 use Rattle.duk_program.specs.declared.secrets.Secret.{Secret}
 use Rattle.duk_program.specs.declared.secrets.SecretFault.{SecretFault}
 use Rattle.duk_program.specs.declared.secrets.SecretFault.TheVariants.{NoMemory, Unread}

@@ -11,5 +11,5 @@ returns-clause-reported g c = record {
     cause = rw c.as_slice.ensures.value at c.in-Err-read_config.ensures.refused;
     line_is = refl;
   });
-  line_reported = c.report.ensures.line;
+  line_reported = c.report_script.ensures.line;
 }

@@ -1,7 +1,7 @@
 use Rattle.std.proofs.Common.{sym, ◌∙◌}
 use Rattle.duk_program.proofs.Told.{run_not_done, told_of}
 use Rattle.duk_program.specs.Scene.{scene}
-use Rattle.duk_program.specs.Serve.{serving_of}
+use Rattle.duk_service.specs.Serve.{serving_of}
 use Rattle.duk_program.proofs.explained.do_explained.Goals as goal
 
 pub returns-in-Run-clause-not_done : goal.returns-in-Run-clause-not_done

@@ -3,7 +3,7 @@ use Rattle.duk_host.specs.Serve.{supply}
 use Rattle.duk_program.proofs.Told.{each_means_of, meant_explained, meant_heard, told_of, unread_explained}
 use Rattle.duk_program.proofs.Words.{means_length}
 use Rattle.duk_program.specs.Scene.{scene}
-use Rattle.duk_program.specs.Serve.{serving_of}
+use Rattle.duk_service.specs.Serve.{serving_of}
 use Rattle.duk_program.specs.declared.secrets.SecretFault.TheVariants.{NoMemory}
 use Rattle.duk_program.proofs.explained.do_meant_explained.Goals as goal
 

@@ -5,7 +5,7 @@ use Rattle.std.specs.declared.alloc.Global.{Global}
 use Rattle.duk_host.specs.Serve.{Supply, supply}
 use Rattle.duk_program.proofs.InputRead.{fault_through, input_no_text, input_unread}
 use Rattle.duk_program.specs.Secrets.{reference_in}
-use Rattle.duk_program.specs.declared.file_system.FileFault.{FileFault}
+use Rattle.duk_service.specs.declared.file_system.FileFault.{FileFault}
 use Rattle.duk_program.specs.declared.secrets.SecretFault.{SecretFault}
 use Rattle.duk_program.specs.inner.Secrets.{IsOnceUnread, IsReadOnce, IsSecretRefused, IsTextRefused, line_fault}
 use Rattle.duk_program.proofs.references.read_secret.Goals as goal

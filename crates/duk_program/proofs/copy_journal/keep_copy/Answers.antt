@@ -1,5 +1,0 @@
-use Rattle.std.proofs.Common.{◌∙◌}
-use Rattle.duk_program.proofs.copy_journal.keep_copy.Goals as goal
-
-pub write_copy-requires-clause-zeros : goal.write_copy-requires-clause-zeros
-write_copy-requires-clause-zeros g c = c.as_slice.ensures.value ∙ c.requires.zeros

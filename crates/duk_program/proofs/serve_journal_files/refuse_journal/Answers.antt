@@ -1,5 +1,0 @@
-use Rattle.duk_program.proofs.Results.{either}
-use Rattle.duk_program.proofs.serve_journal_files.refuse_journal.Goals as goal
-
-pub returns-clause-line : goal.returns-clause-line
-returns-clause-line g c = either _ _ c.write_text.result c.write_text.ensures.written c.write_text.ensures.cut

@@ -1,0 +1,2 @@
+mod CopiedJournal
+mod Results

@@ -1,0 +1,105 @@
+-- What `copy-journal` makes (this project's own).
+use Rattle.std.specs.Prelude.{◌≡◌, ◌⊎◌, ◌↔◌, ℕ, List, None, length}
+use Rattle.duk_copy.specs.Copy.{IsCopied}
+use Rattle.duk_host.specs.Used.{AreUsable}
+use Rattle.duk_host.specs.declared.fault.HostFault.TheVariants.{Store}
+use Rattle.duk_io.specs.Known.{Known}
+use Rattle.duk_io.specs.Sink.{IsTried}
+use Rattle.duk_journal.specs.DiskJournal.{DiskJournalOf, MayFindPayments, disk_journal_meaning, disk_journal_state, new_disk_journal}
+use Rattle.duk_journal.specs.Groups.{Payments}
+use Rattle.duk_line.specs.Check.{CheckRefused}
+use Rattle.duk_line.specs.Latest.{numbers_of}
+use Rattle.duk_service.specs.LogFiles.{DiskKnown, IsDisk, IsFolderSynced, IsNoDisk, MakingKnown}
+use Rattle.duk_service.specs.NewJournal.{IsUnmade, new_journal_line}
+use Rattle.duk_service.specs.ServeJournal.{journal_line}
+use Rattle.duk_service.specs.ServeJournalFiles.{unopened_journal_line}
+use Rattle.duk_service.specs.declared.copy_journal.CopyJournalFault.{CopyJournalFault}
+use Rattle.duk_service.specs.declared.copy_journal.CopyJournalFault.TheVariants as fault
+use Rattle.duk_service.specs.declared.new_journal.JournalFault.TheVariants.{OutOfMemory, Unmade}
+use Rattle.duk_store.specs.Disk.{DiskMeaning, HasFailed}
+use Rattle.duk_store.specs.StoreState.{FindsOnly}
+use Rattle.duk_store.specs.declared.fault.StoreFault.{StoreFault}
+use Rattle.duk_store.specs.declared.fault.StoreFault.TheVariants.{Device}
+
+-- a restart of a journal over a disk finds these payments and nothing else
+abbrev pub Keeps : {D : Type 0} → DiskMeaning D → D → Payments → Type 0
+Keeps meaning disk payments = FindsOnly (disk_journal_state (meaning.state_of disk) None) payments
+
+-- what a journal keeps on a disk that is read to its end: payments that a restart could find when it
+-- was opened, and that a restart finds still, over which a host comes up: each of their numbers
+-- numbers a transaction, and none occurs twice. The disk is as honest as it was
+pub record HasKept {D : Type 0} (meaning : DiskMeaning D) (opened last : D) (payments : Payments)
+    : Type 0 where
+  pub honest : (meaning.state_of opened).honest ↔ (meaning.state_of last).honest
+  pub was_found : (meaning.state_of opened).honest → MayFindPayments (meaning.state_of opened) payments
+  pub finds : (meaning.state_of opened).honest → Keeps meaning last payments
+  pub usable : AreUsable (numbers_of payments)
+
+-- the journal OLD is checked: its disk is opened, and a host would come up over it
+pub record IsOldChecked {D : Type 0} (meaning : DiskMeaning D) (known : DiskKnown D) : Type 0 where
+  pub opened : D
+  pub last : D
+  pub payments : Payments
+  pub is_opened : IsDisk known opened
+  pub kept : HasKept meaning opened last payments
+
+-- status 0 of `copy-journal`: OLD is checked, a file of its size is made, what OLD keeps is written
+-- over all of its disk and synced, and its folder is synced; where both disks are honest, a journal
+-- over that of the file finds what OLD keeps, and nothing else
+pub record HasCopiedJournal {D : Type 0} (meaning : DiskMeaning D) (known : DiskKnown D)
+    (making : MakingKnown D) : Type 0 where
+  pub old : IsOldChecked meaning known
+  pub made : D
+  pub last : D
+  pub is_made : IsDisk (making.disk (meaning.state_of old.opened).size) made
+  pub size_is : (meaning.state_of made).size ≡ (meaning.state_of old.opened).size
+  pub written : IsCopied (length old.payments) (meaning.state_of old.last)
+      (meaning.state_of made) (meaning.state_of last)
+  pub finds : (meaning.state_of old.opened).honest → (meaning.state_of made).honest
+      → Keeps meaning last old.payments
+  pub folder : IsFolderSynced making.folder
+
+-- OLD's disk is opened, and no host would come up over it: no file is made
+pub record IsOldRefused {D : Type 0} (meaning : DiskMeaning D) (known : DiskKnown D) : Type 0 where
+  pub opened : D
+  pub last : DiskJournalOf D
+  pub why : StoreFault
+  pub is_opened : IsDisk known opened
+  pub refused : CheckRefused (disk_journal_meaning meaning) (new_disk_journal opened) last (Store why)
+
+-- OLD is checked, a file of its size is made, and then a device step of OLD failed
+pub record IsOldUnread {D : Type 0} (meaning : DiskMeaning D) (known : DiskKnown D)
+    (making : MakingKnown D) : Type 0 where
+  pub old : IsOldChecked meaning known
+  pub made : D
+  pub is_made : IsDisk (making.disk (meaning.state_of old.opened).size) made
+  pub failed : HasFailed (meaning.state_of old.opened) (meaning.state_of old.last) Device
+
+-- OLD is checked, and no file of its size is made, or not whole, or its folder cannot be synced
+pub record IsCopyUnmade {D : Type 0} (meaning : DiskMeaning D) (known : DiskKnown D)
+    (making : MakingKnown D) : Type 0 where
+  pub old : IsOldChecked meaning known
+  pub unmade : IsUnmade meaning making (meaning.state_of old.opened).size
+
+-- why no journal is copied; memory may be refused at any time once OLD is opened
+abbrev pub IsCopyJournalRefused : {D : Type 0} → DiskMeaning D → DiskKnown D → MakingKnown D
+    → CopyJournalFault → Type 0
+IsCopyJournalRefused {D} meaning known making fault.OutOfMemory = (opened : D) × IsDisk known opened
+IsCopyJournalRefused meaning known making fault.Unopened = IsNoDisk known
+IsCopyJournalRefused meaning known making fault.Failed =
+    IsOldRefused meaning known ⊎ IsOldUnread meaning known making
+IsCopyJournalRefused meaning known making fault.Unmade = IsCopyUnmade meaning known making
+
+-- the line of a fault, LF at its end
+abbrev pub copy_journal_line : CopyJournalFault → List ℕ
+copy_journal_line fault.OutOfMemory = new_journal_line OutOfMemory
+copy_journal_line fault.Unopened = unopened_journal_line
+copy_journal_line fault.Failed = journal_line (Store Device)
+copy_journal_line fault.Unmade = new_journal_line Unmade
+
+-- status 1 of `copy-journal`: that is reported
+pub record HasNotCopiedJournal {D : Type 0} (meaning : DiskMeaning D) (known : DiskKnown D)
+    (making : MakingKnown D) (reported reported' : Known) : Type 0 where
+  pub why : CopyJournalFault
+  pub cause : IsCopyJournalRefused meaning known making why
+  pub line : IsTried reported reported' (copy_journal_line why)

@@ -1,0 +1,12 @@
+pub mod CopyJournal
+pub mod Files
+pub mod HandedOn
+pub mod HostSize
+pub mod LogFiles
+pub mod NewJournal
+pub mod Reasons
+pub mod Serve
+pub mod ServeJournal
+pub mod ServeJournalFiles
+pub mod ServeLogFiles
+pub mod inner

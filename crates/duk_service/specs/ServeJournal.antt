@@ -1,0 +1,109 @@
+-- What `serve` answers over a journal (this project's own, over what a host over a journal does with
+-- a stream of frames).
+use Rattle.std.specs.Prelude.{◌⊎◌, ℕ, List, [], codes, None}
+use Rattle.duk_config.specs.Opened.{keys_for}
+use Rattle.duk_config.specs.Settings.{Settings}
+use Rattle.duk_host.specs.Table.{CardTable, table_decision}
+use Rattle.duk_host.specs.declared.fault.HostFault.{HostFault}
+use Rattle.duk_host.specs.declared.fault.HostFault.TheVariants as fault
+use Rattle.duk_io.specs.Known.{Known}
+use Rattle.duk_io.specs.Sink.{IsUntouched}
+use Rattle.duk_journal.specs.Journal.{JournalMeaning}
+use Rattle.duk_line.specs.Host.{HostMeaning, HostOf, host_meaning_of}
+use Rattle.duk_line.specs.Restart.{HostRestartRefused, IsHostRestarted}
+use Rattle.duk_line.specs.Serve.{IsReadToEnd, ServiceFailed, service}
+use Rattle.duk_service.specs.HandedOn.{IsFlushReported, IsReportedAfter}
+use Rattle.duk_service.specs.Serve.{HasNothingServed, IsNotMade, Serving, answered_at, serve_line}
+use Rattle.duk_tdes.specs.KeyBytes.{bytes_of}
+
+-- what a journal and the issuer of a configuration mean
+abbrev pub over_journal : {J : Type 0} → JournalMeaning J → HostMeaning J CardTable
+over_journal journal = host_meaning_of journal table_decision
+
+-- the host of a configuration over this journal, as it is made: stopped
+abbrev pub journal_host_of : {J : Type 0} → Settings → J → HostOf J CardTable
+journal_host_of config journal = record {
+  keys = keys_for (bytes_of config.lmk) config;
+  issuer = record { zone = bytes_of config.zone; cards = config.cards };
+  journal = journal;
+  state = None;
+}
+
+-- a host was brought up over its journal
+pub record IsJournalHostUp {J I : Type 0} (meaning : HostMeaning J I) (made up : HostOf J I)
+    : Type 0 where
+  pub found : ℕ
+  pub restarted : IsHostRestarted meaning made up found
+
+-- a host was brought up, and served the frames to the end of the input
+pub record IsJournalServed
+    {J I : Type 0} (meaning : HostMeaning J I) (made : HostOf J I) (s : Serving) : Type 0 where
+  pub up : HostOf J I
+  pub last : HostOf J I
+  pub is_up : IsJournalHostUp meaning made up
+  pub read_up : IsReadToEnd meaning (service up s.output_before) (service last s.output_after)
+      s.input_before s.input_after []
+
+-- a host was not brought up
+pub record IsJournalHostDown
+    {J I : Type 0} (meaning : HostMeaning J I) (made : HostOf J I) (s : Serving)
+    (why : HostFault) : Type 0 where
+  pub idle : HasNothingServed s
+  pub last : HostOf J I
+  pub refused : HostRestartRefused meaning.journal made last why
+
+-- a host was brought up, and stopped serving before the end of the input
+pub record IsJournalServiceStopped
+    {J I : Type 0} (meaning : HostMeaning J I) (made : HostOf J I) (s : Serving)
+    (why : HostFault) : Type 0 where
+  pub up : HostOf J I
+  pub last : HostOf J I
+  pub is_up : IsJournalHostUp meaning made up
+  pub failed : ServiceFailed meaning (service up s.output_before) (service last s.output_after)
+      s.input_before s.input_after why
+
+-- why the input is not served to its end by this host: the first of these
+abbrev pub JournalServiceRefused : {J I : Type 0} → HostMeaning J I → HostOf J I → Serving
+    → HostFault → Type 0
+JournalServiceRefused meaning made s why =
+    IsNotMade s why
+    ⊎ IsJournalHostDown meaning made s why ⊎ IsJournalServiceStopped meaning made s why
+
+-- status 0: the host served to the end of the input, and its answers were handed on
+pub record HasServedJournal
+    {J I : Type 0} (meaning : HostMeaning J I) (made : HostOf J I) (s : Serving) : Type 0 where
+  pub written : Known
+  pub served : IsJournalServed meaning made (answered_at s written)
+  pub handed_on : IsUntouched written s.output_after
+
+-- the line of a fault of serving over a journal: that of the journal in place of the log's
+abbrev pub journal_line : HostFault → List ℕ
+journal_line (fault.Store why) = codes "journal: failed\n"
+journal_line fault.Stopped = codes "journal: failed\n"
+journal_line why = serve_line why
+
+-- serving was refused, and that is reported after the answers, or that they could not be handed on
+pub record HasRefusedJournalService
+    {J I : Type 0} (meaning : HostMeaning J I) (made : HostOf J I) (s : Serving)
+    (reported reported' : Known) : Type 0 where
+  pub why : HostFault
+  pub written : Known
+  pub refused : JournalServiceRefused meaning made (answered_at s written) why
+  pub reports : IsReportedAfter (journal_line why) (journal_line fault.Write) written s.output_after
+      reported reported'
+
+-- the input was served to its end, and then the answers could not be handed on, and that is
+-- reported
+pub record HasLostJournalAnswers
+    {J I : Type 0} (meaning : HostMeaning J I) (made : HostOf J I) (s : Serving)
+    (reported reported' : Known) : Type 0 where
+  pub written : Known
+  pub served : IsJournalServed meaning made (answered_at s written)
+  pub reports : IsFlushReported (journal_line fault.Write) written s.output_after reported reported'
+
+-- status 1
+abbrev pub HasNotServedJournal : {J I : Type 0} → HostMeaning J I → HostOf J I → Serving → Known
+    → Known → Type 0
+HasNotServedJournal meaning made s reported reported' =
+    HasRefusedJournalService meaning made s reported reported'
+    ⊎ HasLostJournalAnswers meaning made s reported reported'

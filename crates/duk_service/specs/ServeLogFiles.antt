@@ -1,0 +1,48 @@
+-- What `serve` answers over the file of a log (this project's own).
+use Rattle.std.specs.Prelude.{◌⊎◌, ℕ, List, codes}
+use Rattle.duk_config.specs.NewHost.{new_host_of}
+use Rattle.duk_config.specs.Settings.{Settings}
+use Rattle.duk_io.specs.Known.{Known}
+use Rattle.duk_io.specs.Sink.{IsTried}
+use Rattle.duk_service.specs.LogFiles.{DiskKnown, IsDisk, IsNoDisk}
+use Rattle.duk_service.specs.Serve.{HasNotServed, HasServed, HasNothingServed, Serving, over_log}
+use Rattle.duk_store.specs.Disk.{DiskMeaning}
+use Rattle.duk_store.specs.DiskLog.{disk_log_meaning, new_disk_log}
+
+-- the line where the file of a log cannot be opened
+abbrev pub unopened_line : List ℕ
+unopened_line = codes "log: cannot open\n"
+
+-- the disk of a log's file is opened, and a host of the configuration over it served to the end of
+-- the input
+pub record IsServedOnDisk
+    {D : Type 0} (meaning : DiskMeaning D) (known : DiskKnown D) (config : Settings) (s : Serving)
+    : Type 0 where
+  pub disk : D
+  pub opened : IsDisk known disk
+  pub served : HasServed (over_log (disk_log_meaning meaning))
+      (new_host_of config (new_disk_log disk)) s
+
+-- no disk can be opened for the log's file, nothing is read or written, and that is reported
+pub record HasNoDisk {D : Type 0} (known : DiskKnown D) (s : Serving) (reported reported' : Known)
+    : Type 0 where
+  pub unopened : IsNoDisk known
+  pub idle : HasNothingServed s
+  pub line : IsTried reported reported' unopened_line
+
+-- the disk of a log's file is opened, and there is no host over it, or it did not serve to the end
+-- of the input, or its answers could not be handed on, and that is reported
+pub record HasDisk
+    {D : Type 0} (meaning : DiskMeaning D) (known : DiskKnown D) (config : Settings) (s : Serving)
+    (reported reported' : Known) : Type 0 where
+  pub disk : D
+  pub opened : IsDisk known disk
+  pub failed : HasNotServed (over_log (disk_log_meaning meaning))
+      (new_host_of config (new_disk_log disk)) s reported reported'
+
+-- the input is not served to its end over the log of a file, and that is reported: the first of
+-- these
+abbrev pub IsUnservedOnDisk : {D : Type 0} → DiskMeaning D → DiskKnown D → Settings → Serving
+    → Known → Known → Type 0
+IsUnservedOnDisk meaning known config s reported reported' =
+    HasNoDisk known s reported reported' ⊎ HasDisk meaning known config s reported reported'

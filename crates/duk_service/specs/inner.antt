@@ -1,0 +1,2 @@
+pub mod CopyJournal
+pub mod NewJournal

@@ -1,0 +1,238 @@
+//! The command `copy-journal`.
+
+ghost use Rattle.std.specs.Prelude.{◌≡◌, ◌≤◌, ◌*◌, ◌⊎◌, IfErr, IfOk, OnOk, length, replicate};
+ghost use Rattle.duk_io.specs.Sink.{IsUntouched};
+ghost use Rattle.duk_line.specs.Check.{IsChecked};
+ghost use Rattle.duk_service.specs.CopyJournal.{HasCopiedJournal, HasNotCopiedJournal, IsCopyJournalRefused, copy_journal_line};
+ghost use Rattle.duk_service.specs.inner.CopyJournal.{CopyNotKept, CopyNotMade, IsCopyKept, IsCopyMade, IsNotChecked};
+ghost use Rattle.duk_store.specs.Disk.{PreservesBytes, PreservesDisk};
+
+use crate::ending::EndingFault;
+use crate::log_files::LogFiles;
+use duk_copy::{CopyFault, PIECE_LENGTH, write_copy};
+use duk_host::HostFault;
+use duk_io::{Sink, write_text};
+use duk_journal::{DiskJournal, Journal};
+use duk_line::check_journal;
+use duk_store::Disk;
+use std::alloc::{AllocError, Global};
+
+/// Why no journal is copied.
+#[derive(Clone, Copy)]
+pub enum CopyJournalFault {
+    /// Memory was refused.
+    OutOfMemory,
+    /// The journal's file cannot be opened, or another uses it.
+    Unopened,
+    /// The journal is damaged, or a device step of it failed.
+    Failed,
+    /// The copy's file cannot be made, written or synced, or its folder cannot be synced.
+    Unmade,
+}
+
+impl From<AllocError> for CopyJournalFault {
+    ghost use Rattle.duk_service.specs.declared.copy_journal.CopyJournalFault.TheVariants.{OutOfMemory};
+
+    ghost from_gives = { λ _ fault. fault ≡ OutOfMemory };
+
+    fn from(_refused: AllocError) -> CopyJournalFault {
+        CopyJournalFault::OutOfMemory
+    }
+}
+
+impl EndingFault for CopyJournalFault {
+    ghost line = { copy_journal_line };
+
+    fn report<F: Sink>(&self, fault: &mut F) -> u8 {
+        let _ = write_text(fault, line_of(*self).as_bytes());
+        1
+    }
+}
+
+/// The line of a fault, LF at its end.
+fn line_of(why: CopyJournalFault) -> &'static str
+    ensures { result.now ≡ copy_journal_line why }
+{
+    match why {
+        CopyJournalFault::OutOfMemory => "out of memory\n",
+        CopyJournalFault::Unopened => "journal: cannot open\n",
+        CopyJournalFault::Failed => "journal: failed\n",
+        CopyJournalFault::Unmade => "journal: cannot make\n",
+    }
+}
+
+/// What is written to a copy at once: zeros, or a piece of the journal.
+#[derive(Drop)]
+struct Pieces {
+    zeros: Vec<u8>,
+    piece: Vec<u8>,
+}
+
+/// Makes a file of the size of a journal's, with what that keeps, and gives the status: 0, or 1 with
+/// a line on `fault`. The journal is checked before the file is made.
+///
+/// The faults, in this order: `journal: cannot open`; `journal: failed`; `journal: cannot make`. In
+/// place of each but the first may stand `out of memory`. A file that was made and cannot be kept is removed
+/// again, if it can be.
+pub fn copy_journal<S: LogFiles, F: Sink>(
+    alloc: Global,
+    files: &S,
+    old: &str,
+    new: &str,
+    fault: &mut F,
+) -> u8
+where
+    S::Disk: Disk,
+    ensures status { (result ≡ 0) ⊎ (result ≡ 1) }
+    ensures done { result ≡ 0 → HasCopiedJournal S.Disk.meaning (S.disks files.now old.now)
+        (S.making files.now new.now) }
+    ensures no_fault { result ≡ 0 → IsUntouched (F.known fault.old) (F.known fault.new) }
+    ensures not_done { result ≡ 1 → HasNotCopiedJournal S.Disk.meaning (S.disks files.now old.now)
+        (S.making files.now new.now) (F.known fault.old) (F.known fault.new) }
+{
+    duk_io::laws::writes();
+    match make_copy(alloc, files, old, new) {
+        Ok(()) => 0,
+        Err(why) => why.report(fault),
+    }
+}
+
+/// Copies a journal. Memory is asked for before the copy's file is made.
+fn make_copy<S: LogFiles>(
+    alloc: Global,
+    files: &S,
+    old: &str,
+    new: &str,
+) -> Result<(), CopyJournalFault>
+where
+    S::Disk: Disk,
+    ensures made { OnOk result (HasCopiedJournal S.Disk.meaning (S.disks files.now old.now)
+        (S.making files.now new.now)) }
+    ensures refused { IfErr result (IsCopyJournalRefused S.Disk.meaning
+        (S.disks files.now old.now) (S.making files.now new.now)) }
+{
+    let Ok(disk) = files.open_to_read(old) else {
+        return Err(CopyJournalFault::Unopened);
+    };
+    let size = disk.size();
+    let Ok(mut journal) = DiskJournal::new(alloc, disk) else {
+        return Err(CopyJournalFault::OutOfMemory);
+    };
+    let kept = match check(alloc, &mut journal) {
+        Ok(kept) => kept,
+        Err(why) => return Err(why),
+    };
+    let Ok(mut pieces) = new_pieces(alloc) else {
+        return Err(CopyJournalFault::OutOfMemory);
+    };
+    let mut disk = journal.into_disk();
+    make_new(files, new, size, kept, &mut disk, &mut pieces)
+}
+
+/// Checks a journal as the restart of a host over it does, and gives how many payments it keeps.
+fn check<J: Journal>(alloc: Global, journal: &mut J) -> Result<u64, CopyJournalFault>
+    ensures checked { IfOk result (IsChecked J.meaning journal.old journal.new) }
+    ensures refused { IfErr result (IsNotChecked J.meaning journal.old journal.new) }
+    ensures capacity { J.meaning.capacity journal.new ≡ J.meaning.capacity journal.old }
+{
+    match check_journal(alloc, journal) {
+        Ok(kept) => Ok(kept),
+        Err(HostFault::NoMemory) => Err(CopyJournalFault::OutOfMemory),
+        Err(_) => Err(CopyJournalFault::Failed),
+    }
+}
+
+/// Zeros, and room for a piece.
+fn new_pieces(alloc: Global) -> Result<Pieces, AllocError>
+    ensures zeros { IfOk result (λ pieces. pieces.zeros.items ≡ replicate 65536 0) }
+    ensures piece { IfOk result (λ pieces. length pieces.piece.items ≡ 65536) }
+{
+    let zeros = vec![in alloc; 0; PIECE_LENGTH]?;
+    let piece = vec![in alloc; 0; PIECE_LENGTH]?;
+    Ok(Pieces { zeros, piece })
+}
+
+/// Makes a file of so many bytes, with so many payments of a disk, and syncs it and its folder. Where
+/// it cannot be kept it is removed again, if it can be.
+fn make_new<S: LogFiles>(
+    files: &S,
+    file: &str,
+    size: u64,
+    kept: u64,
+    old: &mut S::Disk,
+    pieces: &mut Pieces,
+) -> Result<(), CopyJournalFault>
+where
+    S::Disk: Disk,
+    requires zeros { pieces.old.zeros.items ≡ replicate 65536 0 }
+    requires piece { length pieces.old.piece.items ≡ 65536 }
+    requires inside { 32 * kept ≤ (S.Disk.meaning.state_of old.old).size }
+    requires room { 32 * kept ≤ size }
+    ensures made { OnOk result (IsCopyMade S.Disk.meaning (S.making files.now file.now) size kept
+        (S.Disk.meaning.state_of old.old)) }
+    ensures refused { IfErr result (CopyNotMade S.Disk.meaning (S.making files.now file.now) size
+        (S.Disk.meaning.state_of old.old) (S.Disk.meaning.state_of old.new)) }
+    ensures nature { PreservesDisk
+        (S.Disk.meaning.state_of old.old) (S.Disk.meaning.state_of old.new) }
+    ensures bytes { PreservesBytes
+        (S.Disk.meaning.state_of old.old) (S.Disk.meaning.state_of old.new) }
+{
+    let Ok(mut disk) = files.make_disk(file, size) else {
+        return Err(CopyJournalFault::Unmade);
+    };
+    match keep_copy(files, file, size, kept, old, pieces, &mut disk) {
+        Ok(()) => Ok(()),
+        Err(why) => {
+            files.remove_made(file, disk);
+            Err(why)
+        }
+    }
+}
+
+/// Writes so many payments of a disk over one that was made under a path, and zeros behind them,
+/// syncs it, and then its folder.
+fn keep_copy<S: LogFiles>(
+    files: &S,
+    file: &str,
+    size: u64,
+    kept: u64,
+    old: &mut S::Disk,
+    pieces: &mut Pieces,
+    disk: &mut S::Disk,
+) -> Result<(), CopyJournalFault>
+where
+    S::Disk: Disk,
+    requires zeros { pieces.old.zeros.items ≡ replicate 65536 0 }
+    requires piece { length pieces.old.piece.items ≡ 65536 }
+    requires inside { 32 * kept ≤ (S.Disk.meaning.state_of old.old).size }
+    requires room { 32 * kept ≤ size }
+    ensures kept { OnOk result (IsCopyKept (S.making files.now file.now).folder size kept
+        (S.Disk.meaning.state_of old.old)
+        (S.Disk.meaning.state_of disk.old) (S.Disk.meaning.state_of disk.new)) }
+    ensures refused { IfErr result (CopyNotKept (S.making files.now file.now).folder size
+        (S.Disk.meaning.state_of old.old) (S.Disk.meaning.state_of old.new)
+        (S.Disk.meaning.state_of disk.old) (S.Disk.meaning.state_of disk.new)) }
+    ensures nature { PreservesDisk
+        (S.Disk.meaning.state_of old.old) (S.Disk.meaning.state_of old.new) }
+    ensures bytes { PreservesBytes
+        (S.Disk.meaning.state_of old.old) (S.Disk.meaning.state_of old.new) }
+{
+    if disk.size() != size {
+        return Err(CopyJournalFault::Unmade);
+    }
+    match write_copy(
+        old,
+        kept,
+        disk,
+        pieces.zeros.as_slice(),
+        &mut pieces.piece[..],
+    ) {
+        Ok(()) => {}
+        Err(CopyFault::Old) => return Err(CopyJournalFault::Failed),
+        Err(CopyFault::New) => return Err(CopyJournalFault::Unmade),
+    }
+    match files.sync_folder(file) {
+        Ok(()) => Ok(()),
+        Err(_) => Err(CopyJournalFault::Unmade),
+    }
+}

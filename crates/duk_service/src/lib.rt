@@ -1,0 +1,22 @@
+//! The service of a host over a log or a journal, the commands that make journals, and the files
+//! that they stand on.
+#![tactic(auto)]
+
+pub mod copy_journal;
+mod ending;
+mod file_system;
+mod log_files;
+mod new_files;
+pub mod new_journal;
+mod serve;
+mod serve_journal;
+mod serve_journal_files;
+mod serve_log_files;
+
+pub use ending::{EndingFault, hand_on, report_after};
+pub use file_system::{FileFault, FileSystem, strip_return};
+pub use log_files::LogFiles;
+pub use serve::serve_with;
+pub use serve_journal::serve_with_journal;
+pub use serve_journal_files::serve_on_journal;
+pub use serve_log_files::{serve_in_memory, serve_on_file};

@@ -1,0 +1,146 @@
+//! Opens the file of a log as a disk, and makes such a file, through a trait by which a contract can
+//! say which disk it is.
+//!
+//! `LogFiles` asks of its disks only that they are small, and who opens one asks that it is a
+//! `Disk`: with `Disk` as the bound of the associated type the checker refuses an impl whose disk
+//! is a generic type.
+
+ghost use Rattle.std.proofs.Common.{rules};
+ghost use Rattle.std.specs.Prelude.{ℕ, List, None, Some, IfOk, OnErr, OnOk};
+ghost use Rattle.duk_service.specs.HostSize.{IsSmall};
+ghost use Rattle.duk_service.specs.LogFiles.{DiskKnown, IsDisk, IsFolderSynced, IsFolderUnsynced, IsNoDisk, MakingKnown, unknown_making};
+ghost use Rattle.duk_service.specs.Reasons.{IsReason, ReasonKnown};
+
+use crate::file_system::{is_regular, reason_of};
+use crate::new_files::{make_file, making_reason, open_file, remove_file, sync_folder_of};
+use duk_explain::Reason;
+use duk_store::{FileDisk, StoreFault};
+use std::fs::{File, OpenOptions, TryLockError};
+use std::rt::Files;
+
+/// Files each of which may be opened as a disk, to keep a log. They may make known, for contracts to
+/// say, which disk that is.
+///
+/// Their disks may be of any type, and honest as that type says. The files of every runtime are
+/// such, and make nothing known: no contract says what a real file holds.
+pub trait LogFiles {
+    /// The disks over these files.
+    type Disk: Drop;
+
+    /// What there is under a path, where the files make it known: a disk, or none that can be
+    /// opened.
+    ghost disks: { Self → List ℕ → DiskKnown Self.Disk };
+
+    /// Why the system refuses to open and lock what there is under a path, where the files make it
+    /// known.
+    ghost opening: { Self → List ℕ → ReasonKnown };
+
+    /// The disk over the file under a path, which is never made, of the size that it has. Refused
+    /// with `Device` where it cannot be opened, or is locked.
+    fn open_disk(&self, path: &str) -> Result<Self::Disk, StoreFault>
+        ensures opened { IfOk result (IsDisk (disks self.now path.now)) }
+        ensures refused { OnErr result (IsNoDisk (disks self.now path.now)) };
+
+    /// The same disk, over a file that is opened to be read alone: each write of it fails. Refused
+    /// with `Device` where it cannot be opened so, or is locked.
+    fn open_to_read(&self, path: &str) -> Result<Self::Disk, StoreFault>
+        ensures opened { IfOk result (IsDisk (disks self.now path.now)) }
+        ensures refused { OnErr result (IsNoDisk (disks self.now path.now)) };
+
+    /// Why the file under a path cannot be opened as a disk, as the system tells who asks once more.
+    fn opening_reason(&self, path: &str) -> Reason
+        ensures { IsReason (opening self.now path.now) (Some result) };
+
+    /// What comes of making a file under a path, where the files make it known.
+    ghost making: { Self → List ℕ → MakingKnown Self.Disk };
+
+    /// Why the system refuses to make a file under a path, where the files make it known.
+    ghost unmade: { Self → List ℕ → ReasonKnown };
+
+    /// The disk over a new file of so many bytes under a path, locked. What they are is not known
+    /// until they are written.
+    ///
+    /// Refused with `Device` where no file can be made. One that is there is never opened.
+    fn make_disk(&self, path: &str, size: u64) -> Result<Self::Disk, StoreFault>
+        ensures made { IfOk result (IsDisk ((making self.now path.now).disk size)) }
+        ensures refused { OnErr result (IsNoDisk ((making self.now path.now).disk size)) };
+
+    /// Syncs the folder of a path, so that a file which was made there is found after a stop.
+    ///
+    /// Refused with `Device` where it cannot be synced.
+    fn sync_folder(&self, path: &str) -> Result<(), StoreFault>
+        ensures synced { OnOk result (IsFolderSynced (making self.now path.now).folder) }
+        ensures refused { OnErr result (IsFolderUnsynced (making self.now path.now).folder) };
+
+    /// Removes a file that was made under a path, with the disk over it, if it can be removed. That
+    /// it does rests on being read.
+    fn remove_made(&self, path: &str, disk: Self::Disk);
+
+    /// Why no file can be made under a path, as the system tells who asks once more.
+    fn making_reason(&self, path: &str) -> Reason
+        ensures { IsReason (unmade self.now path.now) (Some result) };
+
+    /// Such a disk takes little memory.
+    ghost small: { IsSmall Self.Disk.row };
+}
+
+impl<R: Files<File = File>> LogFiles for R {
+    type Disk = FileDisk;
+
+    ghost disks = { λ _ _. None };
+
+    ghost opening = { λ _ _. None };
+
+    ghost making = { λ _ _. unknown_making };
+
+    ghost unmade = { λ _ _. None };
+
+    ghost small = { Prim.search rules };
+
+    fn open_disk(&self, path: &str) -> Result<FileDisk, StoreFault> {
+        FileDisk::new(self, path)
+    }
+
+    fn open_to_read(&self, path: &str) -> Result<FileDisk, StoreFault> {
+        open_file(self, path).map_err(|_| StoreFault::Device)
+    }
+
+    fn make_disk(&self, path: &str, size: u64) -> Result<FileDisk, StoreFault> {
+        make_file(self, path, size).map_err(|_| StoreFault::Device)
+    }
+
+    fn sync_folder(&self, path: &str) -> Result<(), StoreFault> {
+        sync_folder_of(self, path).map_err(|_| StoreFault::Device)
+    }
+
+    fn remove_made(&self, path: &str, _disk: FileDisk) {
+        remove_file(self, path);
+    }
+
+    fn making_reason(&self, path: &str) -> Reason {
+        making_reason(self, path)
+    }
+
+    fn opening_reason(&self, path: &str) -> Reason {
+        let opened = if is_regular(self, path) {
+            File::open(self, path)
+        } else {
+            OpenOptions::new().read(true).write(true).open(self, path)
+        };
+        match opened {
+            Ok(file) => locking_reason(self, path, &file),
+            Err(error) => reason_of(&error),
+        }
+    }
+}
+
+/// Why an open file cannot be locked, or why it cannot be written.
+fn locking_reason<R: Files<File = File>>(files: &R, path: &str, file: &File) -> Reason {
+    if let Err(TryLockError::WouldBlock) = file.try_lock() {
+        return Reason::InUse;
+    }
+    match OpenOptions::new().write(true).open(files, path) {
+        Ok(_opened) => Reason::Other,
+        Err(error) => reason_of(&error),
+    }
+}

@@ -1,0 +1,102 @@
+//! Opens and makes real files, and syncs their folders.
+//!
+//! No contract says what a real file holds, so these bodies rest on being read.
+
+ghost use Rattle.std.specs.Prelude.{◌≡◌, IfOk};
+
+use crate::file_system::is_regular;
+use duk_explain::Reason;
+use duk_store::{FileDisk, FileMedium, MediumDisk, ReadAhead};
+use std::fs::{File, OpenOptions};
+use std::io::ErrorKind;
+use std::os::unix::fs::FileExt;
+use std::path::Path;
+use std::rt::Files;
+use std::{fs, io};
+
+/// A disk over the file under a path, which is opened to be read alone, and which this process alone
+/// has locked. A pipe, which would be waited for, a device and a folder are not opened.
+pub(crate) fn open_file<R: Files<File = File>>(files: &R, path: &str) -> io::Result<FileDisk> {
+    if !is_regular(files, path) {
+        return Err(io::Error::from(ErrorKind::InvalidInput));
+    }
+    let file = File::open(files, path)?;
+    file.try_lock()?;
+    let size = file.metadata()?.len();
+    Ok(disk_over(file, size))
+}
+
+/// A disk over an open file of so many bytes.
+fn disk_over(file: File, size: u64) -> FileDisk {
+    let ahead = ReadAhead::over(file, size);
+    MediumDisk::over(FileMedium::over(ahead, size), size)
+}
+
+/// A disk over a new file of so many bytes, which this process alone has locked. Where a file is
+/// there already it stays as it is.
+pub(crate) fn make_file<R: Files<File = File>>(
+    files: &R,
+    path: &str,
+    size: u64,
+) -> io::Result<FileDisk> {
+    let file = open_new(files, path)?;
+    match lock_sized(&file, size) {
+        Ok(()) => Ok(disk_over(file, size)),
+        Err(error) => {
+            remove_file(files, path);
+            Err(error)
+        }
+    }
+}
+
+/// A file under a path where there is none, not even a link.
+fn open_new<R: Files<File = File>>(files: &R, path: &str) -> io::Result<File> {
+    OpenOptions::new()
+        .read(true)
+        .write(true)
+        .create_new(true)
+        .open(files, path)
+}
+
+/// Locks a new file, and gives it so many bytes. The first of them is 1, and on the medium before
+/// there are more: a file that begins so is no journal (`duk_copy::laws::unfinished`), however soon
+/// its writer is stopped.
+fn lock_sized(file: &File, size: u64) -> io::Result<()> {
+    file.try_lock()?;
+    file.write_all_at(&[1], 0)?;
+    file.sync_data()?;
+    file.set_len(size)
+}
+
+/// Syncs the folder that a path is in.
+pub(crate) fn sync_folder_of<R: Files<File = File>>(files: &R, path: &str) -> io::Result<()> {
+    let path = Path::new(path);
+    let folder = match path.parent() {
+        Some(folder) => folder.as_os_str(),
+        None => "",
+    };
+    let name = if folder.is_empty() { "." } else { folder };
+    File::open(files, name)?.sync_all()
+}
+
+/// Removes a file, if it can be removed.
+pub(crate) fn remove_file<R: Files>(files: &R, path: &str) {
+    let _ = fs::remove_file(files, path);
+}
+
+/// Why no file is made under a path, as the system tells who makes one once more, which is removed
+/// again.
+pub(crate) fn making_reason<R: Files<File = File>>(files: &R, path: &str) -> Reason {
+    match open_new(files, path) {
+        Ok(_made) => {
+            remove_file(files, path);
+            Reason::Other
+        }
+        Err(error) => match error.kind() {
+            ErrorKind::AlreadyExists => Reason::There,
+            ErrorKind::NotFound | ErrorKind::NotADirectory => Reason::NoFolder,
+            ErrorKind::PermissionDenied => Reason::NoPermission,
+            _ => Reason::Other,
+        },
+    }
+}

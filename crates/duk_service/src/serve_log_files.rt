@@ -1,0 +1,78 @@
+//! The command `serve` over a log in memory, or in a file: opens that, and serves.
+
+ghost use Rattle.std.specs.Prelude.{◌≡◌, ◌⊎◌};
+ghost use Rattle.duk_config.specs.NewHost.{new_host_of};
+ghost use Rattle.duk_io.specs.Sink.{IsTried, IsUntouched};
+ghost use Rattle.duk_service.specs.Serve.{HasNotServed, HasServed, over_log, serving_of};
+ghost use Rattle.duk_service.specs.ServeLogFiles.{IsServedOnDisk, IsUnservedOnDisk, unopened_line};
+ghost use Rattle.duk_store.specs.MemoryLog.{memory_log_meaning, new_log};
+
+use crate::ending::EndingFault;
+use crate::log_files::LogFiles;
+use crate::serve::serve_with;
+use duk_config::Config;
+use duk_host::HostFault;
+use duk_io::{Sink, Source, write_text};
+use duk_store::{Disk, DiskLog, MemLog};
+use std::alloc::Global;
+
+/// Serves over a log in memory, which has the room that the configuration says.
+pub fn serve_in_memory<R: Source, W: Sink, F: Sink>(
+    alloc: Global,
+    config: &Config,
+    input: &mut R,
+    output: &mut W,
+    fault: &mut F,
+) -> u8
+    ensures status { (result ≡ 0) ⊎ (result ≡ 1) }
+    ensures done { result ≡ 0 → HasServed (over_log memory_log_meaning)
+        (new_host_of config.now (new_log config.now.log))
+        (serving_of R.known R.reads W.known input.old input.new output.old output.new) }
+    ensures no_fault { result ≡ 0 → IsUntouched (F.known fault.old) (F.known fault.new) }
+    ensures not_done { result ≡ 1 → HasNotServed (over_log memory_log_meaning)
+        (new_host_of config.now (new_log config.now.log))
+        (serving_of R.known R.reads W.known input.old input.new output.old output.new)
+        (F.known fault.old) (F.known fault.new) }
+{
+    duk_io::laws::writes();
+    match MemLog::new(alloc, config.log as usize) {
+        Ok(log) => serve_with(alloc, config, log, input, output, fault),
+        Err(_) => HostFault::NoMemory.report(fault),
+    }
+}
+
+/// Serves over a log in the file under a path. What the configuration says of the log's room is not
+/// used.
+pub fn serve_on_file<S: LogFiles, R: Source, W: Sink, F: Sink>(
+    alloc: Global,
+    files: &S,
+    config: &Config,
+    path: &str,
+    input: &mut R,
+    output: &mut W,
+    fault: &mut F,
+) -> u8
+where
+    S::Disk: Disk,
+    ensures status { (result ≡ 0) ⊎ (result ≡ 1) }
+    ensures done { result ≡ 0 → IsServedOnDisk S.Disk.meaning (S.disks files.now path.now)
+        config.now (serving_of R.known R.reads W.known input.old input.new output.old output.new) }
+    ensures no_fault { result ≡ 0 → IsUntouched (F.known fault.old) (F.known fault.new) }
+    ensures not_done { result ≡ 1 → IsUnservedOnDisk S.Disk.meaning (S.disks files.now path.now)
+        config.now (serving_of R.known R.reads W.known input.old input.new output.old output.new)
+        (F.known fault.old) (F.known fault.new) }
+{
+    match files.open_disk(path) {
+        Ok(disk) => serve_with(alloc, config, DiskLog::new(disk), input, output, fault),
+        Err(_) => refuse_log(fault),
+    }
+}
+
+/// Reports that the file of a log cannot be opened, and gives the status 1.
+fn refuse_log<F: Sink>(fault: &mut F) -> u8
+    ensures status { result ≡ 1 }
+    ensures line { IsTried (F.known fault.old) (F.known fault.new) unopened_line }
+{
+    let _ = write_text(fault, b"log: cannot open\n");
+    1
+}
