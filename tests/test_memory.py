@@ -1,25 +1,27 @@
 """Each growth of memory refused in turn, to the calls of the library that may want memory.
 
 What a call leaves where memory is refused is proved. That it reports it where a growth was refused,
-and at each one, is shown here, with what it leaves once more. The program `duk_driver` makes one
-call, with the arguments `refuse CALL GROWTH`, and looks at what came of it, in runs of which each has
-one allocation refused: from the first that the call and what it needs take to the last, and some
-beyond it, where nothing is refused any more. It needs the kit's `rt`, which builds that program
-anew, with checks and without proofs.
+and at each one, is shown here, with what it leaves once more. A program makes one call, with the
+arguments `refuse CALL GROWTH`, in runs of which each has one allocation refused: from the first
+that the call and what it needs take to the last, and some beyond it, where nothing is refused any
+more. `duk_driver` looks at what came of its call. `duk_driver_program` writes what came of its own,
+which is compared here with what the model says. It needs the kit's `rt`, which builds these
+programs anew, with checks and without proofs.
 """
 from __future__ import annotations
 
 import re
 import subprocess
+from ast import literal_eval
 from dataclasses import dataclass
 
 from .support.case import Case
+from .support.commands import derive_lines
+from .support.configuration import read
+from .support.model import played
 from .support.program import ROOT
 
-CRATE = ROOT / "crates" / "duk_driver"
-# The number of the allocation that is refused: so many the program takes before its call and in it,
-# after those for its own.
-REFUSED_AT = 4000 + 7
+CRATES = ROOT / "crates"
 SECONDS = 1800
 
 
@@ -36,7 +38,17 @@ class Growths:
     has_events: bool = False
 
 
-CALLS = {
+@dataclass(frozen=True)
+class Driver:
+    """A program that makes calls, and the number of the allocation that is refused: so many it
+    takes for its own, and then before its call and in it."""
+
+    crate: str
+    refused_at: int
+    calls: dict[str, Growths]
+
+
+LIBRARY = Driver("duk_driver", 4000 + 7, {
     "MemLog::new": Growths(1, 3, 1),
     "MemDisk::new": Growths(1, 6, 4),
     "Host::restart": Growths(34, 48, 2),
@@ -48,11 +60,25 @@ CALLS = {
     "read_config": Growths(1, 36, 20),
     "parse_script": Growths(1, 5, 3),
     "run_script": Growths(1, 56, 40, has_events=True),
+})
+PROGRAM = Driver("duk_driver_program", 4000 + 8, {
     "run_status": Growths(1, 58, 40, has_events=True),
     "command": Growths(1, 220, 20),
+})
+
+# What the calls of `duk_driver_program` are given, and what they write where they are whole.
+RUN = (CRATES / PROGRAM.crate / "stdin").read_bytes()
+CONFIGURATION, _, SCRIPT = RUN.partition(b"\n\n")
+DERIVED = ("0123456789ABCDEFFEDCBA9876543210", "FFFF9876543210E00001")
+GIVEN = {"run_status": RUN, "command": "\n".join(("dukpt", "derive", *DERIVED)).encode()}
+WRITTEN = {
+    "run_status": played(read(CONFIGURATION), SCRIPT),
+    "command": "".join(f"{line}\n" for line in derive_lines(*DERIVED)).encode(),
 }
+
 ANSWER = re.compile(r"^(\S+) (\d+): (.*)$", re.M)
 ANSWERS = ("before", "refused", "midway", "whole")
+CAME = re.compile(r'status (\d+), (\d+) handed on, output "(.*)", fault "(.*)"')
 
 
 class RefusedGrowth(Case):
@@ -60,36 +86,45 @@ class RefusedGrowth(Case):
 
     weight = 100
 
-    def test_each_growth(self) -> None:
-        answers = self.try_all()
-        refused = {call: self.refused(call, answers[call]) for call in CALLS}
+    def test_each_growth_of_the_library(self) -> None:
+        refused = self.refused_of(LIBRARY)
         # The first restart of a host makes the room for its exchanges, and a second one has it.
         self.assertLess(refused["Host::restart-again"], refused["Host::restart"])
-        self.tells(f"{sum(refused.values())} growths of {len(CALLS)} calls")
 
-    def try_all(self) -> dict[str, dict[int, str]]:
+    def test_each_growth_of_the_program(self) -> None:
+        self.refused_of(PROGRAM)
+
+    def refused_of(self, driver: Driver) -> dict[str, int]:
+        """How many growths were refused to each call."""
+        answers = self.try_all(driver)
+        refused = {call: self.refused(call, growths, answers[call])
+                   for call, growths in driver.calls.items()}
+        self.tells(f"{sum(refused.values())} growths of {len(refused)} calls")
+        return refused
+
+    def try_all(self, driver: Driver) -> dict[str, dict[int, str]]:
         """What came of each run: for each call, the answers by the growth that was refused."""
         folder = self.folder()
-        for call, growths in CALLS.items():
+        for call, growths in driver.calls.items():
             for growth in range(growths.first, growths.last + 1):
                 name = f"{call.replace(':', '_')}-{growth:04}"
-                (folder / name).write_text("")
+                (folder / name).write_bytes(GIVEN.get(call, b""))
                 (folder / f"{name}.args").write_text(f"refuse\n{call}\n{growth}\n")
+        refused_at = str(driver.refused_at)
         tried = subprocess.run(
-            ["rt", "try", "--steps", "1", "--fail-alloc", str(REFUSED_AT), "--cases", str(folder)],
-            cwd=CRATE, stdin=subprocess.DEVNULL, capture_output=True, text=True, errors="replace",
-            timeout=SECONDS, check=False)
+            ["rt", "try", "--steps", "1", "--fail-alloc", refused_at, "--cases", str(folder)],
+            cwd=CRATES / driver.crate, stdin=subprocess.DEVNULL, capture_output=True, text=True,
+            errors="replace", timeout=SECONDS, check=False)
         self.assertEqual(tried.returncode, 0, f"{tried.stdout[-2000:]}\n{tried.stderr[-2000:]}")
-        answers: dict[str, dict[int, str]] = {call: {} for call in CALLS}
+        answers: dict[str, dict[int, str]] = {call: {} for call in driver.calls}
         for call, growth, answer in ANSWER.findall(tried.stdout):
-            self.assertIn(call, CALLS, "an answer of no such call")
+            self.assertIn(call, answers, "an answer of no such call")
             self.assertNotIn(int(growth), answers[call], f"{call}: growth {growth} came twice")
-            answers[call][int(growth)] = answer
+            answers[call][int(growth)] = judged(call, answer)
         return answers
 
-    def refused(self, call: str, answers: dict[int, str]) -> int:
+    def refused(self, call: str, growths: Growths, answers: dict[int, str]) -> int:
         """How many growths were refused to a call, whose answers come in their order."""
-        growths = CALLS[call]
         self.assertEqual(sorted(answers), list(range(growths.first, growths.last + 1)), call)
         for growth, answer in answers.items():
             self.assertIn(answer, ANSWERS, f"{call}: growth {growth} was refused")
@@ -100,3 +135,26 @@ class RefusedGrowth(Case):
         count = len(order.strip("bw"))
         self.assertGreaterEqual(count, growths.least, f"{call}: {order}")
         return count
+
+
+def judged(call: str, answer: str) -> str:
+    """What came of a call of `duk_driver_program`, in the words of `duk_driver`: refused memory, it
+    has handed on the lines of the events before."""
+    came = CAME.fullmatch(answer)
+    if not came:
+        return answer
+    status, handed_on, *texts = came.groups()
+    output, fault = (literal_eval(f'b"{text}"') for text in texts)
+    if int(handed_on) != len(output):
+        return f"something is held back: {answer}"
+    if (status, output, fault) == ("0", WRITTEN[call], b""):
+        return "whole"
+    if (status, fault) != ("1", b"out of memory\n") or not are_first_lines(output, WRITTEN[call]):
+        return answer
+    return "midway" if output else "refused"
+
+
+def are_first_lines(some: bytes, lines: bytes) -> bool:
+    """Whether these are some of the lines, from the first on, and not all."""
+    are_whole = not some or some.endswith(b"\n")
+    return are_whole and lines.startswith(some) and len(some) < len(lines)

@@ -75,8 +75,6 @@ fn try_call(alloc: Global, name: &str) -> Tried {
         "read_config" => files::try_read_config(alloc),
         "parse_script" => files::try_parse_script(alloc),
         "run_script" => files::try_run_script(alloc),
-        "run_status" => files::try_run_status(alloc),
-        "command" => files::try_command(alloc),
         _ => Ok(Answer::Wrong("no such call")),
     }
 }

@@ -1,17 +1,14 @@
-//! Configurations, scripts, the events of one, and the program's tokens.
+//! Configurations, scripts, and the events of one.
 
-use super::sample::{BANK, DERIVED, LINES, SCRIPT};
+use super::sample::{BANK, LINES, SCRIPT};
 use super::{Answer, Tried};
 use crate::disks::Habit;
 use crate::trouble::Trouble;
 use crate::world::{DiskWorld, new_world};
 use duk_config::{ScriptFault, read_config};
 use duk_net::{Event, NetFault, Outcome, run};
-use duk_program::{Todo, command, run_status};
 use duk_script::{outcome_line, parse_script, run_script};
 use std::alloc::Global;
-use std::io;
-use std::io::Write;
 
 pub fn try_read_config(alloc: Global) -> Tried {
     match read_config(alloc, BANK.as_bytes()) {
@@ -48,51 +45,6 @@ pub fn try_run_script(alloc: Global) -> Tried {
         }
         Err(_) => Ok(Answer::Wrong("another fault")),
     }
-}
-
-/// A writer that holds back what it is given, up to its room, until it is flushed.
-#[derive(Drop)]
-struct Holding {
-    held: Vec<u8>,
-    handed_on: usize,
-}
-
-impl Write for Holding {
-    fn write(&mut self, bytes: &[u8]) -> io::Result<usize> {
-        self.held.extend_from_slice(bytes)?;
-        Ok(bytes.len())
-    }
-
-    fn flush(&mut self) -> io::Result<()> {
-        self.handed_on = self.held.len();
-        Ok(())
-    }
-}
-
-/// A run that is refused memory hands on the lines of the events before.
-pub fn try_run_status(alloc: Global) -> Tried {
-    let held = Vec::with_capacity(alloc, 1000)?;
-    let mut output = Holding { held, handed_on: 0 };
-    let mut fault = Vec::with_capacity(alloc, 100)?;
-    let mut script = SCRIPT.as_bytes();
-    let status = run_status(alloc, BANK.as_bytes(), &mut script, &mut output, &mut fault);
-    let is_handed_on = output.handed_on == output.held.len();
-    if status == 0 {
-        let lines = output.held.as_slice() == LINES.as_bytes() && fault.is_empty();
-        return Ok(
-            Answer::Whole
-                .where_holds(lines, "other lines")
-                .where_holds(is_handed_on, "lines are held back"),
-        );
-    }
-    let reported = status == 1 && fault.as_slice() == b"out of memory\n".as_slice();
-    let lines = output.held.as_slice();
-    Ok(
-        Answer::refused_after(!lines.is_empty())
-            .where_holds(reported, "another fault")
-            .where_holds(are_first_lines(lines), "other lines before")
-            .where_holds(is_handed_on, "lines are held back"),
-    )
 }
 
 /// A world whose host and first terminal were brought up.
@@ -141,35 +93,4 @@ pub fn try_run(alloc: Global) -> Tried {
             )
         }
     }
-}
-
-/// The status of a command that was done at once.
-fn status_of(todo: Todo<'_>) -> Option<u8> {
-    match todo {
-        Todo::Exit(status) => Some(status),
-        _ => None,
-    }
-}
-
-/// Tokens that are refused memory write nothing, and report it.
-pub fn try_command(alloc: Global) -> Tried {
-    let bdk = "0123456789ABCDEFFEDCBA9876543210";
-    let mut tokens = Vec::new(alloc);
-    for token in ["dukpt", "derive", bdk, "FFFF9876543210E00001"] {
-        tokens.push(String::from_str(alloc, token)?)?;
-    }
-    let mut output = Vec::with_capacity(alloc, 8000)?;
-    let mut fault = Vec::with_capacity(alloc, 100)?;
-    let todo = command(alloc, tokens.as_slice(), &mut output, &mut fault);
-    let status = status_of(todo);
-    if status == Some(0) {
-        let written = output.as_slice() == DERIVED.as_bytes() && fault.is_empty();
-        return Ok(Answer::Whole.where_holds(written, "something else is written"));
-    }
-    let reported = status == Some(1) && fault.as_slice() == b"out of memory\n".as_slice();
-    Ok(
-        Answer::Refused
-            .where_holds(reported, "another fault")
-            .where_holds(output.is_empty(), "something is written"),
-    )
 }
