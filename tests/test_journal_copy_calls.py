@@ -67,6 +67,7 @@ class Calls(CallCase):
         self.assertTrue(read, f"{what}: the copy is made before the journal is read")
         self.assertLess(opened[0], locked[0], what)
         self.assertLess(locked[0], read[0], what)
+        self.assertIn("O_RDONLY", calls[opened[0]].words, f"{what}: the journal is opened to be written")
         self.assertIn("LOCK_EX|LOCK_NB", calls[locked[0]].words, what)
         self.assertEqual(covered([calls[at] for at in read]), [range(size)],
                          f"{what}: read before the copy is made")

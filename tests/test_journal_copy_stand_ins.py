@@ -22,7 +22,8 @@ FOUND = (
     (Calls, "test_calls", (
         CopyWay.MADE_FIRST, CopyWay.READS_A_PART, CopyWay.LOCKED_LATE, CopyWay.NOT_LOCKED,
         CopyWay.OLD_NOT_LOCKED, CopyWay.NO_ZEROS, CopyWay.SYNCED_EARLY, CopyWay.NOT_SYNCED,
-        CopyWay.FOLDER_FIRST, CopyWay.FOLDER_NOT_SYNCED, CopyWay.OLD_WRITTEN, CopyWay.OVERWRITES)),
+        CopyWay.FOLDER_FIRST, CopyWay.FOLDER_NOT_SYNCED, CopyWay.OLD_WRITTEN,
+        CopyWay.OLD_TO_WRITE, CopyWay.OVERWRITES)),
     (Calls, "test_syncs_for_a_loss_of_power", (
         CopyWay.MARK_NOT_SYNCED, CopyWay.LAST_WITH_THE_REST, CopyWay.FIRST_TO_LAST)),
     (Kills, "test_less_than_a_piece", (CopyWay.FIRST_TO_LAST, CopyWay.FRONT_LAST)),

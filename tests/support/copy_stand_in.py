@@ -37,6 +37,7 @@ class CopyWay(Enum):
     FOLDER_FIRST = "the folder is synced before the copy"
     FOLDER_NOT_SYNCED = "the folder is not synced"
     OLD_WRITTEN = "a byte of the journal is written again"
+    OLD_TO_WRITE = "the journal is opened to be written, and is not"
     OVERWRITES = "a file that is there is begun anew"
     NOT_REMOVED = "a copy that failed is not removed"
 
@@ -58,7 +59,8 @@ def kept_bytes(image: bytes) -> int:
 class Copy:
     def __init__(self, old: str, new: str, way: CopyWay) -> None:
         self.way, self.new = way, new
-        self.old = os.open(old, os.O_RDWR)
+        is_written = way in (CopyWay.OLD_WRITTEN, CopyWay.OLD_TO_WRITE)
+        self.old = os.open(old, os.O_RDWR if is_written else os.O_RDONLY)
         if way is not CopyWay.OLD_NOT_LOCKED:
             fcntl.flock(self.old, fcntl.LOCK_EX | fcntl.LOCK_NB)
         self.file: Optional[int] = self.make() if way is CopyWay.MADE_FIRST else None
