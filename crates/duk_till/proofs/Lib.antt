@@ -1,0 +1,5 @@
+mod Spare
+mod Waits
+mod NotKept
+mod Places
+mod Told

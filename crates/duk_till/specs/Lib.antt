@@ -1,0 +1,11 @@
+pub mod Last
+pub mod Image
+pub mod FaultText
+pub mod Till
+pub mod Begin
+pub mod Reply
+pub mod Reversal
+pub mod Restart
+pub mod Load
+pub mod View
+pub mod inner
