@@ -2,9 +2,13 @@
 a journal, and the service of bench/openssl over a journal.
 
 Each round makes a new log or journal for each service, and takes them in turn. What counts is the time
-of the whole process by the clock, and its processor time. Then each request goes to one service after
-another, and waits for its reply: what counts is the median time from the one to the other. All have to
-give the same answers, and both journals the same bytes.
+of the whole process by the clock, and its processor time. All have to give the same answers, and both
+journals the same bytes.
+
+Then the journal is paired with each other service over a file. Each request goes to both, and waits for
+its reply: what counts is the median time from the one to the other. The two are taken to and fro
+(A B B A ..), so that each comes as often right behind its own last sync as behind the other's; of three
+in one turn, the one in the middle never would.
 """
 from __future__ import annotations
 
@@ -12,17 +16,19 @@ import os
 import subprocess
 import sys
 import time
-from dataclasses import dataclass
+from dataclasses import dataclass, field
 from pathlib import Path
 from statistics import median
-from typing import Callable, NamedTuple, Sequence
+from typing import Callable, Iterator, NamedTuple, Sequence
 
 # The bytes of each request, of the reply to it, and of a record of a log.
 REQUEST, REPLY, LOG_RECORD = 48, 24, 16
 # A frame that is refused, and the bytes of its refusal.
 EMPTY_FRAME, REFUSAL = b"\x00\x00", 15
-# How many requests are given one by one.
+# How many requests are given one by one, to each of a pair.
 ONE_BY_ONE = 2_000
+# The service with which the others are compared.
+JOURNAL = "journal"
 
 
 @dataclass(frozen=True)
@@ -41,6 +47,27 @@ class Served(NamedTuple):
 
     clock: float
     processor: float
+
+
+@dataclass(frozen=True)
+class Pair:
+    """A service beside the journal: the median seconds that a request took of each, round by round."""
+
+    it: Service
+    journal: Service
+    own: list[float] = field(default_factory=list)
+    journals: list[float] = field(default_factory=list)
+
+    def compare(self, requests: bytes) -> None:
+        """A round."""
+        own, journals = map(median, serve_one_by_one((self.it, self.journal), requests))
+        self.own.append(own)
+        self.journals.append(journals)
+
+    def cells(self) -> str:
+        """Both medians, and the median of the ratios of the rounds."""
+        ratio = median(one / other for one, other in zip(self.own, self.journals))
+        return f"{1e6 * median(self.own):.0f} µs | {1e6 * median(self.journals):.0f} µs | {ratio:.2f}"
 
 
 def services(dukpt: str, peer: str, config: str, folder: str) -> list[Service]:
@@ -64,7 +91,7 @@ def services(dukpt: str, peer: str, config: str, folder: str) -> list[Service]:
     return [
         Service("log in memory", serve),
         Service("log in a file", (*serve, "--log", log), log, make_log),
-        Service("journal", (*serve, "--journal", journal), journal, maker(journal), True),
+        Service(JOURNAL, (*serve, "--journal", journal), journal, maker(journal), True),
         Service("C over a journal", (peer, "serve", other), other, maker(other), True),
     ]
 
@@ -80,25 +107,30 @@ def serve_file(it: Service, requests: str, answers: str) -> Served:
     return Served((time.monotonic() - began) / count, processor / count)
 
 
-def serve_one_by_one(found: Sequence[Service], requests: bytes) -> list[list[float]]:
-    """Gives each request to all services, one after another: the seconds that each service took for
-    each of them."""
+def serve_one_by_one(pair: tuple[Service, Service], requests: bytes) -> list[list[float]]:
+    """Gives each request to both services, to and fro: the seconds that each took for each of them."""
     processes = []
-    for it in found:
+    for it in pair:
         it.make(len(requests) // REQUEST)
         processes.append(subprocess.Popen(it.words, stdin=subprocess.PIPE, stdout=subprocess.PIPE,
                                           bufsize=0))
         # A refusal shows that it has begun.
         ask(processes[-1], EMPTY_FRAME, REFUSAL)
-    seconds = [[] for _ in found]
-    for at in range(0, len(requests), REQUEST):
-        for place, process in list(enumerate(processes))[:: -1 if at // REQUEST % 2 else 1]:
-            seconds[place].append(ask(process, requests[at : at + REQUEST], REPLY))
-    for it, process in zip(found, processes):
+    seconds = [[], []]
+    for place, request in to_and_fro(requests):
+        seconds[place].append(ask(processes[place], request, REPLY))
+    for it, process in zip(pair, processes):
         process.stdin.close()
         end(it, process)
         process.stdout.close()
     return seconds
+
+
+def to_and_fro(requests: bytes) -> Iterator[tuple[int, bytes]]:
+    """To which of a pair each request goes, in turn: 0 1 1 0 0 1 1 0 .."""
+    for at in range(0, len(requests), REQUEST):
+        for place in (1, 0) if at // REQUEST % 2 else (0, 1):
+            yield place, requests[at : at + REQUEST]
 
 
 def ask(process: subprocess.Popen, frame: bytes, size: int) -> float:
@@ -126,7 +158,8 @@ def show_services(
 ) -> None:
     answers = os.path.join(folder, "answers")
     found = services(dukpt, peer, config, folder)
-    whole, alone = [[] for _ in found], [[] for _ in found]
+    whole, pairs = [[] for _ in found], pairs_of(found)
+    some = Path(requests).read_bytes()[: ONE_BY_ONE * REQUEST]
     for at in range(rounds):
         same_answers, same_journals = set(), set()
         for place, it in list(enumerate(found))[:: -1 if at % 2 else 1]:
@@ -136,23 +169,32 @@ def show_services(
                 same_journals.add(Path(it.store).read_bytes())
         if len(same_answers) != 1 or len(same_journals) != 1:
             sys.exit("services: the answers or the journals differ")
-        some = Path(requests).read_bytes()[: ONE_BY_ONE * REQUEST]
-        for kept, seconds in zip(alone, serve_one_by_one(found, some)):
-            kept += seconds
-    show(found, whole, alone)
+        for pair in pairs:
+            pair.compare(some)
+    show(found, whole, pairs)
 
 
-def show(
-    found: Sequence[Service], whole: Sequence[list[Served]], alone: Sequence[list[float]]
-) -> None:
+def pairs_of(found: Sequence[Service]) -> list[Pair]:
+    """The journal beside each other service over a file: one in memory syncs nothing."""
+    journal = journal_of(found)
+    return [Pair(it, found[journal]) for it in found if it.store and it is not found[journal]]
+
+
+def journal_of(found: Sequence[Service]) -> int:
+    """The place of the journal."""
+    return [it.name for it in found].index(JOURNAL)
+
+
+def show(found: Sequence[Service], whole: Sequence[list[Served]], pairs: Sequence[Pair]) -> None:
     """A line for each service. The journal is compared with each by the median of the ratios of the
     rounds."""
-    journal = whole[[it.name for it in found].index("journal")]
-    print("| service over | requests/s | journal's, of that | processor time | one by one |")
-    print("|---|---|---|---|---|")
-    for it, served, seconds in zip(found, whole, alone):
+    journal, cells = whole[journal_of(found)], {pair.it.name: pair.cells() for pair in pairs}
+    print("| service over | requests/s | journal's, of that | processor time"
+          " | one by one | journal's, beside | ratio |")
+    print("|---|---|---|---|---|---|---|")
+    for it, served in zip(found, whole):
         ratio = median(one.clock / other.clock for one, other in zip(served, journal))
         print(f"| {it.name} | {1 / median(one.clock for one in served):,.0f} | {ratio:.2f}"
               f" | {1e6 * median(one.processor for one in served):.1f} µs"
-              f" | {1e6 * median(seconds):.0f} µs |")
+              f" | {cells.get(it.name, '- | - | -')} |")
     print()
