@@ -72,13 +72,18 @@ module _ {D : Type 0} (meaning : DiskMeaning D) (old new : DiskJournalOf D) wher
   after = meaning.state_of new.disk
 
   module _ (ten : (serial : Serial) → length (serial_bytes serial) ≡ 10) (found : (serial : Serial) → IsSerial serial → serial_of_bytes (serial_bytes serial) ≡ serial) where
+    -- the list that a restart found is all that a stop could leave
+    sound_once_up : (count : ℕ) → IsJournalUp before after count → before.honest → IsSoundJournalDisk after
+    sound_once_up count up h = let holds = up.knows.holds (up.nature.honest.0 h) in sound_one after after.reads holds.has.0 up.knows.size holds.leaves holds.has.1
+
     pub journal_restarted : (count : ℕ) → new.kept ≡ Some count → IsJournalUp before after count → JournalRestarted (disk_journal_meaning meaning) old new count
     journal_restarted count kept up = record {
       nature = record {
         honest = up.nature.honest;
-        sound = λ h sound. let holds = up.knows.holds (up.nature.honest.0 h) in sound_one after after.reads holds.has.0 up.knows.size holds.leaves holds.has.1;
+        sound = λ h sound. sound_once_up count up h;
         calm = up.nature.calm;
       };
+      sound = sound_once_up count up;
       no_failure = up.no_failure;
       runs = ap is_journal_running kept;
       found = λ h.

@@ -9,6 +9,7 @@ use Rattle.duk_journal.specs.MemoryJournal.{IsMemoryGroupAppended, MemoryJournal
 pub restarted_in_memory : (journal : MemoryJournal) → JournalRestarted memory_journal_meaning journal (restarted_journal journal) (length journal.payments)
 restarted_in_memory journal = record {
   nature = record { honest = (λ h. h, λ h. h); sound = λ h sound. sound; calm = λ calm. calm };
+  sound = λ h. h;
   no_failure = refl;
   runs = refl;
   found = λ h. (journal.payments, record { finds = λ other. (λ is. is, λ is. is); was_found = refl; counted = refl });

@@ -37,10 +37,12 @@ pub record IsListFound
   pub was_found : old.found payments
   pub counted : length payments ≡ count
 
--- a restart that found this many payments
+-- a restart that found this many payments: all that a stop could leave now keeps them, so that an
+-- honest journal is sound from then on, whatever it was made over
 pub record JournalRestarted
     {J : Type 0} (meaning : JournalMeaning J) (old new : J) (count : ℕ) : Type 0 where
   pub nature : PreservesNature (meaning.state_of old) (meaning.state_of new)
+  pub sound : (meaning.state_of old).honest → (meaning.state_of new).sound
   pub no_failure : (meaning.state_of new).failures ≡ (meaning.state_of old).failures
   pub runs : (meaning.state_of new).running ≡ true
   pub found : (meaning.state_of old).honest → (payments : Payments)
