@@ -24,7 +24,7 @@ impl ReversalState {
     }
 
     /// The state of a byte.
-    pub(crate) fn from_byte(byte: u8) -> Option<ReversalState>
+    pub fn from_byte(byte: u8) -> Option<ReversalState>
         ensures found { IfSome result (λ state. state_byte state ≡ byte) }
         ensures every { (state : ReversalState) → state_byte state ≡ byte → result ≡ Some state }
     {
