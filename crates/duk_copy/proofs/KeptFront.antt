@@ -1,7 +1,9 @@
 -- What bytes keep whose front is that of others, and which are zeros behind it.
-use Rattle.std.proofs.Common.{◌≡◌, ◌∙◌, ◌+◌, ◌*◌, ◌-◌, ◌≤◌, ◌++◌, ℕ, zero, suc, List, [], ◌∷◌, None, ap, arith, drop, get_or, length, length-drop, replicate, subst, sym, take}
+use Rattle.std.proofs.Common.{◌≡◌, ◌≢◌, ◌∙◌, ◌⊎◌, inl, inr, ◌+◌, ◌*◌, ◌-◌, ◌≤◌, ◌++◌, ℕ, zero, suc, List, [], ◌∷◌, None, ap, arith, drop, get_or, length, length-drop, replicate, subst, sym, take}
 use Rattle.std.proofs.Math.Seq.{take-add, take-append_seam}
+use Rattle.std.proofs.lemmas.Bool.{cases_eq}
 use Rattle.std.proofs.lemmas.List.{drop-append-le, drop-take, get_or-drop, get_or-take, length-take-le, places, take-append-le}
+use Rattle.duk_copy.specs.InPart.{IsNoJournal, IsUnfinished}
 use Rattle.duk_journal.specs.DiskJournal.{disk_journal_state}
 use Rattle.duk_journal.specs.Groups.{AreKeptFrom, HasContents, KeepsPayments, Payments}
 use Rattle.duk_journal.specs.RecordFormat.{IsOpen, after_gate, contents_of, gate_of, record_at}
@@ -74,16 +76,42 @@ finds_them one_list disk bytes payments leaves reads keeps other = (
   λ same. (bytes, (leaves bytes).1 (sym reads), subst (λ (p : Payments). KeepsPayments bytes p) (sym same) keeps),
 )
 
--- an open record of zeros is the first of no group
-open_zeros : (first : List ℕ) → first ≡ 1 ∷ replicate 31 0 → IsOpen first
-open_zeros first is = ap gate_of is
+-- ---- what the first two bytes say
 
-no_contents : (followers : ℕ) (payment : Payment) (first : List ℕ) → first ≡ 1 ∷ replicate 31 0 → ¬ HasContents followers payment first
+kind_is : (x : List ℕ) → get_or (after_gate (record_at 0 x)) 0 0 ≡ get_or x 1 0
+kind_is x = get_or-drop 1 (record_at 0 x) 0 0 ∙ get_or-take 32 x 1 0 (omega arith)
+
+kind_of_contents : (followers : ℕ) (payment : Payment) (record_bytes : List ℕ) → HasContents followers payment record_bytes
+    → get_or (after_gate record_bytes) 0 0 ≡ 1
 unfolding contents_of
-no_contents followers payment first is has =
-    let kind : 0 ≡ 1 = ap (λ (l : List ℕ). get_or l 0 0) (ap after_gate (sym is) ∙ has.written) in
-    omega (arith, kind)
+kind_of_contents followers payment record_bytes has = ap (λ (l : List ℕ). get_or l 0 0) has.written
 
-pub none_kept : (bytes : List ℕ) (payments : Payments) → take 32 bytes ≡ 1 ∷ replicate 31 0 → ¬ KeepsPayments bytes payments
-none_kept bytes [] first are = are 0 (omega arith) (open_zeros (record_at 0 bytes) first)
-none_kept bytes (p ∷ later) first are = no_contents are.0 p (record_at 0 bytes) first are.2
+-- of a journal that keeps payments, both are 1
+pub head_of_kept : (bytes : List ℕ) (payments : Payments) → 1 ≤ length payments → KeepsPayments bytes payments
+    → (get_or bytes 0 0 ≡ 1) × (get_or bytes 1 0 ≡ 1)
+head_of_kept bytes [] some keeps = absurd (omega (arith, some))
+head_of_kept bytes (p ∷ later) some keeps = (
+  sym (gate_is 0 bytes) ∙ keeps.1,
+  sym (kind_is bytes) ∙ kind_of_contents keeps.0 p (record_at 0 bytes) keeps.2,
+)
+
+-- an open record with no payment is the first of no group
+pub unfinished_is_none : (bytes : List ℕ) → IsUnfinished bytes → IsNoJournal bytes
+unfinished_is_none bytes unfinished [] are = are 0 (omega arith) (gate_is 0 bytes ∙ unfinished.gate)
+unfinished_is_none bytes unfinished (p ∷ later) are = unfinished.kind ((head_of_kept bytes (p ∷ later) (omega arith) are).1)
+
+-- closed, with zeros behind the first two bytes, nothing is kept
+pub closed_keeps_none : (bytes : List ℕ) → get_or bytes 0 0 ≢ 1 → ((k : ℕ) → 2 ≤ k → get_or bytes k 0 ≡ 0) → KeepsPayments bytes []
+closed_keeps_none bytes gate zeros zero from open_now = gate (sym (gate_is 0 bytes) ∙ open_now)
+closed_keeps_none bytes gate zeros (suc later) from open_now =
+    let none : get_or bytes (32 * suc later) 0 ≡ 0 = zeros (32 * suc later) (omega arith) in
+    let one : get_or bytes (32 * suc later) 0 ≡ 1 = sym (gate_is (suc later) bytes) ∙ open_now in
+    omega (arith, none, one)
+
+-- with no payment's kind, it is one or the other
+pub none_or_blank : (bytes : List ℕ) → get_or bytes 1 0 ≢ 1 → ((k : ℕ) → 2 ≤ k → get_or bytes k 0 ≡ 0)
+    → IsNoJournal bytes ⊎ KeepsPayments bytes []
+none_or_blank bytes kind zeros = elim (cases_eq (get_or bytes 0 0) 1) [
+  | inl gate ↦ inl (unfinished_is_none bytes (record { gate = gate; kind = kind }))
+  | inr closed_now ↦ inr (closed_keeps_none bytes closed_now zeros)
+]

@@ -1,4 +1,5 @@
 mod Copied
+mod InPart
 mod KeptFront
 mod Results
 mod WrittenDisks

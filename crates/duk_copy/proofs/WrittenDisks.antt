@@ -1,11 +1,10 @@
 -- What calls in turn do to a disk of which a range is written.
-use Rattle.std.proofs.Common.{◌≡◌, ◌∙◌, ◌⊎◌, inl, inr, ◌+◌, ◌-◌, ◌≤◌, ℕ, List, ap, arith, drop, length, subst, sym}
-use Rattle.duk_copy.specs.InPart.{LeavesInPart}
+use Rattle.std.proofs.Common.{◌≡◌, ◌∙◌, ◌+◌, ◌-◌, ◌≤◌, ℕ, List, ap, arith, length, sym}
 use Rattle.duk_copy.specs.inner.Blank.{LeavesOutside}
 use Rattle.duk_copy.specs.inner.Copy.{AreBytesCopied, StaysRead}
-use Rattle.duk_store.specs.Disk.{DiffersWithin, DiskState, HasFailed, LeavesChanged, LeavesReads, LeavesWithin, PreservesDisk, range_of, written}
+use Rattle.duk_store.specs.Disk.{DiffersWithin, DiskState, HasFailed, LeavesChanged, LeavesWithin, PreservesDisk, range_of, written}
 use Rattle.duk_store.specs.declared.fault.StoreFault.{StoreFault}
-use Rattle.duk_copy.proofs.WrittenLists.{bytes_on, differs_not, differs_then, differs_wider, same_first, same_rest}
+use Rattle.duk_copy.proofs.WrittenLists.{bytes_on, differs_not, differs_then, differs_wider}
 
 pub keeps_on : (old mid new : DiskState) → PreservesDisk old mid → PreservesDisk mid new → PreservesDisk old new
 keeps_on old mid new first second = record {
@@ -56,29 +55,6 @@ outside_wider from to at some old new low high changed = λ h bytes left.
 -- a sync adds nothing
 pub outside_synced : (from to : ℕ) (old mid new : DiskState) → PreservesDisk old mid → LeavesOutside from to old mid → LeavesWithin mid new → LeavesOutside from to old new
 outside_synced from to old mid new nature first within = λ h bytes left. first h bytes (within (nature.honest.0 h) bytes left)
-
--- all behind the first record was written, and perhaps not all of that
-pub in_part_behind : (written : List ℕ) (from to : ℕ) (before after : DiskState) → (before.honest → length before.reads ≡ before.size) → (32 ≤ from) ⊎ (before.size ≤ from)
-    → LeavesOutside from to before after → LeavesInPart written before after
-in_part_behind written from to before after size outside changed = λ h one bytes left.
-    let was = changed h bytes left in
-    let is : was.0 ≡ before.reads = (one was.0).0 was.1 in
-    let differs : DiffersWithin from (to - from) before.reads bytes = subst (λ (l : List ℕ). DiffersWithin from (to - from) l bytes) is was.2 in
-    let far : (32 ≤ from) ⊎ (length before.reads ≤ from) = elim outside [
-      | inl far ↦ inl far
-      | inr all ↦ inr (omega (arith, all, size h))
-    ] in
-    inl (same_first from (to - from) before.reads bytes far differs)
-
--- all behind it was, and synced, and perhaps the first record
-pub in_part_before : (written : List ℕ) (to : ℕ) (before mid after : DiskState) → PreservesDisk before mid → to ≤ 32
-    → (before.honest → LeavesReads mid) → (before.honest → drop 32 mid.reads ≡ drop 32 written)
-    → LeavesOutside 0 to mid after → LeavesInPart written before after
-in_part_before written to before mid after nature small one rest changed = λ h was_one bytes left.
-    let was = changed (nature.honest.0 h) bytes left in
-    let is : was.0 ≡ mid.reads = (one h was.0).0 was.1 in
-    let differs : DiffersWithin 0 (to - 0) mid.reads bytes = subst (λ (l : List ℕ). DiffersWithin 0 (to - 0) l bytes) is was.2 in
-    inr (same_rest 0 (to - 0) mid.reads bytes (omega (arith, small)) differs ∙ rest h)
 
 -- bytes so far, and a piece of them more
 pub copied_on : (from at count : ℕ) (old old1 old2 new new1 new2 : DiskState)

@@ -1,8 +1,10 @@
 -- Bytes that are written one piece after the other, as lists.
-use Rattle.std.proofs.Common.{◌≡◌, ◌∙◌, ◌⊎◌, inl, inr, ◌+◌, ◌-◌, ◌<◌, ◌≤◌, ◌++◌, ℕ, List, [], ap, arith, drop, get_or, length, length-drop, refl, replicate, sym, take}
-use Rattle.std.proofs.Math.Seq.{take-add, take-append-add, take-append_seam}
+use Rattle.std.proofs.Common.{◌≡◌, ◌∙◌, ◌⊎◌, inl, inr, ◌+◌, ◌-◌, ◌<◌, ◌≤◌, ◌++◌, ℕ, zero, suc, List, [], ap, arith, drop, get_or, length, length-drop, refl, replicate, sym, take}
+use Rattle.std.proofs.Math.Seq.{take-add}
+use Rattle.std.proofs.lemmas.Bool.{cases_lt}
 use Rattle.std.proofs.lemmas.Grind.{same_number_lists}
-use Rattle.std.proofs.lemmas.List.{append-nil, drop-append-le, drop-drop, drop-take, drop_all, drop_at, get_or-drop, get_or-replicate, get_or-take, length-replicate, length-take, length-take-le, places, replicate-append-replicate, same_lists, take-append-drop, take-append-le, take-take}
+use Rattle.std.proofs.lemmas.List.{drop-drop, get_or-append_right, get_or-drop, get_or-replicate, get_or-take, get_or_append_left, get_or_past, length-append, length-replicate, length-take-le, places, replicate-append-replicate, same_lists}
+use Rattle.duk_copy.specs.inner.Head.{HasRestOf}
 use Rattle.duk_store.specs.Disk.{DiffersWithin, range_of, written}
 
 -- a piece is written behind another
@@ -57,98 +59,107 @@ bytes_on old l mid from at count behind room inside so_far =
 pub written_none : (l : List ℕ) (from : ℕ) → from ≤ length l → l ≡ written l from []
 written_none l from inside = same_lists _ _ (grind (arith, places)) (λ k d h. grind (arith, places))
 
--- ---- what stands behind the first record, and before it
+-- ---- what stands behind the first two bytes, and before it
 
--- zeros over all behind a place, and then before it
-pub zeros_of_both : (l mid last : List ℕ) (first size : ℕ) → length l ≡ size → first ≤ size
-    → mid ≡ written l first (replicate (size - first) 0) → last ≡ written mid 0 (replicate first 0) → last ≡ replicate size 0
-zeros_of_both l mid last first size long inside behind before =
-    before ∙ ap (λ (xs : List ℕ). written xs 0 (replicate first 0)) behind
-    ∙ same_lists _ _ (grind (arith, places)) (λ k d h. grind (arith, places))
+-- bytes with the rest of others, and their first two, are those
+pub whole_by_head : (xs ys : List ℕ) → HasRestOf xs ys → get_or ys 0 0 ≡ get_or xs 0 0 → get_or ys 1 0 ≡ get_or xs 1 0 → ys ≡ xs
+whole_by_head xs ys rest gate kind = same_number_lists ys xs rest.same_length (λ k less. here k)
+  where
+    here : (k : ℕ) → get_or ys k 0 ≡ get_or xs k 0
+    here zero = gate
+    here (suc zero) = kind
+    here (suc (suc k)) = rest.outside (suc (suc k)) (inr (omega arith))
 
-zero_at : (l : List ℕ) (first size i : ℕ) → length l ≡ size → first ≤ size → first ≤ i → i < size
-    → get_or (written l first (replicate (size - first) 0)) i 0 ≡ 0
-zero_at l first size i long inside behind within = grind (arith, places)
+length_written : (l xs : List ℕ) (at : ℕ) → at + length xs ≤ length l → length (written l at xs) ≡ length l
+length_written l xs at inside = grind (arith, places)
 
-length_zeros : (l : List ℕ) (first size : ℕ) → length l ≡ size → first ≤ size
-    → length (written l first (replicate (size - first) 0)) ≡ size
-length_zeros l first size long inside = grind (arith, places)
+at_written : (l xs : List ℕ) (at k : ℕ) → at + length xs ≤ length l → at ≤ k → k < at + length xs
+    → get_or (written l at xs) k 0 ≡ get_or xs (k - at) 0
+at_written l xs at k inside behind before = grind (arith, places)
 
-pub rest_of_zeros : (l mid : List ℕ) (first size : ℕ) → length l ≡ size → first ≤ size → first ≤ 32
-    → mid ≡ written l first (replicate (size - first) 0) → drop 32 mid ≡ drop 32 (replicate size 0)
-rest_of_zeros l mid first size long inside small behind =
-    let zeros : List ℕ = replicate size 0 in
-    let one : length mid ≡ size = ap length behind ∙ length_zeros l first size long inside in
-    let lengths : length (drop 32 mid) ≡ length (drop 32 zeros) = length-drop 32 mid ∙ omega (arith, one, length-drop 32 zeros, length-replicate {A = ℕ} size 0) in
-    same_number_lists (drop 32 mid) (drop 32 zeros) lengths
-    (λ k less.
-    let within : 32 + k < size = omega (arith, less, length-drop 32 mid, one) in
-    get_or-drop 32 mid k 0 ∙ ap (λ (xs : List ℕ). get_or xs (32 + k) 0) behind
-    ∙ zero_at l first size (32 + k) long inside (omega (arith, small)) within
-    ∙ sym (get_or-drop 32 zeros k 0 ∙ get_or-replicate size (32 + k) 0 0 within))
+before_written : (l xs : List ℕ) (at k : ℕ) → at + length xs ≤ length l → k < at → get_or (written l at xs) k 0 ≡ get_or l k 0
+before_written l xs at k inside before = grind (arith, places)
 
--- what stands in front when a piece is written behind it
-front_written : (old : List ℕ) (at : ℕ) (bytes : List ℕ) → at ≤ length old
-    → take (at + length bytes) (written old at bytes) ≡ take at old ++ bytes
-front_written old at bytes inside =
-    let front = take at old in
-    let rest = drop (at + length bytes) old in
-    let count : length front ≡ at = length-take-le at old inside in
-    ap (λ (n : ℕ). take (n + length bytes) (front ++ (bytes ++ rest))) (sym count)
-    ∙ take-append-add front (bytes ++ rest) (length bytes)
-    ∙ ap (λ (xs : List ℕ). front ++ xs) (take-append_seam bytes rest)
+behind_written : (l xs : List ℕ) (at k : ℕ) → at + length xs ≤ length l → at + length xs ≤ k → get_or (written l at xs) k 0 ≡ get_or l k 0
+behind_written l xs at k inside behind = grind (arith, places)
 
--- what is written to the end
-to_the_end : (l xs : List ℕ) (from : ℕ) → from + length xs ≡ length l → written l from xs ≡ take from l ++ xs
-to_the_end l xs from end =
-    let none : drop (from + length xs) l ≡ [] = drop_all (from + length xs) l (omega (arith, end)) in
-    ap (λ (ys : List ℕ). take from l ++ (xs ++ ys)) none ∙ ap (λ (ys : List ℕ). take from l ++ ys) (append-nil xs)
+-- zeros to the end
+zero_written : (l : List ℕ) (at size k : ℕ) → length l ≡ size → at ≤ size → at ≤ k → get_or (written l at (replicate (size - at) 0)) k 0 ≡ 0
+zero_written l at size k long room behind = elim (cases_lt k size) [
+  | inl less ↦
+      at_written l (replicate (size - at) 0) at k (omega (arith, long, room, length-replicate {A = ℕ} (size - at) 0)) behind (omega (arith, less, length-replicate {A = ℕ} (size - at) 0))
+      ∙ get_or-replicate (size - at) (k - at) 0 0 (omega (arith, less, behind))
+  | inr past ↦
+      get_or_past (written l at (replicate (size - at) 0)) k 0
+      (omega (arith, past, long, length_written l (replicate (size - at) 0) at (omega (arith, long, room, length-replicate {A = ℕ} (size - at) 0))))
+]
 
-rest_in_front : (old l mid : List ℕ) (to : ℕ) → 32 ≤ to → to ≤ length l → to ≤ length old
-    → mid ≡ written l 32 (range_of 32 (to - 32) old) → drop 32 (take to mid) ≡ drop 32 (take to old)
-rest_in_front old l mid to some room inside is =
-    let piece : List ℕ = range_of 32 (to - 32) old in
-    let count : length piece ≡ to - 32 = length_range 32 (to - 32) old (omega (arith, some, inside)) in
-    let sum : to ≡ 32 + length piece = omega (arith, some, count) in
-    let front : length (take 32 l) ≡ 32 = length-take-le 32 l (omega (arith, some, room)) in
-    let whole : to ≡ 32 + (to - 32) = omega (arith, some) in
-    ap (λ (xs : List ℕ). drop 32 (take to xs)) is
-    ∙ ap (λ (n : ℕ). drop 32 (take n (written l 32 piece))) sum
-    ∙ ap (drop 32) (front_written l 32 piece (omega (arith, some, room)))
-    ∙ drop_at (take 32 l) piece 32 front
-    ∙ sym (drop-take 32 (to - 32) old)
-    ∙ ap (λ (n : ℕ). drop 32 (take n old)) (sym whole)
+pub zero_of_zeros : (size k : ℕ) → get_or {A = ℕ} (replicate size 0) k 0 ≡ 0
+zero_of_zeros size k = elim (cases_lt k size) [
+  | inl less ↦ get_or-replicate size k 0 0 less
+  | inr past ↦ get_or_past {X = ℕ} (replicate size 0) k 0 (omega (arith, past, length-replicate {A = ℕ} size 0))
+]
+
+length_to_end : (l : List ℕ) (at size : ℕ) → length l ≡ size → at ≤ size → length (written l at (replicate (size - at) 0)) ≡ size
+length_to_end l at size long room =
+    length_written l (replicate (size - at) 0) at (omega (arith, long, room, length-replicate {A = ℕ} (size - at) 0)) ∙ long
+
+-- zeros over all
+pub all_of_zeros : (l : List ℕ) (size : ℕ) → length l ≡ size → written l 0 (replicate (size - 0) 0) ≡ replicate size 0
+all_of_zeros l size long =
+    same_number_lists (written l 0 (replicate (size - 0) 0)) (replicate size 0) (length_to_end l 0 size long (omega arith) ∙ sym (length-replicate size 0))
+    (λ k less. zero_written l 0 size k long (omega arith) (omega arith) ∙ sym (zero_of_zeros size k))
+
+pub rest_of_zeros : (l mid : List ℕ) (size : ℕ) → length l ≡ size → 2 ≤ size
+    → mid ≡ written l 2 (replicate (size - 2) 0) → HasRestOf (replicate size 0) mid
+rest_of_zeros l mid size long room is = record {
+  same_length = ap length is ∙ length_to_end l 2 size long room ∙ sym (length-replicate size 0);
+  outside = outside;
+}
+  where
+    outside : (place : ℕ) → (place < 0) ⊎ (0 + 2 ≤ place) → get_or mid place 0 ≡ get_or (replicate size 0) place 0
+    outside place (inl less) = absurd (omega (arith, less))
+    outside place (inr far) =
+        ap (λ (xs : List ℕ). get_or xs place 0) is ∙ zero_written l 2 size place long room far ∙ sym (zero_of_zeros size place)
+
+-- a byte of the front, and one behind it
+pub front_at : (old : List ℕ) (to count k : ℕ) → to ≤ length old → k < to → get_or (take to old ++ replicate count 0) k 0 ≡ get_or old k 0
+front_at old to count k inside less =
+    get_or_append_left (take to old) (replicate count 0) 0 k (omega (arith, less, length-take-le to old inside)) ∙ get_or-take to old k 0 less
+
+behind_front : (old : List ℕ) (to count k : ℕ) → to ≤ length old → to ≤ k → get_or (take to old ++ replicate count 0) k 0 ≡ 0
+behind_front old to count k inside past =
+    get_or-append_right (take to old) (replicate count 0) to k 0 (length-take-le to old inside) past ∙ zero_of_zeros count (k - to)
 
 -- the rest of a copy is written: bytes up to a place, and zeros
-pub rest_of_copy : (old l mid last : List ℕ) (to size : ℕ) → length mid ≡ size → length l ≡ size → 32 ≤ to → to ≤ size → to ≤ length old
-    → mid ≡ written l 32 (range_of 32 (to - 32) old) → last ≡ written mid to (replicate (size - to) 0)
-    → drop 32 last ≡ drop 32 (take to old ++ replicate (size - to) 0)
-rest_of_copy old l mid last to size mid_long long some room inside first second =
-    let zeros : List ℕ = replicate (size - to) 0 in
-    let end : to + length zeros ≡ length mid = omega (arith, length-replicate {A = ℕ} (size - to) 0, room, mid_long) in
-    let mid_front : length (take to mid) ≡ to = length-take-le to mid (omega (arith, room, mid_long)) in
-    let old_front : length (take to old) ≡ to = length-take-le to old inside in
-    ap (drop 32) (second ∙ to_the_end mid zeros to end)
-    ∙ drop-append-le 32 (take to mid) zeros (omega (arith, mid_front, some))
-    ∙ ap (λ (xs : List ℕ). xs ++ zeros) (rest_in_front old l mid to some (omega (arith, room, long)) inside first)
-    ∙ sym (drop-append-le 32 (take to old) zeros (omega (arith, old_front, some)))
+pub rest_of_copy : (old l mid last : List ℕ) (to size : ℕ) → length mid ≡ size → length l ≡ size → 2 ≤ to → to ≤ size → to ≤ length old
+    → mid ≡ written l 2 (range_of 2 (to - 2) old) → last ≡ written mid to (replicate (size - to) 0)
+    → HasRestOf (take to old ++ replicate (size - to) 0) last
+rest_of_copy old l mid last to size mid_long long some room inside first second = record {
+  same_length = ap length second ∙ length_to_end mid to size mid_long room
+      ∙ sym (length-append (take to old) (replicate (size - to) 0) ∙ omega (arith, length-take-le to old inside, length-replicate {A = ℕ} (size - to) 0, room));
+  outside = outside;
+}
+  where
+    piece : length (range_of 2 (to - 2) old) ≡ to - 2
+    piece = length_range 2 (to - 2) old (omega (arith, some, inside))
 
--- a first record is written
-pub first_written : (old new mid : List ℕ) (count : ℕ) → count ≡ 32 → 32 ≤ length old
-    → mid ≡ written new 0 (range_of 0 (0 + count - 0) old) → mid ≡ take 32 old ++ drop 32 new
-first_written old new mid count is inside so =
-    let count_is : 0 + count - 0 ≡ 32 = omega (arith, is) in
-    let long : 0 + length (take 32 old) ≡ 32 = omega (arith, length-take-le 32 old inside) in
-    so ∙ ap (λ (n : ℕ). written new 0 (range_of 0 n old)) count_is ∙ ap (λ (n : ℕ). take 32 old ++ drop n new) long
+    copied : (place : ℕ) → 2 ≤ place → place < to → get_or mid place 0 ≡ get_or old place 0
+    copied place far less =
+        ap (λ (xs : List ℕ). get_or xs place 0) first
+        ∙ at_written l (range_of 2 (to - 2) old) 2 place (omega (arith, piece, some, room, long)) far (omega (arith, piece, some, less))
+        ∙ get_or-take (to - 2) (drop 2 old) (place - 2) 0 (omega (arith, far, less))
+        ∙ get_or-drop 2 old (place - 2) 0
+        ∙ ap (λ (i : ℕ). get_or old i 0) (omega (arith, far))
 
--- and then the first record
-pub whole_copy : (old mid last : List ℕ) (to count : ℕ) → 32 ≤ to → to ≤ length old
-    → drop 32 mid ≡ drop 32 (take to old ++ replicate count 0) → last ≡ take 32 old ++ drop 32 mid → last ≡ take to old ++ replicate count 0
-whole_copy old mid last to count some inside rest first =
-    let all : List ℕ = take to old ++ replicate count 0 in
-    let long : length (take to old) ≡ to = length-take-le to old inside in
-    let front : take 32 all ≡ take 32 old = take-append-le 32 (take to old) (replicate count 0) (omega (arith, long, some)) ∙ take-take 32 to old some in
-    first ∙ ap (λ (xs : List ℕ). take 32 old ++ xs) rest ∙ ap (λ (xs : List ℕ). xs ++ drop 32 all) (sym front) ∙ take-append-drop 32 all
+    outside : (place : ℕ) → (place < 0) ⊎ (0 + 2 ≤ place) → get_or last place 0 ≡ get_or (take to old ++ replicate (size - to) 0) place 0
+    outside place (inl less) = absurd (omega (arith, less))
+    outside place (inr far) = ap (λ (xs : List ℕ). get_or xs place 0) second ∙ elim (cases_lt place to) [
+      | inl less ↦
+          before_written mid (replicate (size - to) 0) to place (omega (arith, mid_long, room, length-replicate {A = ℕ} (size - to) 0)) less
+          ∙ copied place far less ∙ sym (front_at old to (size - to) place inside less)
+      | inr past ↦ zero_written mid to size place mid_long room past ∙ sym (behind_front old to (size - to) place inside past)
+    ]
 
 -- ---- bytes that differ in a range alone
 
@@ -170,25 +181,3 @@ differs_wider from count at some x y low high differs = record {
     outside : (place : ℕ) → (place < from) ⊎ (from + count ≤ place) → get_or y place 0 ≡ get_or x place 0
     outside place (inl less) = differs.outside place (inl (omega (arith, less, low)))
     outside place (inr past) = differs.outside place (inr (omega (arith, past, high)))
-
--- all of the first record is outside
-pub same_first : (from count : ℕ) (x y : List ℕ) → (32 ≤ from) ⊎ (length x ≤ from) → DiffersWithin from count x y → take 32 y ≡ take 32 x
-same_first from count x y outside differs =
-    let lengths : length (take 32 y) ≡ length (take 32 x) = length-take 32 y ∙ omega (arith, differs.same_length, length-take 32 x) in
-    same_number_lists (take 32 y) (take 32 x) lengths
-    (λ k less.
-    let below : k < 32 = omega (arith, less, length-take 32 y) in
-    let within : k < length x = omega (arith, less, length-take 32 y, differs.same_length) in
-    let before : k < from = elim outside [
-      | inl far ↦ omega (arith, far, below)
-      | inr all ↦ omega (arith, all, within)
-    ] in
-    get_or-take 32 y k 0 below ∙ differs.outside k (inl before) ∙ sym (get_or-take 32 x k 0 below))
-
--- all behind it is
-pub same_rest : (from count : ℕ) (x y : List ℕ) → from + count ≤ 32 → DiffersWithin from count x y → drop 32 y ≡ drop 32 x
-same_rest from count x y inside differs =
-    let lengths : length (drop 32 y) ≡ length (drop 32 x) = length-drop 32 y ∙ omega (arith, differs.same_length, length-drop 32 x) in
-    same_number_lists (drop 32 y) (drop 32 x) lengths
-    (λ k less.
-    get_or-drop 32 y k 0 ∙ differs.outside (32 + k) (inr (omega (arith, inside))) ∙ sym (get_or-drop 32 x k 0))

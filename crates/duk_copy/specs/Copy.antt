@@ -2,9 +2,9 @@
 use Rattle.std.specs.Prelude.{◌≡◌, ◌*◌, ◌-◌, ◌++◌, List, ℕ, None, length, replicate, take}
 use Rattle.duk_copy.specs.declared.copy.CopyFault.{CopyFault}
 use Rattle.duk_copy.specs.declared.copy.CopyFault.TheVariants as fault
-use Rattle.duk_journal.specs.DiskJournal.{disk_journal_state}
+use Rattle.duk_journal.specs.DiskJournal.{IsSoundJournalDisk, disk_journal_state}
 use Rattle.duk_journal.specs.Groups.{KeepsPayments, Payments}
-use Rattle.duk_journal.specs.RecordFormat.{record_length}
+use Rattle.duk_journal.specs.RecordFormat.{IsJournalSize, record_length}
 use Rattle.duk_store.specs.Disk.{DiskState, HasFailed, LeavesReads, PreservesDisk}
 use Rattle.duk_store.specs.StoreState.{FindsOnly}
 use Rattle.duk_store.specs.declared.fault.StoreFault.TheVariants.{Device}
@@ -16,7 +16,7 @@ copied_bytes kept size bytes =
 
 -- a disk is written anew, over all its bytes, and a stop leaves what was written. A journal over it
 -- finds the payments that the old disk keeps, which are so many, and nothing else, whenever it is
--- stopped
+-- stopped, and never finds it damaged
 pub record IsCopied (kept : ℕ) (old before after : DiskState) : Type 0 where
   pub nature : PreservesDisk before after
   pub no_failure : after.failures ≡ before.failures
@@ -25,6 +25,8 @@ pub record IsCopied (kept : ℕ) (old before after : DiskState) : Type 0 where
   pub keeps : old.honest → before.honest → (payments : Payments)
       → KeepsPayments old.reads payments → length payments ≡ kept
       → FindsOnly (disk_journal_state after None) payments
+  pub sound : old.honest → before.honest → IsJournalSize before.size → (payments : Payments)
+      → KeepsPayments old.reads payments → length payments ≡ kept → IsSoundJournalDisk after
 
 -- why it is not: a device step of one or the other failed
 abbrev pub CopyFailed : DiskState → DiskState → DiskState → DiskState → CopyFault → Type 0

@@ -2,12 +2,14 @@
 
 ghost use Rattle.std.specs.Prelude.{◌≡◌, ◌+◌, ◌*◌, ◌≤◌, length, replicate, IfErr, OnErr, OnOk};
 ghost use Rattle.duk_store.specs.Disk.{PreservesBytes, PreservesDisk};
-ghost use Rattle.duk_copy.specs.Copy.{CopyFailed, IsCopied, copied_bytes};
+ghost use Rattle.duk_journal.specs.Groups.{KeepsPayments, Payments};
+ghost use Rattle.duk_copy.specs.Copy.{CopyFailed, IsCopied};
 ghost use Rattle.duk_copy.specs.InPart.{LeavesInPart};
 ghost use Rattle.duk_copy.specs.inner.Blank.{LeavesOutside};
-ghost use Rattle.duk_copy.specs.inner.Copy.{AreBytesCopied, BytesUncopied, IsFirstCopied, IsRestCopied};
+ghost use Rattle.duk_copy.specs.inner.Copy.{AreBytesCopied, BytesUncopied, IsRestCopied};
 
 use crate::blank::{PIECE_LENGTH, write_blank, write_synced};
+use crate::head::{HEAD_LENGTH, read_head, settle_head};
 use duk_journal::RECORD_LENGTH;
 use duk_store::Disk;
 
@@ -22,7 +24,8 @@ pub enum CopyFault {
 
 /// Writes the records that a journal keeps, so many, over the front of another disk, in pieces, and
 /// zeros over all bytes behind them, and syncs them. A journal over that disk keeps the same payments
-/// then. The first record is written last, once all behind it is synced.
+/// then. The first two bytes, a gate and a kind, are settled last, once all behind them is synced: a
+/// disk that begins as that of no journal is none until its kind is that of a payment.
 ///
 /// Refused where a device step failed.
 pub fn write_copy<D: Disk, E: Disk>(
@@ -43,9 +46,9 @@ pub fn write_copy<D: Disk, E: Disk>(
         (E.meaning.state_of new.old) (E.meaning.state_of new.new)) }
     ensures nature { PreservesDisk (D.meaning.state_of old.old) (D.meaning.state_of old.new) }
     ensures bytes { PreservesBytes (D.meaning.state_of old.old) (D.meaning.state_of old.new) }
-    ensures in_part { OnErr result ((D.meaning.state_of old.old).honest → LeavesInPart
-        (copied_bytes kept (E.meaning.state_of new.old).size (D.meaning.state_of old.old).reads)
-        (E.meaning.state_of new.old) (E.meaning.state_of new.new)) }
+    ensures in_part { OnErr result ((D.meaning.state_of old.old).honest → (payments : Payments)
+        → KeepsPayments (D.meaning.state_of old.old).reads payments → length payments ≡ kept
+        → LeavesInPart payments (E.meaning.state_of new.old) (E.meaning.state_of new.new)) }
 {
     duk_journal::laws::one_list();
     let _size = old.size();
@@ -55,12 +58,18 @@ pub fn write_copy<D: Disk, E: Disk>(
             Err(_) => Err(CopyFault::New),
         };
     }
+    let Ok(head) = read_head(old) else {
+        return Err(CopyFault::Old);
+    };
     let bytes = RECORD_LENGTH as u64 * kept;
     copy_rest(old, bytes, new, zeros, piece)?;
-    copy_first(old, new, piece)
+    match settle_head(new, head) {
+        Ok(()) => Ok(()),
+        Err(_) => Err(CopyFault::New),
+    }
 }
 
-/// Writes the bytes of a disk behind the first record over those of another, up to a place, and zeros
+/// Writes the bytes of a disk over those of another, all but the first two, up to a place, and zeros
 /// from there on, and syncs them.
 fn copy_rest<D: Disk, E: Disk>(
     old: &mut D,
@@ -71,7 +80,7 @@ fn copy_rest<D: Disk, E: Disk>(
 ) -> Result<(), CopyFault>
     requires zeros { zeros.now ≡ replicate 65536 0 }
     requires piece { length piece.old ≡ 65536 }
-    requires some { 32 ≤ to }
+    requires some { 2 ≤ to }
     requires inside { to ≤ (D.meaning.state_of old.old).size }
     requires room { to ≤ (E.meaning.state_of new.old).size }
     ensures copied { OnOk result (IsRestCopied to
@@ -80,34 +89,13 @@ fn copy_rest<D: Disk, E: Disk>(
     ensures failed { IfErr result (BytesUncopied
         (D.meaning.state_of old.old) (D.meaning.state_of old.new)
         (E.meaning.state_of new.old) (E.meaning.state_of new.new)) }
-    ensures outside { LeavesOutside 32 (E.meaning.state_of new.old).size
+    ensures outside { LeavesOutside 2 (E.meaning.state_of new.old).size
         (E.meaning.state_of new.old) (E.meaning.state_of new.new) }
     ensures length { length piece.new ≡ length piece.old }
 {
-    copy_bytes(old, RECORD_LENGTH as u64, to, new, piece)?;
+    copy_bytes(old, HEAD_LENGTH, to, new, piece)?;
     let end = new.size();
     match write_synced(new, zeros, to, end) {
-        Ok(()) => Ok(()),
-        Err(_) => Err(CopyFault::New),
-    }
-}
-
-/// Writes the first record of a disk over that of another, and syncs it.
-fn copy_first<D: Disk, E: Disk>(old: &mut D, new: &mut E, piece: &mut [u8]) -> Result<(), CopyFault>
-    requires piece { length piece.old ≡ 65536 }
-    requires inside { 32 ≤ (D.meaning.state_of old.old).size }
-    requires room { 32 ≤ (E.meaning.state_of new.old).size }
-    ensures copied { OnOk result (IsFirstCopied
-        (D.meaning.state_of old.old) (D.meaning.state_of old.new)
-        (E.meaning.state_of new.old) (E.meaning.state_of new.new)) }
-    ensures failed { IfErr result (BytesUncopied
-        (D.meaning.state_of old.old) (D.meaning.state_of old.new)
-        (E.meaning.state_of new.old) (E.meaning.state_of new.new)) }
-    ensures outside { LeavesOutside 0 32
-        (E.meaning.state_of new.old) (E.meaning.state_of new.new) }
-{
-    copy_piece(old, 0, new, &mut piece[..RECORD_LENGTH])?;
-    match new.sync() {
         Ok(()) => Ok(()),
         Err(_) => Err(CopyFault::New),
     }

@@ -1,12 +1,11 @@
 //! A law of new journals, the contract of a function that does nothing.
 
-ghost use Rattle.std.specs.Prelude.{◌≡◌, ◌∷◌, ℕ, List, replicate, take};
-ghost use Rattle.duk_journal.specs.Groups.{KeepsPayments, Payments};
+ghost use Rattle.std.specs.Prelude.{ℕ, List};
+ghost use Rattle.duk_copy.specs.InPart.{IsNoJournal, IsUnfinished};
 
-/// A disk whose first byte is 1, with zeros up to the end of the first record, is that of no
-/// journal: it keeps no payments, and not none either. So a file that begins so is refused as
-/// damaged until its first record is written.
+/// A disk whose first byte is 1, and whose second is not, is that of no journal: it keeps no payments,
+/// and not none either. So a file that begins so is refused as damaged, however long it is, until its
+/// first two bytes are written.
 pub fn unfinished()
-    ensures { (bytes : List ℕ) (payments : Payments) → take 32 bytes ≡ 1 ∷ replicate 31 0
-        → ¬ KeepsPayments bytes payments }
+    ensures { (bytes : List ℕ) → IsUnfinished bytes → IsNoJournal bytes }
 {}

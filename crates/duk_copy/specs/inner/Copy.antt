@@ -1,8 +1,8 @@
 -- What only private functions and proofs say beside `Copy.antt`: this project's own.
-use Rattle.std.specs.Prelude.{◌≡◌, ◌-◌, ◌++◌, ℕ, drop, replicate, take}
+use Rattle.std.specs.Prelude.{◌≡◌, ◌-◌, ◌++◌, ℕ, replicate, take}
 use Rattle.duk_copy.specs.Copy.{CopyFailed}
 use Rattle.duk_copy.specs.declared.copy.CopyFault.{CopyFault}
-use Rattle.duk_journal.specs.RecordFormat.{record_length}
+use Rattle.duk_copy.specs.inner.Head.{HasRestOf}
 use Rattle.duk_store.specs.Disk.{DiskState, LeavesReads, PreservesBytes, PreservesDisk, range_of, written}
 
 -- the bytes of the old disk stay
@@ -19,24 +19,13 @@ pub record AreBytesCopied (from to : ℕ) (old old' new new' : DiskState) : Type
   pub copied : old.honest → new.honest
       → new'.reads ≡ written new.reads from (range_of from (to - from) old.reads)
 
--- all is copied that stands behind the first record, up to a place, with zeros from there on, and
--- synced
+-- all is copied but for the first two bytes, up to a place, with zeros from there on, and synced
 pub record IsRestCopied (to : ℕ) (old old' new new' : DiskState) : Type 0 where
   pub stays : StaysRead old old'
   pub nature : PreservesDisk new new'
   pub no_failure : new'.failures ≡ new.failures
   pub rest : old.honest → new.honest
-      → drop record_length new'.reads
-      ≡ drop record_length (take to old.reads ++ replicate (new.size - to) 0)
-  pub leaves : new.honest → LeavesReads new'
-
--- the first record is copied, and synced
-pub record IsFirstCopied (old old' new new' : DiskState) : Type 0 where
-  pub stays : StaysRead old old'
-  pub nature : PreservesDisk new new'
-  pub no_failure : new'.failures ≡ new.failures
-  pub first : old.honest → new.honest
-      → new'.reads ≡ take record_length old.reads ++ drop record_length new.reads
+      → HasRestOf (take to old.reads ++ replicate (new.size - to) 0) new'.reads
   pub leaves : new.honest → LeavesReads new'
 
 -- why bytes are not copied

@@ -1,5 +1,5 @@
-use Rattle.duk_copy.proofs.KeptFront.{none_kept}
+use Rattle.duk_copy.proofs.KeptFront.{unfinished_is_none}
 use Rattle.duk_copy.proofs.laws.unfinished.Goals as goal
 
 pub returns : goal.returns
-returns c bytes payments first keeps = none_kept bytes payments first keeps
+returns c bytes unfinished payments keeps = unfinished_is_none bytes unfinished payments keeps
