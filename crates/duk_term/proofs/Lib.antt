@@ -1,3 +1,3 @@
 pub mod BodyIsFoundAgain
 mod ImageNotKept
-mod Reversals
+pub mod Reversals

@@ -5,12 +5,16 @@ ghost use Rattle.duk_frame.specs.Payment.{request_of};
 ghost use Rattle.duk_frame.specs.Request.{IsRequest};
 ghost use Rattle.duk_pin.specs.PinBlock.{IsPinBlock, pin_block};
 ghost use Rattle.duk_regs.specs.Registers.{HaveSixteenBytes, IsRegisterSet, RegisterSet, AreFutureKeysOf};
+ghost use Rattle.duk_reversal.specs.Authentic.{reversal_of};
+ghost use Rattle.duk_reversal.specs.Reversal.{IsReversal};
 ghost use Rattle.duk_tdes.specs.Key.{IsKey};
 ghost use Rattle.duk_term.specs.Begin.{IsBegun, TakesNumber};
 ghost use Rattle.duk_term.specs.Body.{IsFoundAgain};
+ghost use Rattle.duk_term.specs.Reversal.{IsReversalBegun, numbers_of};
 ghost use Rattle.duk_term.specs.Terminal.{TerminalOf, serial_of};
 ghost use Rattle.duk_term.specs.View.{terminal_view};
 ghost use Rattle.duk_term.specs.declared.terminal.Terminal.TheInside.{Inside};
+ghost use Rattle.duk_tree.specs.Serial.{Serial};
 
 use crate::purchase::Purchase;
 use duk_store::Cell;
@@ -47,6 +51,16 @@ pub fn requests<C: Cell>()
     duk_tree::laws::bits();
     duk_frame::laws::payments();
     duk_pin::laws::one_block();
+}
+
+/// The frame of a reversal that is begun is read as that reversal, under the number taken.
+pub fn reversals<C: Cell>()
+    ensures { (reversed ksn : Serial) (frame : List ℕ) (old new : TerminalOf C)
+        → (begun : IsReversalBegun C.meaning reversed ksn frame old new)
+        → IsReversal frame (reversal_of begun.key (numbers_of begun.set reversed)) }
+{
+    duk_tree::laws::bits();
+    duk_reversal::laws::authentic();
 }
 
 /// Nothing is hidden beside what contracts see: terminals that are equal to them are equal in each
