@@ -14,3 +14,4 @@ pub mod AnswersOfService
 pub mod FirstRead
 pub mod PiecesRead
 pub mod Restarting
+pub mod ComesUp

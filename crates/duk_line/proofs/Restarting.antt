@@ -25,10 +25,14 @@ finds_on : (mid new : StoreState Payments) (payments : Payments) → mid.honest 
 finds_on mid new payments honest only stays = λ other.
     let as_before = stays.found honest other in (λ found. (only other).0 (as_before.0 found), λ same. as_before.1 ((only other).1 same))
 
+sound_on : {J : Type 0} (meaning : JournalMeaning J) (old mid new : J) (count : ℕ) → JournalRestarted meaning old mid count → Stays (meaning.state_of mid) (meaning.state_of new) → (meaning.state_of old).honest → (meaning.state_of new).sound
+sound_on meaning old mid new count restarted stays honest = stays.nature.sound (restarted.nature.honest.0 honest) (restarted.sound honest)
+
 -- what a restart found stays found while the journal is read
 restarted_on : {J : Type 0} (meaning : JournalMeaning J) (old mid new : J) (count : ℕ) → JournalRestarted meaning old mid count → Stays (meaning.state_of mid) (meaning.state_of new) → JournalRestarted meaning old new count
 restarted_on meaning old mid new count restarted stays = record {
   nature = nature_on (meaning.state_of old) (meaning.state_of mid) (meaning.state_of new) restarted.nature stays.nature;
+  sound = sound_on meaning old mid new count restarted stays;
   no_failure = stays.no_failure ∙ restarted.no_failure;
   runs = stays.running ∙ restarted.runs;
   found = λ honest.
@@ -81,6 +85,7 @@ module _ {J : Type 0} (meaning : JournalMeaning J) (old mid new : J) (count : �
   is_checked counted = record {
     payments = read.seen;
     journal = journal_read;
+    sound = sound_on meaning old mid new count restarted read.read.stays;
     counted = read.counted;
     kept = keeps_read counted;
     usable = read.index_is.lists.usable;

@@ -12,10 +12,12 @@ use Rattle.duk_line.specs.Latest.{numbers_of}
 use Rattle.duk_line.specs.Restart.{FoundUnusable}
 
 -- a journal's restart found so many payments, it keeps them and nothing else, and a host may judge by
--- them: each of their numbers numbers a transaction, and none occurs twice
+-- them: each of their numbers numbers a transaction, and none occurs twice. An honest journal is
+-- sound then, so that no restart of a host over it is refused as damaged
 pub record IsChecked {J : Type 0} (meaning : JournalMeaning J) (old new : J) (found : ℕ) : Type 0 where
   pub payments : Payments
   pub journal : Restarted (meaning.state_of old) (meaning.state_of new) payments
+  pub sound : (meaning.state_of old).honest → (meaning.state_of new).sound
   pub counted : length payments ≡ found
   pub kept : KeepsAlone meaning new payments
   pub usable : AreUsable (numbers_of payments)

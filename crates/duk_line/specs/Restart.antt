@@ -6,6 +6,7 @@ use Rattle.duk_host.specs.declared.fault.HostFault.TheVariants as fault
 use Rattle.duk_journal.specs.Groups.{Payments}
 use Rattle.duk_journal.specs.Journal.{JournalMeaning, JournalRestarted}
 use Rattle.duk_store.specs.Restart.{Restarted, RestartFailed}
+use Rattle.duk_store.specs.StoreState.{FindsWithin, StoreState}
 use Rattle.duk_store.specs.declared.fault.StoreFault.{StoreFault}
 use Rattle.duk_store.specs.declared.fault.StoreFault.TheVariants.{Damaged}
 use Rattle.duk_line.specs.Host.{HostMeaning, HostOf, JudgesBy}
@@ -32,6 +33,13 @@ pub record FoundUnusable
   pub journal : JournalRestarted meaning old new count
   pub not_usable : (honest : (meaning.state_of old).honest)
       → ¬ AreUsable (numbers_of (journal.found honest).0)
+
+-- a journal that keeps to its model and is sound, where each list that a restart may find has usable
+-- numbers, none of them twice
+pub record IsUsableJournal (journal : StoreState Payments) : Type 0 where
+  pub honest : journal.honest
+  pub sound : journal.sound
+  pub usable : FindsWithin journal (λ payments. AreUsable (numbers_of payments))
 
 -- a restart that failed: the host is stopped, since its journal failed, or found such a list
 pub record HostRestartStopped

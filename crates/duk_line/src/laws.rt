@@ -10,17 +10,20 @@ ghost use Rattle.duk_host.specs.Lifetime.{AcceptsAlike};
 ghost use Rattle.duk_host.specs.Serve.{Supply};
 ghost use Rattle.duk_host.specs.Used.{AreUsable};
 ghost use Rattle.duk_host.specs.declared.fault.HostFault.{HostFault};
+ghost use Rattle.duk_host.specs.declared.fault.HostFault.TheVariants as fault;
 ghost use Rattle.duk_hsm.specs.Keys.{HsmKeys};
 ghost use Rattle.duk_io.specs.Sink.{IsWritten};
 ghost use Rattle.duk_journal.specs.Groups.{Payments};
 ghost use Rattle.duk_journal.specs.declared.payment.Payment.{Payment};
+ghost use Rattle.duk_store.specs.declared.fault.StoreFault.TheVariants.{Damaged};
 ghost use Rattle.duk_tree.specs.Serial.{Serial};
+ghost use Rattle.duk_line.specs.Check.{CheckRefused, IsChecked};
 ghost use Rattle.duk_line.specs.Host.{HostOf, host_meaning_of};
 ghost use Rattle.duk_line.specs.Judged.{AreJudged, AreRepliesOf, AreTwoGroups, IsReplyOf};
 ghost use Rattle.duk_line.specs.Judgement.{IsJudged, LineBasis, with_payments};
 ghost use Rattle.duk_line.specs.Latest.{IsPaymentOf, latest_payments, numbers_of};
 ghost use Rattle.duk_line.specs.Lifetime.{AreWrittenTo, IsLifetime, IsService, all_answers};
-ghost use Rattle.duk_line.specs.Restart.{IsHostRestarted};
+ghost use Rattle.duk_line.specs.Restart.{HostRestartRefused, IsHostRestarted, IsUsableJournal};
 ghost use Rattle.duk_line.specs.Serve.{IsReadToEnd, Service, ServiceFailed};
 ghost use Rattle.duk_line.specs.View.{HaveOneRing, host_view};
 ghost use Rattle.duk_line.specs.declared.group.Group.TheInside as group;
@@ -102,6 +105,19 @@ pub fn not_answered_again()
     duk_frame::laws::one_reading();
     duk_host::laws::used_again();
 }
+
+/// Over a journal that keeps to its model, is sound, and keeps no list with a number that numbers no
+/// transaction, or stands twice, no restart of a host is refused as damaged, and no check is. Such a
+/// journal is each one that a check has passed.
+pub fn comes_up<J: Journal, I: Issuer>()
+    ensures host { (old new : HostOf J I) → IsUsableJournal (J.meaning.state_of old.journal)
+        → ¬ HostRestartRefused J.meaning old new (fault.Store Damaged) }
+    ensures check { (old new : J) → IsUsableJournal (J.meaning.state_of old)
+        → ¬ CheckRefused J.meaning old new (fault.Store Damaged) }
+    ensures checked { (old : J) (made new : HostOf J I) (found : ℕ)
+        → IsChecked J.meaning old made.journal found → (J.meaning.state_of old).honest
+        → ¬ HostRestartRefused J.meaning made new (fault.Store Damaged) }
+{}
 
 /// All that services over one journal answer, one after the other, however each of them ends, and
 /// wherever a step of the journal's device fails. All accepted replies to a number that any of them
