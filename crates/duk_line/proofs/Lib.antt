@@ -2,6 +2,7 @@ pub mod Members
 pub mod InTurn
 pub mod OneNumber
 pub mod NotAnsweredAgain
+pub mod OneJudgement
 pub mod Ring
 pub mod Indexed
 pub mod Judging

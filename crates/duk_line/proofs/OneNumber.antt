@@ -33,7 +33,7 @@ paid_more basis frame answer payment paid are =
     subst (λ payment. AreUsable (numbers_of (basis.payments ++ payment ∷ []))) (sym paid.payment_is)
     (usable_more basis.payments own are acceptable.authentic.key_is.usable acceptable.fresh)
 
-usable_after_one : (basis : LineBasis) (frame answer : List ℕ) (added : Payments) → IsJudged basis frame answer added → AreUsable (numbers_of basis.payments)
+pub usable_after_one : (basis : LineBasis) (frame answer : List ℕ) (added : Payments) → IsJudged basis frame answer added → AreUsable (numbers_of basis.payments)
     → AreUsable (numbers_of (basis.payments ++ added))
 usable_after_one basis frame answer added (inl (settled, none)) are =
     subst (λ payments. AreUsable (numbers_of payments)) (sym (append-nil basis.payments) ∙ ap (λ added. basis.payments ++ added) (sym none)) are

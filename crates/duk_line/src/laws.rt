@@ -106,6 +106,24 @@ pub fn not_answered_again()
     duk_host::laws::used_again();
 }
 
+/// By one basis whose payments have usable numbers, none of them twice, a frame has at most one
+/// answer and adds one list of payments; so do frames in turn. By the keys, the room and the issuer
+/// a list of payments thus settles what each further frame is answered with.
+pub fn one_judgement()
+    ensures frame { (basis : LineBasis) (frame answer other : List ℕ) (added further : Payments)
+        → AreUsable (numbers_of basis.payments) → IsJudged basis frame answer added
+        → IsJudged basis frame other further → (answer ≡ other) × (added ≡ further) }
+    ensures frames { (basis : LineBasis) (frames answers others : List (List ℕ))
+        → (added further : Payments) → AreUsable (numbers_of basis.payments)
+        → AreJudged basis frames answers added → AreJudged basis frames others further
+        → (answers ≡ others) × (added ≡ further) }
+{
+    duk_frame::laws::one_reading();
+    duk_host::laws::one_answer();
+    duk_host::laws::refusals();
+    duk_host::laws::replies();
+}
+
 /// Over a journal that keeps to its model, is sound, and keeps no list with a number that numbers no
 /// transaction, or stands twice, no restart of a host is refused as damaged, and no check is. Such a
 /// journal is each one that a check has passed.
