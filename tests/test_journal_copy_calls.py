@@ -15,12 +15,14 @@ from typing import Sequence
 
 from .support.client import payments
 from .support.journal_case import CANNOT_OPEN, JOURNAL_FAILED, alone
+from .support.journal_file import DamagedJournal, payments_in
 from .support.model_journal import payments_of_all
 from .support.page_journals import RECORD
 from .support.program import Ended, Word
 from .support.small_files import PAGE, SmallFiles
 from .support.traced_files import (
     OPENS, READS, REMOVES, SYNCS, WRITES, Call, assert_kept, covered, places, traced)
+from .support.unsynced import unsynced_of
 from .test_copy_journals import CANNOT_MAKE, CopyCase, copied
 
 OLD, NEW, FOLDER = "journal", "sub/copy", "sub"
@@ -52,14 +54,14 @@ class Calls(CallCase):
             ended, calls = self.traced()
             what = f"{kept} of {room}"
             self.assert_output(ended, b"", "", what)
-            self.assert_order(calls, len(image), what)
+            self.assert_order(calls, len(image), range(1, 1 if kept else 2), what)
             self.assert_bytes(image, what)
             self.assertEqual((self.made / "copy").read_bytes(), copied(image), what)
             (self.made / "copy").unlink()
 
-    def assert_order(self, calls: Sequence[Call], size: int, what: str) -> None:
+    def assert_order(self, calls: Sequence[Call], size: int, but: range, what: str) -> None:
         """The journal is opened, locked and read to its end before the copy is made, and never written;
-        the copy is made and kept in order."""
+        the copy is made and kept in order, and written, but that these bytes are right already."""
         opened, locked, made = (places(calls, names, file) for names, file in (
             (OPENS, OLD), (("flock",), OLD), (OPENS, NEW)))
         self.assertEqual((len(opened), len(locked), len(made)), (1, 1, 1), what)
@@ -72,18 +74,18 @@ class Calls(CallCase):
         self.assertEqual(covered([calls[at] for at in read]), [range(size)],
                          f"{what}: read before the copy is made")
         self.assertEqual(places(calls, WRITES, OLD), [], f"{what}: the journal is written")
-        assert_kept(calls, NEW, FOLDER, size)
+        assert_kept(calls, NEW, FOLDER, size, but)
 
     def test_syncs_for_a_loss_of_power(self) -> None:
         """It leaves any of the writes since the last sync. So a file that has no journal's size, or begins
-        as none does, is synced before it gets its size; and all of a copy but a last write of a record
-        or less is synced before that one."""
+        as none does, is synced before it gets its size; and all of a copy but a last write of one byte
+        is synced before that one."""
         for kept, room in ((3, 7), (PIECE + 52, 2 * PIECE + 100)):
             self.make_journal(room, alone(payments_of_all(payments(kept))))
             calls, what = self.traced()[1], f"{kept} of {room}"
             written, synced = places(calls, WRITES, NEW), places(calls, SYNCS, NEW)
             sized = [at for at in written if calls[at].name == "ftruncate"]
-            self.assertLessEqual(len(calls[written[-1]].span), RECORD, f"{what}: the last write")
+            self.assertEqual(len(calls[written[-1]].span), 1, f"{what}: the last write")
             for last in (*sized, written[-1]):
                 before = max((at for at in written if at < last), default=-1)
                 self.assertTrue(any(before < at < last for at in synced),
@@ -112,16 +114,52 @@ class Calls(CallCase):
         return CANNOT_OPEN if call.name in (*OPENS, "flock") else JOURNAL_FAILED
 
 
-class Kills(CallCase):
-    """A copy that is killed in a call, before the system does it; and in the removal of one that found no
-    room, which ends within a piece."""
-
-    weight = 6
+class LeftCase(CallCase):
+    """What is left under the name of a copy, and whether it is taken for a journal."""
 
     def setUp(self) -> None:
         super().setUp()
         # What was taken for a journal, and is no whole copy.
         self.taken: list[str] = []
+
+    def judge(self, made: Path, image: bytes, what: str) -> str:
+        """What was left under the name of a copy: it is absent, the whole copy, refused by all that takes
+        journals, or noted as taken by one of them. The journal is as before."""
+        self.assert_bytes(image, what)
+        left = made.read_bytes() if made.exists() else None
+        if left is None:
+            return "absent"
+        taken = []
+        if left != copied(image):
+            taken = [words[0] for words in self.takers(made) if not self.is_refused(words)]
+            self.assertEqual(made.read_bytes(), left, f"{what}: refused and changed")
+            if taken:
+                self.taken.append(f"{about(left, copied(image), what)}, taken for a journal by {taken}")
+        made.unlink()
+        return "taken" if taken else "whole" if left == copied(image) else "refused"
+
+    def takers(self, made: Path) -> list[Sequence[Word]]:
+        return [("serve", "bank.toml", "--journal", made), ("copy-journal", made, "another"),
+                ("show", "journal", made)]
+
+    def is_refused(self, words: Sequence[Word]) -> bool:
+        """Whether a file is refused as a damaged journal, and nothing is made of it."""
+        ended = self.program.run(*words, folder=self.home)
+        is_copied = (self.home / "another").exists()
+        (self.home / "another").unlink(missing_ok=True)
+        if ended.status == 0:
+            return False
+        self.assertFalse(is_copied)
+        self.assertEqual((ended.status, ended.output), (1, b""), words[0])
+        self.assertRegex(ended.faults, rb"\A(journal: failed|journal refused at \d+: Damaged)\n\Z")
+        return True
+
+
+class Kills(LeftCase):
+    """A copy that is killed in a call, before the system does it; and in the removal of one that found no
+    room, which ends within a piece."""
+
+    weight = 6
 
     def test_less_than_a_piece(self) -> None:
         """Payments each alone, of which any first ones are a journal, and one group, which is closed
@@ -167,39 +205,47 @@ class Kills(CallCase):
         self.assertNotIn("absent", found)
         self.assertGreater(found["refused"], 0)
 
-    # What is left
 
-    def judge(self, made: Path, image: bytes, what: str) -> str:
-        """What was left under the name of a copy: it is absent, the whole copy, refused by all that takes
-        journals, or noted as taken by one of them. The journal is as before."""
-        self.assert_bytes(image, what)
-        left = made.read_bytes() if made.exists() else None
-        if left is None:
-            return "absent"
-        taken = []
-        if left != copied(image):
-            taken = [words[0] for words in self.takers(made) if not self.is_refused(words)]
-            self.assertEqual(made.read_bytes(), left, f"{what}: refused and changed")
-            if taken:
-                self.taken.append(f"{about(left, copied(image), what)}, taken for a journal by {taken}")
-        made.unlink()
-        return "taken" if taken else "whole" if left == copied(image) else "refused"
+class Losses(LeftCase):
+    """A copy whose power is lost. A disk may leave any bytes then where it was written since its last
+    sync: also of one write, which may be torn."""
 
-    def takers(self, made: Path) -> list[Sequence[Word]]:
-        return [("serve", "bank.toml", "--journal", made), ("copy-journal", made, "another"),
-                ("show", "journal", made)]
+    weight = 6
 
-    def is_refused(self, words: Sequence[Word]) -> bool:
-        """Whether a file is refused as a damaged journal, and nothing is made of it."""
-        ended = self.program.run(*words, folder=self.home)
-        is_copied = (self.home / "another").exists()
-        (self.home / "another").unlink(missing_ok=True)
-        if ended.status == 0:
-            return False
-        self.assertFalse(is_copied)
-        self.assertEqual((ended.status, ended.output), (1, b""), words[0])
-        self.assertRegex(ended.faults, rb"\A(journal: failed|journal refused at \d+: Damaged)\n\Z")
-        return True
+    def setUp(self) -> None:
+        super().setUp()
+        # How many were given to what takes journals, which is one of them in turn.
+        self.given = 0
+
+    def test_any_bytes_since_a_sync(self) -> None:
+        """What is left is no journal, or one with all payments: for each value of the byte that is
+        written last, and for many bytes of what was written before."""
+        kept, found = payments_of_all(payments(5)), Counter[str]()
+        for room, groups in ((7, alone(kept)), (7, [kept]), (1, alone(kept[:1])), (2, [])):
+            image = self.make_journal(room, groups)
+            calls = self.traced()[1]
+            (self.made / "copy").unlink()
+            states = [*unsynced_of(calls, NEW, copied(image))]
+            self.assertEqual([len(it) for it in states[-1].spans], [1], f"{states[-1]}: the last write")
+            for state in states:
+                for left in state.left(self.chance):
+                    found[self.judge_lost(left, image, f"{len(groups)} groups: {state}")] += 1
+        self.assertEqual(set(found), {"refused", "whole"})
+        self.tells(", ".join(f"{count} {it}" for it, count in found.items()))
+
+    def judge_lost(self, left: bytes, image: bytes, what: str) -> str:
+        """That it keeps what the journal does, or is refused by what takes journals, each in its turn."""
+        try:
+            kept = payments_in(left)
+        except DamagedJournal:
+            self.copy.write_bytes(left)
+            takers = self.takers(self.copy)
+            words = takers[self.given % len(takers)]
+            self.given += 1
+            self.assertTrue(self.is_refused(words), f"{what}: taken by {words[0]}: {left.hex()}")
+            return "refused"
+        self.assertEqual(kept, payments_in(image), f"{what}: another journal: {left.hex()}")
+        return "whole"
 
 
 def about(left: bytes, wanted: bytes, what: str) -> str:

@@ -9,14 +9,14 @@ from pathlib import Path
 from .support.case import ProgramCase
 from .support.copy_stand_in import CopyWay
 from .support.program import ROOT
-from .test_journal_copy_calls import CallCase, Calls, Kills
+from .test_journal_copy_calls import CallCase, Calls, Kills, Losses
 
 SCRIPT = """import sys
 sys.path.insert(0, {root!r})
 from tests.support.copy_stand_in import main
 sys.exit(main({way!r}))
 """
-RIGHT = (CopyWay.LAST_BYTE_LAST, CopyWay.MARKED)
+RIGHT = (CopyWay.LAST_BYTE_LAST, CopyWay.KIND_LAST)
 # What each test finds.
 FOUND = (
     (Calls, "test_calls", (
@@ -25,7 +25,11 @@ FOUND = (
         CopyWay.FOLDER_FIRST, CopyWay.FOLDER_NOT_SYNCED, CopyWay.OLD_WRITTEN,
         CopyWay.OLD_TO_WRITE, CopyWay.OVERWRITES)),
     (Calls, "test_syncs_for_a_loss_of_power", (
-        CopyWay.MARK_NOT_SYNCED, CopyWay.LAST_WITH_THE_REST, CopyWay.FIRST_TO_LAST)),
+        CopyWay.MARK_NOT_SYNCED, CopyWay.LAST_WITH_THE_REST, CopyWay.FIRST_TO_LAST,
+        CopyWay.RECORD_LAST, CopyWay.HEAD_LAST)),
+    (Losses, "test_any_bytes_since_a_sync", (
+        CopyWay.RECORD_LAST, CopyWay.HEAD_LAST, CopyWay.GATE_AGAIN, CopyWay.KIND_WITH_THE_REST,
+        CopyWay.LAST_WITH_THE_REST)),
     (Kills, "test_less_than_a_piece", (CopyWay.FIRST_TO_LAST, CopyWay.FRONT_LAST)),
     (Kills, "test_in_its_removal", (CopyWay.MARKED_FRONT_LAST, CopyWay.NOT_REMOVED)),
 )

@@ -8,10 +8,12 @@ from pathlib import Path
 
 from .support.client import payments
 from .support.journal_case import JOURNAL_FAILED, JournalCase
+from .support.journal_file import DamagedJournal, payments_in
 from .support.page_journals import RECORD
 from .support.program import NO_LIMITS, Ended, Limits
 from .support.small_files import PAGE, SmallFiles
 from .support.traced_files import Call, assert_kept, traced
+from .support.unsynced import unsynced_of
 
 CANNOT_MAKE, RECORDS_REFUSED = "journal: cannot make", "records refused"
 
@@ -81,11 +83,12 @@ class NewJournals(JournalCase):
                 self.assertEqual(small.free(), 0, what)
 
     def test_calls(self) -> None:
-        """It is made, locked, written and synced, and then its folder."""
+        """It is made, locked, written and synced, and then its folder. Its second byte is zero, once it has
+        its size."""
         for records in (1, 5000):
             ended, calls = self.traced(records)
             self.assert_output(ended, b"", "", "traced")
-            assert_kept(calls, "sub/journal", "sub", RECORD * records)
+            assert_kept(calls, "sub/journal", "sub", RECORD * records, but=range(1, 2))
             self.assertEqual(self.made.read_bytes(), bytes(RECORD * records))
 
     def test_each_call_that_fails(self) -> None:
@@ -106,6 +109,29 @@ class NewJournals(JournalCase):
             self.assertEqual(ended.status, -signal.SIGKILL, f"killed in {call}")
             found[self.judge(f"killed in {call}")] += 1
         self.assertEqual(set(found), {"absent", "refused", "whole"})
+
+    def test_any_bytes_since_a_sync(self) -> None:
+        """A loss of power may leave any where the file was written since its last sync, and it is no
+        journal then, or keeps nothing: for each value of the byte that is written last, too."""
+        found = Counter[str]()
+        for records in (1, 3):
+            states = [*unsynced_of(self.traced(records)[1], "sub/journal", bytes(RECORD * records))]
+            self.assertEqual(states[-1].spans, (range(1),), "the last write")
+            for state in states:
+                for left in state.left(self.chance):
+                    found[self.judge_lost(left, f"{records} records: {state}")] += 1
+        self.assertEqual(set(found), {"refused", "whole"})
+
+    def judge_lost(self, left: bytes, what: str) -> str:
+        try:
+            kept = payments_in(left)
+        except DamagedJournal:
+            self.made.write_bytes(left)
+            words = ("serve", "bank.toml", "--journal", self.made)
+            self.check(words, [], b"", JOURNAL_FAILED, what=f"{what}: {left.hex()}")
+            return "refused"
+        self.assertEqual(kept, [], f"{what}: {left.hex()}")
+        return "whole"
 
     def judge(self, what: str) -> str:
         left = self.made.read_bytes() if self.made.exists() else None

@@ -15,12 +15,16 @@ RECORD, PIECE = 32, 1 << 16
 
 
 class CopyWay(Enum):
-    """How it copies. In a right way what is there is no journal until a last small write: it lacks a byte
+    """How it copies. In a right way what is there is no journal until a last byte is written: it lacks one
     at its end, or its first record is none that a journal has."""
 
     LAST_BYTE_LAST = "all but the last byte, sync, the last byte, sync, folder"
-    MARKED = ("the first byte of an open record, sync, its size, all but the first record, sync, that "
-              "record, sync, folder")
+    KIND_LAST = ("the first byte of an open record, sync, its size, all but the first two bytes, sync, "
+                 "what of them is another, sync, folder")
+    RECORD_LAST = "the first record is written last"
+    HEAD_LAST = "the first two bytes are written last, together"
+    GATE_AGAIN = "the first byte is written again, though it is right"
+    KIND_WITH_THE_REST = "the second byte is written with the rest"
     FIRST_TO_LAST = "its size, pieces from the first to the last"
     FRONT_LAST = "its size, pieces from the last to the first"
     MARKED_FRONT_LAST = "the first byte of an open record, its size, pieces from the last to the first"
@@ -40,6 +44,13 @@ class CopyWay(Enum):
     OLD_TO_WRITE = "the journal is opened to be written, and is not"
     OVERWRITES = "a file that is there is begun anew"
     NOT_REMOVED = "a copy that failed is not removed"
+
+
+# Where what is written begins that stands behind the first bytes.
+FIRST_OF_THE_REST = {
+    CopyWay.KIND_LAST: 2, CopyWay.GATE_AGAIN: 2, CopyWay.MARK_NOT_SYNCED: 2, CopyWay.HEAD_LAST: 2,
+    CopyWay.KIND_WITH_THE_REST: 1, CopyWay.RECORD_LAST: RECORD, CopyWay.FRONT_LAST: 0,
+    CopyWay.MARKED_FRONT_LAST: 0}
 
 
 def write(file: int, image: bytes, first: int, last: int) -> None:
@@ -94,15 +105,13 @@ class Copy:
         if way in (CopyWay.FIRST_TO_LAST, CopyWay.NO_ZEROS):
             os.ftruncate(self.file, size)
             write(self.file, self.image, 0, self.kept if way is CopyWay.NO_ZEROS else size)
-        elif way in (CopyWay.FRONT_LAST, CopyWay.MARKED, CopyWay.MARKED_FRONT_LAST,
-                     CopyWay.MARK_NOT_SYNCED):
+        elif way in FIRST_OF_THE_REST:
             if way is not CopyWay.FRONT_LAST:
                 os.pwrite(self.file, b"\x01", 0)
             if way is not CopyWay.MARK_NOT_SYNCED:
                 self.sync()
             os.ftruncate(self.file, size)
-            first = RECORD if way in (CopyWay.MARKED, CopyWay.MARK_NOT_SYNCED) else 0
-            for at in reversed(range(first, size, PIECE)):
+            for at in reversed(range(FIRST_OF_THE_REST[way], size, PIECE)):
                 write(self.file, self.image, at, min(at + PIECE, size))
         else:
             os.pwrite(self.file, bytes(RECORD - 1), size - RECORD)
@@ -112,11 +121,18 @@ class Copy:
 
     def end(self) -> None:
         """The last small write."""
-        if self.way in (CopyWay.MARKED, CopyWay.MARK_NOT_SYNCED):
-            write(self.file, self.image, 0, min(RECORD, len(self.image)))
-        elif self.way not in (CopyWay.FIRST_TO_LAST, CopyWay.NO_ZEROS, CopyWay.FRONT_LAST,
-                              CopyWay.MARKED_FRONT_LAST):
-            write(self.file, self.image, len(self.image) - 1, len(self.image))
+        way, size = self.way, len(self.image)
+        if way is CopyWay.GATE_AGAIN:
+            write(self.file, self.image, 0, 1)
+            self.sync()
+        if way in (CopyWay.RECORD_LAST, CopyWay.HEAD_LAST):
+            write(self.file, self.image, 0, FIRST_OF_THE_REST[way])
+        elif way in (CopyWay.KIND_LAST, CopyWay.GATE_AGAIN, CopyWay.MARK_NOT_SYNCED):
+            # Of a journal that keeps nothing the gate is another than at first.
+            at = 1 if self.kept else 0
+            write(self.file, self.image, at, at + 1)
+        elif way not in (CopyWay.FIRST_TO_LAST, CopyWay.NO_ZEROS, *FIRST_OF_THE_REST):
+            write(self.file, self.image, size - 1, size)
 
     def sync(self) -> None:
         if self.way is not CopyWay.NOT_SYNCED:

@@ -95,16 +95,18 @@ def places(calls: Sequence[Call], names: Sequence[str], file: str) -> list[int]:
     return [at for at, it in enumerate(calls) if it.file == file and it.name in names]
 
 
-def assert_kept(calls: Sequence[Call], file: str, folder: str, size: int) -> None:
-    """That a file is made where none is, locked, and then written, all of its bytes; that it is synced
-    behind its last write, and its folder behind all; and that nothing is removed."""
+def assert_kept(calls: Sequence[Call], file: str, folder: str, size: int, but: range = range(0)) -> None:
+    """That a file is made where none is, locked, and then written, all of its bytes, but that these may
+    stay; that it is synced behind its last write, and its folder behind all; and that nothing is
+    removed."""
     made, locked, written, synced = (
         places(calls, names, file) for names in (OPENS, ("flock",), WRITES, SYNCS))
+    bytes_written = {at for it in covered([calls[at] for at in written]) for at in it}
     holds = {
         "it is made once": len(made) == 1 and "O_CREAT|O_EXCL" in calls[made[0]].words,
         "it is locked, and written behind that":
             len(locked) == 1 and made[0] < locked[0] < min(written, default=0),
-        "each of its bytes is written": covered([calls[at] for at in written]) == [range(size)],
+        "each of its bytes is written": bytes_written | {*but} == {*range(size)},
         "it is synced behind its last write": max(synced, default=-1) > max(written, default=0),
         "its folder is synced last": places(calls, SYNCS, folder) == [len(calls) - 1],
         "nothing is removed": not any(it.name in REMOVES for it in calls),

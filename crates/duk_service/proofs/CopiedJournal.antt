@@ -31,6 +31,7 @@ copied_from kept old later before after nature bytes copied = record {
   bytes = λ h k. copied.bytes (nature.honest.1 h) k ∙ ap (λ (all : List ℕ). copied_bytes kept before.size all) (sym bytes.reads);
   leaves = copied.leaves;
   keeps = λ h k payments keeps counted. copied.keeps (nature.honest.1 h) k payments (subst (λ (all : List ℕ). KeepsPayments all payments) bytes.reads keeps) counted;
+  sound = λ h k size payments keeps counted. copied.sound (nature.honest.1 h) k size payments (subst (λ (all : List ℕ). KeepsPayments all payments) bytes.reads keeps) counted;
 }
 
 module _ {D : Type 0} (meaning : DiskMeaning D) (known : DiskKnown D) (making : MakingKnown D) (opened : D) (journal : DiskJournalOf D)
