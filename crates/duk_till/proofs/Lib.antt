@@ -3,3 +3,5 @@ mod Waits
 mod NotKept
 mod Places
 mod Told
+mod Histories
+mod LifeOfTill

@@ -5,7 +5,7 @@ use Rattle.byteorder.specs.Endian.{big_bytes, big_number}
 use Rattle.byteorder.specs.Numbers.{big_number-reads_back}
 use Rattle.duk_frame.specs.declared.code.Code.{Code}
 use Rattle.duk_frame.specs.declared.code.Code.TheVariants as code
-use Rattle.duk_tree.specs.Serial.{Serial, IsSerial, serial_bytes}
+use Rattle.duk_tree.specs.Serial.{Serial, IsSerial, serial_bytes, serial_of_bytes}
 use Rattle.duk_till.specs.Image.{IsLastBody, amount_in, code_byte, decline_byte, last_bytes, state_byte}
 use Rattle.duk_till.specs.Last.{AreLastFields, number_of}
 use Rattle.duk_till.specs.declared.last.Last.{Last}
@@ -78,3 +78,31 @@ is_undone (Open ksn amount) number state ksn_is = absurd (omega (arith, state))
 is_undone (Approved ksn amount) number state ksn_is = absurd (omega (arith, state))
 is_undone (Declined ksn why) number state ksn_is = absurd (omega (arith, state))
 is_undone (Undone ksn) number state ksn_is = cc
+
+-- ---- one reading
+
+code_is : (one other : Code) → code_byte one ≡ code_byte other → one ≡ other
+code_is code.Approved code.Approved same = refl
+code_is code.NoCard code.NoCard same = refl
+code_is code.WrongPin code.WrongPin same = refl
+code_is code.OverLimit code.OverLimit same = refl
+code_is code.Unreadable code.Unreadable same = refl
+code_is one other same = absurd (omega (arith, same))
+
+-- last purchases with one state, number, amount and code are one
+same_by_parts : (one other : Last) → state_byte one ≡ state_byte other → number_of one ≡ number_of other → amount_in one ≡ amount_in other → decline_byte one ≡ decline_byte other → one ≡ other
+same_by_parts (Open ksn amount) (Open number sum) state number_is amount_is code_is = cc
+same_by_parts (Approved ksn amount) (Approved number sum) state number_is amount_is code_is = cc
+same_by_parts (Declined ksn why) (Declined number cause) state number_is amount_is byte = let same : why ≡ cause = code_is why cause byte in cc
+same_by_parts (Undone ksn) (Undone number) state number_is amount_is code_is = cc
+same_by_parts one other state number_is amount_is code_is = absurd (omega (arith, state))
+
+pub same_last :
+    (body : List ℕ) (one other : Last) → ((serial : Serial) → length (serial_bytes serial) ≡ 10) → ((serial : Serial) → IsSerial serial → serial_of_bytes (serial_bytes serial) ≡ serial)
+    → IsLastBody body one → IsLastBody body other → one ≡ other
+same_last body one other ten found is_one is_other =
+    let a = last_places body one ten is_one in
+    let b = last_places body other ten is_other in
+    let numbers : number_of one ≡ number_of other =
+    sym (found (number_of one) (is_serial one is_one.fields)) ∙ ap serial_of_bytes (sym a.number ∙ b.number) ∙ found (number_of other) (is_serial other is_other.fields) in
+    same_by_parts one other (sym a.state ∙ b.state) numbers (sym a.amount ∙ b.amount) (sym a.code ∙ b.code)

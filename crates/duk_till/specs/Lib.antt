@@ -8,4 +8,6 @@ pub mod Reversal
 pub mod Restart
 pub mod Load
 pub mod View
+pub mod History
+pub mod Life
 pub mod inner

@@ -1,5 +1,5 @@
 -- A till's restart: this project's own.
-use Rattle.std.specs.Prelude.{◌≡◌, ◌⊎◌, ℕ, List, Option, Some}
+use Rattle.std.specs.Prelude.{◌≡◌, ◌⊎◌, ℕ, List, Option, Some, IfSome}
 use Rattle.duk_store.specs.Cell.{CellMeaning, IsPut}
 use Rattle.duk_store.specs.Restart.{Restarted, RestartFailed}
 use Rattle.duk_store.specs.declared.fault.StoreFault.{StoreFault}
@@ -10,6 +10,7 @@ use Rattle.duk_term.specs.declared.answer.Next.TheVariants as next
 use Rattle.duk_term.specs.declared.state.State.{State}
 use Rattle.duk_tree.specs.Serial.{Serial}
 use Rattle.duk_till.specs.Image.{IsLastBody, kept_of, last_bytes}
+use Rattle.duk_till.specs.Last.{AreLastFields}
 use Rattle.duk_till.specs.Till.{IsLastNotKept, IsOpen, TillOf}
 use Rattle.duk_till.specs.declared.fault.TillFault.{TillFault}
 use Rattle.duk_till.specs.declared.fault.TillFault.TheVariants as fault
@@ -18,10 +19,11 @@ use Rattle.duk_till.specs.declared.last.Last.TheVariants.{Undone}
 use Rattle.duk_till.specs.declared.state.TillState.{TillState}
 use Rattle.duk_till.specs.declared.state.TillState.TheVariants.{Stopped, Running}
 
--- the book's restart found this last purchase
-abbrev pub FoundLast : {J : Type 0} → CellMeaning J → J → J → Option Last → Type 0
-FoundLast meaning old new last =
-    Restarted (meaning.state_of old) (meaning.state_of new) (kept_of last)
+-- the book's restart found this last purchase, of which each field is what its name says
+pub record FoundLast {J : Type 0} (meaning : CellMeaning J) (old new : J) (last : Option Last)
+    : Type 0 where
+  pub cell : Restarted (meaning.state_of old) (meaning.state_of new) (kept_of last)
+  pub fields : IfSome last AreLastFields
 
 -- a purchase is open, and its number is still the terminal's next one, so nothing was sent
 abbrev pub IsUnsent : State → TillState → Serial → Type 0

@@ -126,6 +126,7 @@ fn decline_of_number(number: u8) -> Option<Code>
 /// body of one.
 pub(crate) fn last_of(kept: &Option<Body>) -> Result<Option<Last>, TillFault>
     ensures found { IfOk result (λ last. kept.now ≡ kept_of last) }
+    ensures fields { IfOk result (λ last. IfSome last AreLastFields) }
     ensures refused { IfErr result (IsNoLast kept.now) }
 {
     match kept {

@@ -273,6 +273,8 @@ impl<C: Cell, J: Cell> Till<C, J> {
     /// restart.
     pub fn arm_book(&mut self, steps: u32)
         ensures armed { J.meaning.arms self.old.book steps self.new.book }
+        ensures stays { StaysButCalm
+            (J.meaning.state_of self.old.book) (J.meaning.state_of self.new.book) }
         ensures terminal { self.new.terminal ≡ self.old.terminal }
         ensures state { self.new.state ≡ self.old.state }
     {
