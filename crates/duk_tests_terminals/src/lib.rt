@@ -11,3 +11,5 @@ mod frames;
 mod left_on_disks;
 #[cfg(test)]
 mod loading;
+#[cfg(test)]
+mod tills;

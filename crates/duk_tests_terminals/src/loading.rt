@@ -20,7 +20,7 @@ pub fn loaded<C: Cell>(cell: C) -> Result<Terminal<C>, TermFault> {
 }
 
 /// A payment of 500.
-fn purchase() -> Option<Purchase> {
+pub fn purchase() -> Option<Purchase> {
     Some(Purchase {
         pan: pan().ok()?,
         pin: Pin::parse(PIN).ok()?,

@@ -4,9 +4,9 @@ use Rattle.std.proofs.lemmas.List.Elements.{Contains-append_cases, Contains-appe
 use Rattle.duk_frame.specs.declared.code.Code.{Code}
 use Rattle.duk_frame.specs.declared.code.Code.TheVariants as code
 use Rattle.duk_tree.specs.Serial.{Serial}
-use Rattle.duk_till.specs.History.{Began, Entry, HasBegun, IsEverToldAs, IsOf, IsToldAlike, IsToldAs, IsToldOfBegun, IsToldSince, NothingElseSince, NothingElseTold, NothingElseToldOf, NothingTold, Told, ToldIsKept, TookNewNumbers, payment_of}
+use Rattle.duk_till.specs.History.{Began, Entry, HasBegun, IsEverToldAs, IsOf, IsToldAlike, IsToldAs, IsToldOfBegun, IsToldSince, NothingElseSince, NothingElseTold, NothingElseToldOf, Told, ToldIsKept, TookNewNumbers, payment_of}
 use Rattle.duk_till.specs.Last.{number_of, outcome_of}
-use Rattle.duk_till.specs.Life.{last_told}
+use Rattle.duk_till.specs.Lifetime.{last_told}
 use Rattle.duk_till.specs.declared.last.Last.{Last}
 use Rattle.duk_till.specs.declared.last.Last.TheVariants.{Open, Approved, Declined, Undone}
 use Rattle.duk_till.specs.declared.last.Payment.{Payment}
@@ -39,13 +39,13 @@ told_later began told rest is_in = elim (first_or_later (Began began) rest (Told
   | inr later ↦ later
 ]
 
-began_later : (last : Last) (began : Payment) (rest : List Entry) → Contains (Told last ∷ rest) (Began began) → Contains rest (Began began)
+pub began_later : (last : Last) (began : Payment) (rest : List Entry) → Contains (Told last ∷ rest) (Began began) → Contains rest (Began began)
 began_later last began rest is_in = elim (first_or_later (Told last) rest (Began began) is_in) [
   | inl same ↦ absurd (cc)
   | inr later ↦ later
 ]
 
-began_or_later : (first began : Payment) (rest : List Entry) → Contains (Began first ∷ rest) (Began began) → (began ≡ first) ⊎ Contains rest (Began began)
+pub began_or_later : (first began : Payment) (rest : List Entry) → Contains (Began first ∷ rest) (Began began) → (began ≡ first) ⊎ Contains rest (Began began)
 began_or_later first began rest is_in = elim (first_or_later (Began first) rest (Began began) is_in) [
   | inl same ↦ inl (cc)
   | inr later ↦ inr later
@@ -226,10 +226,10 @@ told_since_begun history since last told new after begun is_in same_number =
     elim (Contains-append_cases since rest (Told told) (subst (λ (l : List Entry). Contains l (Told told)) begun.history_is is_in)) [
       | inl here ↦ here
       | inr older ↦
-        let new_then : TookNewNumbers rest = new_numbers_before since rest (subst TookNewNumbers begun.history_is new) in
-        let after_then : AreToldAfterBegun rest = told_before since rest (subst AreToldAfterBegun begun.history_is after) in
-        let found = begun_of_told begun.earlier after_then told (told_later begun.began told begun.earlier older) in
-        absurd (new_then.0 found.0 found.1 (number_is found.0 told found.2 ∙ same_number ∙ sym (number_is begun.began last begun.is_of)))
+          let new_then : TookNewNumbers rest = new_numbers_before since rest (subst TookNewNumbers begun.history_is new) in
+          let after_then : AreToldAfterBegun rest = told_before since rest (subst AreToldAfterBegun begun.history_is after) in
+          let found = begun_of_told begun.earlier after_then told (told_later begun.began told begun.earlier older) in
+          absurd (new_then.0 found.0 found.1 (number_is found.0 told found.2 ∙ same_number ∙ sym (number_is begun.began last begun.is_of)))
     ]
 
 pub ever_told_as : (history : List Entry) (last : Last) → TookNewNumbers history → AreToldAfterBegun history → NothingElseToldOf history last → IsEverToldAs history last

@@ -4,4 +4,5 @@ mod NotKept
 mod Places
 mod Told
 mod Histories
-mod LifeOfTill
+mod LifetimeOfTill
+mod NewNumbers

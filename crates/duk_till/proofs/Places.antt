@@ -6,7 +6,7 @@ use Rattle.byteorder.specs.Numbers.{big_number-reads_back}
 use Rattle.duk_frame.specs.declared.code.Code.{Code}
 use Rattle.duk_frame.specs.declared.code.Code.TheVariants as code
 use Rattle.duk_tree.specs.Serial.{Serial, IsSerial, serial_bytes, serial_of_bytes}
-use Rattle.duk_till.specs.Image.{IsLastBody, amount_in, code_byte, decline_byte, last_bytes, state_byte}
+use Rattle.duk_till.specs.Image.{IsLastBody, amount_in, code_byte, decline_byte, state_byte}
 use Rattle.duk_till.specs.Last.{AreLastFields, number_of}
 use Rattle.duk_till.specs.declared.last.Last.{Last}
 use Rattle.duk_till.specs.declared.last.Last.TheVariants.{Open, Approved, Declined, Undone}

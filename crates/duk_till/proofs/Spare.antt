@@ -1,5 +1,5 @@
 -- The numbers that come after one.
-use Rattle.std.proofs.Common.{◌≡◌, ◌<◌, ◌≤◌, ℕ, Option, Some, None, IsNone, IsSome, IfSome, ◌↔◌, arith, refl}
+use Rattle.std.proofs.Common.{ℕ, Option, Some, None, IsNone, IsSome, IfSome, ◌↔◌, arith, refl}
 use Rattle.std.proofs.lemmas.Bool.{false≢true}
 use Rattle.duk_tree.specs.Next.{IsLast, IsNextUsable}
 use Rattle.duk_till.specs.Till.{HasOneAfter, HasTwoAfter}

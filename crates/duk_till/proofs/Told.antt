@@ -3,9 +3,8 @@ use Rattle.std.proofs.Common.{◌≡◌, ℕ, List, Option, Some, ap, inl, inr, 
 use Rattle.duk_frame.specs.Answer.{IsRefusal}
 use Rattle.duk_frame.specs.declared.code.Code.{Code}
 use Rattle.duk_store.specs.Cell.{CellMeaning, IsPut}
-use Rattle.duk_store.specs.declared.fault.StoreFault.{StoreFault}
 use Rattle.duk_term.specs.Begin.{IsBegunUnder}
-use Rattle.duk_term.specs.Reply.{IsPending, ReportsAnswer, after_answer, completed}
+use Rattle.duk_term.specs.Reply.{ReportsAnswer, after_answer, completed}
 use Rattle.duk_term.specs.Restart.{IsTerminalRestarted}
 use Rattle.duk_term.specs.Terminal.{TerminalOf}
 use Rattle.duk_term.specs.declared.answer.Answer.{Answer}
@@ -16,7 +15,7 @@ use Rattle.duk_tree.specs.Serial.{Serial}
 use Rattle.duk_till.specs.Begin.{TillBeginRefused, opened}
 use Rattle.duk_till.specs.Image.{last_bytes}
 use Rattle.duk_till.specs.Last.{outcome_of}
-use Rattle.duk_till.specs.Reply.{Completes, IsOutcomeKept, IsPurchaseRefused, IsReplyTo, TillReplyRefused, WaitsForNoOther}
+use Rattle.duk_till.specs.Reply.{IsOutcomeKept, IsPurchaseRefused, IsReplyTo, TillReplyRefused, WaitsForNoOther}
 use Rattle.duk_till.specs.Restart.{FoundLast, IsTillRestarted, IsUnsent, TillRestartRefused}
 use Rattle.duk_till.specs.Till.{IsAtRest, IsLastNotKept, IsOpen, TillOf}
 use Rattle.duk_till.specs.declared.fault.TillFault.{TillFault}

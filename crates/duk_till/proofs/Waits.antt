@@ -1,5 +1,5 @@
 -- What a terminal waits for, by its number.
-use Rattle.std.proofs.Common.{◌≡◌, ap, refl, Option, Some, None, ◌∙◌, sym}
+use Rattle.std.proofs.Common.{◌≡◌, ap, refl, Some, None}
 use Rattle.duk_term.specs.Reply.{IsPending}
 use Rattle.duk_term.specs.Reversal.{pending_number_of}
 use Rattle.duk_term.specs.declared.state.Pending.{Pending}

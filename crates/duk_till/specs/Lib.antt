@@ -9,5 +9,5 @@ pub mod Restart
 pub mod Load
 pub mod View
 pub mod History
-pub mod Life
+pub mod Lifetime
 pub mod inner

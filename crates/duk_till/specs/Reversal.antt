@@ -1,6 +1,5 @@
 -- Reversing an open purchase at a till: this project's own.
 use Rattle.std.specs.Prelude.{◌≡◌, ℕ, List, Some}
-use Rattle.duk_frame.specs.Answer.{IsRefusal}
 use Rattle.duk_reversal.specs.declared.state.ReversalState.{ReversalState}
 use Rattle.duk_store.specs.Cell.{CellMeaning, IsPut}
 use Rattle.duk_store.specs.declared.fault.StoreFault.{StoreFault}

@@ -1,5 +1,5 @@
 -- A till: what it is, and when it is at rest: this project's own.
-use Rattle.std.specs.Prelude.{◌≡◌, ◌≢◌, ◌⊎◌, ◌<◌, ℕ, List, Option, Some, None}
+use Rattle.std.specs.Prelude.{◌≡◌, ◌≢◌, ◌⊎◌, ◌<◌, ℕ, Option, Some, None}
 use Rattle.duk_store.specs.Cell.{CellMeaning, Kept, PutFailed}
 use Rattle.duk_store.specs.StoreState.{FindsOnly, FindsWithin, StoreState}
 use Rattle.duk_store.specs.declared.fault.StoreFault.{StoreFault}

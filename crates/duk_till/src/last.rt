@@ -9,7 +9,7 @@ use duk_frame::Code;
 use duk_tree::Ksn;
 
 /// What is known of the last purchase.
-#[derive(Clone, Copy)]
+#[derive(Debug, Clone, Copy, PartialEq, Eq)]
 pub enum Last {
     /// Its request may have gone out, and its outcome is not known.
     Open {
@@ -40,7 +40,7 @@ pub enum Last {
 }
 
 /// A payment that a till has as approved.
-#[derive(Clone, Copy)]
+#[derive(Debug, Clone, Copy, PartialEq, Eq)]
 pub struct Payment {
     /// The number of its request.
     pub ksn: Ksn,

@@ -9,6 +9,7 @@
 #![tactic(auto)]
 
 mod checks;
+mod disks;
 mod fault;
 mod image;
 mod last;
@@ -16,6 +17,7 @@ pub mod laws;
 mod state;
 mod till;
 
+pub use disks::{DiskTill, till_on_disks};
 pub use fault::TillFault;
 pub use last::{Last, Payment};
 pub use state::TillState;

@@ -9,7 +9,7 @@ use crate::last::{Last, Payment, open_of};
 use duk_tree::Ksn;
 
 /// What a till knows of its book.
-#[derive(Clone, Copy)]
+#[derive(Debug, Clone, Copy, PartialEq, Eq)]
 pub enum TillState {
     /// The till is stopped.
     Stopped,

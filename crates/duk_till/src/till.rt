@@ -263,6 +263,8 @@ impl<C: Cell, J: Cell> Till<C, J> {
     /// until a restart.
     pub fn arm_terminal(&mut self, steps: u32)
         ensures armed { C.meaning.arms self.old.terminal.cell steps self.new.terminal.cell }
+        ensures stays { StaysButCalm (C.meaning.state_of self.old.terminal.cell)
+            (C.meaning.state_of self.new.terminal.cell) }
         ensures terminal { self.new.terminal.state ≡ self.old.terminal.state }
         ensures same_book { SameBook self.old self.new }
     {

@@ -1,4 +1,3 @@
-use Rattle.std.proofs.Common.{◌∙◌, sym}
 use Rattle.duk_till.proofs.Places.{same_last}
 use Rattle.duk_till.proofs.laws.one_reading.Goals as goal
 

@@ -1,5 +1,5 @@
--- The life of a till, through calls and stops: this project's own.
-use Rattle.std.specs.Prelude.{◌≡◌, ◌∷◌, ◌++◌, [], ℕ, List, Option, Some, None, Result, Ok, Err}
+-- The lifetime of a till, through calls and stops: this project's own.
+use Rattle.std.specs.Prelude.{◌≡◌, ◌∷◌, ◌++◌, [], ℕ, List, Some, None, Result, Ok, Err}
 use Rattle.duk_frame.specs.declared.code.Code.{Code}
 use Rattle.duk_store.specs.Cell.{CellMeaning, Kept}
 use Rattle.duk_store.specs.StoreState.{FindsWithin, StaysButCalm}
@@ -13,6 +13,7 @@ use Rattle.duk_term.specs.declared.answer.Next.TheVariants as next
 use Rattle.duk_term.specs.declared.answer.ReversalAnswer.{ReversalAnswer}
 use Rattle.duk_term.specs.declared.answer.ReversalAnswer.TheVariants as reversal
 use Rattle.duk_term.specs.declared.purchase.Purchase.{Purchase}
+use Rattle.duk_term.specs.declared.state.State.TheVariants as term_state
 use Rattle.duk_till.specs.Begin.{IsTillBegun, TillBeginRefused}
 use Rattle.duk_till.specs.History.{Began, Entry, Told, payment_of}
 use Rattle.duk_till.specs.Last.{outcome_of}
@@ -23,7 +24,6 @@ use Rattle.duk_till.specs.Reversal.{IsTillReversing, TellsReversal, TillReversal
 use Rattle.duk_till.specs.Till.{SameBook, TillOf}
 use Rattle.duk_till.specs.declared.fault.TillFault.{TillFault}
 use Rattle.duk_till.specs.declared.fault.TillFault.TheVariants as fault
-use Rattle.duk_till.specs.declared.last.Last.{Last}
 use Rattle.duk_till.specs.declared.last.Last.TheVariants.{Open, Undone}
 use Rattle.duk_till.specs.declared.state.TillState.{TillState}
 use Rattle.duk_till.specs.declared.state.TillState.TheVariants.{Stopped, Running}
@@ -41,14 +41,29 @@ pub data Call : Type 0 where
   ArmBook : ℕ → Call
   Stop : Call
 
--- a till is made, over an honest book that finds nothing but these
-pub record IsMadeOver
-    {C J : Type 0} (book : CellMeaning J) (left : Kept → Type 0) (till : TillOf C J) : Type 0 where
-  pub stopped : till.state ≡ Stopped
-  pub honest : (book.state_of till.book).honest
-  pub within : FindsWithin (book.state_of till.book) left
+-- a cell of a till that is made: it is honest, and a restart finds nothing in it but these
+pub record IsCellLeft {C : Type 0} (meaning : CellMeaning C) (left : Kept → Type 0) (cell : C)
+    : Type 0 where
+  pub honest : (meaning.state_of cell).honest
+  pub within : FindsWithin (meaning.state_of cell) left
 
--- its book is armed
+-- a till is made over cells in which these were left
+pub record IsMadeOver
+    {C J : Type 0} (cell : CellMeaning C) (book : CellMeaning J) (in_cell in_book : Kept → Type 0)
+    (till : TillOf C J) : Type 0 where
+  pub stopped : till.state ≡ Stopped
+  pub terminal_stopped : till.terminal.state ≡ term_state.Stopped
+  pub cell_is : IsCellLeft cell in_cell till.terminal.cell
+  pub book_is : IsCellLeft book in_book till.book
+
+-- the terminal's cell is armed
+pub record IsTerminalArmed {C J : Type 0} (cell : CellMeaning C) (old new : TillOf C J)
+    : Type 0 where
+  pub stays : StaysButCalm (cell.state_of old.terminal.cell) (cell.state_of new.terminal.cell)
+  pub terminal : new.terminal.state ≡ old.terminal.state
+  pub same_book : SameBook old new
+
+-- the book is armed
 pub record IsBookArmed {C J : Type 0} (book : CellMeaning J) (old new : TillOf C J) : Type 0 where
   pub stays : StaysButCalm (book.state_of old.book) (book.state_of new.book)
   pub terminal : new.terminal ≡ old.terminal
@@ -74,9 +89,10 @@ IsCalled cell book (Restart (Ok told)) old new =
 IsCalled cell book (Restart (Err why)) old new = TillRestartRefused cell book old new why
 IsCalled cell book (Load asked (Ok done)) old new = IsTillLoaded cell asked old new
 IsCalled cell book (Load asked (Err why)) old new = TillLoadRefused cell asked old new why
-IsCalled cell book (ArmTerminal steps) old new = SameBook old new
+IsCalled cell book (ArmTerminal steps) old new = IsTerminalArmed cell old new
 IsCalled cell book (ArmBook steps) old new = IsBookArmed book old new
-IsCalled cell book Stop old new = IsMadeOver book (book.state_of old.book).found new
+IsCalled cell book Stop old new =
+    IsMadeOver cell book (cell.state_of old.terminal.cell).found (book.state_of old.book).found new
 
 -- ---- what is written of a call
 
@@ -113,13 +129,17 @@ written (ReversalReply bytes (Ok (reversal.Done found))) old = undone_told old.s
 written (Restart (Ok told)) old = last_told told
 written _ old = []
 
--- ---- a life
+-- ---- a lifetime
+
+-- whatever the terminal's cell keeps, and nothing in the book
+abbrev pub IsFirst : {C J : Type 0} → CellMeaning C → CellMeaning J → TillOf C J → Type 0
+IsFirst cell book till = IsMadeOver cell book (λ kept. Unit {0}) (λ kept. kept ≡ None) till
 
 -- calls, the last of them first, of which the first was of a new till over a book that kept nothing;
--- what is written of them; and the till as they leave it
-abbrev pub IsLife : {C J : Type 0} → CellMeaning C → CellMeaning J → List Call → List Entry
+-- what is written of them, the newest first; and the till as they leave it
+abbrev pub IsLifetime : {C J : Type 0} → CellMeaning C → CellMeaning J → List Call → List Entry
     → TillOf C J → Type 0
-IsLife cell book [] history till = IsMadeOver book (λ kept. kept ≡ None) till × (history ≡ [])
-IsLife {C} {J} cell book (call ∷ before) history till =
-    (old : TillOf C J) × (earlier : List Entry) × IsLife cell book before earlier old
+IsLifetime cell book [] history till = IsFirst cell book till × (history ≡ [])
+IsLifetime {C} {J} cell book (call ∷ before) history till =
+    (old : TillOf C J) × (earlier : List Entry) × IsLifetime cell book before earlier old
     × IsCalled cell book call old till × (history ≡ written call old ++ earlier)

@@ -1,15 +1,13 @@
--- What a till has told and what its book keeps, through its life.
-use Rattle.std.proofs.Common.{◌≡◌, ◌≢◌, ◌⊎◌, ◌<◌, ◌^◌, inl, inr, ℕ, List, [], ◌∷◌, ◌++◌, Option, Some, None, Result, Ok, Err, IfSome, Contains, ap, arith, refl, subst, sym, ◌∙◌}
+-- What a till has told and what its book keeps, through its lifetime.
+use Rattle.std.proofs.Common.{◌≡◌, ◌≢◌, ◌⊎◌, ◌<◌, ◌^◌, inl, inr, ℕ, List, [], ◌∷◌, ◌++◌, Option, Some, None, Ok, Err, IfSome, Contains, ap, arith, refl, subst, sym, ◌∙◌}
 use Rattle.std.proofs.lemmas.Bool.Decides.{nat_tests}
 use Rattle.duk_frame.specs.declared.code.Code.{Code}
 use Rattle.duk_frame.specs.declared.code.Code.TheVariants as code
-use Rattle.duk_store.specs.Cell.{CellMeaning, IsPut, Kept, PutFailed}
+use Rattle.duk_store.specs.Cell.{CellMeaning, IsPut, Kept}
 use Rattle.duk_store.specs.declared.fault.StoreFault.{StoreFault}
-use Rattle.duk_store.specs.declared.fault.StoreFault.TheVariants as store
 use Rattle.duk_term.specs.Begin.{IsBegunUnder}
 use Rattle.duk_term.specs.Terminal.{TerminalOf, next_of, serial_of}
 use Rattle.duk_term.specs.declared.answer.Answer.TheVariants as answer
-use Rattle.duk_term.specs.declared.answer.Begun.{Begun}
 use Rattle.duk_term.specs.declared.answer.Next.{Next}
 use Rattle.duk_term.specs.declared.answer.Next.TheVariants as next
 use Rattle.duk_term.specs.declared.answer.ReversalAnswer.TheVariants as reversal
@@ -23,10 +21,10 @@ use Rattle.duk_till.specs.Begin.{IsTillBegun, NumberIsLost, TillBeginRefused, op
 use Rattle.duk_till.specs.History.{Began, Entry, IsEverToldAs, IsToldAlike, IsToldAs, IsToldOfBegun, NothingElseTold, NothingElseToldOf, Told, ToldIsKept, TookNewNumbers, payment_of}
 use Rattle.duk_till.specs.Image.{IsLastBody, kept_of, last_bytes}
 use Rattle.duk_till.specs.Last.{AreLastFields, outcome_of}
-use Rattle.duk_till.specs.Life.{ArmBook, ArmTerminal, Begin, Call, IsCalled, IsLife, IsMadeOver, Load, Reply, Restart, Reverse, ReversalReply, Stop, begun_at, last_told, outcome_told, undone_told, written}
+use Rattle.duk_till.specs.Lifetime.{ArmBook, ArmTerminal, Begin, Call, IsCalled, IsLifetime, Load, Reply, Restart, Reverse, ReversalReply, Stop, begun_at, last_told, outcome_told, undone_told, written}
 use Rattle.duk_till.specs.Load.{TillLoadRefused}
 use Rattle.duk_till.specs.Reply.{IsOutcomeKept, IsOutcomeLost, TillReplyRefused}
-use Rattle.duk_till.specs.Restart.{BookRestartFailed, FoundLast, IsClosedUnsent, IsFoundAsKept, IsNotClosed, IsTillRestarted, TillRestartRefused}
+use Rattle.duk_till.specs.Restart.{BookRestartFailed, FoundLast, IsClosedUnsent, IsNotClosed, IsTillRestarted, TillRestartRefused}
 use Rattle.duk_till.specs.Reversal.{IsUndoneKept, IsUndoneLost, TillReversalReplyRefused, TillReverseRefused}
 use Rattle.duk_till.specs.Till.{IsAtRest, IsLastNotKept, SameBook, TillOf}
 use Rattle.duk_till.specs.declared.fault.TillFault.{TillFault}
@@ -36,6 +34,7 @@ use Rattle.duk_till.specs.declared.last.Last.TheVariants.{Open, Approved, Declin
 use Rattle.duk_till.specs.declared.last.Payment.{Payment}
 use Rattle.duk_till.specs.declared.state.TillState.{TillState}
 use Rattle.duk_till.specs.declared.state.TillState.TheVariants.{Stopped, Running}
+use Rattle.duk_till.proofs.NotKept.{stays_honest}
 use Rattle.duk_till.proofs.Histories.{AreToldAfterBegun, begun_before_told, begun_of_told, ever_told_as, none_in, nothing_else, open_told_as, other_begins, outcome_not_told, outcome_told_as, same_as_ever, told_alike_after_begin, told_alike_after_told, told_by_restart, undone_not_told, undone_told_as}
 
 -- what is known of bodies and of numbers
@@ -91,10 +90,11 @@ begun_fields laws cell purchase ksn frame old new is =
 
 -- ---- the number that a begin takes
 
+-- registers with a number left take that next
 next_is : (state : State) (set : _) (pending : Option Pending) → state ≡ Loaded set pending → set.counter < 2 ^ 21 → next_of state ≡ next.At (serial_of set)
 next_is state set pending is fits = rw is (grind (arith, nat_tests))
 
-begun_at_next : {C : Type 0} → TillLaws → (cell : CellMeaning C) (purchase : Purchase) (ksn : Serial) (frame : List ℕ) (old new : TerminalOf C) → IsBegunUnder cell purchase ksn frame old new
+pub begun_at_next : {C : Type 0} → TillLaws → (cell : CellMeaning C) (purchase : Purchase) (ksn : Serial) (frame : List ℕ) (old new : TerminalOf C) → IsBegunUnder cell purchase ksn frame old new
     → begun_at (next_of old.state) purchase.amount ≡ Began (payment_of ksn purchase.amount) ∷ []
 begun_at_next laws cell purchase ksn frame old new is =
     let takes = is.begun.takes in
@@ -139,31 +139,25 @@ module _ {C J : Type 0} (laws : TillLaws) (cell : CellMeaning C) (book : CellMea
   -- ---- a last purchase is kept, or not
 
   is_running : (history : List Entry) (till : TillOf C J) (last : Option Last) → IsHonest till.book → ((kept : Kept) → (book.state_of till.book).found kept → kept ≡ kept_of last) → till.state ≡ Running last
-    → ToldIsKept history last → IfSome last AreLastFields → IsSound history till
+      → ToldIsKept history last → IfSome last AreLastFields → IsSound history till
   is_running history till last honest only state told fields = record {
     honest = honest;
     found = λ kept found. record { last = last; kept_is = only kept found; fields = fields; told = nothing_else history last told };
     runs = λ other runs.
-      let same : last ≡ other = same_last till.state last other state runs in
-      subst (λ (it : Option Last). ToldIsKept history it × IfSome it AreLastFields) same (told, fields);
+        let same : last ≡ other = same_last till.state last other state runs in
+        subst (λ (it : Option Last). ToldIsKept history it × IfSome it AreLastFields) same (told, fields);
   }
 
   is_kept : (history : List Entry) (before : J) (till : TillOf C J) (last : Last) → IsHonest before → IsPut book before till.book (last_bytes last) → till.state ≡ Running (Some last)
-    → IsToldAs history last → AreLastFields last → IsSound history till
+      → IsToldAs history last → AreLastFields last → IsSound history till
   is_kept history before till last honest put state told fields =
       is_running history till (Some last) (put.settles.nature.honest.0 honest) (λ kept found. (put.settles.finds honest kept).0 found) state told fields
-
-  stays_honest : (old new : J) (body : List ℕ) (why : StoreFault) → PutFailed book old new body why → IsHonest old → IsHonest new
-  stays_honest old new body store.Device failed honest = failed.stops.nature.honest.0 honest
-  stays_honest old new body store.Stopped failed honest = failed.stays.nature.honest.0 honest
-  stays_honest old new body store.Worn failed honest = failed.stays.nature.honest.0 honest
-  stays_honest old new body _ failed honest = absurd failed
 
   is_not_kept :
       (history : List Entry) (last : Last) (before : Option Last) (old : J) (till : TillOf C J) (why : StoreFault) → IsHonest old → IsLastNotKept book last before old till.book till.state why
       → IsFoundIn history (kept_of before) → IsFoundIn history (kept_of (Some last)) → IsSound history till
   is_not_kept history last before old till why honest not known new =
-      is_stopped history till (stays_honest old till.book (last_bytes last) why not.not_kept honest)
+      is_stopped history till (stays_honest book old till.book (last_bytes last) why not.not_kept honest)
       (λ kept found. elim (not.within honest kept found) [
         | inl as_before ↦ subst (IsFoundIn history) (sym as_before) known
         | inr is_new ↦ subst (IsFoundIn history) (sym is_new) new
@@ -179,7 +173,7 @@ module _ {C J : Type 0} (laws : TillLaws) (cell : CellMeaning C) (book : CellMea
   -- ---- begin
 
   begun : (history : List Entry) (purchase : Purchase) (ksn : Serial) (frame : List ℕ) (old new : TillOf C J) → IsSound history old → IsTillBegun cell book purchase ksn frame old new
-    → IsSound (Began (payment_of ksn purchase.amount) ∷ history) new
+      → IsSound (Began (payment_of ksn purchase.amount) ∷ history) new
   begun history purchase ksn frame old new sound is =
       is_kept (Began (payment_of ksn purchase.amount) ∷ history) old.book new (opened ksn purchase) sound.honest is.kept is.state_is
       (open_told_as history ksn purchase.amount) (begun_fields laws cell purchase ksn frame old.terminal new.terminal is.terminal)
@@ -188,7 +182,7 @@ module _ {C J : Type 0} (laws : TillLaws) (cell : CellMeaning C) (book : CellMea
   closed_at_rest state last rest runs ksn amount same = rest.closed ksn amount (same_last state rest.last last rest.runs runs ∙ same)
 
   number_lost : (history : List Entry) (purchase : Purchase) (old new : TillOf C J) (why : StoreFault) → IsSound history old → NumberIsLost cell book purchase old new why
-    → IsSound (begun_at (next_of old.terminal.state) purchase.amount ++ history) new
+      → IsSound (begun_at (next_of old.terminal.state) purchase.amount ++ history) new
   number_lost history purchase old new why sound lost =
       let began : Payment = payment_of lost.ksn purchase.amount in
       let longer : List Entry = Began began ∷ history in
@@ -207,7 +201,7 @@ module _ {C J : Type 0} (laws : TillLaws) (cell : CellMeaning C) (book : CellMea
       }))
 
   begin_refused : (history : List Entry) (purchase : Purchase) (why : TillFault) (old new : TillOf C J) → IsSound history old → TillBeginRefused cell book purchase old new why
-    → IsSound (written (Begin purchase (Err why)) old ++ history) new
+      → IsSound (written (Begin purchase (Err why)) old ++ history) new
   begin_refused history purchase fault.Stopped old new sound is = unchanged history old new sound is.1
   begin_refused history purchase fault.Open old new sound is = unchanged history old new sound is.1
   begin_refused history purchase fault.NothingOpen old new sound is = absurd is
@@ -221,7 +215,7 @@ module _ {C J : Type 0} (laws : TillLaws) (cell : CellMeaning C) (book : CellMea
 
   -- what is known of an open purchase
   open_is : (history : List Entry) (old : TillOf C J) (ksn : Serial) (amount : ℕ) → IsSound history old → old.state ≡ Running (Some (Open ksn amount))
-    → NothingElseToldOf history (Open ksn amount) × (IsSerial ksn × (amount < 2 ^ 32))
+      → NothingElseToldOf history (Open ksn amount) × (IsSerial ksn × (amount < 2 ^ 32))
   open_is history old ksn amount sound is =
       let known = sound.runs (Some (Open ksn amount)) is in
       (nothing_else history (Some (Open ksn amount)) known.0, known.1)
@@ -284,21 +278,21 @@ module _ {C J : Type 0} (laws : TillLaws) (cell : CellMeaning C) (book : CellMea
   found_is_known history old new last sound is = told_of_found laws history last is.fields (sound.found (kept_of last) (is.cell.was_found sound.honest))
 
   found_as_kept : (history : List Entry) (old new : TillOf C J) (last : Option Last) → IsSound history old → FoundLast book old.book new.book last → new.state ≡ Running last
-    → IsSound (last_told (Running last) ++ history) new
+      → IsSound (last_told (Running last) ++ history) new
   found_as_kept history old new last sound is state =
       is_running (last_told (Running last) ++ history) new last (is.cell.settles.nature.honest.0 sound.honest) (λ kept found. (is.cell.settles.finds sound.honest kept).0 found) state
       (told_by_restart history last (found_is_known history old new.book last sound is)) is.fields
 
   -- an open purchase was found
   open_found : (history : List Entry) (old : TillOf C J) (new : J) (before : Option Last) (ksn : Serial) (amount : ℕ) → IsSound history old → FoundLast book old.book new before
-    → Running before ≡ Running (Some (Open ksn amount)) → NothingElseToldOf history (Open ksn amount) × IsSerial ksn
+      → Running before ≡ Running (Some (Open ksn amount)) → NothingElseToldOf history (Open ksn amount) × IsSerial ksn
   open_found history old new before ksn amount sound is open_is =
       let same : before ≡ Some (Open ksn amount) = cc in
       let both = subst (λ (it : Option Last). NothingElseTold history it × IfSome it AreLastFields) same (found_is_known history old new before sound is, is.fields) in
       (both.0, both.1.0)
 
   closed_unsent : (history : List Entry) (old new : TillOf C J) (last : Option Last) → IsSound history old → IsClosedUnsent book new.terminal.state old.book new.book last → new.state ≡ Running last
-    → IsSound (last_told (Running last) ++ history) new
+      → IsSound (last_told (Running last) ++ history) new
   closed_unsent history old new last sound is state =
       let was = open_found history old is.between is.before is.ksn is.unsent.0.0 sound is.found is.unsent.0.1 in
       let undone : Last = Undone is.ksn in
@@ -322,15 +316,15 @@ module _ {C J : Type 0} (laws : TillLaws) (cell : CellMeaning C) (book : CellMea
       (record { last = Some (Undone is.ksn); kept_is = refl; fields = was.1; told = undone_not_told history is.ksn is.unsent.0.0 was.0 })
 
   book_failed : (history : List Entry) (old new : TillOf C J) (why : StoreFault) → IsSound history old → BookRestartFailed book new.terminal.state old.book new.book new.state why → new.state ≡ Stopped
-    → IsSound history new
+      → IsSound history new
   book_failed history old new why sound is stopped = elim is [
     | inl failed ↦ is_stopped history new (failed.stops.nature.honest.0 sound.honest) (λ kept found. sound.found kept (failed.stops.within sound.honest kept found)) stopped
     | inr other ↦ elim other [
       | inl none ↦
-        let cell = none.1.cell in
-        is_stopped history new (cell.settles.nature.honest.0 sound.honest)
-        (λ kept found. subst (IsFoundIn history) (sym ((cell.settles.finds sound.honest kept).0 found)) (sound.found (Some none.1.bytes) (cell.was_found sound.honest)))
-        stopped
+          let cell = none.1.cell in
+          is_stopped history new (cell.settles.nature.honest.0 sound.honest)
+          (λ kept found. subst (IsFoundIn history) (sym ((cell.settles.finds sound.honest kept).0 found)) (sound.found (Some none.1.bytes) (cell.was_found sound.honest)))
+          stopped
       | inr not ↦ not_closed history old new why sound not
     ]
   ]
@@ -369,26 +363,26 @@ module _ {C J : Type 0} (laws : TillLaws) (cell : CellMeaning C) (book : CellMea
   called history (Restart (Err why)) old new sound is = restart_refused history why old new sound is
   called history (Load asked (Ok done)) old new sound is = same_book history old new sound is.same_book
   called history (Load asked (Err why)) old new sound is = load_refused history asked why old new sound is
-  called history (ArmTerminal steps) old new sound is = same_book history old new sound is
+  called history (ArmTerminal steps) old new sound is = same_book history old new sound is.same_book
   called history (ArmBook steps) old new sound is = record {
     honest = is.stays.honest.0 sound.honest;
     found = λ kept found. sound.found kept ((is.stays.found sound.honest kept).0 found);
     runs = λ last runs. sound.runs last (sym is.state ∙ runs);
   }
-  called history Stop old new sound is = is_stopped history new is.honest (λ kept found. sound.found kept (is.within kept found)) is.stopped
+  called history Stop old new sound is = is_stopped history new is.book_is.honest (λ kept found. sound.found kept (is.book_is.within kept found)) is.stopped
 
-  sound_life : (calls : List Call) (history : List Entry) (till : TillOf C J) → IsLife cell book calls history till → IsSound history till
-  sound_life [] history till (made, none) =
-      is_stopped history till made.honest
+  sound_lifetime : (calls : List Call) (history : List Entry) (till : TillOf C J) → IsLifetime cell book calls history till → IsSound history till
+  sound_lifetime [] history till (made, none) =
+      is_stopped history till made.book_is.honest
       (λ kept found. record {
         last = None;
-        kept_is = made.within kept found;
+        kept_is = made.book_is.within kept found;
         fields = tt;
         told = λ told is_in. none_in (Told told) (subst (λ (l : List Entry). Contains l (Told told)) none is_in);
       })
       made.stopped
-  sound_life (call ∷ before) history till (old, earlier, life, is, history_is) =
-      subst (λ (it : List Entry). IsSound it till) (sym history_is) (called earlier call old till (sound_life before earlier old life) is)
+  sound_lifetime (call ∷ before) history till (old, earlier, lifetime, is, history_is) =
+      subst (λ (it : List Entry). IsSound it till) (sym history_is) (called earlier call old till (sound_lifetime before earlier old lifetime) is)
 
   -- ---- what a call writes
 
@@ -445,8 +439,8 @@ module _ {C J : Type 0} (laws : TillLaws) (cell : CellMeaning C) (book : CellMea
       record {
         after = after;
         alike = λ numbers.
-          let ever : IsEverToldAs (Told last ∷ earlier) last = ever_told_as (Told last ∷ earlier) last numbers after (nothing_else (Told last ∷ earlier) (Some last) is) in
-          told_alike_after_told last earlier (same_as_ever (Told last ∷ earlier) last ever) (once.alike numbers);
+            let ever : IsEverToldAs (Told last ∷ earlier) last = ever_told_as (Told last ∷ earlier) last numbers after (nothing_else (Told last ∷ earlier) (Some last) is) in
+            told_alike_after_told last earlier (same_as_ever (Told last ∷ earlier) last ever) (once.alike numbers);
       }
 
   once_after : (entries earlier : List Entry) (new : TillOf C J) → Wrote entries new.state → IsToldOnce earlier → IsSound (entries ++ earlier) new → IsToldOnce (entries ++ earlier)
@@ -457,30 +451,30 @@ module _ {C J : Type 0} (laws : TillLaws) (cell : CellMeaning C) (book : CellMea
       subst (λ (it : List Entry). IsToldOnce (it ++ earlier)) (sym is)
       (told_once_more earlier new last once (subst (λ (it : List Entry). IsSound (it ++ earlier) new) is sound) state)
 
-  once_in_life : (calls : List Call) (history : List Entry) (till : TillOf C J) → IsLife cell book calls history till → IsToldOnce history
-  once_in_life [] history till (made, none) = subst IsToldOnce (sym none) (record { after = tt; alike = λ numbers one other in_one. absurd (none_in (Told one) in_one) })
-  once_in_life (call ∷ before) history till (old, earlier, life, is, history_is) =
+  told_once_in_lifetime : (calls : List Call) (history : List Entry) (till : TillOf C J) → IsLifetime cell book calls history till → IsToldOnce history
+  told_once_in_lifetime [] history till (made, none) = subst IsToldOnce (sym none) (record { after = tt; alike = λ numbers one other in_one. absurd (none_in (Told one) in_one) })
+  told_once_in_lifetime (call ∷ before) history till (old, earlier, lifetime, is, history_is) =
       subst IsToldOnce (sym history_is)
-      (once_after (written call old) earlier till (wrote call old till is) (once_in_life before earlier old life) (called earlier call old till (sound_life before earlier old life) is))
+      (once_after (written call old) earlier till (wrote call old till is) (told_once_in_lifetime before earlier old lifetime) (called earlier call old till (sound_lifetime before earlier old lifetime) is))
 
   -- ---- the laws
 
-  pub kept_in_life : (calls : List Call) (history : List Entry) (till : TillOf C J) (last : Option Last) → IsLife cell book calls history till → till.state ≡ Running last → ToldIsKept history last
-  kept_in_life calls history till last life runs = ((sound_life calls history till life).runs last runs).0
+  pub kept_in_lifetime : (calls : List Call) (history : List Entry) (till : TillOf C J) (last : Option Last) → IsLifetime cell book calls history till → till.state ≡ Running last → ToldIsKept history last
+  kept_in_lifetime calls history till last lifetime runs = ((sound_lifetime calls history till lifetime).runs last runs).0
 
-  pub found_in_life : (calls : List Call) (history : List Entry) (till : TillOf C J) (kept : Kept) → IsLife cell book calls history till → (book.state_of till.book).found kept
+  pub found_in_lifetime : (calls : List Call) (history : List Entry) (till : TillOf C J) (kept : Kept) → IsLifetime cell book calls history till → (book.state_of till.book).found kept
       → (last : Option Last) × (kept ≡ kept_of last) × NothingElseTold history last
-  found_in_life calls history till kept life found =
-      let is = (sound_life calls history till life).found kept found in
+  found_in_lifetime calls history till kept lifetime found =
+      let is = (sound_lifetime calls history till lifetime).found kept found in
       (is.last, is.kept_is, is.told)
 
-  pub begun_in_life : (calls : List Call) (history : List Entry) (till : TillOf C J) → IsLife cell book calls history till → IsToldOfBegun history
-  begun_in_life calls history till life = begun_of_told history (once_in_life calls history till life).after
+  pub begun_in_lifetime : (calls : List Call) (history : List Entry) (till : TillOf C J) → IsLifetime cell book calls history till → IsToldOfBegun history
+  begun_in_lifetime calls history till lifetime = begun_of_told history (told_once_in_lifetime calls history till lifetime).after
 
-  pub alike_in_life : (calls : List Call) (history : List Entry) (till : TillOf C J) → IsLife cell book calls history till → TookNewNumbers history → IsToldAlike history
-  alike_in_life calls history till life = (once_in_life calls history till life).alike
+  pub alike_in_lifetime : (calls : List Call) (history : List Entry) (till : TillOf C J) → IsLifetime cell book calls history till → TookNewNumbers history → IsToldAlike history
+  alike_in_lifetime calls history till lifetime = (told_once_in_lifetime calls history till lifetime).alike
 
-  pub ever_in_life : (calls : List Call) (history : List Entry) (till : TillOf C J) (last : Last) → IsLife cell book calls history till → TookNewNumbers history → till.state ≡ Running (Some last)
+  pub ever_in_lifetime : (calls : List Call) (history : List Entry) (till : TillOf C J) (last : Last) → IsLifetime cell book calls history till → TookNewNumbers history → till.state ≡ Running (Some last)
       → IsEverToldAs history last
-  ever_in_life calls history till last life numbers runs =
-      ever_told_as history last numbers (once_in_life calls history till life).after (nothing_else history (Some last) (kept_in_life calls history till (Some last) life runs))
+  ever_in_lifetime calls history till last lifetime numbers runs =
+      ever_told_as history last numbers (told_once_in_lifetime calls history till lifetime).after (nothing_else history (Some last) (kept_in_lifetime calls history till (Some last) lifetime runs))
