@@ -1,5 +1,5 @@
 -- Where no restart of a host, and no check, is refused as damaged.
-use Rattle.std.proofs.Common.{◌≡◌, ℕ, inl, inr, subst, sym}
+use Rattle.std.proofs.Common.{ℕ, inl, inr, subst, sym}
 use Rattle.duk_host.specs.Used.{AreUsable}
 use Rattle.duk_host.specs.declared.fault.HostFault.TheVariants as fault
 use Rattle.duk_journal.specs.Groups.{Payments}
