@@ -221,13 +221,11 @@ class Losses(LeftCase):
         """What is left is no journal, or one with all payments: for each value of the byte that is
         written last, and for many bytes of what was written before."""
         kept, found = payments_of_all(payments(5)), Counter[str]()
-        for room, groups in ((7, alone(kept)), (7, [kept]), (1, alone(kept[:1])), (2, [])):
+        for room, groups in ((1, alone(kept[:1])), (7, [kept]), (7, alone(kept)), (2, [])):
             image = self.make_journal(room, groups)
             calls = self.traced()[1]
             (self.made / "copy").unlink()
-            states = [*unsynced_of(calls, NEW, copied(image))]
-            self.assertEqual([len(it) for it in states[-1].spans], [1], f"{states[-1]}: the last write")
-            for state in states:
+            for state in unsynced_of(calls, NEW, copied(image)):
                 for left in state.left(self.chance):
                     found[self.judge_lost(left, image, f"{len(groups)} groups: {state}")] += 1
         self.assertEqual(set(found), {"refused", "whole"})

@@ -10,7 +10,9 @@ from .traced_files import SYNCS, Call
 
 # What a new journal's file begins with: a first gate that is open, and behind it no payment.
 MARK = b"\x01"
-# How many of the bytes that may be left are drawn.
+# Up to which places what was written may be left, with zeros behind: a gate, a kind, a part of a payment,
+# a record, two; and how many more are drawn.
+FRONTS = (1, 2, 20, 32, 64)
 DRAWN = 20
 
 
@@ -41,6 +43,7 @@ class Unsynced:
         count = len(self.now)
         others = [bytes(count), b"\x01" * count, b"\xff" * count]
         yield from (*others, self.now, self.synced.ljust(count, b"\x00"))
+        yield from (self.now[:front].ljust(count, b"\x00") for front in FRONTS)
         for _ in range(DRAWN):
             front = chance.randrange(min(count, chance.choice((4, 40, count))) + 1)
             behind = chance.choice((*others, chance.randbytes(count)))

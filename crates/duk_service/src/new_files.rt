@@ -59,8 +59,8 @@ fn open_new<R: Files<File = File>>(files: &R, path: &str) -> io::Result<File> {
 }
 
 /// Locks a new file, and gives it so many bytes. The first of them is 1, and on the medium before
-/// there are more: a file that begins so is no journal (`duk_copy::laws::unfinished`), however soon
-/// its writer is stopped.
+/// there are more, which are zeros: a file that begins so is no journal (`duk_copy::laws::unfinished`),
+/// however soon its writer is stopped.
 fn lock_sized(file: &File, size: u64) -> io::Result<()> {
     file.try_lock()?;
     file.write_all_at(&[1], 0)?;
