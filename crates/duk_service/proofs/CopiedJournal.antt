@@ -3,6 +3,7 @@ use Rattle.std.proofs.Common.{◌≡◌, ◌∙◌, ap, ℕ, List, inl, inr, ref
 use Rattle.duk_copy.specs.Copy.{IsCopied, copied_bytes}
 use Rattle.duk_journal.specs.DiskJournal.{DiskJournalOf, MayFindPayments, disk_journal_meaning, is_journal_running, new_disk_journal}
 use Rattle.duk_journal.specs.Groups.{KeepsPayments, Payments}
+use Rattle.duk_journal.specs.RecordFormat.{IsJournalSize}
 use Rattle.duk_line.specs.Check.{IsChecked}
 use Rattle.duk_service.specs.CopyJournal.{HasCopiedJournal, HasKept, IsCopyJournalRefused, IsOldChecked}
 use Rattle.duk_service.specs.LogFiles.{DiskKnown, IsDisk, MakingKnown}
@@ -94,6 +95,7 @@ module _ {D : Type 0} (meaning : DiskMeaning D) (known : DiskKnown D) (making : 
     written = subst (λ (kept : ℕ). IsCopied kept (meaning.state_of last) (meaning.state_of copy.made) (meaning.state_of copy.last)) (sym checked.counted)
         (copied_from found (meaning.state_of disk) (meaning.state_of last) (meaning.state_of copy.made) (meaning.state_of copy.last) nature bytes copy.kept_is.copied);
     finds = λ old_honest new_honest. copy.kept_is.copied.keeps (disk_honest old_honest) new_honest checked.payments (reads_keep one old_honest) checked.counted;
+    sound = λ old_honest new_honest size. copy.kept_is.copied.sound (disk_honest old_honest) new_honest (subst (λ (n : ℕ). IsJournalSize n) (sym copy.kept_is.size_is) size) checked.payments (reads_keep one old_honest) checked.counted;
     folder = copy.kept_is.synced;
   }
 

@@ -7,6 +7,7 @@ use Rattle.duk_io.specs.Known.{Known}
 use Rattle.duk_io.specs.Sink.{IsTried}
 use Rattle.duk_journal.specs.DiskJournal.{DiskJournalOf, MayFindPayments, disk_journal_meaning, disk_journal_state, new_disk_journal}
 use Rattle.duk_journal.specs.Groups.{Payments}
+use Rattle.duk_journal.specs.RecordFormat.{IsJournalSize}
 use Rattle.duk_line.specs.Check.{CheckRefused}
 use Rattle.duk_line.specs.Latest.{numbers_of}
 use Rattle.duk_service.specs.LogFiles.{DiskKnown, IsDisk, IsFolderSynced, IsNoDisk, MakingKnown}
@@ -45,7 +46,7 @@ pub record IsOldChecked {D : Type 0} (meaning : DiskMeaning D) (known : DiskKnow
 
 -- status 0 of `copy-journal`: OLD is checked, a file of its size is made, what OLD keeps is written
 -- over all of its disk and synced, and its folder is synced; where both disks are honest, a journal
--- over that of the file finds what OLD keeps, and nothing else
+-- over that of the file finds what OLD keeps, and nothing else, and no restart finds it damaged
 pub record HasCopiedJournal {D : Type 0} (meaning : DiskMeaning D) (known : DiskKnown D)
     (making : MakingKnown D) : Type 0 where
   pub old : IsOldChecked meaning known
@@ -57,6 +58,9 @@ pub record HasCopiedJournal {D : Type 0} (meaning : DiskMeaning D) (known : Disk
       (meaning.state_of made) (meaning.state_of last)
   pub finds : (meaning.state_of old.opened).honest → (meaning.state_of made).honest
       → Keeps meaning last old.payments
+  pub sound : (meaning.state_of old.opened).honest → (meaning.state_of made).honest
+      → IsJournalSize (meaning.state_of old.opened).size
+      → (disk_journal_state (meaning.state_of last) None).sound
   pub folder : IsFolderSynced making.folder
 
 -- OLD's disk is opened, and no host would come up over it: no file is made
