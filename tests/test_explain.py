@@ -7,20 +7,21 @@ from collections import Counter
 from pathlib import Path
 
 from .support import everyday_words
+from .support.batches import ITEMS_REFUSED, LINE_REFUSED, MOST_ITEM, Batch, lines_in
 from .support.everyday_cases import DRAWS, Case, Draw
-from .support.everyday_rows import BASE, FIRST, PAN, RIGHT, SERIAL
+from .support.everyday_rows import BASE, FIRST, PAN, PIN, RIGHT, SERIAL
 from .support.everyday_rows import rows as everyday_rows
 from .support.explain_case import EXPLAIN, ExplainCase, places, rows, with_explain
 from .support.explained import (
     CONSTANT, OF_ONE, OF_UNWRAP, REASONED, SHOWN, TEXTS, Asked, expected, explained)
-from .support.leaks import leaks
+from .support.leaks import leaks, leaks_of_batch
 from .support.program import ROOT, Ended, Limits, spoken
 from .support.quick import QuickRuns
 from .support.shown import ended as shown_ended
+from .test_batch import KINDS, WRONG
 from .test_everyday_references import secrets_of
 from .test_show import Damaged
 
-BATCHES = (["derive", BASE, "-"], ["kcv", "-"], ["pin", "-", PAN])
 # Of faults that no argument makes.
 OF_STREAMS = {"write failed", "script: write failed", "serve: write failed", "serve: read failed",
               "serve: input ends in a frame", "serve: frame too long", "batch: items refused",
@@ -277,18 +278,71 @@ class Secrets(ExplainCase):
 
 
 class Items(ExplainCase):
-    """Of items the faults stand in their places, and the explanation at the end."""
+    """Of items the faults stand in their places, each with the line behind it that explains it."""
 
-    def test_items(self) -> None:
-        line = ("input: lines that are refused; wanted: one item a line; the fault of each stands in "
-                "its place")
-        for words in BATCHES:
-            for given in (b"x\n", b"\n", f"{SERIAL}\nx\n{BASE}\n1234\n".encode(), b"\xff\n"):
-                alone = self.run_with(words, given)
-                self.assertEqual(alone.status, 1, spoken(words))
-                self.explained(words, "batch: items refused", line, alone.output, given)
-            ended = self.run_with([*words, EXPLAIN], b"")
-            self.assertEqual(ended, Ended(0, b"", b""), spoken(words))
+    line = b"input: lines that are refused; wanted: one item a line; the fault of each stands in its place\n"
+
+    def check(self, batch: Batch, data: bytes) -> Ended:
+        """That each answer is that of its item alone, wherever `--explain` stands."""
+        answers = [batch.explained_answer(it) for it in lines_in(data)]
+        is_refused = any(refused for _, refused in answers)
+        output = b"".join(text for text, _ in answers)
+        words = with_explain(batch.words, self.chance.choice(places(batch.words)))
+        ended = self.run_with(words, data)
+        faults = ITEMS_REFUSED + self.line if is_refused else b""
+        self.assert_ended(ended, int(is_refused), output, faults, f"{spoken(words)} {data[:200]!r}")
+        return ended
+
+    def test_each_kind(self) -> None:
+        for batch, right, wrong in KINDS:
+            self.check(batch, b"")
+            self.check(batch, f"{right}\n".encode())
+            for item in wrong:
+                self.check(batch, f"{right}\n{item}\r\n\n{right}".encode())
+            self.check(batch, "\n".join((*wrong, right, *wrong)).encode())
+
+    def test_other_arguments(self) -> None:
+        """Wrong ones are explained of each item."""
+        for batch in WRONG:
+            self.check(batch, f"{PIN}\n{PAN}\n{SERIAL}\n\n".encode())
+
+    def test_as_alone(self) -> None:
+        """The program itself explains the item as its argument with the same line."""
+        for batch, _, wrong in KINDS:
+            for item in wrong:
+                if item == "-" or item.startswith("@"):
+                    continue
+                words = [*batch.options, "--", *(item if it == "-" else it for it in batch.values)]
+                alone = self.run_with([EXPLAIN, *words])
+                ended = self.run_with([EXPLAIN, *batch.words], item.encode())
+                self.assertEqual(alone.faults.count(b"\n"), 2, spoken(words))
+                self.assertEqual((ended.status, ended.output), (1, alone.faults), spoken(words))
+
+    def test_no_items(self) -> None:
+        """A line that is none is not explained."""
+        for batch, right, _ in KINDS:
+            for bad in (b"\xff", b"0" * (MOST_ITEM + 1)):
+                ended = self.check(batch, right.encode() + b"\n" + bad)
+                self.assertTrue(ended.output.endswith(LINE_REFUSED))
+
+    def test_long_answers(self) -> None:
+        """Faults of the longest items, of more than the output takes at once."""
+        for batch, _, _ in KINDS[::4]:
+            self.check(batch, b"\n".join([b"x" * MOST_ITEM, b"0" * MOST_ITEM] + 400 * [b"x"]))
+
+    def test_secrets(self) -> None:
+        """No explanation has an item of which it tells, or a secret beside it."""
+        for batch, _, wrong in KINDS:
+            data = "\n".join(wrong).encode()
+            self.assertEqual(leaks_of_batch(batch, data, self.check(batch, data)), [], spoken(batch.words))
+
+    def test_references(self) -> None:
+        """Of a secret in a file that is explained which was read."""
+        self.write("it", b"0123\n")
+        line = b"BDK refused\nBDK: 4 bytes; wanted: 32 hexadecimal digits\n"
+        for words, given in ((["derive", "@it", "-"], b""), (["derive", "@-", "-"], b"0123\n")):
+            ended = self.run_with([EXPLAIN, *words], given + f"{SERIAL}\nx\n".encode())
+            self.assert_ended(ended, 1, 2 * line, ITEMS_REFUSED + self.line, spoken(words))
 
     def test_faults_before_items(self) -> None:
         self.explained(["derive", "@missing", "-"], "BDK: cannot read",

@@ -8,9 +8,11 @@ from typing import Mapping, Sequence
 
 from .commands import Refused
 from .everyday_words import Given, lines_of
+from .explained import asked_by, explained
 from .program import Ended
 
 MOST_ITEM = 16_384
+LINE_REFUSED = b"line refused\n"
 ITEMS_REFUSED = b"batch: items refused\n"
 READ_FAILED = b"batch: read failed\n"
 WRITE_FAILED = b"write failed\n"
@@ -50,9 +52,17 @@ class Batch:
                 raise Refused("line refused")
             return written(lines_of(self.command, self.alone(line.decode()))), False
         except UnicodeDecodeError:
-            return b"line refused\n", True
+            return LINE_REFUSED, True
         except Refused as why:
             return f"{why}\n".encode(), True
+
+    def explained_answer(self, line: bytes) -> tuple[bytes, bool]:
+        """The same with `--explain`: behind the fault of an item stands the line that explains it."""
+        text, is_refused = self.answer(line)
+        if not is_refused or text == LINE_REFUSED:
+            return text, is_refused
+        asked = asked_by(self.command, self.alone(line.decode()))
+        return text + f"{explained(asked, text.decode()[:-1])}\n".encode(), True
 
     def answers(self, data: bytes) -> list[tuple[bytes, bool]]:
         return [self.answer(line) for line in lines_in(data)]

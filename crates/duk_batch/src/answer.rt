@@ -2,32 +2,43 @@
 
 ghost use Rattle.std.specs.Prelude.{◌≡◌};
 ghost use Rattle.duk_batch.specs.Item.{IsItemAnswer, no_item_line};
+ghost use Rattle.duk_batch.specs.inner.Batch.{answer_text};
 
 use crate::item::read_item;
 use crate::items::Items;
 use duk_commands::{Lines, push_end, push_text};
 use std::alloc::Global;
 
-/// The answer to a line: its text, and whether that is what the command writes.
+/// The answer to a line: its text, what explains that, and whether it is what the command writes.
 #[derive(Drop)]
 pub(crate) struct Answer {
     pub(crate) text: Lines,
+    pub(crate) explanation: Lines,
     pub(crate) done: bool,
 }
 
 /// The answer to a line, which is that of its item, or else that it is none.
 pub(crate) fn answer_line<I: Items>(alloc: Global, items: &I, line: &[u8]) -> Answer
-    ensures { IsItemAnswer (I.command items.now) line.now result.text.items result.done }
+    ensures { IsItemAnswer (I.command items.now) line.now (answer_text result) result.done }
 {
     let Some(item) = read_item(line) else {
         return Answer {
             text: no_item(),
+            explanation: Lines::new(),
             done: false,
         };
     };
     match items.lines(alloc, item) {
-        Ok(text) => Answer { text, done: true },
-        Err(text) => Answer { text, done: false },
+        Ok(text) => Answer {
+            text,
+            explanation: Lines::new(),
+            done: true,
+        },
+        Err(why) => Answer {
+            text: why.line,
+            explanation: why.explanation,
+            done: false,
+        },
     }
 }
 

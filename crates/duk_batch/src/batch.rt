@@ -1,17 +1,18 @@
 //! The lines of an input in turn, however its bytes come.
 
-ghost use Rattle.std.specs.Prelude.{◌≡◌, ◌++◌, ◌∷◌, [], true, ℕ, List, OnErr, OnOk, take};
+ghost use Rattle.std.specs.Prelude.{◌≡◌, ◌+◌, ◌≤◌, ◌++◌, ◌∷◌, [], true, ℕ, List, OnErr, OnOk, take};
+ghost use Rattle.arrayvec.specs.ArrayVec.{array_vec_len};
 ghost use Rattle.std.specs.Str.Lines.{lines};
 ghost use Rattle.duk_io.specs.Known.{Known};
 ghost use Rattle.duk_io.specs.Sink.{IsCut};
-ghost use Rattle.duk_batch.specs.inner.Batch.{AreAnswered, IsCutOff, IsPushed, IsToldOf, IsUnderWay};
+ghost use Rattle.duk_batch.specs.inner.Batch.{AreAnswered, IsCutOff, IsPushed, IsToldOf, IsUnderWay, answer_text};
 
 use crate::answer::{Answer, answer_line};
 use crate::item::{LONGEST_ITEM, strip_return};
 use crate::items::Items;
 use arrayvec::ArrayVec;
 use duk_commands::Lines;
-use duk_io::{Buffer, Sink, WriteFailed, make_room, write_out};
+use duk_io::{BUFFER_ROOM, Buffer, Sink, WriteFailed, make_room, write_out};
 use std::alloc::Global;
 
 /// How many bytes of a line are kept: an item's, a CR, and one more, which tells that the line is
@@ -98,7 +99,7 @@ impl Batch {
             return Ok(());
         }
         let answer = answer_line(alloc, items, strip_return(self.line.as_slice()));
-        push_answer(&mut self.answers, &answer.text, output)?;
+        push_answer(&mut self.answers, &answer, output)?;
         self.done &= answer.done;
         self.line.clear();
         Ok(())
@@ -145,7 +146,7 @@ impl Batch {
             return Ok(());
         }
         let answer = answer_line(alloc, items, self.line.as_slice());
-        push_answer(&mut self.answers, &answer.text, output)?;
+        push_answer(&mut self.answers, &answer, output)?;
         self.done &= answer.done;
         Ok(())
     }
@@ -163,15 +164,29 @@ fn keep(line: &mut Line, byte: u8)
 /// Holds an answer back. What was held back before is written where there is no room.
 fn push_answer<W: Sink>(
     answers: &mut Buffer,
-    text: &Lines,
+    answer: &Answer,
     output: &mut W,
 ) -> Result<(), WriteFailed>
-    ensures pushed { OnOk result (IsPushed answers.old.items answers.new.items text.now.items
+    ensures pushed { OnOk result (IsPushed answers.old.items answers.new.items (answer_text answer.now)
         (W.known output.old) (W.known output.new)) }
     ensures cut { OnErr result
         (IsCut (W.known output.old) (W.known output.new) answers.old.items) }
 {
-    make_room(answers, text.len(), output)?;
-    answers.try_extend_from_slice(text.as_slice()).unwrap();
+    make_room(
+        answers,
+        answer.text.len() + answer.explanation.len(),
+        output,
+    )?;
+    push_text(answers, &answer.text);
+    push_text(answers, &answer.explanation);
     Ok(())
+}
+
+/// Appends a text, for which there is room.
+fn push_text(answers: &mut Buffer, text: &Lines)
+    requires { array_vec_len answers.old + array_vec_len text.now ≤ BUFFER_ROOM }
+    ensures text { answers.new.items ≡ answers.old.items ++ text.now.items }
+    ensures len { array_vec_len answers.new ≡ array_vec_len answers.old + array_vec_len text.now }
+{
+    answers.try_extend_from_slice(text.as_slice()).unwrap();
 }

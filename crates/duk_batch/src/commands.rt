@@ -1,12 +1,12 @@
 //! The commands that take an argument from each line of their input.
 
-ghost use Rattle.std.specs.Prelude.{◌≡◌};
+ghost use Rattle.std.specs.Prelude.{◌≡◌, []};
 ghost use Rattle.std.specs.Option.{option_copied};
 ghost use Rattle.duk_commands.specs.Fault.{report_line};
 ghost use Rattle.duk_batch.specs.Item.{item_of_command};
 ghost use Rattle.duk_batch.specs.Commands.{derive_item, kcv_item, pan_item, pin_item};
 
-use crate::items::Items;
+use crate::items::{Items, Refused};
 use duk_commands::{Fault, KeyArgument, Lines, pin_lines, push_end, push_text};
 use duk_tools::{derived_lines, values_lines};
 use std::alloc::Global;
@@ -27,11 +27,11 @@ pub struct DeriveItems<'a> {
 impl Items for DeriveItems<'_> {
     ghost command = { λ items item. item_of_command (derive_item items.bdk items.initial items.trace items.all item) };
 
-    fn lines(&self, _alloc: Global, item: &str) -> Result<Lines, Lines> {
+    fn lines(&self, _alloc: Global, item: &str) -> Result<Lines, Refused> {
         let given = KeyArgument::new(self.bdk, self.initial);
         match derived_lines(given, item, self.trace, self.all) {
             Ok(lines) => Ok(lines),
-            Err(why) => Err(fault_line(why)),
+            Err(why) => Err(refused(why)),
         }
     }
 }
@@ -43,10 +43,10 @@ pub struct KcvItems;
 impl Items for KcvItems {
     ghost command = { λ items item. item_of_command (kcv_item item) };
 
-    fn lines(&self, _alloc: Global, item: &str) -> Result<Lines, Lines> {
+    fn lines(&self, _alloc: Global, item: &str) -> Result<Lines, Refused> {
         match values_lines(&[item], false, false) {
             Ok(lines) => Ok(lines),
-            Err(why) => Err(fault_line(why)),
+            Err(why) => Err(refused(why)),
         }
     }
 }
@@ -63,10 +63,10 @@ pub struct PinItems<'a> {
 impl Items for PinItems<'_> {
     ghost command = { λ items item. item_of_command (pin_item items.pan.now (option_copied items.key) item) };
 
-    fn lines(&self, _alloc: Global, item: &str) -> Result<Lines, Lines> {
+    fn lines(&self, _alloc: Global, item: &str) -> Result<Lines, Refused> {
         match pin_lines(item, self.pan, self.key) {
             Ok(lines) => Ok(lines),
-            Err(why) => Err(fault_line(why)),
+            Err(why) => Err(refused(why)),
         }
     }
 }
@@ -83,12 +83,20 @@ pub struct PanItems<'a> {
 impl Items for PanItems<'_> {
     ghost command = { λ items item. item_of_command (pan_item items.pin.now (option_copied items.key) item) };
 
-    fn lines(&self, _alloc: Global, item: &str) -> Result<Lines, Lines> {
+    fn lines(&self, _alloc: Global, item: &str) -> Result<Lines, Refused> {
         match pin_lines(self.pin, item, self.key) {
             Ok(lines) => Ok(lines),
-            Err(why) => Err(fault_line(why)),
+            Err(why) => Err(refused(why)),
         }
     }
+}
+
+/// What stands in the place of an item that is refused for a fault.
+fn refused(why: Fault) -> Refused
+    ensures line { result.line.items ≡ report_line why }
+    ensures explanation { result.explanation.items ≡ [] }
+{
+    Refused::unexplained(fault_line(why))
 }
 
 /// The line of a fault.

@@ -1,10 +1,32 @@
 //! A command over one item.
 
-ghost use Rattle.std.specs.Prelude.{ℕ, List, IfErr, IfOk};
-ghost use Rattle.duk_batch.specs.Item.{ItemCommand};
+ghost use Rattle.std.specs.Prelude.{◌≡◌, [], ℕ, List, IfErr, IfOk};
+ghost use Rattle.duk_batch.specs.Item.{IsRefusal, ItemCommand};
 
 use duk_commands::Lines;
 use std::alloc::Global;
+
+/// What stands in the place of an item that is refused.
+#[derive(Drop)]
+pub struct Refused {
+    /// The line of the fault.
+    pub line: Lines,
+    /// The line that explains it, or nothing.
+    pub explanation: Lines,
+}
+
+impl Refused {
+    /// The line of a fault, which nothing explains.
+    pub fn unexplained(line: Lines) -> Self
+        ensures line { result.line.items ≡ line.items }
+        ensures explanation { result.explanation.items ≡ [] }
+    {
+        Refused {
+            line,
+            explanation: Lines::new(),
+        }
+    }
+}
 
 /// A command of which one argument is an item, and the others are given.
 pub trait Items {
@@ -12,7 +34,7 @@ pub trait Items {
     ghost command: { Self → List ℕ → ItemCommand };
 
     /// The lines of an item, or the line of the fault for which it is refused.
-    fn lines(&self, alloc: Global, item: &str) -> Result<Lines, Lines>
+    fn lines(&self, alloc: Global, item: &str) -> Result<Lines, Refused>
         ensures lines { IfOk result (λ lines. (command self.now item.now).writes lines.items) }
-        ensures refused { IfErr result (λ line. (command self.now item.now).refuses line.items) };
+        ensures refused { IfErr result (IsRefusal (command self.now item.now)) };
 }

@@ -10,5 +10,5 @@ mod items;
 mod run;
 
 pub use commands::{DeriveItems, KcvItems, PanItems, PinItems};
-pub use items::Items;
+pub use items::{Items, Refused};
 pub use run::do_batch;

@@ -3,6 +3,7 @@ mod FaultIsReported
 mod Marked
 mod WrittenStaysWritten
 mod Endings
+mod ExplainedItems
 mod InputRead
 mod Told
 mod Words

@@ -9,8 +9,9 @@ use Rattle.duk_io.specs.Sink.{IsUntouched}
 use Rattle.duk_program.specs.Explained.{HasExplained, IsHeardDone, IsMeantFailed, IsNotDoneOf, IsTold, heard_in, holding}
 use Rattle.duk_program.proofs.Answered.{meant_done}
 use Rattle.duk_service.specs.Files.{FileKnown}
+use Rattle.duk_program.specs.ExplainedItems.{IsNotAnsweredExplained}
 use Rattle.duk_program.specs.Inquiry.{Inquiry}
-use Rattle.duk_program.specs.Meant.{AreSecretsRead, HasUnreadSecret, IsAnswered, IsNotAnswered, referred_in}
+use Rattle.duk_program.specs.Meant.{AreSecretsRead, HasUnreadSecret, IsAnswered, referred_in}
 use Rattle.duk_program.specs.Program.{run_in}
 use Rattle.duk_program.specs.RunFiles.{HasReportedFault}
 use Rattle.duk_program.specs.Scene.{Scene, reading_on, scene}
@@ -63,7 +64,7 @@ heard_from s empty line = scene s.held s.disks s.making s.streams (holding empty
 
 -- what is answered of a request over what its secrets stand for, with a line that is told
 pub meant_explained : {D : Type 0} {q : Inquiry} (meaning : DiskMeaning D) (s : Scene D) (asked meant : Request) (input : Supply) (empty line : List ℕ) → empty ≡ [] → IsOverSecrets asked
-    → AreSecretsRead s asked input → HasMeaning (referred_in s) asked meant → IsNotAnswered meaning (reading_on (heard_from s empty line) input) meant
+    → AreSecretsRead s asked input → HasMeaning (referred_in s) asked meant → IsNotAnsweredExplained meaning (reading_on (heard_from s empty line) input) meant
     → IsTold q line meant s.fault_before s.fault_after → HasExplained meaning q s asked
 meant_explained meaning s asked meant input empty line none over read means not_done told = record {
   line = line;

@@ -10,8 +10,9 @@ use Rattle.duk_host.specs.Serve.{Supply}
 use Rattle.duk_io.specs.Known.{Known}
 use Rattle.duk_io.specs.Sink.{IsTried}
 use Rattle.duk_program.specs.Commands.{HasLostCommandOutput, HasShown, IsNotShown}
+use Rattle.duk_program.specs.ExplainedItems.{IsNotAnsweredExplained}
 use Rattle.duk_program.specs.Inquiry.{AreFacts, Inquiry}
-use Rattle.duk_program.specs.Meant.{AreSecretsRead, HasUnreadSecret, IsNotAnswered, referred_in}
+use Rattle.duk_program.specs.Meant.{AreSecretsRead, HasUnreadSecret, referred_in}
 use Rattle.duk_program.specs.Program.{IsProgramDone, IsProgramNotDone, IsRequestDone, IsRequestNotDone}
 use Rattle.duk_program.specs.Scene.{Scene, reading_on, scene, writers_of}
 use Rattle.duk_program.specs.Secrets.{HasMeaning}
@@ -42,13 +43,14 @@ pub record IsHeardDone {D : Type 0} (meaning : DiskMeaning D) (s : Scene D) (ask
   pub heard : List ℕ
   pub done : IsRequestDone meaning (heard_in s heard) asked
 
--- the request is not done over what its secrets stand for
+-- the request is not done over what its secrets stand for; the fault of an item is explained behind
+-- it
 pub record IsMeantFailed {D : Type 0} (meaning : DiskMeaning D) (s : Scene D) (asked meant : Request)
     : Type 0 where
   pub input : Supply
   pub read : AreSecretsRead s asked input
   pub means : HasMeaning (referred_in s) asked meant
-  pub not_done : IsNotAnswered meaning (reading_on s input) meant
+  pub not_done : IsNotAnsweredExplained meaning (reading_on s input) meant
 
 -- status 1 of a request, and of which request it is explained: of the one whose secrets are what
 -- they stand for, or where one is not read, of the request as it is written

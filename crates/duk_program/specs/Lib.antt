@@ -2,6 +2,7 @@ pub mod Commands
 pub mod Configured
 pub mod Explain
 pub mod Explained
+pub mod ExplainedItems
 pub mod InputLine
 pub mod Inquiry
 pub mod IssueFiles

@@ -3,6 +3,7 @@
 ghost use Rattle.std.specs.Prelude.{◌≡◌, ◌⊎◌};
 ghost use Rattle.duk_commands.specs.Answer.{IsDone, IsNotDone, streams};
 ghost use Rattle.duk_program.specs.Commands.{command_for};
+ghost use Rattle.duk_program.specs.ExplainedItems.{IsNotAnsweredExplained};
 ghost use Rattle.duk_program.specs.Meant.{HasLostLines, IsAnswered, IsDoneAlone, IsNotAnswered, IsNotDoneAlone};
 ghost use Rattle.duk_program.specs.Scene.{scene};
 ghost use Rattle.duk_program.specs.Secrets.{IsOverSecrets};
@@ -10,6 +11,7 @@ ghost use Rattle.duk_service.specs.Serve.{serving_of};
 ghost use Rattle.duk_program.specs.inner.Commands.{NeedsNoFile};
 
 use crate::commands::do_command;
+use crate::explained_items::ExplainedItems;
 use crate::issue_files::{IssueArguments, issue_files};
 use crate::items::line_command;
 use crate::show::show_text;
@@ -44,6 +46,35 @@ where
 {
     match line_command(&request) {
         Some(items) => do_batch(alloc, &items, input, output, fault),
+        None => answer_alone(alloc, files, request, output, fault),
+    }
+}
+
+/// The same, but behind the line of the fault of an item another explains it.
+pub(crate) fn answer_explained<S: FileSystem + LogFiles, R: Source, W: Sink, F: Sink>(
+    alloc: Global,
+    files: &S,
+    request: Request<'_>,
+    input: &mut R,
+    output: &mut W,
+    fault: &mut F,
+) -> u8
+where
+    S::Disk: Disk,
+    requires { IsOverSecrets request }
+    ensures status { (result ≡ 0) ⊎ (result ≡ 1) }
+    ensures done { result ≡ 0 → IsAnswered S.Disk.meaning (scene (S.held files.now)
+        (S.disks files.now) (S.making files.now) (serving_of R.known R.reads W.known input.old input.new output.old
+        output.new) (F.known fault.old) (F.known fault.new)) request.entry }
+    ensures not_done { result ≡ 1 → IsNotAnsweredExplained S.Disk.meaning (scene (S.held files.now)
+        (S.disks files.now) (S.making files.now) (serving_of R.known R.reads W.known input.old input.new output.old
+        output.new) (F.known fault.old) (F.known fault.new)) request.entry }
+{
+    match line_command(&request) {
+        Some(items) => {
+            let items = ExplainedItems { request, items };
+            do_batch(alloc, &items, input, output, fault)
+        }
         None => answer_alone(alloc, files, request, output, fault),
     }
 }

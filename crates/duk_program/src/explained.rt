@@ -11,7 +11,7 @@ ghost use Rattle.duk_program.specs.Secrets.{IsOverSecrets, secret_line};
 ghost use Rattle.duk_service.specs.Serve.{serving_of};
 ghost use Rattle.duk_program.specs.Status.{IsStatus};
 
-use crate::answers::answer;
+use crate::answers::answer_explained;
 use crate::dispatch::show_at_end;
 use crate::meant::{keys_of, read_texts};
 use crate::reasons::facts_of;
@@ -104,8 +104,8 @@ where
     }
 }
 
-/// Does the command of a request over what its secrets stand for. A secret that is not read is
-/// explained as it is written.
+/// Does the command of a request over what its secrets stand for. The fault of an item is explained
+/// behind it, and a secret that is not read as it is written.
 fn do_meant_explained<S: FileSystem + LogFiles, R: Source, W: Sink, F: Sink>(
     alloc: Global,
     files: &S,
@@ -136,7 +136,7 @@ where
     };
     let meant = with_secrets(&request, &texts);
     let mut line = Vec::new(alloc);
-    let status = answer(alloc, files, meant, input, output, &mut line);
+    let status = answer_explained(alloc, files, meant, input, output, &mut line);
     tell(alloc, files, &meant, status, line.as_slice(), fault)
 }
 

@@ -1,19 +1,19 @@
 //! Commands of which one argument is each line of the input.
 
-ghost use Rattle.std.specs.Prelude.{◌≡◌, ◌||◌, ◌&&◌, IfErr, IfOk, MatchOption, None, Some, not};
+ghost use Rattle.std.specs.Prelude.{◌≡◌, ◌||◌, ◌&&◌, [], IfErr, IfOk, MatchOption, None, Some, not};
 ghost use Rattle.duk_arguments.specs.Keys.{texts_of_keys};
-ghost use Rattle.duk_batch.specs.Item.{HasFaultLine};
-ghost use Rattle.duk_program.specs.Items.{command_of_line, is_input, is_input_alone, items_of, shown_items};
+ghost use Rattle.duk_batch.specs.Item.{IsRefusal};
+ghost use Rattle.duk_program.specs.Items.{blocks, command_of_line, frames, images, is_input, is_input_alone, items_of, shown_items};
 ghost use Rattle.duk_program.specs.inner.Items.{items_in};
-ghost use Rattle.duk_show.specs.Block.{IsBlockRefused, IsBlockText};
+ghost use Rattle.duk_show.specs.Block.{IsBlockText};
 ghost use Rattle.duk_show.specs.Fault.{show_line};
-ghost use Rattle.duk_show.specs.Frame.{IsFrameRefused, IsFrameText};
-ghost use Rattle.duk_show.specs.Image.{IsImageRefused, IsImageText};
+ghost use Rattle.duk_show.specs.Frame.{IsFrameText};
+ghost use Rattle.duk_show.specs.Image.{IsImageText};
 
 use duk_arguments::{Keys, Request};
-use duk_batch::{DeriveItems, Items, KcvItems, PanItems, PinItems};
+use duk_batch::{DeriveItems, Items, KcvItems, PanItems, PinItems, Refused};
 use duk_commands::Lines;
-use duk_show::{block_lines, frame_lines, image_lines};
+use duk_show::{ShowFault, block_lines, frame_lines, image_lines};
 use std::alloc::Global;
 
 /// A command of which one argument is each line of the input.
@@ -41,7 +41,7 @@ pub(crate) enum LineCommand<'a> {
 impl Items for LineCommand<'_> {
     ghost command = { λ command. command_of_line (items_in command) };
 
-    fn lines(&self, alloc: Global, item: &str) -> Result<Lines, Lines> {
+    fn lines(&self, alloc: Global, item: &str) -> Result<Lines, Refused> {
         match self {
             LineCommand::Derive(items) => items.lines(alloc, item),
             LineCommand::Kcv(items) => items.lines(alloc, item),
@@ -55,39 +55,44 @@ impl Items for LineCommand<'_> {
 }
 
 /// The lines of a frame, or that of its fault.
-fn shown_frame(alloc: Global, frame: &str) -> Result<Lines, Lines>
+fn shown_frame(alloc: Global, frame: &str) -> Result<Lines, Refused>
     ensures lines { IfOk result (λ lines. IsFrameText frame.now lines.items) }
-    ensures refused { IfErr result
-        (λ line. HasFaultLine (IsFrameRefused frame.now) show_line line.items) }
+    ensures refused { IfErr result (IsRefusal (command_of_line frames frame.now)) }
 {
     match frame_lines(alloc, frame) {
         Ok(lines) => Ok(lines),
-        Err(why) => Err(why.line()),
+        Err(why) => Err(refused(why)),
     }
 }
 
 /// The lines of a key block, or that of its fault.
-fn shown_block(block: &str) -> Result<Lines, Lines>
+fn shown_block(block: &str) -> Result<Lines, Refused>
     ensures lines { IfOk result (λ lines. IsBlockText block.now lines.items) }
-    ensures refused { IfErr result
-        (λ line. HasFaultLine (IsBlockRefused block.now) show_line line.items) }
+    ensures refused { IfErr result (IsRefusal (command_of_line blocks block.now)) }
 {
     match block_lines(block) {
         Ok(lines) => Ok(lines),
-        Err(why) => Err(why.line()),
+        Err(why) => Err(refused(why)),
     }
 }
 
 /// The lines of a terminal's image, or that of its fault.
-fn shown_image(alloc: Global, image: &str, show: bool) -> Result<Lines, Lines>
+fn shown_image(alloc: Global, image: &str, show: bool) -> Result<Lines, Refused>
     ensures lines { IfOk result (λ lines. IsImageText image.now show lines.items) }
-    ensures refused { IfErr result
-        (λ line. HasFaultLine (IsImageRefused image.now) show_line line.items) }
+    ensures refused { IfErr result (IsRefusal (command_of_line (images show) image.now)) }
 {
     match image_lines(alloc, image, show) {
         Ok(lines) => Ok(lines),
-        Err(why) => Err(why.line()),
+        Err(why) => Err(refused(why)),
     }
+}
+
+/// What stands in the place of an item that is not shown.
+fn refused(why: ShowFault) -> Refused
+    ensures line { result.line.items ≡ show_line why }
+    ensures explanation { result.explanation.items ≡ [] }
+{
+    Refused::unexplained(why.line())
 }
 
 /// The command of a request of which one argument is each line of the input, as `-` says.
@@ -181,7 +186,7 @@ fn asks_for_keys(keys: &Keys<'_>, components: bool, show: bool) -> bool
 }
 
 /// Whether a text stands for the lines of the input.
-fn is_input(text: &str) -> bool
+pub(crate) fn is_input(text: &str) -> bool
     ensures { result ≡ is_input text.now }
 {
     text == "-"

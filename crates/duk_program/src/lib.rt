@@ -7,6 +7,7 @@ mod configuration;
 mod dispatch;
 mod explain;
 mod explained;
+mod explained_items;
 mod issue_files;
 mod items;
 mod meant;

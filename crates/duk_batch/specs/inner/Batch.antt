@@ -9,12 +9,17 @@ use Rattle.duk_io.specs.Known.{Known, Rose}
 use Rattle.duk_io.specs.Sink.{IsCut, IsDrained, IsTried, IsWritten}
 use Rattle.duk_batch.specs.Batch.{AreAllReads, EndsWithin, Input, IsReadBroken, IsReadToEnd}
 use Rattle.duk_batch.specs.Item.{AreAnswers, ItemAnswer, ItemCommand, text_of}
+use Rattle.duk_batch.specs.declared.answer.Answer.{Answer}
 use Rattle.duk_batch.specs.declared.run.End.{End}
 use Rattle.duk_batch.specs.declared.run.End.TheVariants.{Answered, Unread, Unwritten}
 
 -- how many bytes of a line are kept: an item's, a CR, and one more, which tells that it is too long
 abbrev pub line_room : ℕ
 line_room = 16386
+
+-- the text of an answer, and what explains it
+abbrev pub answer_text : Answer → List ℕ
+answer_text answer = answer.text.items ++ answer.explanation.items
 
 -- a text follows what was held back, of which a front may have been written
 pub record IsPushed (old new text : List ℕ) (before after : Known) : Type 0 where

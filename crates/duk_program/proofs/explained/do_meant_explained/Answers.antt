@@ -23,20 +23,20 @@ with_secrets-meant-requires-clause-count g c =
 pub returns-clause-done : goal.returns-clause-done
 returns-clause-done g c zero = meant_heard g.S.Disk.Disk.meaning
     (scene (g.S.FileSystem.held c.args.files.now) (g.S.LogFiles.disks c.args.files.now) (g.S.LogFiles.making c.args.files.now)
-    (serving_of g.R.Source.known g.R.Source.reads g.W.Sink.known c.args.input.now c.answer-status.new.input c.args.output.now c.answer-status.new.output)
+    (serving_of g.R.Source.known g.R.Source.reads g.W.Sink.known c.args.input.now c.answer_explained-status.new.input c.args.output.now c.answer_explained-status.new.output)
     (g.F.Sink.known c.args.fault.now) (g.F.Sink.known c.tell.new.fault))
-    c.args.request c.with_secrets-meant.result (supply (g.R.Source.known c.read_texts.new.input) (g.R.Source.reads c.read_texts.new.input)) c.new-line.result.items c.answer-status.new.fault.items c.new-line.ensures.items c.requires
+    c.args.request c.with_secrets-meant.result (supply (g.R.Source.known c.read_texts.new.input) (g.R.Source.reads c.read_texts.new.input)) c.new-line.result.items c.answer_explained-status.new.fault.items c.new-line.ensures.items c.requires
     c.in-Ok.ensures.read.taken
     (c.with_secrets-meant.ensures.meaning _ (each_means_of _ _ _ _ (c.in-Some.ensures ∙ ap (map string_bytes) c.as_slice.ensures.value) c.in-Ok.ensures.read.means))
-    (c.answer-status.ensures.done (sym c.tell.ensures.status ∙ zero))
+    (c.answer_explained-status.ensures.done (sym c.tell.ensures.status ∙ zero))
 
 pub returns-clause-not_done : goal.returns-clause-not_done
 returns-clause-not_done g c one = meant_explained g.S.Disk.Disk.meaning
     (scene (g.S.FileSystem.held c.args.files.now) (g.S.LogFiles.disks c.args.files.now) (g.S.LogFiles.making c.args.files.now)
-    (serving_of g.R.Source.known g.R.Source.reads g.W.Sink.known c.args.input.now c.answer-status.new.input c.args.output.now c.answer-status.new.output)
+    (serving_of g.R.Source.known g.R.Source.reads g.W.Sink.known c.args.input.now c.answer_explained-status.new.input c.args.output.now c.answer_explained-status.new.output)
     (g.F.Sink.known c.args.fault.now) (g.F.Sink.known c.tell.new.fault))
-    c.args.request c.with_secrets-meant.result (supply (g.R.Source.known c.read_texts.new.input) (g.R.Source.reads c.read_texts.new.input)) c.new-line.result.items c.answer-status.new.fault.items c.new-line.ensures.items c.requires
+    c.args.request c.with_secrets-meant.result (supply (g.R.Source.known c.read_texts.new.input) (g.R.Source.reads c.read_texts.new.input)) c.new-line.result.items c.answer_explained-status.new.fault.items c.new-line.ensures.items c.requires
     c.in-Ok.ensures.read.taken
     (c.with_secrets-meant.ensures.meaning _ (each_means_of _ _ _ _ (c.in-Some.ensures ∙ ap (map string_bytes) c.as_slice.ensures.value) c.in-Ok.ensures.read.means))
-    (c.answer-status.ensures.not_done (sym c.tell.ensures.status ∙ one))
+    (c.answer_explained-status.ensures.not_done (sym c.tell.ensures.status ∙ one))
     (told_of _ _ _ _ _ c.as_slice-2.ensures.value (c.tell.ensures.told (sym c.tell.ensures.status ∙ one)))

@@ -1,6 +1,6 @@
 use Rattle.std.proofs.Common.{◌≡◌, ◌++◌, ◌∷◌, ◌&&◌, [], ℕ, List, ap, subst, sym, ◌∙◌}
 use Rattle.std.specs.Str.Lines.{strip_carriage_return}
-use Rattle.duk_batch.specs.inner.Batch.{IsUnderWay}
+use Rattle.duk_batch.specs.inner.Batch.{IsUnderWay, answer_text}
 use Rattle.duk_batch.specs.Item.{IsItemAnswer}
 use Rattle.duk_batch.proofs.AnswersInTurn.{WriteLaws}
 use Rattle.duk_batch.proofs.Outcomes.{on_err}
@@ -27,8 +27,8 @@ returns-clause-goes_on g c bytes before way =
     let held = c.push_answer.new.answers.items in
     let now = g.W.Sink.known c.push_answer.new.output in
     let stripped : c.strip_return.result.now ≡ strip_carriage_return c.args.self.now.line.items = c.strip_return.ensures ∙ ap strip_carriage_return c.as_slice.ensures.value in
-    let right = subst (λ (l : List ℕ). IsItemAnswer command l answer.text.items answer.done) stripped c.answer_line-answer.ensures in
-    let after = line_answered command laws bytes c.args.self.now.line.items c.args.self.now.done c.args.self.now.answers.items held answer.text.items answer.done before (g.W.Sink.known c.args.output.now) now
+    let right = subst (λ (l : List ℕ). IsItemAnswer command l (answer_text answer) answer.done) stripped c.answer_line-answer.ensures in
+    let after = line_answered command laws bytes c.args.self.now.line.items c.args.self.now.done c.args.self.now.answers.items held (answer_text answer) answer.done before (g.W.Sink.known c.args.output.now) now
     right c.in_ok-push_answer.ensures.pushed way in
     subst (λ (l : List ℕ). IsUnderWay command (bytes ++ c.args.byte ∷ []) l done held before now) (sym c.clear.ensures)
     (subst (λ (b : ℕ). IsUnderWay command (bytes ++ b ∷ []) [] done held before now) (sym c.if-byte-ne10.false) after)

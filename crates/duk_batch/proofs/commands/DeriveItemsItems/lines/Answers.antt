@@ -15,8 +15,11 @@ pub returns-in-Err-clause-refused : goal.returns-in-Err-clause-refused
 returns-in-Err-clause-refused c =
     let items = c.args.self.now in
     let why = c.in-Err.why in record {
-      why = why;
-      cause = derived_refused items.bdk c.args.item.now items.initial items.trace items.all why
-          (subst (λ given. IsStartRefused given c.args.item.now why) c.new-given.ensures c.in-Err.ensures.refused);
-      line_is = c.fault_line.ensures;
+      refused = record {
+        why = why;
+        cause = derived_refused items.bdk c.args.item.now items.initial items.trace items.all why
+            (subst (λ given. IsStartRefused given c.args.item.now why) c.new-given.ensures c.in-Err.ensures.refused);
+        line_is = c.refused.ensures.line;
+      };
+      explained = c.refused.ensures.explanation;
     }
