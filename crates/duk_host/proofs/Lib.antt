@@ -1,6 +1,8 @@
 mod Exchanges
 mod NumbersOfRanges
+mod RangeNumbers
 mod RangeWithOneMore
+mod NeighbouringRanges
 mod OneNumberMore
 mod NumbersAreRead
 mod AcceptedIsAnswered

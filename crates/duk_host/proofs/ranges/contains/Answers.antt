@@ -1,6 +1,6 @@
 use Rattle.std.proofs.Common.{sym, ◌∙◌, subst, true≢false}
 use Rattle.duk_host.specs.inner.Index.{Reaches}
-use Rattle.duk_host.proofs.RangeWithOneMore.{held_iff_reached}
+use Rattle.duk_host.proofs.NeighbouringRanges.{held_iff_reached}
 use Rattle.duk_host.proofs.ranges.contains.Goals as goal
 
 pub returns-else-reaches-clause-held : goal.returns-else-reaches-clause-held

@@ -1,7 +1,8 @@
 use Rattle.std.proofs.Common.{sym, ◌∙◌, subst, true≢false}
 use Rattle.duk_host.specs.declared.ranges.Range.{Range}
 use Rattle.duk_host.specs.inner.Index.{EndsWith, Reaches}
-use Rattle.duk_host.proofs.RangeWithOneMore.{IsJoined, holds_one_more, is_joined, ranges_unchanged, still_ranges, was_fresh}
+use Rattle.duk_host.proofs.NeighbouringRanges.{is_joined, ranges_unchanged}
+use Rattle.duk_host.proofs.RangeWithOneMore.{IsJoined, holds_one_more, still_ranges, was_fresh}
 use Rattle.duk_host.proofs.ranges.insert.Goals as goal
 use Rattle.duk_host.proofs.ranges.insert.Goals.{In_ok-put}
 

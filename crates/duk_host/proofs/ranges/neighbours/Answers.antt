@@ -1,5 +1,5 @@
 use Rattle.duk_host.proofs.NumbersOfRanges.{HaveOnePath}
-use Rattle.duk_host.proofs.RangeWithOneMore.{before_next, none_above_last, none_after_other}
+use Rattle.duk_host.proofs.NeighbouringRanges.{before_next, none_above_last, none_after_other}
 use Rattle.duk_host.proofs.ranges.neighbours.Goals as goal
 use Rattle.duk_host.proofs.ranges.neighbours.Goals.{After-paths}
 
