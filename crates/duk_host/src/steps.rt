@@ -1,13 +1,14 @@
 //! The steps of a judgement, for a host that keeps what it accepted in another way than `Host`.
 
-ghost use Rattle.std.specs.Prelude.{◌≡◌, ℕ, [], List, IfOk, IfErr, OnOk};
+ghost use Rattle.std.specs.Prelude.{◌≡◌, ◌↔◌, ℕ, [], List, Contains, IfOk, IfErr, OnOk};
 ghost use Rattle.duk_frame.specs.Request.{IsRequest};
 ghost use Rattle.duk_frame.specs.declared.request.Request.{Request};
 ghost use Rattle.duk_hsm.specs.Keys.{HsmKeys};
 ghost use Rattle.duk_hsm.specs.TransactionKeys.{AreTransactionKeys};
 ghost use Rattle.duk_store.specs.Log.{Numbers};
+ghost use Rattle.duk_tree.specs.Serial.{Serial};
 ghost use Rattle.duk_host.specs.Judgement.{Decision, IsAcceptable, IsAuthentic, IsRefusalFor, basis_with};
-ghost use Rattle.duk_host.specs.Used.{Lists};
+ghost use Rattle.duk_host.specs.Used.{IsUsed};
 
 use crate::judge::{check_number, open_authentic};
 use crate::payment::Payment;
@@ -44,14 +45,17 @@ pub fn authenticate<const N: usize>(hsm: &Hsm<N>, bytes: &[u8]) -> Result<Paymen
 }
 
 /// Judges an authentic request that was never accepted before by its number and by the room for it:
-/// it may be accepted, or this is the frame of its refusal, whose reason is 5 or 6.
+/// it may be accepted, or this is the frame of its refusal, whose reason is 5 or 6. So it is by each
+/// list that has the used numbers, however often each stands in it.
 pub fn admit(payment: &Payment, used: &UsedNumbers, room: u64) -> Result<(), Frame>
     ensures acceptable { OnOk result ((keys : HsmKeys) (numbers : Numbers) (decides : Decision)
-        → IsAuthentic keys payment.now.request → Lists numbers used.now
+        → IsAuthentic keys payment.now.request
+        → ((ksn : Serial) → Contains numbers ksn ↔ IsUsed used.now ksn)
         → IsAcceptable (basis_with keys numbers [] room decides) payment.now.request) }
     ensures refused { IfErr result (λ frame. (keys : HsmKeys) (numbers : Numbers)
         → (decides : Decision) (bytes : List ℕ) → IsRequest bytes payment.now.request
-        → IsAuthentic keys payment.now.request → Lists numbers used.now
+        → IsAuthentic keys payment.now.request
+        → ((ksn : Serial) → Contains numbers ksn ↔ IsUsed used.now ksn)
         → IsRefusalFor (basis_with keys numbers [] room decides) bytes frame.items) }
 {
     let ksn = payment.request.ksn;
