@@ -29,7 +29,8 @@ use Rattle.duk_till.specs.declared.state.TillState.{TillState}
 use Rattle.duk_till.specs.declared.state.TillState.TheVariants.{Stopped, Running}
 
 -- a call of a till, with what it was given and what it gave; or its process ends, and a new till is
--- made over what the cells keep
+-- made over what the cells keep. A process that ends within a call leaves what the call leaves where
+-- a device step fails
 pub data Call : Type 0 where
   Begin : Purchase → Result Begun TillFault → Call
   Reply : List ℕ → Result Answer TillFault → Call

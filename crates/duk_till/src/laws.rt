@@ -26,7 +26,8 @@ pub fn one_reading()
 
 /// What a till has told and what its book keeps are the same, through any calls, wherever a device
 /// step of either cell fails, and whenever its process ends and another till is made over what its
-/// cells keep, where these are honest.
+/// cells keep, where these are honest. A process that ends within a call leaves what the call leaves
+/// where a device step fails.
 ///
 /// While the till runs, since the last purchase began it told what became of that, and nothing
 /// else; of an open purchase it told nothing, and none began after it. Whatever a restart of the
