@@ -3,29 +3,29 @@ use Rattle.std.proofs.Common.{◌≡◌, ◌≢◌, ◌⊎◌, inl, inr, ℕ, ze
 use Rattle.std.proofs.lemmas.Bool.{cases_eq, cases_lt}
 use Rattle.std.specs.List.{slice_get}
 use Rattle.duk_store.specs.Disk.{DiffersWithin, DiskState, LeavesChanged, written}
-use Rattle.duk_journal.specs.Groups.{HasContents, Payments}
+use Rattle.duk_journal.specs.Groups.{Entries, HasContents}
 use Rattle.duk_journal.specs.RecordFormat.{IsOpen, after_gate, gate_of, record_at}
 use Rattle.duk_journal.specs.inner.Groups.{AreWritten, followers_at}
 use Rattle.duk_journal.specs.inner.GroupSteps.{AreContentsWritten, IsGroupTorn, IsGroupWritten, LeavesAllButGate, LeavesGates, LeavesOne, MayLeaveChanged}
-use Rattle.duk_journal.specs.declared.payment.Payment.{Payment}
+use Rattle.duk_journal.specs.declared.entry.Entry.{Entry}
 use Rattle.duk_journal.proofs.WrittenBytes.{contents_written, gate_written, gates_then, leaves_all_but, leaves_gates, other_record, written_differs}
 
-pub followers_of_first : (index : ℕ) (group : Payments) → index ≡ 0 → followers_at index group ≡ length group - 1
+pub followers_of_first : (index : ℕ) (group : Entries) → index ≡ 0 → followers_at index group ≡ length group - 1
 followers_of_first zero group is = refl
 followers_of_first (suc index) group is = absurd (omega (arith, is))
 
-pub followers_of_other : (index : ℕ) (group : Payments) → index ≢ 0 → followers_at index group ≡ 0
+pub followers_of_other : (index : ℕ) (group : Entries) → index ≢ 0 → followers_at index group ≡ 0
 followers_of_other zero group other = absurd (other refl)
 followers_of_other (suc index) group other = refl
 
--- the payment at a place
-pub payment_got : (group : Payments) (index : ℕ) (payment other : Payment) → slice_get group index ≡ Some payment → get_or group index other ≡ payment
-payment_got [] index payment other is = cc
-payment_got (p ∷ group) zero payment other is = cc
-payment_got (p ∷ group) (suc index) payment other is = payment_got group index payment other is
+-- the entry at a place
+pub entry_got : (group : Entries) (index : ℕ) (entry other : Entry) → slice_get group index ≡ Some entry → get_or group index other ≡ entry
+entry_got [] index entry other is = cc
+entry_got (p ∷ group) zero entry other is = cc
+entry_got (p ∷ group) (suc index) entry other is = entry_got group index entry other is
 
 -- one more record is written
-module _ (group : Payments) (place index : ℕ) (payment : Payment) (bytes : List ℕ) (less : index < length group) (payment_is : payment ≡ get_or group index payment) where
+module _ (group : Entries) (place index : ℕ) (entry : Entry) (bytes : List ℕ) (less : index < length group) (entry_is : entry ≡ get_or group index entry) where
   abbrev at : ℕ
   at = 32 * (place + index) + 1
 
@@ -33,7 +33,7 @@ module _ (group : Payments) (place index : ℕ) (payment : Payment) (bytes : Lis
   next_leaves x y whole torn = leaves_gates (place + index) x y (subst (λ (n : ℕ). DiffersWithin at n x y) whole torn) place (length group) (omega arith) (omega (arith, less))
 
   pub next_written : (x y z : List ℕ) → length bytes ≡ 31 → 32 * (place + length group) ≤ length y → z ≡ written y at bytes
-      → ((r : List ℕ) → after_gate r ≡ bytes → HasContents (followers_at index group) payment r)
+      → ((r : List ℕ) → after_gate r ≡ bytes → HasContents (followers_at index group) entry r)
       → AreContentsWritten index group place x y → AreContentsWritten (index + 1) group place x z
   next_written x y z whole inside z_is has so_far =
       let fits : at + length bytes ≤ length y = omega (arith, inside, less, whole) in
@@ -47,9 +47,9 @@ module _ (group : Payments) (place index : ℕ) (payment : Payment) (bytes : Lis
           | inl before ↦ rw (other_record (place + index) y z torn' (place + k) (omega (arith, before))) (so_far.contents k p before is)
           | inr past ↦
               let same : index ≡ k = omega (arith, below, past) in
-              let p_is : payment ≡ p = payment_is ∙ ap (λ (i : ℕ). get_or group i payment) same ∙ payment_got group k p payment is in
-              subst (λ (q : Payment). HasContents (followers_at k group) q (record_at (place + k) z)) p_is
-              (subst (λ (i : ℕ). HasContents (followers_at i group) payment (record_at (place + i) z)) same (has (record_at (place + index) z) here))
+              let p_is : entry ≡ p = entry_is ∙ ap (λ (i : ℕ). get_or group i entry) same ∙ entry_got group k p entry is in
+              subst (λ (q : Entry). HasContents (followers_at k group) q (record_at (place + k) z)) p_is
+              (subst (λ (i : ℕ). HasContents (followers_at i group) entry (record_at (place + i) z)) same (has (record_at (place + index) z) here))
         ];
       }
 
@@ -61,15 +61,15 @@ module _ (group : Payments) (place index : ℕ) (payment : Payment) (bytes : Lis
 -- ---- the gate of the first record
 
 -- contents after another gate
-same_has : (followers : ℕ) (payment : Payment) (r s : List ℕ) → HasContents followers payment r → after_gate s ≡ after_gate r → HasContents followers payment s
-same_has followers payment r s has same = record { payment_is = has.payment_is; followers_fit = has.followers_fit; written = same ∙ has.written }
+same_has : (followers : ℕ) (entry : Entry) (r s : List ℕ) → HasContents followers entry r → after_gate s ≡ after_gate r → HasContents followers entry s
+same_has followers entry r s has same = record { entry_is = has.entry_is; followers_fit = has.followers_fit; written = same ∙ has.written }
 
-pub written_still : (group : Payments) (count place : ℕ) (y z : List ℕ) → LeavesAllButGate place y z → AreWritten count group place y → AreWritten count group place z
-written_still group count place y z all_but written index payment less is = elim (cases_eq (place + index) place) [
+pub written_still : (group : Entries) (count place : ℕ) (y z : List ℕ) → LeavesAllButGate place y z → AreWritten count group place y → AreWritten count group place z
+written_still group count place y z all_but written index entry less is = elim (cases_eq (place + index) place) [
   | inl first ↦
       let same : after_gate (record_at (place + index) z) ≡ after_gate (record_at (place + index) y) = subst (λ (at : ℕ). after_gate (record_at at z) ≡ after_gate (record_at at y)) (sym first) all_but.contents in
-      same_has (followers_at index group) payment (record_at (place + index) y) (record_at (place + index) z) (written index payment less is) same
-  | inr other ↦ rw (all_but.beside (place + index) other) (written index payment less is)
+      same_has (followers_at index group) entry (record_at (place + index) y) (record_at (place + index) z) (written index entry less is) same
+  | inr other ↦ rw (all_but.beside (place + index) other) (written index entry less is)
 ]
 
 pub gate_opened : (place : ℕ) (x z : List ℕ) → 32 * place + 1 ≤ length x → z ≡ written x (32 * place) (1 ∷ []) → IsOpen (record_at place z) × LeavesAllButGate place x z
@@ -84,7 +84,7 @@ gate_may_be_torn place old new one torn h bytes left =
     let is : start.0 ≡ old.reads = (one h start.0).0 start.1 in
     leaves_all_but place old.reads bytes (subst (λ (before : List ℕ). DiffersWithin (32 * place) 1 before bytes) is start.2)
 
-pub group_written : (group : Payments) (place : ℕ) (x y z : List ℕ) → 1 ≤ length group → AreContentsWritten (length group) group place x y → IsOpen (record_at place z) → LeavesAllButGate place y z → IsGroupWritten group place x z
+pub group_written : (group : Entries) (place : ℕ) (x y z : List ℕ) → 1 ≤ length group → AreContentsWritten (length group) group place x y → IsOpen (record_at place z) → LeavesAllButGate place y z → IsGroupWritten group place x z
 group_written group place x y z some contents is_open all_but = record {
   same_length = all_but.same_length ∙ contents.leaves.same_length;
   is_open = is_open;
@@ -97,7 +97,7 @@ group_written group place x y z some contents is_open all_but = record {
     beside other (inl before) = all_but.beside other (omega (arith, before)) ∙ contents.leaves.beside other (inl before)
     beside other (inr after) = all_but.beside other (omega (arith, after, some)) ∙ contents.leaves.beside other (inr after)
 
-pub group_torn : (group : Payments) (place : ℕ) (x y z : List ℕ) → 1 ≤ length group → AreContentsWritten (length group) group place x y → LeavesAllButGate place y z → IsGroupTorn group place x z
+pub group_torn : (group : Entries) (place : ℕ) (x y z : List ℕ) → 1 ≤ length group → AreContentsWritten (length group) group place x y → LeavesAllButGate place y z → IsGroupTorn group place x z
 group_torn group place x y z some contents all_but = record {
   same_length = all_but.same_length ∙ contents.leaves.same_length;
   torn = inr (written_still group (length group) place y z all_but contents.contents);

@@ -10,17 +10,17 @@ use Rattle.duk_store.specs.Restart.{RestartFailed}
 use Rattle.duk_store.specs.StoreState.{FindsAsBefore, IsNew, KeepsNothing, PreservesNature}
 use Rattle.duk_store.specs.declared.fault.StoreFault.{StoreFault}
 use Rattle.duk_store.specs.declared.fault.StoreFault.TheVariants as fault
-use Rattle.duk_journal.specs.DiskJournal.{DiskJournalOf, IsBlankJournalDisk, IsSoundJournalDisk, IsZeroJournalDisk, MayFindPayments, count_in, disk_journal_meaning, disk_journal_state, is_journal_running}
-use Rattle.duk_journal.specs.Groups.{AreClosedFrom, KeepsPayments, Payments}
-use Rattle.duk_journal.specs.Journal.{ArePaymentsRead, GroupAppendFailed, IsGroupAppended, IsReadStopped, JournalRestarted, OldOrWithGroup, PaymentsUnread}
+use Rattle.duk_journal.specs.DiskJournal.{DiskJournalOf, IsBlankJournalDisk, IsSoundJournalDisk, IsZeroJournalDisk, MayFindEntries, count_in, disk_journal_meaning, disk_journal_state, is_journal_running}
+use Rattle.duk_journal.specs.Groups.{AreClosedFrom, Entries, KeepsEntries}
+use Rattle.duk_journal.specs.Journal.{AreEntriesRead, EntriesUnread, GroupAppendFailed, IsGroupAppended, IsReadStopped, JournalRestarted, OldOrWithGroup}
 use Rattle.duk_journal.specs.RecordFormat.{IsJournalSize, IsOpen, gate_of, record_at}
 use Rattle.duk_journal.specs.inner.DiskJournal.{IsDamagedJournal, IsJournalUp, IsKeptRead, JournalUpFailed, KeptUnread, KnowsCount, KnowsJournal}
 use Rattle.duk_journal.specs.inner.GroupSteps.{GroupFailed, IsGroupTorn, IsGroupWritten, WritesGroup}
 use Rattle.duk_journal.specs.inner.Groups.{AreWritten}
-use Rattle.duk_journal.proofs.KeptPayments.{closed_behind, group_kept, kept_once, kept_onto}
-use Rattle.duk_journal.proofs.PaymentsRead.{are_kept, none_lacks}
+use Rattle.duk_journal.proofs.KeptEntries.{closed_behind, group_kept, kept_once, kept_onto}
+use Rattle.duk_journal.proofs.EntriesRead.{are_kept, none_lacks}
 
--- zeros keep no payment
+-- zeros keep no entry
 zeros_closed : (size place : ℕ) → ¬ IsOpen (record_at place (replicate size 0))
 zeros_closed size place is_open = elim (cases_lt (32 * place) size) [
   | inl inside ↦
@@ -34,19 +34,19 @@ zeros_closed size place is_open = elim (cases_lt (32 * place) size) [
       absurd (omega (arith, is_open, gate))
 ]
 
-zeros_keep : (size : ℕ) → KeepsPayments (replicate size 0) []
+zeros_keep : (size : ℕ) → KeepsEntries (replicate size 0) []
 zeros_keep size later past = zeros_closed size later
 
 -- what a new disk keeps
-sound_one : (disk : DiskState) (image : List ℕ) (payments : Payments) → IsJournalSize disk.size → ((bytes : List ℕ) → disk.may_leave bytes ↔ (bytes ≡ image)) → KeepsPayments image payments → IsSoundJournalDisk disk
-sound_one disk image payments size leaves keeps = record { size = size; each_keeps = λ bytes left. (payments, subst (λ (bytes : List ℕ). KeepsPayments bytes payments) (sym ((leaves bytes).0 left)) keeps) }
+sound_one : (disk : DiskState) (image : List ℕ) (entries : Entries) → IsJournalSize disk.size → ((bytes : List ℕ) → disk.may_leave bytes ↔ (bytes ≡ image)) → KeepsEntries image entries → IsSoundJournalDisk disk
+sound_one disk image entries size leaves keeps = record { size = size; each_keeps = λ bytes left. (entries, subst (λ (bytes : List ℕ). KeepsEntries bytes entries) (sym ((leaves bytes).0 left)) keeps) }
 
 module _ (ten : (serial : Serial) → length (serial_bytes serial) ≡ 10) (found : (serial : Serial) → IsSerial serial → serial_of_bytes (serial_bytes serial) ≡ serial) where
   -- a stop that leaves one image leaves its list
-  finds_list : (disk : DiskState) (image : List ℕ) (payments : Payments) → ((bytes : List ℕ) → disk.may_leave bytes ↔ (bytes ≡ image)) → KeepsPayments image payments → (other : Payments) → MayFindPayments disk other ↔ (other ≡ payments)
-  finds_list disk image payments leaves keeps other = (
-    (λ finds. kept_once ten found other payments 0 0 image (subst (λ (bytes : List ℕ). KeepsPayments bytes other) ((leaves finds.0).0 finds.1) finds.2) keeps),
-    (λ is. (image, (leaves image).1 refl, subst (λ (l : Payments). KeepsPayments image l) (sym is) keeps)),
+  finds_list : (disk : DiskState) (image : List ℕ) (entries : Entries) → ((bytes : List ℕ) → disk.may_leave bytes ↔ (bytes ≡ image)) → KeepsEntries image entries → (other : Entries) → MayFindEntries disk other ↔ (other ≡ entries)
+  finds_list disk image entries leaves keeps other = (
+    (λ finds. kept_once ten found other entries 0 0 image (subst (λ (bytes : List ℕ). KeepsEntries bytes other) ((leaves finds.0).0 finds.1) finds.2) keeps),
+    (λ is. (image, (leaves image).1 refl, subst (λ (l : Entries). KeepsEntries image l) (sym is) keeps)),
   )
 
   pub zero_journal_is : (disk : DiskState) → IsZeroJournalDisk disk → KeepsNothing (disk_journal_state disk None) []
@@ -104,7 +104,7 @@ module _ {D : Type 0} (meaning : DiskMeaning D) (old new : DiskJournalOf D) wher
   pub journal_sound : PreservesDisk before after → LeavesWithin before after → before.honest → IsSoundJournalDisk before → IsSoundJournalDisk after
   journal_sound nature within h sound = record { size = rw nature.size sound.size; each_keeps = λ bytes left. sound.each_keeps bytes (within h bytes left) }
 
-  journal_some : ReadsMayStay after → PreservesDisk before after → LeavesWithin before after → before.honest → IsSoundJournalDisk before → (payments : Payments) × MayFindPayments after payments
+  journal_some : ReadsMayStay after → PreservesDisk before after → LeavesWithin before after → before.honest → IsSoundJournalDisk before → (entries : Entries) × MayFindEntries after entries
   journal_some stays nature within h sound =
       let left = stays (nature.honest.0 h) in
       let kept = sound.each_keeps after.reads (within h after.reads left) in
@@ -137,26 +137,26 @@ module _ {D : Type 0} (meaning : DiskMeaning D) (old new : DiskJournalOf D) wher
 
 -- ---- a group that is written behind what is kept
 
-module _ (payments group : Payments) (count : ℕ) (x y : List ℕ) (keeps : KeepsPayments x payments) (counted : length payments ≡ count) (some : 1 ≤ length group) where
+module _ (entries group : Entries) (count : ℕ) (x y : List ℕ) (keeps : KeepsEntries x entries) (counted : length entries ≡ count) (some : 1 ≤ length group) where
   was_closed : AreClosedFrom count x
-  was_closed later past = closed_behind payments 0 0 x keeps later (omega (arith, past, counted))
+  was_closed later past = closed_behind entries 0 0 x keeps later (omega (arith, past, counted))
 
   still_closed : ((other : ℕ) → other ≢ count → gate_of (record_at other y) ≡ gate_of (record_at other x)) → AreClosedFrom (count + 1) y
   still_closed gates later past is_open = was_closed later (omega (arith, past)) (sym (gates later (omega (arith, past))) ∙ is_open)
 
   with_group : ((other : ℕ) → other ≢ count → gate_of (record_at other y) ≡ gate_of (record_at other x)) → ((other : ℕ) → (other < count) ⊎ (count + length group ≤ other) → record_at other y ≡ record_at other x)
-      → AreWritten (length group) group count y → IsOpen (record_at count y) → KeepsPayments y (payments ++ group)
+      → AreWritten (length group) group count y → IsOpen (record_at count y) → KeepsEntries y (entries ++ group)
   with_group gates beside written is_open =
-      kept_onto payments group 0 0 count x y (omega (arith, counted)) keeps (λ place from to. beside place (inl to))
+      kept_onto entries group 0 0 count x y (omega (arith, counted)) keeps (λ place from to. beside place (inl to))
       (group_kept group count y some written is_open (still_closed gates))
 
-  pub group_appended : IsGroupWritten group count x y → KeepsPayments y (payments ++ group)
+  pub group_appended : IsGroupWritten group count x y → KeepsEntries y (entries ++ group)
   group_appended written = with_group written.gates written.beside written.contents written.is_open
 
   as_before : ((other : ℕ) → other ≢ count → gate_of (record_at other y) ≡ gate_of (record_at other x)) → ((other : ℕ) → (other < count) ⊎ (count + length group ≤ other) → record_at other y ≡ record_at other x)
-      → ¬ IsOpen (record_at count y) → KeepsPayments y payments
-  as_before gates beside closed = subst (KeepsPayments y) (append-nil payments)
-      (kept_onto payments [] 0 0 count x y (omega (arith, counted)) keeps (λ place from to. beside place (inl to)) all_closed)
+      → ¬ IsOpen (record_at count y) → KeepsEntries y entries
+  as_before gates beside closed = subst (KeepsEntries y) (append-nil entries)
+      (kept_onto entries [] 0 0 count x y (omega (arith, counted)) keeps (λ place from to. beside place (inl to)) all_closed)
     where
       all_closed : AreClosedFrom count y
       all_closed later past = elim (cases_eq later count) [
@@ -164,7 +164,7 @@ module _ (payments group : Payments) (count : ℕ) (x y : List ℕ) (keeps : Kee
         | inr other ↦ still_closed gates later (omega (arith, past, other))
       ]
 
-  pub group_old_or_new : IsGroupTorn group count x y → KeepsPayments y payments ⊎ KeepsPayments y (payments ++ group)
+  pub group_old_or_new : IsGroupTorn group count x y → KeepsEntries y entries ⊎ KeepsEntries y (entries ++ group)
   group_old_or_new torn = elim (cases_eq (gate_of (record_at count y)) 1) [
     | inl is_open ↦ elim torn.torn [
       | inl same ↦ absurd (was_closed count (omega arith) (sym same ∙ is_open))
@@ -173,14 +173,14 @@ module _ (payments group : Payments) (count : ℕ) (x y : List ℕ) (keeps : Kee
     | inr closed ↦ inl (as_before torn.gates torn.beside closed)
   ]
 
-module _ (ten : (serial : Serial) → length (serial_bytes serial) ≡ 10) (found : (serial : Serial) → IsSerial serial → serial_of_bytes (serial_bytes serial) ≡ serial) {D : Type 0} (meaning : DiskMeaning D) (old new : DiskJournalOf D) (group : Payments) (count : ℕ) (some : 1 ≤ length group) (kept : old.kept ≡ Some count) (knows : KnowsCount count (meaning.state_of old.disk)) where
+module _ (ten : (serial : Serial) → length (serial_bytes serial) ≡ 10) (found : (serial : Serial) → IsSerial serial → serial_of_bytes (serial_bytes serial) ≡ serial) {D : Type 0} (meaning : DiskMeaning D) (old new : DiskJournalOf D) (group : Entries) (count : ℕ) (some : 1 ≤ length group) (kept : old.kept ≡ Some count) (knows : KnowsCount count (meaning.state_of old.disk)) where
   abbrev disk_before : DiskState
   disk_before = meaning.state_of old.disk
 
   abbrev disk_after : DiskState
   disk_after = meaning.state_of new.disk
 
-  appended_list : WritesGroup group count disk_before disk_after → (h : disk_before.honest) → KeepsPayments disk_after.reads ((knows.holds h).has.0 ++ group)
+  appended_list : WritesGroup group count disk_before disk_after → (h : disk_before.honest) → KeepsEntries disk_after.reads ((knows.holds h).has.0 ++ group)
   appended_list done h = let has = (knows.holds h).has in group_appended has.0 group count disk_before.reads disk_after.reads has.1 has.2 some (done.written h)
 
   pub knows_group : 32 * (count + length group) ≤ disk_before.size → WritesGroup group count disk_before disk_after → KnowsCount (count + length group) disk_after
@@ -204,20 +204,20 @@ module _ (ten : (serial : Serial) → length (serial_bytes serial) ≡ 10) (foun
     };
     no_failure = done.no_failure;
     runs = ap is_journal_running kept_then;
-    finds = λ h payments only other.
+    finds = λ h entries only other.
         let holds = knows.holds h in
-        let is : holds.has.0 ≡ payments = (only holds.has.0).0 (disk_before.reads, (holds.leaves disk_before.reads).1 refl, holds.has.1) in
-        let list : holds.has.0 ++ group ≡ payments ++ group = ap (λ (l : Payments). l ++ group) is in
+        let is : holds.has.0 ≡ entries = (only holds.has.0).0 (disk_before.reads, (holds.leaves disk_before.reads).1 refl, holds.has.1) in
+        let list : holds.has.0 ++ group ≡ entries ++ group = ap (λ (l : Entries). l ++ group) is in
         let finds = finds_list ten found disk_after disk_after.reads (holds.has.0 ++ group) (done.leaves h) (appended_list done h) other in
         ((λ could. finds.0 could ∙ list), (λ is. finds.1 (is ∙ sym list)));
   }
 
   -- each image that a stop could leave keeps the list, or the list with the whole group
   each_list : (why : StoreFault) → GroupFailed group count disk_before disk_after why → (h : disk_before.honest) → (bytes : List ℕ) → disk_after.may_leave bytes
-      → (payments : Payments) × KeepsPayments bytes payments × OldOrWithGroup (disk_journal_state disk_before old.kept) group payments
+      → (entries : Entries) × KeepsEntries bytes entries × OldOrWithGroup (disk_journal_state disk_before old.kept) group entries
   each_list why failed h bytes left =
       let holds = knows.holds h in
-      let old_list : MayFindPayments disk_before holds.has.0 = (disk_before.reads, (holds.leaves disk_before.reads).1 refl, holds.has.1) in
+      let old_list : MayFindEntries disk_before holds.has.0 = (disk_before.reads, (holds.leaves disk_before.reads).1 refl, holds.has.1) in
       elim (group_old_or_new holds.has.0 group count disk_before.reads bytes holds.has.1 holds.has.2 some (failed.torn h bytes left)) [
         | inl keeps ↦ (holds.has.0, keeps, inl old_list)
         | inr keeps ↦ (holds.has.0 ++ group, keeps, inr (holds.has.0, old_list, refl))
@@ -232,7 +232,7 @@ module _ (ten : (serial : Serial) → length (serial_bytes serial) ≡ 10) (foun
       stopped = ap is_journal_running kept_then;
       within = λ h value finds.
           let list = each_list why failed h finds.0 finds.1 in
-          subst (λ (payments : Payments). OldOrWithGroup (disk_journal_state disk_before old.kept) group payments) (kept_once ten found list.0 value 0 0 finds.0 list.1 finds.2) list.2;
+          subst (λ (entries : Entries). OldOrWithGroup (disk_journal_state disk_before old.kept) group entries) (kept_once ten found list.0 value 0 0 finds.0 list.1 finds.2) list.2;
       some = λ h sound.
           let left = stays_then (failed.nature.honest.0 h) in
           let list = each_list why failed h disk_after.reads left in
@@ -244,7 +244,7 @@ module _ (ten : (serial : Serial) → length (serial_bytes serial) ≡ 10) (foun
       sound_then : disk_before.honest → IsSoundJournalDisk disk_before → IsSoundJournalDisk disk_after
       sound_then h sound = record { size = rw failed.nature.size sound.size; each_keeps = λ bytes left. let list = each_list why failed h bytes left in (list.0, list.1) }
 
--- ---- payments that are read
+-- ---- entries that are read
 
 module _ (ten : (serial : Serial) → length (serial_bytes serial) ≡ 10) (found : (serial : Serial) → IsSerial serial → serial_of_bytes (serial_bytes serial) ≡ serial) {D : Type 0} (meaning : DiskMeaning D) (old new : DiskJournalOf D) (count place : ℕ) (kept : old.kept ≡ Some count) (knows : KnowsCount count (meaning.state_of old.disk)) (lengths : LeavesItsSize (meaning.state_of old.disk)) (stays : ReadsMayStay (meaning.state_of old.disk)) where
   abbrev read_before : DiskState
@@ -269,8 +269,8 @@ module _ (ten : (serial : Serial) → length (serial_bytes serial) ≡ 10) (foun
     calm = nature.calm;
   }
 
-  pub journal_read : (payments : Payments) → new.kept ≡ old.kept → place + length payments ≤ count → IsKeptRead place payments read_before read_after → ArePaymentsRead (disk_journal_meaning meaning) old new place payments
-  journal_read payments kept_then within read = record {
+  pub journal_read : (entries : Entries) → new.kept ≡ old.kept → place + length entries ≤ count → IsKeptRead place entries read_before read_after → AreEntriesRead (disk_journal_meaning meaning) old new place entries
+  journal_read entries kept_then within read = record {
     was_running = ap is_journal_running kept;
     stays = record {
       nature = read_nature read.nature read.bytes;
@@ -278,11 +278,11 @@ module _ (ten : (serial : Serial) → length (serial_bytes serial) ≡ 10) (foun
       running = ap is_journal_running kept_then;
       found = found_as_before read.bytes;
     };
-    payments_are = λ h list finds.
+    entries_are = λ h list finds.
         let holds = knows.holds h in
-        let is : list ≡ holds.has.0 = kept_once ten found list holds.has.0 0 0 read_before.reads (subst (λ (bytes : List ℕ). KeepsPayments bytes list) ((holds.leaves finds.0).0 finds.1) finds.2) holds.has.1 in
-        ap (λ (l : Payments). take (length payments) (drop place l)) is
-        ∙ are_kept ten found holds.has.0 read_before.reads place (length payments) holds.has.1 (omega (arith, within, holds.has.2)) (read_inside (length payments) within h) payments refl (read.read h);
+        let is : list ≡ holds.has.0 = kept_once ten found list holds.has.0 0 0 read_before.reads (subst (λ (bytes : List ℕ). KeepsEntries bytes list) ((holds.leaves finds.0).0 finds.1) finds.2) holds.has.1 in
+        ap (λ (l : Entries). take (length entries) (drop place l)) is
+        ∙ are_kept ten found holds.has.0 read_before.reads place (length entries) holds.has.1 (omega (arith, within, holds.has.2)) (read_inside (length entries) within h) entries refl (read.read h);
   }
 
   read_stopped : (why : StoreFault) (n : ℕ) → new.kept ≡ None → KeptUnread place n read_before read_after why → IsReadStopped (disk_journal_meaning meaning) old new
@@ -293,7 +293,7 @@ module _ (ten : (serial : Serial) → length (serial_bytes serial) ≡ 10) (foun
     found = found_as_before failed.bytes;
   }
 
-  pub journal_unread : (n : ℕ) → new.kept ≡ None → place + n ≤ count → (why : StoreFault) → KeptUnread place n read_before read_after why → PaymentsUnread (disk_journal_meaning meaning) old new why
+  pub journal_unread : (n : ℕ) → new.kept ≡ None → place + n ≤ count → (why : StoreFault) → KeptUnread place n read_before read_after why → EntriesUnread (disk_journal_meaning meaning) old new why
   journal_unread n kept_then within fault.Device failed = (read_stopped fault.Device n kept_then failed, failed.cause.failure, failed.cause.not_calm)
   journal_unread n kept_then within fault.Damaged failed = (
     read_stopped fault.Damaged n kept_then failed,

@@ -1,9 +1,9 @@
+mod EntriesRead
 mod FieldPlaces
 mod GroupWritten
 mod JournalOnDisk
-mod KeptPayments
+mod KeptEntries
 mod MemoryJournalMeaning
-mod PaymentsRead
 mod RecordsRead
 mod StepsInTurn
 mod WrittenBytes

@@ -1,12 +1,12 @@
--- A journal of payments on a disk: this project's own.
+-- A journal of entries on a disk: this project's own.
 use Rattle.std.specs.Prelude.{◌≡◌, ◌↔◌, ◌/◌, ℕ, Bool, true, false, List, replicate, Option, Some, None}
 use Rattle.duk_store.specs.Disk.{DiskMeaning, DiskState}
 use Rattle.duk_store.specs.StoreState.{StoreState}
-use Rattle.duk_journal.specs.Groups.{KeepsPayments, Payments}
+use Rattle.duk_journal.specs.Groups.{Entries, KeepsEntries}
 use Rattle.duk_journal.specs.Journal.{JournalMeaning}
 use Rattle.duk_journal.specs.RecordFormat.{IsJournalSize, record_length}
 
--- a journal on a disk: the disk, and how many payments it keeps, while it runs
+-- a journal on a disk: the disk, and how many entries it keeps, while it runs
 pub record DiskJournalOf (D : Type 0) : Type 0 where
   pub disk : D
   pub kept : Option ℕ
@@ -15,7 +15,7 @@ pub record DiskJournalOf (D : Type 0) : Type 0 where
 abbrev pub new_disk_journal : {D : Type 0} → D → DiskJournalOf D
 new_disk_journal disk = record { disk = disk; kept = None }
 
--- whether it runs, and how many payments it counts
+-- whether it runs, and how many entries it counts
 abbrev pub is_journal_running : Option ℕ → Bool
 is_journal_running None = false
 is_journal_running (Some count) = true
@@ -25,24 +25,24 @@ count_in None = 0
 count_in (Some count) = count
 
 -- a restart may find this list: some bytes that a stop could leave keep it
-abbrev pub MayFindPayments : DiskState → Payments → Type 0
-MayFindPayments disk payments =
-    (bytes : List ℕ) × disk.may_leave bytes × KeepsPayments bytes payments
+abbrev pub MayFindEntries : DiskState → Entries → Type 0
+MayFindEntries disk entries =
+    (bytes : List ℕ) × disk.may_leave bytes × KeepsEntries bytes entries
 
 -- the disk has the size of a journal's, and all bytes that a stop could leave keep some list
 pub record IsSoundJournalDisk (disk : DiskState) : Type 0 where
   pub size : IsJournalSize disk.size
   pub each_keeps : (bytes : List ℕ) → disk.may_leave bytes
-      → (payments : Payments) × KeepsPayments bytes payments
+      → (entries : Entries) × KeepsEntries bytes entries
 
 -- the state of a journal, by that of its disk
-abbrev pub disk_journal_state : DiskState → Option ℕ → StoreState Payments
+abbrev pub disk_journal_state : DiskState → Option ℕ → StoreState Entries
 disk_journal_state disk kept = record {
   honest = disk.honest;
   sound = IsSoundJournalDisk disk;
   calm = disk.calm;
   running = is_journal_running kept;
-  found = MayFindPayments disk;
+  found = MayFindEntries disk;
   failures = disk.failures;
 }
 

@@ -1,4 +1,4 @@
-pub mod Payment
+pub mod Entry
 pub mod RecordFormat
 pub mod Groups
 pub mod Journal

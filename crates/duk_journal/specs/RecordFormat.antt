@@ -3,8 +3,8 @@
 use Rattle.std.specs.Prelude.{◌≡◌, ◌≤◌, ◌<◌, ◌*◌, ◌^◌, ◌++◌, ◌∷◌, ℕ, List, take, drop, replicate, slice_index}
 use Rattle.byteorder.specs.Endian.{big_bytes}
 use Rattle.duk_tree.specs.Serial.{serial_bytes}
-use Rattle.duk_journal.specs.Payment.{IsPayment, number_of_code}
-use Rattle.duk_journal.specs.declared.payment.Payment.{Payment}
+use Rattle.duk_journal.specs.Entry.{IsEntry, figure_of, kind_of, outcome_of}
+use Rattle.duk_journal.specs.declared.entry.Entry.{Entry}
 use Rattle.duk_journal.specs.declared.record_format.Contents.{Contents}
 
 -- the bytes of a record
@@ -30,16 +30,17 @@ after_gate record_bytes = drop 1 record_bytes
 abbrev pub IsOpen : List ℕ → Type 0
 IsOpen record_bytes = gate_of record_bytes ≡ 1
 
--- the contents of a record: kind 1, which is a payment; how many records of its group follow, in two
--- bytes; the key serial number in ten; the amount in four; the code as a number; the eight bytes of
--- the request's MAC; and five zeros
-unfoldable pub contents_of : ℕ → Payment → List ℕ
-contents_of followers payment =
-    1 ∷ (big_bytes 2 followers ++ (serial_bytes payment.number ++ (big_bytes 4 payment.amount
-    ++ (number_of_code payment.code ∷ (payment.mac ++ replicate 5 0)))))
+-- the contents of a record: the kind; how many records of its group follow, in two bytes; the key
+-- serial number in ten; the figure, which is an amount or the counter of a reversed number, in four;
+-- the outcome, which is a code or a state; the eight bytes of the request's MAC; and five zeros
+unfoldable pub contents_of : ℕ → Entry → List ℕ
+contents_of followers entry =
+    kind_of entry.decided ∷ (big_bytes 2 followers ++ (serial_bytes entry.number
+    ++ (big_bytes 4 (figure_of entry.decided)
+    ++ (outcome_of entry.decided ∷ (entry.mac ++ replicate 5 0)))))
 
 -- the bytes are those of these contents
 pub record AreContents (bytes : List ℕ) (contents : Contents) : Type 0 where
-  pub payment_is : IsPayment contents.payment
+  pub entry_is : IsEntry contents.entry
   pub followers_fit : contents.followers < 2 ^ 16
-  pub written : bytes ≡ contents_of contents.followers contents.payment
+  pub written : bytes ≡ contents_of contents.followers contents.entry

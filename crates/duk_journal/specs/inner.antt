@@ -1,4 +1,5 @@
 pub mod DiskJournal
+pub mod Entry
 pub mod Groups
 pub mod GroupSteps
 pub mod MemoryJournal

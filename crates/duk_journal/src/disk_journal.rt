@@ -1,4 +1,4 @@
-//! A journal of payments on a disk, and the device calls of an append.
+//! A journal of entries on a disk, and the device calls of an append.
 
 ghost use Rattle.std.specs.Prelude.{◌≡◌, ◌+◌, ◌*◌, ◌≤◌, [], true, length, IfErr, IfOk, OnOk};
 ghost use Rattle.duk_store.specs.Disk.{LeavesReads, LeavesWithin, StaysArmed};
@@ -6,12 +6,12 @@ ghost use Rattle.duk_store.specs.Restart.{RestartFailed};
 ghost use Rattle.duk_store.specs.StoreState.{IsNew, KeepsNothing};
 ghost use Rattle.duk_journal.specs.DiskJournal.{IsBlankJournalDisk, IsZeroJournalDisk, count_in, disk_journal_meaning, is_journal_running, new_disk_journal};
 ghost use Rattle.duk_journal.specs.Groups.{IsGroup};
-ghost use Rattle.duk_journal.specs.Journal.{ArePaymentsRead, GroupAppendFailed, IsGroupAppended, JournalRestarted, PaymentsUnread};
+ghost use Rattle.duk_journal.specs.Journal.{AreEntriesRead, EntriesUnread, GroupAppendFailed, IsGroupAppended, JournalRestarted};
 
+use crate::entry::Entry;
 use crate::group_steps::write_group;
 use crate::journal::Journal;
 use crate::journal_steps::{PIECE_LENGTH, bring_up, read_kept};
-use crate::payment::Payment;
 use crate::record_format::RECORD_LENGTH;
 use duk_store::{Disk, StoreFault};
 use std::alloc::Global;
@@ -26,7 +26,7 @@ use std::marker::Model;
 #[derive(Drop)]
 pub struct DiskJournal<D: Disk> {
     disk: D,
-    /// How many payments are kept, while the journal runs.
+    /// How many entries are kept, while the journal runs.
     kept: Option<u64>,
     /// What a piece of the disk is read into.
     piece: Vec<u8>,
@@ -67,7 +67,7 @@ impl<D: Disk> DiskJournal<D> {
         })
     }
 
-    /// The disk, as it stands. That of a running journal has room for the payments that are kept,
+    /// The disk, as it stands. That of a running journal has room for the entries that are kept,
     /// and a stop leaves what a read of it gives.
     pub fn into_disk(self) -> D
         ensures disk { result ≡ self.disk }
@@ -117,13 +117,13 @@ impl<D: Disk> Journal for DiskJournal<D> {
         }
     }
 
-    fn read(&mut self, place: u64, payments: &mut [Payment]) -> Result<(), StoreFault>
-        requires most { length payments.old ≤ 2048 }
+    fn read(&mut self, place: u64, entries: &mut [Entry]) -> Result<(), StoreFault>
+        requires most { length entries.old ≤ 2048 }
         requires inside { ((disk_journal_meaning D.meaning).state_of self.old).running ≡ true
-            → place + length payments.old ≤ (disk_journal_meaning D.meaning).count self.old }
+            → place + length entries.old ≤ (disk_journal_meaning D.meaning).count self.old }
         ensures read { OnOk result
-            (ArePaymentsRead (disk_journal_meaning D.meaning) self.old self.new place payments.new) }
-        ensures length { length payments.new ≡ length payments.old }
+            (AreEntriesRead (disk_journal_meaning D.meaning) self.old self.new place entries.new) }
+        ensures length { length entries.new ≡ length entries.old }
         ensures counted { OnOk result ((disk_journal_meaning D.meaning).count self.new
             ≡ (disk_journal_meaning D.meaning).count self.old) }
         ensures capacity { (disk_journal_meaning D.meaning).capacity self.new
@@ -131,7 +131,7 @@ impl<D: Disk> Journal for DiskJournal<D> {
         ensures disarmed { (disk_journal_meaning D.meaning).disarmed self.old
             → (disk_journal_meaning D.meaning).disarmed self.new }
         ensures failed { IfErr result
-            (PaymentsUnread (disk_journal_meaning D.meaning) self.old self.new) }
+            (EntriesUnread (disk_journal_meaning D.meaning) self.old self.new) }
         ensures arming { StaysArmed (D.meaning.state_of self.old.disk)
             (D.meaning.state_of self.new.disk) }
     {
@@ -139,7 +139,7 @@ impl<D: Disk> Journal for DiskJournal<D> {
             return Err(StoreFault::Stopped);
         };
         duk_tree::laws::serials();
-        match read_kept(&mut self.disk, place, &mut self.piece[..], payments) {
+        match read_kept(&mut self.disk, place, &mut self.piece[..], entries) {
             Ok(()) => Ok(()),
             Err(fault) => {
                 self.kept = None;
@@ -152,11 +152,11 @@ impl<D: Disk> Journal for DiskJournal<D> {
     /// by what a stop before the next one leaves of these records; all others stay as they were.
     ///
     /// 1. Write the contents of each record: all are closed, with any bytes after their gates. 2.
-    /// Sync: they are closed, with the new payments. 3. Write 1 into the gate of the first: it has
+    /// Sync: they are closed, with the new entries. 3. Write 1 into the gate of the first: it has
     /// any gate. 4. Sync: it is open, and the group with it.
     ///
     /// A restart finds the list without the group until that gate is 1, and then with all of it.
-    fn append(&mut self, group: &[Payment]) -> Result<(), StoreFault>
+    fn append(&mut self, group: &[Entry]) -> Result<(), StoreFault>
         requires group { IsGroup group.now }
         requires room { ((disk_journal_meaning D.meaning).state_of self.old).running ≡ true
             → (disk_journal_meaning D.meaning).count self.old + length group.now

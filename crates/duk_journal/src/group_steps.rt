@@ -1,18 +1,18 @@
-//! The device calls that write a group of payments into the records of a journal's disk.
+//! The device calls that write a group of entries into the records of a journal's disk.
 
 ghost use Rattle.std.specs.Prelude.{◌≡◌, ◌<◌, ◌≤◌, ℕ, length, IfErr, OnOk};
 ghost use Rattle.duk_store.specs.Disk.{StaysArmed};
-ghost use Rattle.duk_journal.specs.Groups.{IsGroup, Payments};
+ghost use Rattle.duk_journal.specs.Groups.{Entries, IsGroup};
 ghost use Rattle.duk_journal.specs.inner.Groups.{followers_at};
 ghost use Rattle.duk_journal.specs.inner.GroupSteps.{ContentsFailed, GateFailed, GroupFailed, HasRecords, LeavesOne, OpensGate, SyncsContents, WritesContents, WritesGroup};
 
-use crate::payment::Payment;
+use crate::entry::Entry;
 use crate::record_format::{Contents, OPEN, RECORD_LENGTH};
 use duk_store::{Disk, StoreFault};
 
 /// Writes a group from a closed record on, and opens it once that is synced: the device calls of an
 /// append (`DiskJournal::append`).
-pub fn write_group<D: Disk>(disk: &mut D, place: u64, group: &[Payment]) -> Result<(), StoreFault>
+pub fn write_group<D: Disk>(disk: &mut D, place: u64, group: &[Entry]) -> Result<(), StoreFault>
     requires group { IsGroup group.now }
     requires room { HasRecords place (length group.now) (D.meaning.state_of disk.old) }
     requires one { LeavesOne (D.meaning.state_of disk.old) }
@@ -27,7 +27,7 @@ pub fn write_group<D: Disk>(disk: &mut D, place: u64, group: &[Payment]) -> Resu
 }
 
 /// Writes the contents of a group's records, and syncs them.
-fn sync_contents<D: Disk>(disk: &mut D, place: u64, group: &[Payment]) -> Result<(), StoreFault>
+fn sync_contents<D: Disk>(disk: &mut D, place: u64, group: &[Entry]) -> Result<(), StoreFault>
     requires group { IsGroup group.now }
     requires room { HasRecords place (length group.now) (D.meaning.state_of disk.old) }
     requires one { LeavesOne (D.meaning.state_of disk.old) }
@@ -56,7 +56,7 @@ fn open_gate<D: Disk>(disk: &mut D, place: u64) -> Result<(), StoreFault>
 }
 
 /// Writes the contents of a group's records, a device call for each. All gates stay as they are.
-fn write_contents<D: Disk>(disk: &mut D, place: u64, group: &[Payment]) -> Result<(), StoreFault>
+fn write_contents<D: Disk>(disk: &mut D, place: u64, group: &[Entry]) -> Result<(), StoreFault>
     requires group { IsGroup group.now }
     requires room { HasRecords place (length group.now) (D.meaning.state_of disk.old) }
     requires one { LeavesOne (D.meaning.state_of disk.old) }
@@ -69,7 +69,7 @@ fn write_contents<D: Disk>(disk: &mut D, place: u64, group: &[Payment]) -> Resul
     for index in 0..group.len() {
         let contents = Contents {
             followers: followers_of(group.len(), index),
-            payment: group[index],
+            entry: group[index],
         };
         let record = RECORD_LENGTH as u64 * (place + index as u64);
         disk.write_at(record + 1, contents.bytes().as_slice())?;
@@ -81,7 +81,7 @@ fn write_contents<D: Disk>(disk: &mut D, place: u64, group: &[Payment]) -> Resul
 fn followers_of(count: usize, index: usize) -> u16
     requires some { 1 ≤ count }
     requires most { count ≤ 4096 }
-    ensures followers { (group : Payments) → length group ≡ count
+    ensures followers { (group : Entries) → length group ≡ count
         → result ≡ followers_at index group }
     ensures most { result < 4096 }
 {

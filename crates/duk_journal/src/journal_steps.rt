@@ -6,8 +6,8 @@ ghost use Rattle.duk_journal.specs.RecordFormat.{IsJournalSize};
 ghost use Rattle.duk_journal.specs.inner.DiskJournal.{AreRecordsRead, CountFailed, IsCounted, IsJournalOpen, IsJournalUp, IsKeptRead, JournalUpFailed, KeptUnread, OpenFailed, RecordsUnread};
 ghost use Rattle.duk_journal.specs.inner.Reading.{kept_in};
 
-use crate::payment::Payment;
-use crate::reading::{Reading, finish_reading, read_payments, read_piece};
+use crate::entry::Entry;
+use crate::reading::{Reading, finish_reading, read_entries, read_piece};
 use crate::record_format::RECORD_LENGTH;
 use duk_store::{Disk, StoreFault};
 
@@ -17,7 +17,7 @@ pub const PIECE_RECORDS: usize = 2048;
 /// The bytes of a piece.
 pub const PIECE_LENGTH: usize = 65_536;
 
-/// Brings the disk of a journal up, and counts its payments: the disk's own restart, a test of its
+/// Brings the disk of a journal up, and counts its entries: the disk's own restart, a test of its
 /// size, a sync, and reads of pieces to the last record. It writes nothing.
 ///
 /// Refused with `Device` where a device step failed, and with `Damaged` where the disk has no size
@@ -30,7 +30,7 @@ pub fn bring_up<D: Disk>(disk: &mut D, piece: &mut [u8]) -> Result<u64, StoreFau
         (JournalUpFailed (D.meaning.state_of disk.old) (D.meaning.state_of disk.new)) }
 {
     open_journal(disk)?;
-    count_payments(disk, piece)
+    count_entries(disk, piece)
 }
 
 /// Brings the disk of a journal up. It has one possible image then.
@@ -57,11 +57,11 @@ fn is_journal_size(size: u64) -> bool
     size != 0 && size % RECORD_LENGTH as u64 == 0
 }
 
-/// Counts the payments that are kept.
+/// Counts the entries that are kept.
 ///
 /// Refused with `Device` where a device step failed, and with `Damaged` where the records keep no
 /// list.
-fn count_payments<D: Disk>(disk: &mut D, piece: &mut [u8]) -> Result<u64, StoreFault>
+fn count_entries<D: Disk>(disk: &mut D, piece: &mut [u8]) -> Result<u64, StoreFault>
     requires size { IsJournalSize (D.meaning.state_of disk.old).size }
     requires piece { length piece.old ≡ 65536 }
     ensures counted { IfOk result
@@ -83,7 +83,7 @@ fn count_payments<D: Disk>(disk: &mut D, piece: &mut [u8]) -> Result<u64, StoreF
 
 /// Reads the records of a piece from a place on, which follow those that were read.
 ///
-/// Refused with `Device` where the device step failed, and with `Damaged` where no list of payments
+/// Refused with `Device` where the device step failed, and with `Damaged` where no list of entries
 /// goes on so.
 fn read_records<D: Disk>(
     disk: &mut D,
@@ -105,28 +105,28 @@ fn read_records<D: Disk>(
     read_piece(reading, piece)
 }
 
-/// Reads the payments of the records from a place on into all of `payments`, by way of `piece`.
+/// Reads the entries of the records from a place on into all of `entries`, by way of `piece`.
 ///
 /// Refused with `Device` where the device step failed, and with `Damaged` where a record has no
-/// payment.
+/// entry.
 pub fn read_kept<D: Disk>(
     disk: &mut D,
     place: u64,
     piece: &mut [u8],
-    payments: &mut [Payment],
+    entries: &mut [Entry],
 ) -> Result<(), StoreFault>
-    requires most { length payments.old ≤ 2048 }
+    requires most { length entries.old ≤ 2048 }
     requires piece { length piece.old ≡ 65536 }
-    requires inside { 32 * (place + length payments.old) ≤ (D.meaning.state_of disk.old).size }
+    requires inside { 32 * (place + length entries.old) ≤ (D.meaning.state_of disk.old).size }
     requires fits { (D.meaning.state_of disk.old).size < 2 ^ 64 }
-    ensures read { OnOk result (IsKeptRead place payments.new
+    ensures read { OnOk result (IsKeptRead place entries.new
         (D.meaning.state_of disk.old) (D.meaning.state_of disk.new)) }
-    ensures failed { IfErr result (KeptUnread place (length payments.old)
+    ensures failed { IfErr result (KeptUnread place (length entries.old)
         (D.meaning.state_of disk.old) (D.meaning.state_of disk.new)) }
-    ensures payments_length { length payments.new ≡ length payments.old }
+    ensures entries_length { length entries.new ≡ length entries.old }
     ensures arming { StaysArmed (D.meaning.state_of disk.old) (D.meaning.state_of disk.new) }
 {
-    let bytes = &mut piece[..RECORD_LENGTH * payments.len()];
+    let bytes = &mut piece[..RECORD_LENGTH * entries.len()];
     disk.read_at(RECORD_LENGTH as u64 * place, bytes)?;
-    read_payments(bytes, payments)
+    read_entries(bytes, entries)
 }

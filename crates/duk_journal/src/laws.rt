@@ -4,20 +4,20 @@ ghost use Rattle.std.specs.Prelude.{◌≡◌, ◌≤◌, ◌*◌, ℕ, List, []
 ghost use Rattle.duk_store.specs.MemoryDisk.{memory_disk_meaning, new_disk};
 ghost use Rattle.duk_store.specs.StoreState.{IsNew};
 ghost use Rattle.duk_journal.specs.DiskJournal.{disk_journal_meaning, new_disk_journal};
-ghost use Rattle.duk_journal.specs.Groups.{HasContents, KeepsPayments, Payments};
-ghost use Rattle.duk_journal.specs.declared.payment.Payment.{Payment};
+ghost use Rattle.duk_journal.specs.Groups.{Entries, HasContents, KeepsEntries};
+ghost use Rattle.duk_journal.specs.declared.entry.Entry.{Entry};
 
-/// The bytes of a journal's disk keep one list of payments at most.
+/// The bytes of a journal's disk keep one list of entries at most.
 pub fn one_list()
-    ensures { (bytes : List ℕ) (one two : Payments) → KeepsPayments bytes one
-        → KeepsPayments bytes two → one ≡ two }
+    ensures { (bytes : List ℕ) (one two : Entries) → KeepsEntries bytes one
+        → KeepsEntries bytes two → one ≡ two }
 {
     duk_tree::laws::serials();
 }
 
-/// A record has the contents of one payment at most, and says one number of followers.
+/// A record has the contents of one entry at most, and says one number of followers.
 pub fn one_contents()
-    ensures { (followers others : ℕ) (one two : Payment) (record_bytes : List ℕ)
+    ensures { (followers others : ℕ) (one two : Entry) (record_bytes : List ℕ)
         → HasContents followers one record_bytes → HasContents others two record_bytes
         → (followers ≡ others) × (one ≡ two) }
 {

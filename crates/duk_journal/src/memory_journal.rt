@@ -1,15 +1,15 @@
-//! A journal of payments in memory.
+//! A journal of entries in memory.
 
 ghost use Rattle.std.specs.Prelude.{◌≡◌, ◌+◌, ◌≤◌, [], true, Ok, length, IfErr, IfOk, OnOk};
 ghost use Rattle.duk_store.specs.Restart.{RestartFailed};
 ghost use Rattle.duk_store.specs.StoreState.{IsNew, StaysButCalm};
 ghost use Rattle.duk_journal.specs.Groups.{IsGroup};
-ghost use Rattle.duk_journal.specs.Journal.{ArePaymentsRead, GroupAppendFailed, IsGroupAppended, JournalRestarted, PaymentsUnread};
+ghost use Rattle.duk_journal.specs.Journal.{AreEntriesRead, EntriesUnread, GroupAppendFailed, IsGroupAppended, JournalRestarted};
 ghost use Rattle.duk_journal.specs.inner.MemoryJournal.{IsJournalStopped};
 ghost use Rattle.duk_journal.specs.MemoryJournal.{IsMemoryGroupAppended, memory_journal_meaning, memory_journal_state, new_journal, restarted_journal};
 
+use crate::entry::{Decided, Entry};
 use crate::journal::Journal;
-use crate::payment::Payment;
 use duk_frame::Code;
 use duk_store::StoreFault;
 use duk_tree::Ksn;
@@ -20,8 +20,8 @@ use std::marker::Model;
 /// nothing. Only `new` takes memory.
 #[derive(Drop)]
 pub struct MemJournal {
-    /// The payments kept, and after them places that are free.
-    places: Vec<Payment>,
+    /// The entries kept, and after them places that are free.
+    places: Vec<Entry>,
     len: usize,
     running: bool,
 }
@@ -33,7 +33,7 @@ impl Model for MemJournal {
     ghost Value = { MemoryJournal };
 
     ghost view = { λ journal. record {
-      payments = take journal.len journal.places.items;
+      entries = take journal.len journal.places.items;
       capacity = length journal.places.items;
       running = journal.running;
     } };
@@ -42,7 +42,7 @@ impl Model for MemJournal {
 }
 
 impl MemJournal {
-    /// A journal with no payment kept and room for `capacity`, stopped.
+    /// A journal with no entry kept and room for `capacity`, stopped.
     ///
     /// Refused with `NoMemory` where the memory for all of them is.
     pub fn new(alloc: Global, capacity: usize) -> Result<MemJournal, StoreFault>
@@ -50,10 +50,12 @@ impl MemJournal {
         ensures new { IfOk result (λ journal. IsNew (memory_journal_state journal) []) }
         ensures refused { IfErr result (λ fault. fault ≡ StoreFault.NoMemory) }
     {
-        let free = Payment {
+        let free = Entry {
             number: Ksn::from_bytes([0; 10]),
-            amount: 0,
-            code: Code::Approved,
+            decided: Decided::Payment {
+                amount: 0,
+                code: Code::Approved,
+            },
             mac: [0; 8],
         };
         let places = vec![in alloc; free; capacity]?;
@@ -65,9 +67,9 @@ impl MemJournal {
     }
 
     /// Appends a group, where the journal runs.
-    fn push(&mut self, group: &[Payment]) -> Result<(), StoreFault>
+    fn push(&mut self, group: &[Entry]) -> Result<(), StoreFault>
         requires { self.old.running ≡ true
-            → length self.old.payments + length group.now ≤ self.old.capacity }
+            → length self.old.entries + length group.now ≤ self.old.capacity }
         ensures done { OnOk result (IsMemoryGroupAppended self.old self.new group.now) }
         ensures refused { IfErr result (λ fault. (fault ≡ StoreFault.Stopped)
             × IsJournalStopped self.old self.new) }
@@ -87,12 +89,12 @@ impl Journal for MemJournal {
 
     fn restart(&mut self) -> Result<u64, StoreFault>
         ensures found { IfOk result (JournalRestarted memory_journal_meaning self.old self.new) }
-        ensures counted { IfOk result (λ found. length self.new.payments ≡ found) }
+        ensures counted { IfOk result (λ found. length self.new.entries ≡ found) }
         ensures capacity { self.new.capacity ≡ self.old.capacity }
         ensures failed { IfErr result
             (RestartFailed (memory_journal_state self.old) (memory_journal_state self.new)) }
         ensures disarmed { memory_journal_meaning.disarmed self.new }
-        ensures kept { result ≡ Ok (length self.old.payments) }
+        ensures kept { result ≡ Ok (length self.old.entries) }
         ensures journal { self.new ≡ restarted_journal self.old }
     {
         self.running = true;
@@ -111,19 +113,19 @@ impl Journal for MemJournal {
         }
     }
 
-    /// The payments from a place of the list on. It is refused with `Stopped` alone.
-    fn read(&mut self, place: u64, payments: &mut [Payment]) -> Result<(), StoreFault>
-        requires most { length payments.old ≤ 2048 }
+    /// The entries from a place of the list on. It is refused with `Stopped` alone.
+    fn read(&mut self, place: u64, entries: &mut [Entry]) -> Result<(), StoreFault>
+        requires most { length entries.old ≤ 2048 }
         requires inside { self.old.running ≡ true
-            → place + length payments.old ≤ length self.old.payments }
+            → place + length entries.old ≤ length self.old.entries }
         ensures read { OnOk result
-            (ArePaymentsRead memory_journal_meaning self.old self.new place payments.new) }
-        ensures length { length payments.new ≡ length payments.old }
-        ensures counted { OnOk result (length self.new.payments ≡ length self.old.payments) }
+            (AreEntriesRead memory_journal_meaning self.old self.new place entries.new) }
+        ensures length { length entries.new ≡ length entries.old }
+        ensures counted { OnOk result (length self.new.entries ≡ length self.old.entries) }
         ensures capacity { self.new.capacity ≡ self.old.capacity }
         ensures disarmed { memory_journal_meaning.disarmed self.old
             → memory_journal_meaning.disarmed self.new }
-        ensures failed { IfErr result (PaymentsUnread memory_journal_meaning self.old self.new) }
+        ensures failed { IfErr result (EntriesUnread memory_journal_meaning self.old self.new) }
         ensures stopped { IfErr result (λ fault. fault ≡ StoreFault.Stopped) }
         ensures same { self.new ≡ self.old }
     {
@@ -131,19 +133,19 @@ impl Journal for MemJournal {
             return Err(StoreFault::Stopped);
         }
         let from = place as usize;
-        payments.copy_from_slice(&self.places[from..from + payments.len()]);
+        entries.copy_from_slice(&self.places[from..from + entries.len()]);
         Ok(())
     }
 
     /// Appends a group. It is refused with `Stopped` alone.
-    fn append(&mut self, group: &[Payment]) -> Result<(), StoreFault>
+    fn append(&mut self, group: &[Entry]) -> Result<(), StoreFault>
         requires group { IsGroup group.now }
         requires room { self.old.running ≡ true
-            → length self.old.payments + length group.now ≤ self.old.capacity }
+            → length self.old.entries + length group.now ≤ self.old.capacity }
         ensures appended { OnOk result
             (IsGroupAppended memory_journal_meaning self.old self.new group.now) }
         ensures counted { OnOk result
-            (length self.new.payments ≡ length self.old.payments + length group.now) }
+            (length self.new.entries ≡ length self.old.entries + length group.now) }
         ensures capacity { self.new.capacity ≡ self.old.capacity }
         ensures failed { IfErr result
             (GroupAppendFailed memory_journal_meaning self.old self.new group.now) }
@@ -156,7 +158,7 @@ impl Journal for MemJournal {
     fn arm(&mut self, _steps: u32)
         ensures stays { StaysButCalm (memory_journal_state self.old)
             (memory_journal_state self.new) }
-        ensures counted { length self.new.payments ≡ length self.old.payments }
+        ensures counted { length self.new.entries ≡ length self.old.entries }
         ensures capacity { self.new.capacity ≡ self.old.capacity }
         ensures armed { self.new ≡ self.old }
     {}

@@ -2,15 +2,15 @@
 
 ghost use Rattle.std.specs.Prelude.{◌≡◌, ◌≢◌, ◌+◌, ◌*◌, ◌<◌, ◌≤◌, ◌/◌, ◌^◌, ℕ, List, length, IfErr, IfOk, IfSome, OnOk, Some};
 ghost use Rattle.duk_journal.specs.Groups.{HasContents};
-ghost use Rattle.duk_journal.specs.inner.Reading.{Breaks, BreaksIn, Continues, ContinuesBy, HasCount, HasNoContents, HasRead, HavePayments, KeepsNone, LacksPayment, kept_in};
+ghost use Rattle.duk_journal.specs.inner.Reading.{Breaks, BreaksIn, Continues, ContinuesBy, HasCount, HasNoContents, HasRead, HaveEntries, KeepsNone, LacksEntry, kept_in};
 ghost use Rattle.duk_journal.specs.declared.reading.Reading.TheVariants.{Behind, Groups};
 ghost use Rattle.duk_journal.specs.declared.record_format.Contents.{Contents as ContentsOfRecord};
 
-use crate::payment::Payment;
+use crate::entry::Entry;
 use crate::record_format::{Contents, OPEN, RECORD_LENGTH};
 use duk_store::StoreFault;
 
-/// The most payments of a group.
+/// The most entries of a group.
 pub const MOST_OF_GROUP: usize = 4096;
 
 /// How far the records of a journal were read.
@@ -18,21 +18,21 @@ pub const MOST_OF_GROUP: usize = 4096;
 pub enum Reading {
     /// Among the groups.
     Groups {
-        /// How many payments were read.
+        /// How many entries were read.
         kept: u64,
         /// How many of the present group follow.
         left: u16,
     },
     /// Behind them.
     Behind {
-        /// How many payments are kept.
+        /// How many entries are kept.
         kept: u64,
     },
 }
 
 /// Reads the records of a piece.
 ///
-/// Refused with `Damaged` where no list of payments goes on so.
+/// Refused with `Damaged` where no list of entries goes on so.
 pub fn read_piece(reading: Reading, piece: &[u8]) -> Result<Reading, StoreFault>
     requires whole { (count : ℕ) × (length piece.now ≡ 32 * count) }
     requires fits { kept_in reading + length piece.now ≤ 2 ^ 64 }
@@ -134,9 +134,9 @@ fn read_follower(kept: u64, left: u16, bytes: &[u8]) -> Result<Reading, StoreFau
 pub fn contents_of_record(bytes: &[u8]) -> Option<Contents>
     requires { length bytes.now ≡ 32 }
     ensures found { IfSome result (λ contents.
-        HasContents contents.followers contents.payment bytes.now) }
+        HasContents contents.followers contents.entry bytes.now) }
     ensures every { (contents : ContentsOfRecord)
-        → HasContents contents.followers contents.payment bytes.now → result ≡ Some contents }
+        → HasContents contents.followers contents.entry bytes.now → result ≡ Some contents }
 {
     let contents = Contents::of_bytes(&bytes[1..])?;
     if contents.followers as usize >= MOST_OF_GROUP {
@@ -151,7 +151,7 @@ pub fn contents_of_record(bytes: &[u8]) -> Option<Contents>
 fn contents_in(bytes: &[u8]) -> Result<Contents, StoreFault>
     requires { length bytes.now ≡ 32 }
     ensures found { IfOk result (λ contents.
-        HasContents contents.followers contents.payment bytes.now) }
+        HasContents contents.followers contents.entry bytes.now) }
     ensures none { IfErr result (λ fault. (fault ≡ StoreFault.Damaged)
         × HasNoContents bytes.now) }
 {
@@ -161,25 +161,25 @@ fn contents_in(bytes: &[u8]) -> Result<Contents, StoreFault>
     }
 }
 
-/// Reads the payments of a piece's records into all of `payments`.
+/// Reads the entries of a piece's records into all of `entries`.
 ///
 /// Refused with `Damaged` where a record has none.
-pub fn read_payments(piece: &[u8], payments: &mut [Payment]) -> Result<(), StoreFault>
-    requires { length piece.now ≡ 32 * length payments.old }
-    ensures read { OnOk result (HavePayments (length payments.new) payments.new piece.now) }
-    ensures length { length payments.new ≡ length payments.old }
+pub fn read_entries(piece: &[u8], entries: &mut [Entry]) -> Result<(), StoreFault>
+    requires { length piece.now ≡ 32 * length entries.old }
+    ensures read { OnOk result (HaveEntries (length entries.new) entries.new piece.now) }
+    ensures length { length entries.new ≡ length entries.old }
     ensures refused { IfErr result (λ fault. (fault ≡ StoreFault.Damaged)
-        × LacksPayment (length payments.old) piece.now) }
+        × LacksEntry (length entries.old) piece.now) }
 {
-    for index in 0..payments.len() {
+    for index in 0..entries.len() {
         let at = RECORD_LENGTH * index;
         let contents = contents_in(&piece[at..at + RECORD_LENGTH])?;
-        payments[index] = contents.payment;
+        entries[index] = contents.entry;
     }
     Ok(())
 }
 
-/// How many payments are kept, where all records were read.
+/// How many entries are kept, where all records were read.
 ///
 /// Refused with `Damaged` where the last group goes past the end.
 pub fn finish_reading(reading: Reading) -> Result<u64, StoreFault>

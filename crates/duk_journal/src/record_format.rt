@@ -3,11 +3,11 @@
 ghost use Rattle.std.specs.Prelude.{◌≡◌, ◌+◌, ◌^◌, ◌++◌, ◌<◌, ◌≤◌, ◌↔◌, IsTrue, IfSome, Some, length};
 ghost use Rattle.arrayvec.specs.ArrayVec.{array_vec_len};
 ghost use Rattle.duk_tree.specs.Path.{IsUsable};
-ghost use Rattle.duk_journal.specs.Payment.{AreFields};
+ghost use Rattle.duk_journal.specs.Entry.{AreFields, MayStandUnder};
 ghost use Rattle.duk_journal.specs.RecordFormat.{AreContents, contents_of};
 ghost use Rattle.duk_journal.specs.declared.record_format.Contents.{Contents};
 
-use crate::payment::{Payment, code_number, code_of_number};
+use crate::entry::{Decided, Entry};
 use arrayvec::ArrayVec;
 use byteorder::{BigEndian, ByteOrder};
 use duk_tree::{Ksn, usable};
@@ -24,35 +24,32 @@ pub const CONTENTS_LENGTH: usize = 31;
 /// The bytes of contents.
 pub type ContentsBytes = ArrayVec<u8, CONTENTS_LENGTH>;
 
-/// The kind of a record that has a payment.
-const PAYMENT: u8 = 1;
-
 /// What a record says after its gate.
 #[derive(Clone, Copy)]
 pub struct Contents {
     /// How many records of its group follow.
     pub followers: u16,
-    /// Its payment.
-    pub payment: Payment,
+    /// Its entry.
+    pub entry: Entry,
 }
 
 impl Contents {
     /// The bytes of these contents.
     #[tactic(auto, unfolding(crate::specs::RecordFormat::contents_of))]
     pub fn bytes(self) -> ContentsBytes
-        ensures bytes { result.items ≡ contents_of self.followers self.payment }
+        ensures bytes { result.items ≡ contents_of self.followers self.entry }
         ensures length { length result.items ≡ 31 }
-        ensures fields { AreFields self.payment }
+        ensures fields { AreFields self.entry }
         ensures followers { self.followers < 2 ^ 16 }
     {
-        let Contents { followers, payment } = self;
+        let Contents { followers, entry } = self;
         let mut bytes = ArrayVec::new();
-        append(&mut bytes, &[PAYMENT]);
+        append(&mut bytes, &[entry.decided.kind()]);
         append(&mut bytes, &followers.to_be_bytes());
-        append(&mut bytes, &payment.number.bytes());
-        append(&mut bytes, &payment.amount.to_be_bytes());
-        append(&mut bytes, &[code_number(payment.code)]);
-        append(&mut bytes, &payment.mac);
+        append(&mut bytes, &entry.number.bytes());
+        append(&mut bytes, &entry.decided.figure().to_be_bytes());
+        append(&mut bytes, &[entry.decided.outcome()]);
+        append(&mut bytes, &entry.mac);
         append(&mut bytes, &[0; 5]);
         bytes
     }
@@ -84,12 +81,12 @@ impl Contents {
         number.copy_from_slice(&bytes[3..13]);
         let mut mac = [0; 8];
         mac.copy_from_slice(&bytes[18..26]);
+        let figure = BigEndian::read_u32(&bytes[13..]);
         Some(Contents {
             followers: BigEndian::read_u16(&bytes[1..]),
-            payment: Payment {
+            entry: Entry {
                 number: Ksn::from_bytes(number),
-                amount: BigEndian::read_u32(&bytes[13..]),
-                code: code_of_number(bytes[17])?,
+                decided: Decided::written_as(bytes[0], figure, bytes[17])?,
                 mac,
             },
         })
@@ -105,19 +102,21 @@ fn append(contents: &mut ContentsBytes, bytes: &[u8])
     contents.try_extend_from_slice(bytes).unwrap();
 }
 
-/// Whether the counter of a payment's number is usable.
-fn has_usable_number(payment: Payment) -> bool
-    ensures { IsTrue result ↔ IsUsable payment.number.counter }
+/// Whether the counter of an entry's number is usable, and what was decided may stand under it.
+fn has_usable_numbers(entry: Entry) -> bool
+    ensures { IsTrue result
+        ↔ (IsUsable entry.number.counter × MayStandUnder entry.number entry.decided) }
 {
-    usable(payment.number.counter())
+    usable(entry.number.counter()) && entry.decided.may_stand_under(entry.number)
 }
 
-/// Whether the bytes are those of these contents, and the counter of their number is usable.
+/// Whether the bytes are those of these contents, the counter of their number is usable, and what was
+/// decided may stand under it.
 fn are_contents(bytes: &[u8], contents: &Contents) -> bool
     ensures { IsTrue result ↔ AreContents bytes.now contents.now }
 {
     let contents = *contents;
-    if !has_usable_number(contents.payment) {
+    if !has_usable_numbers(contents.entry) {
         return false;
     }
     let written = contents.bytes();

@@ -4,11 +4,11 @@ use Rattle.duk_store.specs.Disk.{DiskState, HasFailed, LeavesReads, LeavesWithin
 use Rattle.duk_store.specs.declared.fault.StoreFault.{StoreFault}
 use Rattle.duk_store.specs.declared.fault.StoreFault.TheVariants.{Damaged, Device}
 use Rattle.duk_journal.specs.RecordFormat.{IsJournalSize, record_length}
-use Rattle.duk_journal.specs.inner.Reading.{HasCount, HasRead, HavePayments, KeepsNone, LacksPayment, kept_in}
-use Rattle.duk_journal.specs.Groups.{Payments}
+use Rattle.duk_journal.specs.inner.Reading.{HasCount, HasRead, HaveEntries, KeepsNone, LacksEntry, kept_in}
+use Rattle.duk_journal.specs.Groups.{Entries}
 use Rattle.duk_journal.specs.declared.reading.Reading.{Reading}
 
--- the disk has one image, in which so many payments are kept
+-- the disk has one image, in which so many entries are kept
 pub record HoldsCount (count : ℕ) (disk : DiskState) : Type 0 where
   pub leaves : LeavesReads disk
   pub has : HasCount count disk.reads
@@ -83,7 +83,7 @@ pub record RecordsUnread
   pub bytes : PreservesBytes old new
   pub cause : IsUnreadFault place before old new fault
 
--- the payments are counted
+-- the entries are counted
 pub record IsCounted (old new : DiskState) (count : ℕ) : Type 0 where
   pub nature : PreservesDisk old new
   pub no_failure : new.failures ≡ old.failures
@@ -106,7 +106,7 @@ pub record CountFailed (old new : DiskState) (fault : StoreFault) : Type 0 where
   pub bytes : PreservesBytes old new
   pub cause : IsCountFault old new fault
 
--- a journal is brought up: it has counted its payments, and knows its disk
+-- a journal is brought up: it has counted its entries, and knows its disk
 pub record IsJournalUp (old new : DiskState) (count : ℕ) : Type 0 where
   pub nature : PreservesDisk old new
   pub no_failure : new.failures ≡ old.failures
@@ -136,23 +136,23 @@ pub record JournalUpFailed (old new : DiskState) (fault : StoreFault) : Type 0 w
   pub within : LeavesWithin old new
   pub cause : IsJournalUpFault old new fault
 
--- payments are read, and nothing changes
-pub record IsKeptRead (place : ℕ) (payments : Payments) (old new : DiskState) : Type 0 where
+-- entries are read, and nothing changes
+pub record IsKeptRead (place : ℕ) (entries : Entries) (old new : DiskState) : Type 0 where
   pub nature : PreservesDisk old new
   pub no_failure : new.failures ≡ old.failures
   pub bytes : PreservesBytes old new
-  pub read : old.honest → HavePayments (length payments) payments
-      (range_of (record_length * place) (record_length * length payments) old.reads)
+  pub read : old.honest → HaveEntries (length entries) entries
+      (range_of (record_length * place) (record_length * length entries) old.reads)
 
--- why they are not: a device step failed, or a record has no payment
-pub record FoundNoPayment (place count : ℕ) (old new : DiskState) : Type 0 where
+-- why they are not: a device step failed, or a record has no entry
+pub record FoundNoEntry (place count : ℕ) (old new : DiskState) : Type 0 where
   pub no_failure : new.failures ≡ old.failures
-  pub lacks : old.honest → LacksPayment count
+  pub lacks : old.honest → LacksEntry count
       (range_of (record_length * place) (record_length * count) old.reads)
 
 abbrev pub IsKeptFault : ℕ → ℕ → DiskState → DiskState → StoreFault → Type 0
 IsKeptFault place count old new Device = HasFailed old new Device
-IsKeptFault place count old new Damaged = FoundNoPayment place count old new
+IsKeptFault place count old new Damaged = FoundNoEntry place count old new
 IsKeptFault place count old new _ = ⊥
 
 pub record KeptUnread (place count : ℕ) (old new : DiskState) (fault : StoreFault) : Type 0 where

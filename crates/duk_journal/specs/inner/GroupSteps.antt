@@ -3,7 +3,7 @@
 use Rattle.std.specs.Prelude.{◌≡◌, ◌≢◌, ◌⊎◌, ◌<◌, ◌≤◌, ◌+◌, ◌*◌, ◌^◌, ℕ, List, length}
 use Rattle.duk_store.specs.Disk.{DiskState, HasFailed, LeavesReads, PreservesDisk}
 use Rattle.duk_store.specs.declared.fault.StoreFault.{StoreFault}
-use Rattle.duk_journal.specs.Groups.{Payments}
+use Rattle.duk_journal.specs.Groups.{Entries}
 use Rattle.duk_journal.specs.RecordFormat.{IsOpen, after_gate, gate_of, record_at, record_length}
 use Rattle.duk_journal.specs.inner.Groups.{AreWritten}
 
@@ -35,24 +35,24 @@ MayLeaveChanged change old new =
     old.honest → (bytes : List ℕ) → new.may_leave bytes → change old.reads bytes
 
 -- the contents of the first records of a group are written, and not synced
-pub record AreContentsWritten (count : ℕ) (group : Payments) (place : ℕ) (before after : List ℕ) : Type 0 where
+pub record AreContentsWritten (count : ℕ) (group : Entries) (place : ℕ) (before after : List ℕ) : Type 0 where
   pub leaves : LeavesGates place (length group) before after
   pub contents : AreWritten count group place after
 
-pub record WritesContents (count : ℕ) (group : Payments) (place : ℕ) (old new : DiskState) : Type 0 where
+pub record WritesContents (count : ℕ) (group : Entries) (place : ℕ) (old new : DiskState) : Type 0 where
   pub nature : PreservesDisk old new
   pub no_failure : new.failures ≡ old.failures
   pub torn : MayLeaveChanged (LeavesGates place (length group)) old new
   pub reads : old.honest → AreContentsWritten count group place old.reads new.reads
 
 -- a device call failed in it
-pub record ContentsFailed (group : Payments) (place : ℕ) (old new : DiskState) (fault : StoreFault) : Type 0 where
+pub record ContentsFailed (group : Entries) (place : ℕ) (old new : DiskState) (fault : StoreFault) : Type 0 where
   pub nature : PreservesDisk old new
   pub failed : HasFailed old new fault
   pub torn : MayLeaveChanged (LeavesGates place (length group)) old new
 
 -- a group is written and open: nothing else is changed
-pub record IsGroupWritten (group : Payments) (place : ℕ) (before after : List ℕ) : Type 0 where
+pub record IsGroupWritten (group : Entries) (place : ℕ) (before after : List ℕ) : Type 0 where
   pub same_length : length after ≡ length before
   pub is_open : IsOpen (record_at place after)
   pub contents : AreWritten (length group) group place after
@@ -63,7 +63,7 @@ pub record IsGroupWritten (group : Payments) (place : ℕ) (before after : List 
 
 -- it is written in part: all gates are as they were, or all contents are written, and any byte
 -- stands in the gate of the first record
-pub record IsGroupTorn (group : Payments) (place : ℕ) (before after : List ℕ) : Type 0 where
+pub record IsGroupTorn (group : Entries) (place : ℕ) (before after : List ℕ) : Type 0 where
   pub same_length : length after ≡ length before
   pub torn : (gate_of (record_at place after) ≡ gate_of (record_at place before))
       ⊎ AreWritten (length group) group place after
@@ -72,19 +72,19 @@ pub record IsGroupTorn (group : Payments) (place : ℕ) (before after : List ℕ
   pub beside : (other : ℕ) → (other < place) ⊎ (place + length group ≤ other)
       → record_at other after ≡ record_at other before
 
-pub record WritesGroup (group : Payments) (place : ℕ) (old new : DiskState) : Type 0 where
+pub record WritesGroup (group : Entries) (place : ℕ) (old new : DiskState) : Type 0 where
   pub nature : PreservesDisk old new
   pub no_failure : new.failures ≡ old.failures
   pub leaves : old.honest → LeavesReads new
   pub written : old.honest → IsGroupWritten group place old.reads new.reads
 
-pub record GroupFailed (group : Payments) (place : ℕ) (old new : DiskState) (fault : StoreFault) : Type 0 where
+pub record GroupFailed (group : Entries) (place : ℕ) (old new : DiskState) (fault : StoreFault) : Type 0 where
   pub nature : PreservesDisk old new
   pub failed : HasFailed old new fault
   pub torn : MayLeaveChanged (IsGroupTorn group place) old new
 
 -- the contents of a group are written and synced
-pub record SyncsContents (group : Payments) (place : ℕ) (old new : DiskState) : Type 0 where
+pub record SyncsContents (group : Entries) (place : ℕ) (old new : DiskState) : Type 0 where
   pub nature : PreservesDisk old new
   pub no_failure : new.failures ≡ old.failures
   pub leaves : old.honest → LeavesReads new

@@ -1,35 +1,35 @@
 -- How the records of a journal are read, one after the other: this project's own.
 use Rattle.std.specs.Prelude.{◌≡◌, ◌<◌, ◌≤◌, ◌+◌, ◌*◌, ◌/◌, ℕ, List, length, slice_index_or}
 use Rattle.duk_store.specs.Disk.{range_of}
-use Rattle.duk_journal.specs.Groups.{AreClosedFrom, AreKeptFrom, HasContents, KeepsPayments, Payments}
+use Rattle.duk_journal.specs.Groups.{AreClosedFrom, AreKeptFrom, Entries, HasContents, KeepsEntries}
 use Rattle.duk_journal.specs.RecordFormat.{IsOpen, record_at, record_length}
-use Rattle.duk_journal.specs.declared.payment.Payment.{Payment}
+use Rattle.duk_journal.specs.declared.entry.Entry.{Entry}
 use Rattle.duk_journal.specs.declared.reading.Reading.{Reading}
 use Rattle.duk_journal.specs.declared.reading.Reading.TheVariants.{Behind, Groups}
 
--- no list of payments is kept in these bytes
+-- no list of entries is kept in these bytes
 abbrev pub KeepsNone : List ℕ → Type 0
-KeepsNone bytes = (payments : Payments) → ¬ KeepsPayments bytes payments
+KeepsNone bytes = (entries : Entries) → ¬ KeepsEntries bytes entries
 
 -- a list of so many is
 abbrev pub HasCount : ℕ → List ℕ → Type 0
-HasCount count bytes = (payments : Payments) × KeepsPayments bytes payments × (length payments ≡ count)
+HasCount count bytes = (entries : Entries) × KeepsEntries bytes entries × (length entries ≡ count)
 
--- the records before a place are those of groups, of which so many payments are left
+-- the records before a place are those of groups, of which so many entries are left
 pub record HasReadGroups (kept left place : ℕ) (bytes : List ℕ) : Type 0 where
   pub all_kept : kept ≡ place
   -- whatever is kept from here on is kept behind them ..
-  pub joins : (rest : Payments) → AreKeptFrom rest left place bytes → HasCount (place + length rest) bytes
+  pub joins : (rest : Entries) → AreKeptFrom rest left place bytes → HasCount (place + length rest) bytes
   -- .. and nothing else is kept
-  pub parts : (payments : Payments) → KeepsPayments bytes payments
-      → (rest : Payments) × AreKeptFrom rest left place bytes
+  pub parts : (entries : Entries) → KeepsEntries bytes entries
+      → (rest : Entries) × AreKeptFrom rest left place bytes
 
--- the records before a place are those of groups with so many payments, and closed ones behind them
+-- the records before a place are those of groups with so many entries, and closed ones behind them
 pub record HasReadBehind (kept place : ℕ) (bytes : List ℕ) : Type 0 where
   pub in_front : kept ≤ place
   pub closed : (other : ℕ) → kept ≤ other → other < place → ¬ IsOpen (record_at other bytes)
   pub joins : AreClosedFrom kept bytes → HasCount kept bytes
-  pub parts : (payments : Payments) → KeepsPayments bytes payments → AreClosedFrom kept bytes
+  pub parts : (entries : Entries) → KeepsEntries bytes entries → AreClosedFrom kept bytes
 
 -- the records before a place were read
 abbrev pub HasRead : Reading → ℕ → List ℕ → Type 0
@@ -52,7 +52,7 @@ Breaks before record_bytes = (place : ℕ) (bytes : List ℕ)
 
 abbrev pub HasNoContents : List ℕ → Type 0
 HasNoContents record_bytes =
-    (followers : ℕ) (payment : Payment) → ¬ HasContents followers payment record_bytes
+    (followers : ℕ) (entry : Entry) → ¬ HasContents followers entry record_bytes
 
 -- a piece stands at a place of the bytes
 abbrev pub StandsAt : ℕ → List ℕ → List ℕ → Type 0
@@ -68,11 +68,11 @@ abbrev pub BreaksIn : Reading → List ℕ → Type 0
 BreaksIn before piece = (place : ℕ) (bytes : List ℕ)
     → StandsAt place piece bytes → HasRead before place bytes → KeepsNone bytes
 
--- the first of these payments stand in the records of a piece
-abbrev pub HavePayments : ℕ → Payments → List ℕ → Type 0
-HavePayments count payments piece = (index : ℕ) (other : Payment) → index < count
-    → (followers : ℕ) × HasContents followers (slice_index_or payments index other) (record_at index piece)
+-- the first of these entries stand in the records of a piece
+abbrev pub HaveEntries : ℕ → Entries → List ℕ → Type 0
+HaveEntries count entries piece = (index : ℕ) (other : Entry) → index < count
+    → (followers : ℕ) × HasContents followers (slice_index_or entries index other) (record_at index piece)
 
--- one of the first records of a piece has no payment
-abbrev pub LacksPayment : ℕ → List ℕ → Type 0
-LacksPayment count piece = (index : ℕ) × (index < count) × HasNoContents (record_at index piece)
+-- one of the first records of a piece has no entry
+abbrev pub LacksEntry : ℕ → List ℕ → Type 0
+LacksEntry count piece = (index : ℕ) × (index < count) × HasNoContents (record_at index piece)

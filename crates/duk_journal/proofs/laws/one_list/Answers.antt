@@ -1,4 +1,4 @@
-use Rattle.duk_journal.proofs.KeptPayments.{kept_once}
+use Rattle.duk_journal.proofs.KeptEntries.{kept_once}
 use Rattle.duk_journal.proofs.laws.one_list.Goals as goal
 
 pub returns : goal.returns

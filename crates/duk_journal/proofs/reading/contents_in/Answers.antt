@@ -4,6 +4,6 @@ use Rattle.duk_journal.proofs.reading.contents_in.Goals as goal
 pub returns-in-None-clause-none : goal.returns-in-None-clause-none
 returns-in-None-clause-none c = (
   refl,
-  λ followers payment has.
-      let found = c.in-None.ensures.every (record { followers = followers; payment = payment }) has in cc,
+  λ followers entry has.
+      let found = c.in-None.ensures.every (record { followers = followers; entry = entry }) has in cc,
 )

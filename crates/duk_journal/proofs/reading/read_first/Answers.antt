@@ -22,5 +22,5 @@ returns-in_err-contents-clause-refused c =
 
 pub returns-clause-read : goal.returns-clause-read
 returns-clause-read c = λ place bytes is was.
-    first_read c.args.kept place bytes c.serials.ensures.ten c.serials.ensures.found c.in_ok-contents.contents.followers c.in_ok-contents.contents.payment was (subst IsOpen (sym is) c.if-bytes-ne-OPEN.false)
-    (subst (HasContents c.in_ok-contents.contents.followers c.in_ok-contents.contents.payment) (sym is) c.in_ok-contents.ensures.found)
+    first_read c.args.kept place bytes c.serials.ensures.ten c.serials.ensures.found c.in_ok-contents.contents.followers c.in_ok-contents.contents.entry was (subst IsOpen (sym is) c.if-bytes-ne-OPEN.false)
+    (subst (HasContents c.in_ok-contents.contents.followers c.in_ok-contents.contents.entry) (sym is) c.in_ok-contents.ensures.found)

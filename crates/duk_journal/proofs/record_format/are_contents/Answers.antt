@@ -8,10 +8,11 @@ returns c =
     let fields = c.bytes-written.ensures.fields in
     let written = c.as_slice.ensures.value ∙ c.bytes-written.ensures.bytes in (
       (λ is. record {
-        payment_is = record {
+        entry_is = record {
           serial = fields.serial;
-          usable = c.has_usable_number.ensures.0 c.if-not-has_usable_number.false;
-          amount_fits = fields.amount_fits;
+          usable = (c.has_usable_numbers.ensures.0 c.if-not-has_usable_numbers.false).0;
+          stands = (c.has_usable_numbers.ensures.0 c.if-not-has_usable_numbers.false).1;
+          figure_fits = fields.figure_fits;
           mac_length = fields.mac_length;
         };
         followers_fit = c.bytes-written.ensures.followers;

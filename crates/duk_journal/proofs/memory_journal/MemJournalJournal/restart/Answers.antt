@@ -9,7 +9,7 @@ pub returns-clause-found : goal.returns-clause-found
 returns-clause-found c =
     let inside = c.self.inside in
     let journal : MemoryJournal = record {
-      payments = take inside.len inside.places.items;
+      entries = take inside.len inside.places.items;
       capacity = length inside.places.items;
       running = inside.running;
     } in

@@ -2,7 +2,7 @@ use Rattle.std.proofs.Common.{◌≡◌, length, arith, subst, sym}
 use Rattle.std.proofs.lemmas.Result.{IfErr-weaker}
 use Rattle.duk_store.specs.declared.fault.StoreFault.{StoreFault}
 use Rattle.duk_journal.specs.inner.DiskJournal.{CountFailed}
-use Rattle.duk_journal.proofs.journal_steps.count_payments.Goals as goal
+use Rattle.duk_journal.proofs.journal_steps.count_entries.Goals as goal
 
 pub returns-clause-failed : goal.returns-clause-failed
 returns-clause-failed g c =

@@ -1,14 +1,19 @@
--- Which payments the bytes of a journal keep, before and after a group is written.
+-- Which entries the bytes of a journal keep, before and after a group is written.
 use Rattle.std.proofs.Common.{◌≡◌, ℕ, zero, suc, ◌+◌, ◌-◌, ◌<◌, ◌≤◌, List, [], ◌∷◌, ◌++◌, Some, length, refl, sym, ◌∙◌, ap, subst, arith}
 use Rattle.std.specs.List.{slice_get}
 use Rattle.duk_frame.specs.declared.code.Code.{Code}
 use Rattle.duk_frame.specs.declared.code.Code.TheVariants.{Approved, NoCard, WrongPin, OverLimit, Unreadable}
 use Rattle.duk_tree.specs.Serial.{IsSerial, Serial, serial_bytes, serial_of_bytes}
-use Rattle.duk_journal.specs.Groups.{AreClosedFrom, AreKeptFrom, HasContents, Payments}
-use Rattle.duk_journal.specs.Payment.{number_of_code}
+use Rattle.duk_journal.specs.Groups.{AreClosedFrom, AreKeptFrom, Entries, HasContents}
+use Rattle.duk_reversal.specs.State.{state_byte}
+use Rattle.duk_reversal.specs.declared.state.ReversalState.{ReversalState}
+use Rattle.duk_reversal.specs.declared.state.ReversalState.TheVariants.{NoneStands, Undone}
+use Rattle.duk_journal.specs.Entry.{figure_of, kind_of, number_of_code, outcome_of}
 use Rattle.duk_journal.specs.RecordFormat.{AreContents, IsOpen, after_gate, record_at}
 use Rattle.duk_journal.specs.inner.Groups.{AreWritten, SameRecords}
-use Rattle.duk_journal.specs.declared.payment.Payment.{Payment}
+use Rattle.duk_journal.specs.declared.entry.Decided.{Decided}
+use Rattle.duk_journal.specs.declared.entry.Decided.TheVariants.{Payment, Reversal}
+use Rattle.duk_journal.specs.declared.entry.Entry.{Entry}
 use Rattle.duk_journal.specs.declared.record_format.Contents.{Contents}
 use Rattle.duk_journal.proofs.FieldPlaces.{field_places, same_contents}
 
@@ -21,31 +26,42 @@ one_code OverLimit OverLimit same = refl
 one_code Unreadable Unreadable same = refl
 one_code _ _ same = absurd (omega (arith, same))
 
+-- a state has one byte
+one_state : (a b : ReversalState) → state_byte a ≡ state_byte b → a ≡ b
+one_state Undone Undone same = refl
+one_state NoneStands NoneStands same = refl
+one_state _ _ same = absurd (omega (arith, same))
+
+-- what is written with one kind, one figure and one outcome
+one_decided : (a b : Decided) → kind_of a ≡ kind_of b → figure_of a ≡ figure_of b → outcome_of a ≡ outcome_of b → a ≡ b
+one_decided (Payment m c) (Payment n d) kind figure outcome = ap (λ (x : ℕ). Payment x c) figure ∙ ap (λ (x : Code). Payment n x) (one_code c d outcome)
+one_decided (Reversal m s) (Reversal n t) kind figure outcome = ap (λ (x : ℕ). Reversal x s) figure ∙ ap (λ (x : ReversalState). Reversal n x) (one_state s t outcome)
+one_decided _ _ kind figure outcome = absurd (omega (arith, kind))
+
 -- the contents of a record
-pub contents_are : (followers : ℕ) (payment : Payment) (r : List ℕ) → HasContents followers payment r → AreContents (after_gate r) (record { followers = followers; payment = payment })
-contents_are followers payment r has = record { payment_is = has.payment_is; followers_fit = omega (arith, has.followers_fit); written = has.written }
+pub contents_are : (followers : ℕ) (entry : Entry) (r : List ℕ) → HasContents followers entry r → AreContents (after_gate r) (record { followers = followers; entry = entry })
+contents_are followers entry r has = record { entry_is = has.entry_is; followers_fit = omega (arith, has.followers_fit); written = has.written }
 
 module _ (ten : (serial : Serial) → length (serial_bytes serial) ≡ 10) (found : (serial : Serial) → IsSerial serial → serial_of_bytes (serial_bytes serial) ≡ serial) where
-  -- bytes are the contents of one payment
+  -- bytes are the contents of one entry
   pub one_contents : (bytes : List ℕ) (a b : Contents) → AreContents bytes a → AreContents bytes b → a ≡ b
   one_contents bytes a b first second =
       let x = field_places bytes a ten first in
       let y = field_places bytes b ten second in
       same_contents a b
       (sym x.followers_is ∙ y.followers_is)
-      (sym (found a.payment.number first.payment_is.serial) ∙ ap serial_of_bytes (sym x.number_is ∙ y.number_is) ∙ found b.payment.number second.payment_is.serial)
-      (sym x.amount_is ∙ y.amount_is)
-      (one_code a.payment.code b.payment.code (sym x.code_is ∙ y.code_is))
+      (sym (found a.entry.number first.entry_is.serial) ∙ ap serial_of_bytes (sym x.number_is ∙ y.number_is) ∙ found b.entry.number second.entry_is.serial)
+      (one_decided a.entry.decided b.entry.decided (sym x.kind_is ∙ y.kind_is) (sym x.figure_is ∙ y.figure_is) (sym x.outcome_is ∙ y.outcome_is))
       (sym x.mac_is ∙ y.mac_is)
 
-  pub same_followers : (f g : ℕ) (p q : Payment) (r : List ℕ) → HasContents f p r → HasContents g q r → f ≡ g
-  same_followers f g p q r one two = ap (λ (c : Contents). c.followers) (one_contents (after_gate r) (record { followers = f; payment = p }) (record { followers = g; payment = q }) (contents_are f p r one) (contents_are g q r two))
+  pub same_followers : (f g : ℕ) (p q : Entry) (r : List ℕ) → HasContents f p r → HasContents g q r → f ≡ g
+  same_followers f g p q r one two = ap (λ (c : Contents). c.followers) (one_contents (after_gate r) (record { followers = f; entry = p }) (record { followers = g; entry = q }) (contents_are f p r one) (contents_are g q r two))
 
-  pub same_payment : (f g : ℕ) (p q : Payment) (r : List ℕ) → HasContents f p r → HasContents g q r → p ≡ q
-  same_payment f g p q r one two = ap (λ (c : Contents). c.payment) (one_contents (after_gate r) (record { followers = f; payment = p }) (record { followers = g; payment = q }) (contents_are f p r one) (contents_are g q r two))
+  pub same_entry : (f g : ℕ) (p q : Entry) (r : List ℕ) → HasContents f p r → HasContents g q r → p ≡ q
+  same_entry f g p q r one two = ap (λ (c : Contents). c.entry) (one_contents (after_gate r) (record { followers = f; entry = p }) (record { followers = g; entry = q }) (contents_are f p r one) (contents_are g q r two))
 
   -- the bytes keep one list at most
-  pub kept_once : (one two : Payments) (left place : ℕ) (bytes : List ℕ) → AreKeptFrom one left place bytes → AreKeptFrom two left place bytes → one ≡ two
+  pub kept_once : (one two : Entries) (left place : ℕ) (bytes : List ℕ) → AreKeptFrom one left place bytes → AreKeptFrom two left place bytes → one ≡ two
   kept_once [] [] left place bytes first second = refl
   kept_once [] (q ∷ two) zero place bytes first second = absurd (first place (omega arith) second.1)
   kept_once [] (q ∷ two) (suc left) place bytes first second = absurd first
@@ -55,20 +71,20 @@ module _ (ten : (serial : Serial) → length (serial_bytes serial) ≡ 10) (foun
       let r = record_at place bytes in
       let followers : first.0 ≡ second.0 = same_followers first.0 second.0 p q r first.2 second.2 in
       let rest = kept_once one two second.0 (place + 1) bytes (subst (λ (n : ℕ). AreKeptFrom one n (place + 1) bytes) followers first.3) second.3 in
-      ap (λ (x : Payment). x ∷ one) (same_payment first.0 second.0 p q r first.2 second.2) ∙ ap (λ (l : Payments). q ∷ l) rest
+      ap (λ (x : Entry). x ∷ one) (same_entry first.0 second.0 p q r first.2 second.2) ∙ ap (λ (l : Entries). q ∷ l) rest
   kept_once (p ∷ one) (q ∷ two) (suc left) place bytes first second =
       let r = record_at place bytes in
-      ap (λ (x : Payment). x ∷ one) (same_payment 0 0 p q r first.1 second.1) ∙ ap (λ (l : Payments). q ∷ l) (kept_once one two left (place + 1) bytes first.2 second.2)
+      ap (λ (x : Entry). x ∷ one) (same_entry 0 0 p q r first.1 second.1) ∙ ap (λ (l : Entries). q ∷ l) (kept_once one two left (place + 1) bytes first.2 second.2)
 
 -- all records behind what is kept are closed
-pub closed_behind : (kept : Payments) (left place : ℕ) (bytes : List ℕ) → AreKeptFrom kept left place bytes → AreClosedFrom (place + length kept) bytes
+pub closed_behind : (kept : Entries) (left place : ℕ) (bytes : List ℕ) → AreKeptFrom kept left place bytes → AreClosedFrom (place + length kept) bytes
 closed_behind [] zero place bytes are later past = are later (omega (arith, past))
 closed_behind [] (suc left) place bytes are later past = absurd are
 closed_behind (p ∷ kept) zero place bytes are later past = closed_behind kept are.0 (place + 1) bytes are.3 later (omega (arith, past))
 closed_behind (p ∷ kept) (suc left) place bytes are later past = closed_behind kept left (place + 1) bytes are.2 later (omega (arith, past))
 
 -- records that stay keep what they kept, and what follows them is kept behind it
-pub kept_onto : (kept tail : Payments) (left place end : ℕ) (x y : List ℕ) → end ≡ place + length kept → AreKeptFrom kept left place x → SameRecords place end x y → AreKeptFrom tail 0 end y → AreKeptFrom (kept ++ tail) left place y
+pub kept_onto : (kept tail : Entries) (left place end : ℕ) (x y : List ℕ) → end ≡ place + length kept → AreKeptFrom kept left place x → SameRecords place end x y → AreKeptFrom tail 0 end y → AreKeptFrom (kept ++ tail) left place y
 kept_onto [] tail zero place end x y end_is are same more = subst (λ (n : ℕ). AreKeptFrom tail 0 n y) (omega (arith, end_is)) more
 kept_onto [] tail (suc left) place end x y end_is are same more = absurd are
 kept_onto (p ∷ kept) tail zero place end x y end_is are same more =
@@ -78,21 +94,21 @@ kept_onto (p ∷ kept) tail (suc left) place end x y end_is are same more =
     let here : record_at place y ≡ record_at place x = same place (omega arith) (omega (arith, end_is)) in
     (rw here are.0, rw here are.1, kept_onto kept tail left (place + 1) end x y (omega (arith, end_is)) are.2 (λ at from to. same at (omega (arith, from)) to) more)
 
--- the payments of a group after its first
-followers_kept : (rest : Payments) (place : ℕ) (bytes : List ℕ)
-    → ((index : ℕ) (payment : Payment) → index < length rest → slice_get rest index ≡ Some payment → HasContents 0 payment (record_at (place + index) bytes))
+-- the entries of a group after its first
+followers_kept : (rest : Entries) (place : ℕ) (bytes : List ℕ)
+    → ((index : ℕ) (entry : Entry) → index < length rest → slice_get rest index ≡ Some entry → HasContents 0 entry (record_at (place + index) bytes))
     → AreClosedFrom place bytes → AreKeptFrom rest (length rest) place bytes
 followers_kept [] place bytes written closed = closed
 followers_kept (p ∷ rest) place bytes written closed = (
   closed place (omega arith),
   subst (λ (n : ℕ). HasContents 0 p (record_at n bytes)) (omega arith) (written 0 p (omega arith) refl),
   followers_kept rest (place + 1) bytes
-      (λ index payment less is. subst (λ (n : ℕ). HasContents 0 payment (record_at n bytes)) (omega arith) (written (suc index) payment (omega (arith, less)) is))
+      (λ index entry less is. subst (λ (n : ℕ). HasContents 0 entry (record_at n bytes)) (omega arith) (written (suc index) entry (omega (arith, less)) is))
       (λ later past. closed later (omega (arith, past))),
 )
 
 -- a group that is written and open is kept
-pub group_kept : (group : Payments) (place : ℕ) (bytes : List ℕ) → 1 ≤ length group → AreWritten (length group) group place bytes → IsOpen (record_at place bytes) → AreClosedFrom (place + 1) bytes → AreKeptFrom group 0 place bytes
+pub group_kept : (group : Entries) (place : ℕ) (bytes : List ℕ) → 1 ≤ length group → AreWritten (length group) group place bytes → IsOpen (record_at place bytes) → AreClosedFrom (place + 1) bytes → AreKeptFrom group 0 place bytes
 group_kept [] place bytes some written is_open closed = absurd (omega (arith, some))
 group_kept (p ∷ rest) place bytes some written is_open closed =
     let here : place + 0 ≡ place = omega arith in
@@ -101,13 +117,13 @@ group_kept (p ∷ rest) place bytes some written is_open closed =
       is_open,
       subst (λ (n : ℕ). HasContents (length rest) p (record_at n bytes)) here (subst (λ (f : ℕ). HasContents f p (record_at (place + 0) bytes)) followers (written 0 p (omega arith) refl)),
       followers_kept rest (place + 1) bytes
-          (λ index payment less is. subst (λ (n : ℕ). HasContents 0 payment (record_at n bytes)) (omega arith) (written (suc index) payment (omega (arith, less)) is))
+          (λ index entry less is. subst (λ (n : ℕ). HasContents 0 entry (record_at n bytes)) (omega arith) (written (suc index) entry (omega (arith, less)) is))
           closed,
     )
 
--- what stands in the record of a payment that is kept
-pub kept_at : (kept : Payments) (left place : ℕ) (bytes : List ℕ) (index : ℕ) → AreKeptFrom kept left place bytes → index < length kept
-    → (payment : Payment) × (followers : ℕ) × (slice_get kept index ≡ Some payment) × HasContents followers payment (record_at (place + index) bytes)
+-- what stands in the record of an entry that is kept
+pub kept_at : (kept : Entries) (left place : ℕ) (bytes : List ℕ) (index : ℕ) → AreKeptFrom kept left place bytes → index < length kept
+    → (entry : Entry) × (followers : ℕ) × (slice_get kept index ≡ Some entry) × HasContents followers entry (record_at (place + index) bytes)
 kept_at [] left place bytes index are less = absurd (omega (arith, less))
 kept_at (p ∷ kept) zero place bytes zero are less = (p, are.0, refl, subst (λ (n : ℕ). HasContents are.0 p (record_at n bytes)) (omega arith) are.2)
 kept_at (p ∷ kept) (suc left) place bytes zero are less = (p, 0, refl, subst (λ (n : ℕ). HasContents 0 p (record_at n bytes)) (omega arith) are.1)

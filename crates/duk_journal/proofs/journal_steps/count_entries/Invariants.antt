@@ -1,7 +1,7 @@
 use Rattle.std.proofs.Common.{◌≡◌, ◌≤◌, ◌-◌, ◌<◌, ◌^◌, length}
 use Rattle.duk_store.specs.Disk.{PreservesBytes, PreservesDisk}
 use Rattle.duk_journal.specs.inner.Reading.{HasRead, kept_in}
-use Rattle.duk_journal.proofs.journal_steps.count_payments.Given as goal
+use Rattle.duk_journal.proofs.journal_steps.count_entries.Given as goal
 
 abbrev pub invariant-loop-place : goal.invariant-loop-place
 invariant-loop-place g l = record {
