@@ -3,7 +3,8 @@ use Rattle.std.specs.Prelude.{◌≡◌, ◌<◌, ◌^◌, ℕ, length}
 use Rattle.duk_frame.specs.declared.code.Code.{Code}
 use Rattle.duk_frame.specs.declared.code.Code.TheVariants.{Approved, NoCard, WrongPin, OverLimit, Unreadable}
 use Rattle.duk_reversal.specs.Numbers.{Reverses}
-use Rattle.duk_reversal.specs.State.{state_byte}
+use Rattle.duk_reversal.specs.declared.state.ReversalState.{ReversalState}
+use Rattle.duk_reversal.specs.declared.state.ReversalState.TheVariants.{NoneStands, Undone}
 use Rattle.duk_tree.specs.Path.{IsUsable}
 use Rattle.duk_tree.specs.Serial.{IsSerial, Serial}
 use Rattle.duk_journal.specs.declared.entry.Decided.{Decided}
@@ -18,6 +19,12 @@ number_of_code WrongPin = 55
 number_of_code OverLimit = 51
 number_of_code Unreadable = 30
 
+-- the number that the state of a reversal is written as: none that a code is, since a code has two
+-- digits
+abbrev pub number_of_state : ReversalState → ℕ
+number_of_state Undone = 129
+number_of_state NoneStands = 128
+
 -- the kind of a record: 1 for a payment, 2 for a reversal
 abbrev pub kind_of : Decided → ℕ
 kind_of (Payment amount code) = 1
@@ -28,10 +35,10 @@ abbrev pub figure_of : Decided → ℕ
 figure_of (Payment amount code) = amount
 figure_of (Reversal counter state) = counter
 
--- its outcome: the number of a payment's code, or the byte of a reversal's state
+-- its outcome: the number of a payment's code, or of a reversal's state
 abbrev pub outcome_of : Decided → ℕ
 outcome_of (Payment amount code) = number_of_code code
-outcome_of (Reversal counter state) = state_byte state
+outcome_of (Reversal counter state) = number_of_state state
 
 -- the number that a reversal under one is of: that of the same initial key serial number with this
 -- counter

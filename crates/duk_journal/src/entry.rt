@@ -1,9 +1,10 @@
 //! Entries, as a journal keeps them: payments and reversals.
 
 ghost use Rattle.std.specs.Prelude.{◌≡◌, ◌<◌, ◌^◌, ◌↔◌, IfSome, IsTrue, Some};
-ghost use Rattle.duk_journal.specs.Entry.{MayStandUnder, figure_of, kind_of, number_of_code, outcome_of};
+ghost use Rattle.duk_journal.specs.Entry.{MayStandUnder, figure_of, kind_of, number_of_code, number_of_state, outcome_of};
 ghost use Rattle.duk_journal.specs.inner.Entry.{IsWrittenAs};
 ghost use Rattle.duk_frame.specs.declared.code.Code.{Code};
+ghost use Rattle.duk_reversal.specs.declared.state.ReversalState.{ReversalState};
 ghost use Rattle.duk_journal.specs.declared.entry.Decided.{Decided};
 
 use duk_frame::Code;
@@ -62,13 +63,13 @@ impl Decided {
         }
     }
 
-    /// The byte that a record has of its outcome: a code's number, or a state's byte.
+    /// The byte that a record has of its outcome: a code's number, or a state's.
     pub(crate) fn outcome(self) -> u8
         ensures { result ≡ outcome_of self }
     {
         match self {
             Decided::Payment { code, .. } => code_number(code),
-            Decided::Reversal { state, .. } => state.byte(),
+            Decided::Reversal { state, .. } => state_number(state),
         }
     }
 
@@ -85,7 +86,7 @@ impl Decided {
             }),
             2 => Some(Decided::Reversal {
                 counter: figure,
-                state: ReversalState::from_byte(outcome)?,
+                state: state_of_number(outcome)?,
             }),
             _ => None,
         }
@@ -127,6 +128,29 @@ fn code_of_number(number: u8) -> Option<Code>
         55 => Some(Code::WrongPin),
         51 => Some(Code::OverLimit),
         30 => Some(Code::Unreadable),
+        _ => None,
+    }
+}
+
+/// The number that a state is written as. None is that of a code, which has two digits: so a record
+/// whose kind alone is wrong has no contents.
+fn state_number(state: ReversalState) -> u8
+    ensures { result ≡ number_of_state state }
+{
+    match state {
+        ReversalState::Undone => 129,
+        ReversalState::NoneStands => 128,
+    }
+}
+
+/// The state that is written as this number.
+fn state_of_number(number: u8) -> Option<ReversalState>
+    ensures found { IfSome result (λ state. number_of_state state ≡ number) }
+    ensures every { (state : ReversalState) → number_of_state state ≡ number → result ≡ Some state }
+{
+    match number {
+        129 => Some(ReversalState::Undone),
+        128 => Some(ReversalState::NoneStands),
         _ => None,
     }
 }

@@ -1,9 +1,10 @@
 //! Laws of journals, each the contract of a function that does nothing.
 
-ghost use Rattle.std.specs.Prelude.{◌≡◌, ◌≤◌, ◌*◌, ℕ, List, []};
+ghost use Rattle.std.specs.Prelude.{◌≡◌, ◌≤◌, ◌*◌, ℕ, List, [], drop};
 ghost use Rattle.duk_store.specs.MemoryDisk.{memory_disk_meaning, new_disk};
 ghost use Rattle.duk_store.specs.StoreState.{IsNew};
 ghost use Rattle.duk_journal.specs.DiskJournal.{disk_journal_meaning, new_disk_journal};
+ghost use Rattle.duk_journal.specs.Entry.{kind_of};
 ghost use Rattle.duk_journal.specs.Groups.{Entries, HasContents, KeepsEntries};
 ghost use Rattle.duk_journal.specs.declared.entry.Entry.{Entry};
 
@@ -20,6 +21,16 @@ pub fn one_contents()
     ensures { (followers others : ℕ) (one two : Entry) (record_bytes : List ℕ)
         → HasContents followers one record_bytes → HasContents others two record_bytes
         → (followers ≡ others) × (one ≡ two) }
+{
+    duk_tree::laws::serials();
+}
+
+/// What stands behind the kind of a record tells the kind: no code is written as a state is. So where
+/// a write of the kind alone is torn, the record has its own contents, or none.
+pub fn one_kind()
+    ensures { (followers others : ℕ) (one two : Entry) (first second : List ℕ)
+        → HasContents followers one first → HasContents others two second
+        → drop 2 first ≡ drop 2 second → kind_of one.decided ≡ kind_of two.decided }
 {
     duk_tree::laws::serials();
 }
