@@ -6,10 +6,10 @@ use Rattle.duk_copy.specs.InPart.{LeavesInPart}
 use Rattle.duk_copy.specs.inner.Blank.{LeavesOutside}
 use Rattle.duk_copy.specs.inner.Copy.{IsRestCopied}
 use Rattle.duk_copy.specs.inner.Head.{HasRestOf, IsHeadRead, IsHeadSettled, LeavesHeadInTurn}
-use Rattle.duk_journal.specs.Groups.{KeepsPayments, Payments}
+use Rattle.duk_journal.specs.Groups.{Entries, KeepsEntries}
 use Rattle.duk_store.specs.Disk.{DiskState, LeavesReads, PreservesBytes, PreservesDisk}
 use Rattle.duk_copy.proofs.InPart.{in_part_copied}
-use Rattle.duk_copy.proofs.KeptFront.{closed_keeps_none, finds_them, front_keeps, head_of_kept}
+use Rattle.duk_copy.proofs.KeptFront.{TellsKind, closed_keeps_none, finds_them, first_of_kept, front_keeps}
 use Rattle.duk_copy.proofs.WrittenDisks.{keeps_on}
 use Rattle.duk_copy.proofs.WrittenLists.{differs_then, front_at, whole_by_head, zero_of_zeros}
 
@@ -22,23 +22,23 @@ blank_of old new nature no_failure reads leaves = record {
   zeros = zeros;
   sound = λ h size. record {
     size = (size.0, size.1, nature.size ∙ size.2);
-    each_keeps = λ bytes left. ([], subst (λ (l : List ℕ). KeepsPayments l []) (sym ((zeros h bytes).0 left)) none);
+    each_keeps = λ bytes left. ([], subst (λ (l : List ℕ). KeepsEntries l []) (sym ((zeros h bytes).0 left)) none);
   };
 }
   where
     zeros : old.honest → (bytes : List ℕ) → (new.may_leave bytes → bytes ≡ replicate old.size 0) × (bytes ≡ replicate old.size 0 → new.may_leave bytes)
     zeros h bytes = (λ left. (leaves h bytes).0 left ∙ reads h, λ is. (leaves h bytes).1 (is ∙ sym (reads h)))
 
-    none : KeepsPayments (replicate old.size 0) []
+    none : KeepsEntries (replicate old.size 0) []
     none = closed_keeps_none (replicate old.size 0) (λ gate. omega (arith, gate, zero_of_zeros old.size 0)) (λ k far. zero_of_zeros old.size k)
 
-module _ (one_list : (bytes : List ℕ) (one two : Payments) → KeepsPayments bytes one → KeepsPayments bytes two → one ≡ two)
+module _ (one_list : (bytes : List ℕ) (one two : Entries) → KeepsEntries bytes one → KeepsEntries bytes two → one ≡ two)
     (kept : ℕ) (old before : DiskState) (long : old.honest → length old.reads ≡ old.size) (inside : 32 * kept ≤ old.size) where
   -- the front of the old disk keeps what it keeps
-  copy_keeps : old.honest → (payments : Payments) → KeepsPayments old.reads payments → length payments ≡ kept
-      → KeepsPayments (copied_bytes kept before.size old.reads) payments
-  copy_keeps h payments keeps counted =
-      front_keeps payments 0 0 (32 * kept) (before.size - 32 * kept) old.reads (omega (arith, counted)) (omega (arith, long h, inside)) keeps
+  copy_keeps : old.honest → (entries : Entries) → KeepsEntries old.reads entries → length entries ≡ kept
+      → KeepsEntries (copied_bytes kept before.size old.reads) entries
+  copy_keeps h entries keeps counted =
+      front_keeps entries 0 0 (32 * kept) (before.size - 32 * kept) old.reads (omega (arith, counted)) (omega (arith, long h, inside)) keeps
 
   copied_of : (after : DiskState) → PreservesDisk before after → after.failures ≡ before.failures
       → (old.honest → before.honest → after.reads ≡ copied_bytes kept before.size old.reads) → (before.honest → LeavesReads after) → IsCopied kept old before after
@@ -47,13 +47,13 @@ module _ (one_list : (bytes : List ℕ) (one two : Payments) → KeepsPayments b
     no_failure = no_failure;
     bytes = bytes;
     leaves = leaves;
-    keeps = λ h k payments keeps counted.
-        finds_them one_list after (copied_bytes kept before.size old.reads) payments (leaves k) (bytes h k) (copy_keeps h payments keeps counted);
-    sound = λ h k size payments keeps counted. record {
+    keeps = λ h k entries keeps counted.
+        finds_them one_list after (copied_bytes kept before.size old.reads) entries (leaves k) (bytes h k) (copy_keeps h entries keeps counted);
+    sound = λ h k size entries keeps counted. record {
       size = (size.0, size.1, nature.size ∙ size.2);
       each_keeps = λ left_bytes left.
           let is : left_bytes ≡ copied_bytes kept before.size old.reads = (leaves k left_bytes).0 left ∙ bytes h k in
-          (payments, subst (λ (l : List ℕ). KeepsPayments l payments) (sym is) (copy_keeps h payments keeps counted));
+          (entries, subst (λ (l : List ℕ). KeepsEntries l entries) (sym is) (copy_keeps h entries keeps counted));
     };
   }
 
@@ -88,9 +88,9 @@ module _ (one_list : (bytes : List ℕ) (one two : Payments) → KeepsPayments b
         (λ k. settled.leaves (rest.nature.honest.0 k) (rest.leaves k))
 
     -- or perhaps it is not
-    pub copied_in_part : LeavesOutside 2 before.size before mid → LeavesHeadInTurn gate mid after → old.honest → (payments : Payments)
-        → KeepsPayments old.reads payments → length payments ≡ kept → LeavesInPart payments before after
-    copied_in_part outside in_turn h payments keeps counted =
-        let most : 1 ≤ length payments = omega (arith, some, counted) in
-        in_part_copied before.size before mid after rest.nature outside rest.leaves payments (copied_bytes kept before.size old.reads) gate most
-        (copy_keeps h payments keeps counted) (head.gate_is h ∙ (head_of_kept old.reads payments most keeps).0) (λ k. rest_of_old h k) in_turn
+    pub copied_in_part : TellsKind → LeavesOutside 2 before.size before mid → LeavesHeadInTurn gate mid after → old.honest → (entries : Entries)
+        → KeepsEntries old.reads entries → length entries ≡ kept → LeavesInPart entries before after
+    copied_in_part tells outside in_turn h entries keeps counted =
+        let most : 1 ≤ length entries = omega (arith, some, counted) in
+        in_part_copied before.size before mid after rest.nature outside rest.leaves tells entries (copied_bytes kept before.size old.reads) gate most
+        (copy_keeps h entries keeps counted) (head.gate_is h ∙ (first_of_kept old.reads entries most keeps).2.gate) (λ k. rest_of_old h k) in_turn

@@ -5,9 +5,9 @@ use Rattle.std.proofs.lemmas.List.{get_or_past}
 use Rattle.duk_copy.specs.InPart.{IsUnfinished, LeavesInPart}
 use Rattle.duk_copy.specs.inner.Blank.{LeavesOutside}
 use Rattle.duk_copy.specs.inner.Head.{HasRestOf, LeavesHeadInTurn}
-use Rattle.duk_journal.specs.Groups.{KeepsPayments, Payments}
+use Rattle.duk_journal.specs.Groups.{Entries, KeepsEntries}
 use Rattle.duk_store.specs.Disk.{DiffersWithin, DiskState, LeavesReads, PreservesDisk}
-use Rattle.duk_copy.proofs.KeptFront.{closed_keeps_none, head_of_kept, none_or_blank, unfinished_is_none}
+use Rattle.duk_copy.proofs.KeptFront.{TellsKind, closed_keeps_none, first_of_kept, none_or_blank, torn_is_none, unfinished_is_none, zero_is_no_kind}
 use Rattle.duk_copy.proofs.WrittenLists.{differs_then, whole_by_head, zero_of_zeros}
 
 -- what a stop leaves differs from the one image that there was
@@ -22,12 +22,12 @@ differs_from to before after h one outside bytes left =
 unfinished_on : (to : ℕ) (old new : List ℕ) → DiffersWithin 2 (to - 2) old new → IsUnfinished old → IsUnfinished new
 unfinished_on to old new differs unfinished = record {
   gate = differs.outside 0 (inl (omega arith)) ∙ unfinished.gate;
-  kind = λ same. unfinished.kind (sym (differs.outside 1 (inl (omega arith))) ∙ same);
+  kind = λ decided same. unfinished.kind decided (same ∙ differs.outside 1 (inl (omega arith)));
 }
 
 -- all behind the first two bytes was written, and perhaps not all of that
-pub in_part_behind : (payments : Payments) (to : ℕ) (before after : DiskState) → LeavesOutside 2 to before after → LeavesInPart payments before after
-in_part_behind payments to before after outside = λ h one unfinished bytes left.
+pub in_part_behind : (entries : Entries) (to : ℕ) (before after : DiskState) → LeavesOutside 2 to before after → LeavesInPart entries before after
+in_part_behind entries to before after outside = λ h one unfinished bytes left.
     inl (unfinished_is_none bytes (unfinished_on to before.reads bytes (differs_from to before after h one outside bytes left) unfinished))
 
 module _ (to : ℕ) (before mid after : DiskState) (nature : PreservesDisk before mid) (outside : LeavesOutside 2 to before mid)
@@ -45,24 +45,25 @@ module _ (to : ℕ) (before mid after : DiskState) (nature : PreservesDisk befor
       turn.rest.outside k (inr far) ∙ (rest h).outside k (inr far) ∙ zero_of_zeros before.size k in
       elim turn.in_turn [
         | inl closed ↦ inr (closed_keeps_none bytes (λ gate. omega (arith, closed, gate)) zeros)
-        | inr other ↦ none_or_blank bytes (λ kind. (still_unfinished h one unfinished).kind (sym other.1 ∙ kind)) zeros
+        | inr other ↦ none_or_blank bytes (λ decided same. (still_unfinished h one unfinished).kind decided (same ∙ other.1)) zeros
       ]
 
-  -- the rest of a journal was, that keeps payments
-  pub in_part_copied : (payments : Payments) (whole : List ℕ) (gate : ℕ) → 1 ≤ length payments → KeepsPayments whole payments → gate ≡ 1
-      → (before.honest → HasRestOf whole mid.reads) → LeavesHeadInTurn gate mid after → LeavesInPart payments before after
-  in_part_copied payments whole gate some keeps gate_is rest head = λ h one unfinished bytes left.
+  -- the rest of a journal was, that keeps entries
+  pub in_part_copied : TellsKind → (entries : Entries) (whole : List ℕ) (gate : ℕ) → 1 ≤ length entries → KeepsEntries whole entries → gate ≡ 1
+      → (before.honest → HasRestOf whole mid.reads) → LeavesHeadInTurn gate mid after → LeavesInPart entries before after
+  in_part_copied tells entries whole gate some keeps gate_is rest head = λ h one unfinished bytes left.
       let turn = head (nature.honest.0 h) (leaves h) bytes left in
-      let ones : (get_or whole 0 0 ≡ 1) × (get_or whole 1 0 ≡ 1) = head_of_kept whole payments some keeps in
+      let first = first_of_kept whole entries some keeps in
+      let behind : HasRestOf whole bytes = differs_then 0 2 whole mid.reads bytes (rest h) turn.rest in
       let opened : get_or bytes 0 0 ≡ 1 = elim turn.in_turn [
         | inl settled ↦ settled ∙ gate_is
         | inr other ↦ absurd (other.0 ((still_unfinished h one unfinished).gate ∙ sym gate_is))
       ] in
-      elim (cases_eq (get_or bytes 1 0) 1) [
-        | inl paid ↦
-            let all : bytes ≡ whole = whole_by_head whole bytes (differs_then 0 2 whole mid.reads bytes (rest h) turn.rest) (opened ∙ sym ones.0) (paid ∙ sym ones.1) in
-            inr (subst (λ (l : List ℕ). KeepsPayments l payments) (sym all) keeps)
-        | inr unpaid ↦ inl (unfinished_is_none bytes (record { gate = opened; kind = unpaid }))
+      elim (cases_eq (get_or bytes 1 0) (get_or whole 1 0)) [
+        | inl same ↦
+            let all : bytes ≡ whole = whole_by_head whole bytes behind (opened ∙ sym first.2.gate) same in
+            inr (subst (λ (l : List ℕ). KeepsEntries l entries) (sym all) keeps)
+        | inr other ↦ inl (torn_is_none tells whole bytes first.0 first.1 first.2 behind opened other)
       ]
 
 -- a disk that has no two bytes is written
@@ -71,4 +72,4 @@ pub in_part_small : (before after : DiskState) → PreservesDisk before after �
 in_part_small before after nature small its_size = λ h one unfinished bytes left.
     let long : length bytes ≡ after.size = its_size (nature.honest.0 h) bytes left in
     let past : (k : ℕ) → 1 ≤ k → get_or bytes k 0 ≡ 0 = λ k far. get_or_past bytes k 0 (omega (arith, far, long, nature.size, small)) in
-    none_or_blank bytes (λ kind. omega (arith, kind, past 1 (omega arith))) (λ k far. past k (omega (arith, far)))
+    none_or_blank bytes (λ decided same. zero_is_no_kind decided (same ∙ past 1 (omega arith))) (λ k far. past k (omega (arith, far)))

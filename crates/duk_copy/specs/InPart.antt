@@ -1,23 +1,29 @@
 -- A disk that is written anew, and is that of no journal until it is whole: this project's own.
 use Rattle.std.specs.Prelude.{◌≡◌, ◌≢◌, ◌⊎◌, List, ℕ, slice_index}
-use Rattle.duk_journal.specs.Groups.{KeepsPayments, Payments}
+use Rattle.duk_journal.specs.Entry.{kind_of}
+use Rattle.duk_journal.specs.Groups.{Entries, KeepsEntries}
+use Rattle.duk_journal.specs.declared.entry.Decided.{Decided}
 use Rattle.duk_store.specs.Disk.{DiskState, LeavesReads}
 
--- bytes are those of no journal: they keep no payments, and not none either, so that each restart of
+-- bytes are those of no journal: they keep no entries, and not none either, so that each restart of
 -- a journal over them finds it damaged
 abbrev pub IsNoJournal : List ℕ → Type 0
-IsNoJournal bytes = (payments : Payments) → ¬ KeepsPayments bytes payments
+IsNoJournal bytes = (entries : Entries) → ¬ KeepsEntries bytes entries
 
--- bytes that begin as those of no journal do: the gate of their first record is open, and the kind
--- behind it is not that of a payment
+-- a byte is the kind of no record
+abbrev pub IsNoKind : ℕ → Type 0
+IsNoKind byte = (decided : Decided) → kind_of decided ≢ byte
+
+-- bytes that begin as those of no journal do: the gate of their first record is open, and what stands
+-- in the place of its kind is none
 pub record IsUnfinished (bytes : List ℕ) : Type 0 where
   pub gate : slice_index bytes 0 ≡ 1
-  pub kind : slice_index bytes 1 ≢ 1
+  pub kind : IsNoKind (slice_index bytes 1)
 
--- these payments were to be written over a disk: where a stop left one image of it, which was
+-- these entries were to be written over a disk: where a stop left one image of it, which was
 -- unfinished, a stop now leaves a journal that keeps them, or no journal
-abbrev pub LeavesInPart : Payments → DiskState → DiskState → Type 0
-LeavesInPart payments before after =
+abbrev pub LeavesInPart : Entries → DiskState → DiskState → Type 0
+LeavesInPart entries before after =
     before.honest → LeavesReads before → IsUnfinished before.reads
     → (bytes : List ℕ) → after.may_leave bytes
-    → IsNoJournal bytes ⊎ KeepsPayments bytes payments
+    → IsNoJournal bytes ⊎ KeepsEntries bytes entries

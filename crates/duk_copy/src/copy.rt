@@ -2,7 +2,7 @@
 
 ghost use Rattle.std.specs.Prelude.{◌≡◌, ◌+◌, ◌*◌, ◌≤◌, length, replicate, IfErr, OnErr, OnOk};
 ghost use Rattle.duk_store.specs.Disk.{PreservesBytes, PreservesDisk};
-ghost use Rattle.duk_journal.specs.Groups.{KeepsPayments, Payments};
+ghost use Rattle.duk_journal.specs.Groups.{Entries, KeepsEntries};
 ghost use Rattle.duk_copy.specs.Copy.{CopyFailed, IsCopied};
 ghost use Rattle.duk_copy.specs.InPart.{LeavesInPart};
 ghost use Rattle.duk_copy.specs.inner.Blank.{LeavesOutside};
@@ -23,9 +23,9 @@ pub enum CopyFault {
 }
 
 /// Writes the records that a journal keeps, so many, over the front of another disk, in pieces, and
-/// zeros over all bytes behind them, and syncs them. A journal over that disk keeps the same payments
+/// zeros over all bytes behind them, and syncs them. A journal over that disk keeps the same entries
 /// then. The first two bytes, a gate and a kind, are settled last, once all behind them is synced: a
-/// disk that begins as that of no journal is none until its kind is that of a payment.
+/// disk that begins as that of no journal is none until its kind is that of the first entry.
 ///
 /// Refused where a device step failed.
 pub fn write_copy<D: Disk, E: Disk>(
@@ -46,11 +46,12 @@ pub fn write_copy<D: Disk, E: Disk>(
         (E.meaning.state_of new.old) (E.meaning.state_of new.new)) }
     ensures nature { PreservesDisk (D.meaning.state_of old.old) (D.meaning.state_of old.new) }
     ensures bytes { PreservesBytes (D.meaning.state_of old.old) (D.meaning.state_of old.new) }
-    ensures in_part { OnErr result ((D.meaning.state_of old.old).honest → (payments : Payments)
-        → KeepsPayments (D.meaning.state_of old.old).reads payments → length payments ≡ kept
-        → LeavesInPart payments (E.meaning.state_of new.old) (E.meaning.state_of new.new)) }
+    ensures in_part { OnErr result ((D.meaning.state_of old.old).honest → (entries : Entries)
+        → KeepsEntries (D.meaning.state_of old.old).reads entries → length entries ≡ kept
+        → LeavesInPart entries (E.meaning.state_of new.old) (E.meaning.state_of new.new)) }
 {
     duk_journal::laws::one_list();
+    duk_journal::laws::one_kind();
     let _size = old.size();
     if kept == 0 {
         return match write_blank(new, zeros) {

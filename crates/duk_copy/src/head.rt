@@ -38,7 +38,7 @@ pub(crate) fn read_head<D: Disk>(disk: &mut D) -> Result<Head, StoreFault>
 }
 
 /// Makes the head of a disk this one, and syncs it: first the gate, and then the kind. So a gate that
-/// is to be closed is closed before a torn kind behind it could be that of a payment.
+/// is to be closed is closed before a torn kind behind it could be that of an entry.
 pub(crate) fn settle_head<D: Disk>(disk: &mut D, head: Head) -> Result<(), StoreFault>
     requires room { 2 ≤ (D.meaning.state_of disk.old).size }
     ensures settled { OnOk result (IsHeadSettled head.gate head.kind

@@ -2,7 +2,7 @@
 //!
 //! Every byte of a new disk is written, but for one of the first two that is right already, and all
 //! are synced. So nothing of what the medium held before is left, and a medium that has a place for
-//! each byte shows a want of room then and not at a payment. The first two bytes are settled last,
+//! each byte shows a want of room then and not at an entry. The first two bytes are settled last,
 //! each by a write of its own. So a disk that began as that of no journal is none until it is whole,
 //! wherever its writer is stopped, and also where the last write is torn.
 #![tactic(auto)]
