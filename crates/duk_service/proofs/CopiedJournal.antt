@@ -1,8 +1,8 @@
 -- What is known of a journal that is checked, and then copied.
 use Rattle.std.proofs.Common.{◌≡◌, ◌∙◌, ap, ℕ, List, inl, inr, refl, subst, sym, true}
 use Rattle.duk_copy.specs.Copy.{IsCopied, copied_bytes}
-use Rattle.duk_journal.specs.DiskJournal.{DiskJournalOf, MayFindPayments, disk_journal_meaning, is_journal_running, new_disk_journal}
-use Rattle.duk_journal.specs.Groups.{KeepsPayments, Payments}
+use Rattle.duk_journal.specs.DiskJournal.{DiskJournalOf, MayFindEntries, disk_journal_meaning, is_journal_running, new_disk_journal}
+use Rattle.duk_journal.specs.Groups.{Entries, KeepsEntries}
 use Rattle.duk_journal.specs.RecordFormat.{IsJournalSize}
 use Rattle.duk_line.specs.Check.{IsChecked}
 use Rattle.duk_service.specs.CopyJournal.{HasCopiedJournal, HasKept, IsCopyJournalRefused, IsOldChecked}
@@ -31,19 +31,19 @@ copied_from kept old later before after nature bytes copied = record {
   no_failure = copied.no_failure;
   bytes = λ h k. copied.bytes (nature.honest.1 h) k ∙ ap (λ (all : List ℕ). copied_bytes kept before.size all) (sym bytes.reads);
   leaves = copied.leaves;
-  keeps = λ h k payments keeps counted. copied.keeps (nature.honest.1 h) k payments (subst (λ (all : List ℕ). KeepsPayments all payments) bytes.reads keeps) counted;
-  sound = λ h k size payments keeps counted. copied.sound (nature.honest.1 h) k size payments (subst (λ (all : List ℕ). KeepsPayments all payments) bytes.reads keeps) counted;
+  keeps = λ h k entries keeps counted. copied.keeps (nature.honest.1 h) k entries (subst (λ (all : List ℕ). KeepsEntries all entries) bytes.reads keeps) counted;
+  sound = λ h k size entries keeps counted. copied.sound (nature.honest.1 h) k size entries (subst (λ (all : List ℕ). KeepsEntries all entries) bytes.reads keeps) counted;
 }
 
 module _ {D : Type 0} (meaning : DiskMeaning D) (known : DiskKnown D) (making : MakingKnown D) (opened : D) (journal : DiskJournalOf D)
     (disk last : D) (found : ℕ) (is_opened : IsDisk known opened)
     (checked : IsChecked (disk_journal_meaning meaning) (new_disk_journal opened) journal found) (disk_is : disk ≡ journal.disk) where
   -- the disk of the checked journal keeps what is found
-  disk_finds : (meaning.state_of opened).honest → (other : Payments) → MayFindPayments (meaning.state_of disk) other → other ≡ checked.payments
-  disk_finds honest other may = (checked.journal.settles.finds honest other).0 (subst (λ (d : D). MayFindPayments (meaning.state_of d) other) disk_is may)
+  disk_finds : (meaning.state_of opened).honest → (other : Entries) → MayFindEntries (meaning.state_of disk) other → other ≡ checked.entries
+  disk_finds honest other may = (checked.journal.settles.finds honest other).0 (subst (λ (d : D). MayFindEntries (meaning.state_of d) other) disk_is may)
 
-  disk_found : (meaning.state_of opened).honest → MayFindPayments (meaning.state_of disk) checked.payments
-  disk_found honest = subst (λ (d : D). MayFindPayments (meaning.state_of d) checked.payments) (sym disk_is) ((checked.journal.settles.finds honest checked.payments).1 refl)
+  disk_found : (meaning.state_of opened).honest → MayFindEntries (meaning.state_of disk) checked.entries
+  disk_found honest = subst (λ (d : D). MayFindEntries (meaning.state_of d) checked.entries) (sym disk_is) ((checked.journal.settles.finds honest checked.entries).1 refl)
 
   disk_honest : (meaning.state_of opened).honest → (meaning.state_of disk).honest
   disk_honest honest = subst (λ (d : D). (meaning.state_of d).honest) (sym disk_is) (checked.journal.settles.nature.honest.0 honest)
@@ -51,7 +51,7 @@ module _ {D : Type 0} (meaning : DiskMeaning D) (known : DiskKnown D) (making : 
   was_honest : (meaning.state_of disk).honest → (meaning.state_of opened).honest
   was_honest honest = checked.journal.settles.nature.honest.1 (subst (λ (d : D). (meaning.state_of d).honest) disk_is honest)
 
-  has_kept : PreservesDisk (meaning.state_of disk) (meaning.state_of last) → PreservesBytes (meaning.state_of disk) (meaning.state_of last) → HasKept meaning opened last checked.payments
+  has_kept : PreservesDisk (meaning.state_of disk) (meaning.state_of last) → PreservesBytes (meaning.state_of disk) (meaning.state_of last) → HasKept meaning opened last checked.entries
   has_kept nature bytes = record {
     honest = (λ honest. nature.honest.0 (disk_honest honest), λ honest. was_honest (nature.honest.1 honest));
     was_found = checked.journal.was_found;
@@ -59,27 +59,27 @@ module _ {D : Type 0} (meaning : DiskMeaning D) (known : DiskKnown D) (making : 
       λ found_now. disk_finds honest other (found_now.0, (bytes.may_leave found_now.0).0 found_now.1, found_now.2),
       λ same.
           let found_before = disk_found honest in
-          subst (λ (payments : Payments). MayFindPayments (meaning.state_of last) payments) (sym same)
+          subst (λ (entries : Entries). MayFindEntries (meaning.state_of last) entries) (sym same)
           (found_before.0, (bytes.may_leave found_before.0).1 found_before.1, found_before.2),
     );
-    usable = checked.usable;
+    new_numbers = checked.new_numbers;
   }
 
   pub old_checked : PreservesDisk (meaning.state_of disk) (meaning.state_of last) → PreservesBytes (meaning.state_of disk) (meaning.state_of last) → IsOldChecked meaning known
   old_checked nature bytes = record {
     opened = opened;
     last = last;
-    payments = checked.payments;
+    entries = checked.entries;
     is_opened = is_opened;
     kept = has_kept nature bytes;
   }
 
   -- a read of it gives what is kept
   reads_keep : (is_journal_running journal.kept ≡ true → (meaning.state_of disk).honest → LeavesReads (meaning.state_of disk))
-      → (meaning.state_of opened).honest → KeepsPayments (meaning.state_of disk).reads checked.payments
+      → (meaning.state_of opened).honest → KeepsEntries (meaning.state_of disk).reads checked.entries
   reads_keep one honest =
       let held = disk_found honest in
-      subst (λ (bytes : List ℕ). KeepsPayments bytes checked.payments) ((one checked.kept.runs (disk_honest honest) held.0).0 held.1) held.2
+      subst (λ (bytes : List ℕ). KeepsEntries bytes checked.entries) ((one checked.kept.runs (disk_honest honest) held.0).0 held.1) held.2
 
   pub has_copied : PreservesDisk (meaning.state_of disk) (meaning.state_of last) → PreservesBytes (meaning.state_of disk) (meaning.state_of last)
       → (is_journal_running journal.kept ≡ true → (meaning.state_of disk).honest → LeavesReads (meaning.state_of disk))
@@ -94,8 +94,8 @@ module _ {D : Type 0} (meaning : DiskMeaning D) (known : DiskKnown D) (making : 
     size_is = copy.kept_is.size_is;
     written = subst (λ (kept : ℕ). IsCopied kept (meaning.state_of last) (meaning.state_of copy.made) (meaning.state_of copy.last)) (sym checked.counted)
         (copied_from found (meaning.state_of disk) (meaning.state_of last) (meaning.state_of copy.made) (meaning.state_of copy.last) nature bytes copy.kept_is.copied);
-    finds = λ old_honest new_honest. copy.kept_is.copied.keeps (disk_honest old_honest) new_honest checked.payments (reads_keep one old_honest) checked.counted;
-    sound = λ old_honest new_honest size. copy.kept_is.copied.sound (disk_honest old_honest) new_honest (subst (λ (n : ℕ). IsJournalSize n) (sym copy.kept_is.size_is) size) checked.payments (reads_keep one old_honest) checked.counted;
+    finds = λ old_honest new_honest. copy.kept_is.copied.keeps (disk_honest old_honest) new_honest checked.entries (reads_keep one old_honest) checked.counted;
+    sound = λ old_honest new_honest size. copy.kept_is.copied.sound (disk_honest old_honest) new_honest (subst (λ (n : ℕ). IsJournalSize n) (sym copy.kept_is.size_is) size) checked.entries (reads_keep one old_honest) checked.counted;
     folder = copy.kept_is.synced;
   }
 

@@ -1,15 +1,14 @@
 -- What `copy-journal` makes (this project's own).
 use Rattle.std.specs.Prelude.{◌≡◌, ◌⊎◌, ◌↔◌, ℕ, List, None, length}
 use Rattle.duk_copy.specs.Copy.{IsCopied}
-use Rattle.duk_host.specs.Used.{AreUsable}
 use Rattle.duk_host.specs.declared.fault.HostFault.TheVariants.{Store}
 use Rattle.duk_io.specs.Known.{Known}
 use Rattle.duk_io.specs.Sink.{IsTried}
-use Rattle.duk_journal.specs.DiskJournal.{DiskJournalOf, MayFindPayments, disk_journal_meaning, disk_journal_state, new_disk_journal}
-use Rattle.duk_journal.specs.Groups.{Payments}
+use Rattle.duk_journal.specs.DiskJournal.{DiskJournalOf, MayFindEntries, disk_journal_meaning, disk_journal_state, new_disk_journal}
+use Rattle.duk_journal.specs.Groups.{Entries}
 use Rattle.duk_journal.specs.RecordFormat.{IsJournalSize}
 use Rattle.duk_line.specs.Check.{CheckRefused}
-use Rattle.duk_line.specs.Latest.{numbers_of}
+use Rattle.duk_line.specs.Latest.{UseNewNumbers}
 use Rattle.duk_service.specs.LogFiles.{DiskKnown, IsDisk, IsFolderSynced, IsNoDisk, MakingKnown}
 use Rattle.duk_service.specs.NewJournal.{IsUnmade, new_journal_line}
 use Rattle.duk_service.specs.ServeJournal.{journal_line}
@@ -22,27 +21,27 @@ use Rattle.duk_store.specs.StoreState.{FindsOnly}
 use Rattle.duk_store.specs.declared.fault.StoreFault.{StoreFault}
 use Rattle.duk_store.specs.declared.fault.StoreFault.TheVariants.{Device}
 
--- a restart of a journal over a disk finds these payments and nothing else
-abbrev pub Keeps : {D : Type 0} → DiskMeaning D → D → Payments → Type 0
-Keeps meaning disk payments = FindsOnly (disk_journal_state (meaning.state_of disk) None) payments
+-- a restart of a journal over a disk finds these entries and nothing else
+abbrev pub Keeps : {D : Type 0} → DiskMeaning D → D → Entries → Type 0
+Keeps meaning disk entries = FindsOnly (disk_journal_state (meaning.state_of disk) None) entries
 
--- what a journal keeps on a disk that is read to its end: payments that a restart could find when it
--- was opened, and that a restart finds still, over which a host comes up: each of their numbers
--- numbers a transaction, and none occurs twice. The disk is as honest as it was
-pub record HasKept {D : Type 0} (meaning : DiskMeaning D) (opened last : D) (payments : Payments)
+-- what a journal keeps on a disk that is read to its end: entries that a restart could find when it
+-- was opened, and that a restart finds still, over which a host comes up: each uses a new number. The
+-- disk is as honest as it was
+pub record HasKept {D : Type 0} (meaning : DiskMeaning D) (opened last : D) (entries : Entries)
     : Type 0 where
   pub honest : (meaning.state_of opened).honest ↔ (meaning.state_of last).honest
-  pub was_found : (meaning.state_of opened).honest → MayFindPayments (meaning.state_of opened) payments
-  pub finds : (meaning.state_of opened).honest → Keeps meaning last payments
-  pub usable : AreUsable (numbers_of payments)
+  pub was_found : (meaning.state_of opened).honest → MayFindEntries (meaning.state_of opened) entries
+  pub finds : (meaning.state_of opened).honest → Keeps meaning last entries
+  pub new_numbers : UseNewNumbers entries
 
 -- the journal OLD is checked: its disk is opened, and a host would come up over it
 pub record IsOldChecked {D : Type 0} (meaning : DiskMeaning D) (known : DiskKnown D) : Type 0 where
   pub opened : D
   pub last : D
-  pub payments : Payments
+  pub entries : Entries
   pub is_opened : IsDisk known opened
-  pub kept : HasKept meaning opened last payments
+  pub kept : HasKept meaning opened last entries
 
 -- status 0 of `copy-journal`: OLD is checked, a file of its size is made, what OLD keeps is written
 -- over all of its disk and synced, and its folder is synced; where both disks are honest, a journal
@@ -54,10 +53,10 @@ pub record HasCopiedJournal {D : Type 0} (meaning : DiskMeaning D) (known : Disk
   pub last : D
   pub is_made : IsDisk (making.disk (meaning.state_of old.opened).size) made
   pub size_is : (meaning.state_of made).size ≡ (meaning.state_of old.opened).size
-  pub written : IsCopied (length old.payments) (meaning.state_of old.last)
+  pub written : IsCopied (length old.entries) (meaning.state_of old.last)
       (meaning.state_of made) (meaning.state_of last)
   pub finds : (meaning.state_of old.opened).honest → (meaning.state_of made).honest
-      → Keeps meaning last old.payments
+      → Keeps meaning last old.entries
   pub sound : (meaning.state_of old.opened).honest → (meaning.state_of made).honest
       → IsJournalSize (meaning.state_of old.opened).size
       → (disk_journal_state (meaning.state_of last) None).sound

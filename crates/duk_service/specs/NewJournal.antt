@@ -12,16 +12,16 @@ use Rattle.duk_service.specs.declared.new_journal.JournalFault.TheVariants as fa
 use Rattle.duk_store.specs.Disk.{DiskMeaning, HasFailed}
 use Rattle.duk_store.specs.declared.fault.StoreFault.TheVariants.{Device}
 
--- the most payments for which a journal may be made
+-- the most records of which a journal may be made
 abbrev pub most_records : ℕ
 most_records = 1000000000
 
--- a text that says for how many payments a journal has room: a decimal number of 1 to 1000000000
+-- a text that says for how many entries a journal has room: a decimal number of 1 to 1000000000
 pub record IsRecordCount (text : List ℕ) (records : ℕ) : Type 0 where
   pub decimal : IsDecimal most_records text records
   pub some : 1 ≤ records
 
--- the bytes of a journal with room for so many payments
+-- the bytes of a journal with room for so many entries
 abbrev pub journal_size : ℕ → ℕ
 journal_size records = record_length * records
 
@@ -58,7 +58,7 @@ abbrev pub IsUnmade : {D : Type 0} → DiskMeaning D → MakingKnown D → ℕ �
 IsUnmade meaning known size =
     IsNoDisk (known.disk size) ⊎ IsMadeInPart meaning known size ⊎ IsFolderUnsynced known.folder
 
--- a journal of so many payments as a text says is not made
+-- a journal of so many records as a text says is not made
 pub record IsJournalUnmade {D : Type 0} (meaning : DiskMeaning D) (known : MakingKnown D) (text : List ℕ)
     : Type 0 where
   pub records : ℕ

@@ -129,7 +129,7 @@ where
     make_new(files, new, size, kept, &mut disk, &mut pieces)
 }
 
-/// Checks a journal as the restart of a host over it does, and gives how many payments it keeps.
+/// Checks a journal as the restart of a host over it does, and gives how many entries it keeps.
 fn check<J: Journal>(alloc: Global, journal: &mut J) -> Result<u64, CopyJournalFault>
     ensures checked { IfOk result (IsChecked J.meaning journal.old journal.new) }
     ensures refused { IfErr result (IsNotChecked J.meaning journal.old journal.new) }
@@ -152,7 +152,7 @@ fn new_pieces(alloc: Global) -> Result<Pieces, AllocError>
     Ok(Pieces { zeros, piece })
 }
 
-/// Makes a file of so many bytes, with so many payments of a disk, and syncs it and its folder. Where
+/// Makes a file of so many bytes, with so many entries of a disk, and syncs it and its folder. Where
 /// it cannot be kept it is removed again, if it can be.
 fn make_new<S: LogFiles>(
     files: &S,
@@ -189,7 +189,7 @@ where
     }
 }
 
-/// Writes so many payments of a disk over one that was made under a path, and zeros behind them,
+/// Writes so many entries of a disk over one that was made under a path, and zeros behind them,
 /// syncs it, and then its folder.
 fn keep_copy<S: LogFiles>(
     files: &S,

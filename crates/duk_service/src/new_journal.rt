@@ -16,13 +16,13 @@ use duk_journal::RECORD_LENGTH;
 use duk_store::{Disk, StoreFault};
 use std::alloc::{AllocError, Global};
 
-/// The most payments for which a journal may be made.
+/// The most records of which a journal may be made.
 const MOST_RECORDS: u32 = 1_000_000_000;
 
 /// Why no journal is made.
 #[derive(Clone, Copy)]
 pub enum JournalFault {
-    /// RECORDS is no number of payments for which a journal may be made.
+    /// RECORDS is no number of records of which a journal may be made.
     RecordsRefused,
     /// The file cannot be made, written or synced, or its folder cannot be synced.
     Unmade,
@@ -61,7 +61,7 @@ fn line_of(why: JournalFault) -> &'static str
     }
 }
 
-/// Makes the file of a journal with room for so many payments as a text says, and gives the status:
+/// Makes the file of a journal with room for so many entries as a text says, and gives the status:
 /// 0, or 1 with a line on `fault`.
 ///
 /// The faults, in this order: `records refused`; `out of memory`; `journal: cannot make`. A file
@@ -90,7 +90,7 @@ where
     }
 }
 
-/// Makes a journal with room for so many payments as a text says. Memory is asked for before the
+/// Makes a journal with room for so many entries as a text says. Memory is asked for before the
 /// file is made.
 fn make_journal<S: LogFiles>(
     alloc: Global,
@@ -115,7 +115,7 @@ where
     }
 }
 
-/// How many payments a text says: a decimal number of 1 to 1,000,000,000.
+/// How many records a text says: a decimal number of 1 to 1,000,000,000.
 pub(crate) fn read_records(text: &str) -> Option<u32>
     ensures found { IfSome result (IsRecordCount text.now) }
     ensures none { IfNone result ((records : ℕ) → ¬ IsRecordCount text.now records) }
@@ -127,7 +127,7 @@ pub(crate) fn read_records(text: &str) -> Option<u32>
     Some(records)
 }
 
-/// The bytes of a journal with room for so many payments.
+/// The bytes of a journal with room for so many entries.
 pub(crate) fn size_of(records: u32) -> u64
     ensures { result ≡ 32 * records }
 {

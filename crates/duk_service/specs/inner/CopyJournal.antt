@@ -20,7 +20,7 @@ IsNotChecked meaning old new fault.Failed =
     (why : StoreFault) × CheckRefused meaning old new (Store why)
 IsNotChecked meaning old new _ = ⊥
 
--- a disk of this size is written with so many payments of another, and its folder is synced
+-- a disk of this size is written with so many entries of another, and its folder is synced
 pub record IsCopyKept (folder : FolderKnown) (size kept : ℕ) (old before after : DiskState)
     : Type 0 where
   pub size_is : before.size ≡ size
@@ -34,7 +34,7 @@ CopyNotKept folder size old old' before after fault.Failed = HasFailed old old' 
 CopyNotKept folder size old old' before after fault.Unmade = IsNotKept folder size before after
 CopyNotKept folder size old old' before after _ = ⊥
 
--- a file of this size is made, with so many payments of a disk
+-- a file of this size is made, with so many entries of a disk
 pub record IsCopyMade {D : Type 0} (meaning : DiskMeaning D) (making : MakingKnown D)
     (size kept : ℕ) (old : DiskState) : Type 0 where
   pub made : D
