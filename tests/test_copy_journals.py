@@ -7,11 +7,13 @@ import os
 from pathlib import Path
 
 from .support.client import payments
+from .support.dukpt import counter_of
 from .support.journal_case import CANNOT_OPEN, JOURNAL_FAILED, ON_JOURNAL, JournalCase, alone
-from .support.journal_file import payments_in
+from .support.journal_file import DamagedJournal, entries_in, payments_in
 from .support.model_journal import payments_of_all
 from .support.page_journals import (
-    BY_HAND, DAMAGES, RECORD, Journals, Payment, Place, journal_of, read_journal, scratched)
+    BY_HAND, DAMAGES, NONE_STANDS, RECORD, UNDONE, Entry, Journals, Payment, Reversal, journal_of,
+    read_journal, scratched)
 from .support.program import NO_LIMITS, Ended, Limits
 from .support.quick import QuickRuns
 from .support.small_files import PAGE, SmallFiles
@@ -22,8 +24,17 @@ ON_COPY = (*ON_JOURNAL[:3], "copy")
 
 def copied(image: bytes) -> bytes:
     """What a copy of a journal is: the records that it keeps, and zeros."""
-    kept = RECORD * len(payments_in(image))
+    kept = RECORD * len(entries_in(image))
     return image[:kept].ljust(len(image), b"\x00")
+
+
+def is_kept(image: bytes) -> bool:
+    """Whether the bytes are those of a journal."""
+    try:
+        entries_in(image)
+        return True
+    except DamagedJournal:
+        return False
 
 
 class CopyCase(JournalCase):
@@ -40,7 +51,7 @@ class CopyCase(JournalCase):
         self.assert_output(self.copy_to(), b"", "", what)
         self.assert_bytes(image, f"{what}: copied and changed")
         self.assertEqual(self.copy.read_bytes(), copied(image), what)
-        self.assertEqual(payments_in(self.copy.read_bytes()), payments_in(image), what)
+        self.assertEqual(entries_in(self.copy.read_bytes()), entries_in(image), what)
 
     def refuse(self, fault: str, what: str, new: str = "copy", old: str = "journal",
                limits: Limits = NO_LIMITS) -> None:
@@ -84,6 +95,21 @@ class Copied(CopyCase):
             self.check_copy(journal_of(groups, self.chance.randrange(1, 90), self.chance), "drawn")
             self.copy.unlink()
 
+    def test_reversals(self) -> None:
+        """A journal that begins with one, and journals of any of them."""
+        one, other = payments_of_all(payments(2))
+        for state in (UNDONE, NONE_STANDS):
+            first = Reversal(one.serial, counter_of(other.serial), state, one.mac)
+            self.check_copy(journal_of([[first]], 2), f"a reversal first, {state}")
+            self.copy.unlink()
+        journals, copies = Journals(self.chance), 0
+        while copies < 40 * self.times:
+            groups, image = journals.entry_journal(self.chance.randrange(9))
+            if groups and is_kept(image):
+                self.check_copy(image, "drawn reversals")
+                self.copy.unlink()
+                copies += 1
+
     def test_a_torn_group(self) -> None:
         """What a stop left of an append is not copied."""
         requests = payments(9)
@@ -108,7 +134,7 @@ class Copied(CopyCase):
         self.copy.rename(self.journal)
         self.check_run(self.any_order(60), what="over the copy")
         self.assertEqual(payments_in(before), self.kept()[:20])
-        self.assertEqual(len(self.kept()), 50)
+        self.assertEqual(len(self.kept()), 47, "the last sixteenth is for reversals")
 
 
 class Refused(CopyCase):
@@ -167,6 +193,17 @@ class Refused(CopyCase):
                 self.journal.write_bytes(journal_of(groups, 3))
                 self.refuse(JOURNAL_FAILED, "a number twice")
 
+    def test_a_number_that_was_reversed(self) -> None:
+        """It is used, before or behind its reversal's own."""
+        one, two, three = payments_of_all(payments(3))
+        first = Reversal(one.serial, counter_of(two.serial), NONE_STANDS, one.mac)
+        again = Reversal(three.serial, counter_of(one.serial), UNDONE, three.mac)
+        wrong: tuple[list[Entry], ...] = ([first, two], [first, three, two], [first, one],
+                                          [one, again, again], [first, again, two])
+        for entries in wrong:
+            self.journal.write_bytes(journal_of([entries], 3))
+            self.refuse(JOURNAL_FAILED, "a reversed number")
+
     def test_scratched(self) -> None:
         """Bytes that are changed anywhere: as the reader of the tests finds."""
         kept = payments_of_all(payments(30))
@@ -180,9 +217,7 @@ class Refused(CopyCase):
         self.assertTrue(0 < right < count)
 
     def try_one(self, runs: QuickRuns, image: bytes) -> bool:
-        rows = read_journal(image)
-        is_right = (not isinstance(rows, Place)
-                    and len({it.serial for _, _, it in rows}) == len(rows))
+        is_right = is_kept(image)
         self.journal.write_bytes(image)
         ended = runs.run(["copy-journal", os.fspath(self.journal), os.fspath(self.copy)])
         self.assert_output(ended, b"", "" if is_right else JOURNAL_FAILED, image.hex())

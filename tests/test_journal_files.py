@@ -167,7 +167,7 @@ class Right(JournalCase):
         journals = Journals(self.chance)
         serials = {it.serial: it for it in (journals.payment(0) for _ in range(50))}
         groups = [[*serials.values()]]
-        self.make_journal(len(serials) + 3, groups)
+        self.make_room(len(serials) + 3, groups)
         found = self.check_file(payments(5), what="behind foreign numbers")
         self.assertEqual(sum(it.payment is not None for it in found), 3)
 
@@ -175,7 +175,7 @@ class Right(JournalCase):
         """A group may have 4,096 records, though the service makes none of so many."""
         kept = payments_of_all(payments(9000))
         groups = [kept[:4096], kept[4096:8192], kept[8192:]]
-        self.make_journal(9010, groups)
+        self.make_room(9010, groups)
         self.check_file(payments(9020), what="great groups")
 
     def test_closed_records(self) -> None:
@@ -195,9 +195,9 @@ class Right(JournalCase):
         torn = journal_of([payments_of_all(requests[5:15])], 0)
         for whole in (0, 1, 9, 10):
             image = journal_of(alone(payments_of_all(requests[:5])), 0) + b"\x00" + torn[1:]
-            self.journal.write_bytes(image[: RECORD * (5 + whole)].ljust(RECORD * 18, b"\x00"))
+            self.journal.write_bytes(image[: RECORD * (5 + whole)].ljust(RECORD * 16, b"\x00"))
             self.check_file(requests, what=f"{whole} bodies of a group")
-            self.assertEqual(len(self.kept()), 18)
+            self.assertEqual(len(self.kept()), 16)
 
     def test_zeros_behind_it(self) -> None:
         """A full journal to which zeros were appended goes on."""

@@ -33,7 +33,7 @@ class EndOfInput(JournalCase):
                              (b"\x01\x00", TOO_LONG), (b"\xff\xff", TOO_LONG),
                              (b"\x00\x3e" + bytes(61), IN_A_FRAME), (b"\x00\x3f" * 9, TOO_LONG)):
             for count in (0, 1, 1500):
-                self.make_journal(1500)
+                self.make_room(1500)
                 what = f"{given.hex()} behind {count} requests"
                 self.check_file(payments(count), given, fault, what=what)
 
@@ -86,13 +86,13 @@ class Pieces(JournalCase):
                 count = self.chance.randint(1, most)
                 packets.append(requests[:count])
                 requests = requests[count:]
-            self.make_journal(290)
+            self.make_room(290)
             self.check_packets(packets, f"packets of 1 to {most}")
 
     def test_any_pieces(self) -> None:
         for how in (PACKETS, PLAIN, NARROW):
             for most in (1, 7, 50, 300, 5000):
-                self.make_journal(250)
+                self.make_room(250)
                 requests = self.any_order(260)
                 behind, fault = self.chance.choice(
                     ((b"", ""), (b"\x01\x00" + requests[0].frame, TOO_LONG),
@@ -104,7 +104,7 @@ class Pieces(JournalCase):
     def test_one_answer_for_each_read(self) -> None:
         """Each answer comes before the next request is given, and then the request is kept."""
         requests = self.mixed(90)
-        self.make_journal(90)
+        self.make_room(90)
         service = self.start(*ON_JOURNAL, how=NARROW)
         for it in requests:
             before = len(self.kept())
@@ -127,7 +127,7 @@ class Groups(JournalCase):
         self.assertGreater(per_read, MOST_FRAMES)
         for count in (1, 2, MOST_FRAMES - 1, MOST_FRAMES, MOST_FRAMES + 1, per_read, per_read + 1,
                       per_read + MOST_FRAMES, 2 * per_read + 1, 5000):
-            self.make_journal(count)
+            self.make_room(count)
             self.check_file(payments(count), what=f"{count} requests")
             sizes = [len(it) for it in groups_in(self.journal.read_bytes())]
             self.assertEqual(sizes[0], min(count, MOST_FRAMES))
@@ -136,7 +136,7 @@ class Groups(JournalCase):
     def test_more_than_there_is_room_for(self) -> None:
         """The room ends anywhere in a group, and at the border of one."""
         for room in (1, 700, MOST_FRAMES - 1, MOST_FRAMES, MOST_FRAMES + 1, 1365, 1366, 2999):
-            self.make_journal(room)
+            self.make_room(room)
             self.check_file(payments(3000), what=f"room for {room}")
             self.assertEqual(len(self.kept()), room)
 
@@ -146,16 +146,16 @@ class Groups(JournalCase):
         empty = refused_requests()[0]
         self.assertEqual(empty.frame, b"\x00\x00")
         for before in (0, 1000, 1023, 1024, 5000, 40_000):
-            self.make_journal(40)
+            self.make_room(40)
             self.check_file([empty] * before + requests, what=f"{before} empty frames before")
             spread = [it for request in requests for it in (*[empty] * (before // 40), request)]
-            self.make_journal(40)
+            self.make_room(40)
             self.check_file(spread, what=f"{before} empty frames between")
 
     def test_mixed(self) -> None:
         for count in (500, 4000):
             requests = self.any_order(count)
-            self.make_journal(count - 20)
+            self.make_room(count - 20)
             self.check_file(requests, what=f"{len(requests)} frames")
             self.check_file(requests, what=f"{len(requests)} frames again")
 
@@ -176,7 +176,7 @@ class LostOutput(JournalCase):
         """It is reported as a failed write, and ends nothing by a signal."""
         requests = payments(40)
         for ignored in (True, False):
-            self.make_journal(40)
+            self.make_room(40)
             service = self.start(*ON_JOURNAL, how=How(ignores_pipe_signal=ignored))
             service.ask(frames_of(requests[:9]))
             service.close_output()

@@ -66,7 +66,7 @@ class Kills(JournalCase):
 
     def measure_a_run(self, count: int) -> float:
         """How long a run takes that is not killed."""
-        self.make_journal(PAYMENTS)
+        self.make_room(PAYMENTS)
         began = time.monotonic()
         self.check_run(payments(ALL)[:count], words=WORDS, what="a run that is not killed")
         return time.monotonic() - began
@@ -76,7 +76,7 @@ class Kills(JournalCase):
         self.items = payments(ALL)[first : first + PAYMENTS]
         # The reply of each number, whenever it was read.
         self.replies: dict[bytes, bytes] = {}
-        self.make_journal(PAYMENTS - LACKS)
+        self.make_room(PAYMENTS - LACKS)
         self.histories += 1
 
     def order(self) -> list[Exchange]:
@@ -195,7 +195,7 @@ class KillsOneByOne(JournalCase):
         """What was answered is kept, in groups of one, and nothing else; the one that is on its way
         is kept or not."""
         requests = payments(60)
-        self.make_journal(60)
+        self.make_room(60)
         listed: list[Payment] = []
         while len(listed) < 40:
             count = self.chance.randint(0, 5)

@@ -6,7 +6,7 @@ import time
 from .support.client import first_counters, payments
 from .support.journal_case import JournalCase, alone
 from .support.large_stores import payments_in_rounds
-from .support.model_journal import LATEST, added_by, payments_of_all
+from .support.model_journal import LATEST, added_by, payments_of_all, room_for
 from .support.page_journals import RECORD, Payment, journal_of
 
 # So many payments that a client knows stand first. The others behind them, of so many terminals in so
@@ -22,11 +22,13 @@ class Latest(JournalCase):
 
     def setUp(self) -> None:
         super().setUp()
-        self.assertEqual(FIRST + TERMINALS * ROUNDS, LATEST + FIRST - AMONG)
+        kept = FIRST + TERMINALS * ROUNDS
+        self.assertEqual(kept, LATEST + FIRST - AMONG)
         self.requests = payments(2 * FIRST)
         self.first = payments_of_all(self.requests[:FIRST])
         others = payments_in_rounds(range(1, TERMINALS + 1)).rounds(first_counters(ROUNDS))
-        self.journal.write_bytes(journal_of(alone(self.first), 0) + others + bytes(60 * RECORD))
+        self.journal.write_bytes(journal_of(alone(self.first), 0) + others
+                                 + bytes(RECORD * (room_for(kept + 60) - kept)))
         self.all = [*self.first, *[OTHER] * (TERMINALS * ROUNDS)]
 
     def replies(self, places: list[int], what: str) -> list[bool]:

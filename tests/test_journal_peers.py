@@ -40,7 +40,7 @@ class NeverReads(PeerCase):
 
     def fill(self, how: How) -> tuple[Service, bytes]:
         """A service that was given bytes until it took no more, and what is left of them."""
-        self.make_journal(COUNT)
+        self.make_room(COUNT)
         service = self.start(*ON_JOURNAL, how=how)
         rest, left = b"", stream_of(self.requests)
         while left != rest:
@@ -110,7 +110,7 @@ class Silent(PeerCase):
         """What came whole is answered before the rest of a frame comes, however much came."""
         requests = payments(READ // len(payments(1)[0].frame) + 100)
         before = requests[:-1]
-        self.make_journal(len(requests))
+        self.make_room(len(requests))
         service = self.start(*ON_JOURNAL)
         service.ask_all(stream_of(before) + requests[-1].frame[:30], len(answers_to(before)))
         self.assertEqual(bytes(service.collected), answers_to(before))

@@ -179,7 +179,7 @@ class Lives(JournalCase):
     def test_lives_of_a_journal(self) -> None:
         """Of runs that are given requests of all before them, one alone accepts a number, and each
         later one gives it the same reply, byte by byte."""
-        self.make_journal(700)
+        self.make_room(700)
         replies: dict[bytes, bytes] = {}
         accepted = again = 0
         for life in range(8):
@@ -207,7 +207,7 @@ class Lives(JournalCase):
     def test_far_repeats(self) -> None:
         """A request behind thousands of others is answered again, in this run and in the next."""
         requests = payments(3000)
-        self.make_journal(3000)
+        self.make_room(3000)
         self.check_file([*requests, *requests[:1500]], what="one run")
         self.check_file([*requests[::-1], *requests], what="the next run")
 

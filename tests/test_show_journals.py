@@ -7,7 +7,8 @@ from collections import Counter
 
 from .support.case import ProgramCase
 from .support.page_journals import (
-    BY_HAND, DAMAGES, OPEN, RECORD, Journals, Payment, journal_of, scratched)
+    BY_HAND, DAMAGES, NONE_STANDS, OPEN, RECORD, UNDONE, Journals, Payment, Reversal, journal_of,
+    scratched)
 from .support.program import spoken
 from .support.quick import QuickRuns
 from .support.shown import journal_ended
@@ -27,8 +28,28 @@ terminal 0123456789ABCDE00000 1 0123456789ABCDE00001 0123456789ABCDE00001 approv
 """
 
 
+REVERSED_LINES = """\
+reversal 0 group 0 ksn FFFF9876543210E00001 of FFFF9876543210E00008 mac 0000000000000000 state 00 none stands
+payment 1 group 1 ksn FFFF9876543210E00002 amount 700 mac 0000000000000000 code 00 approved
+payment 2 group 1 ksn FFFF9876543210E00004 amount 20 mac 0000000000000000 code 00 approved
+reversal 3 group 3 ksn FFFF9876543210E00005 of FFFF9876543210E00002 mac 0000000000000000 state 01 undone
+payment 4 group 4 ksn 0123456789ABCDE00001 amount 5 mac 0000000000000000 code 51 over the card's limit
+reversal 5 group 4 ksn FFFF9876543210E00006 of FFFF9876543210E00002 mac 0000000000000000 state 01 undone
+reversal 6 group 4 ksn 0123456789ABCDE00002 of 0123456789ABCDE00001 mac 0000000000000000 state 00 none stands
+payments 3
+reversals 4
+room 1
+terminal FFFF9876543210E00000 2 FFFF9876543210E00001 FFFF9876543210E00006 approved 20 undone 1
+terminal 0123456789ABCDE00000 1 0123456789ABCDE00001 0123456789ABCDE00002 approved 0
+"""
+
+
 def paid(serial: int, amount: int = 1, code: int = 0) -> Payment:
     return Payment(serial, amount, code, bytes(8))
+
+
+def undone(serial: int, counter: int, state: int = UNDONE) -> Reversal:
+    return Reversal(serial, counter, state, bytes(8))
 
 
 class JournalCase(ProgramCase):
@@ -71,6 +92,29 @@ class Rows(JournalCase):
         self.assertIn(b" 3 FFFF9876543210E00001 FFFF9876543210E00004 approved 8589934590\n",
                       found.output)
 
+    def test_reversals(self) -> None:
+        """Of a payment, twice; of a declined one; of one that never came. What stands is summed."""
+        self.prints(REVERSED_LINES, journal_of(
+            [[undone(FIRST, 8, NONE_STANDS)], [paid(FIRST + 1, 700), paid(FIRST + 3, 20)],
+             [undone(FIRST + 4, 2)],
+             [paid(OTHER, 5, 51), undone(FIRST + 5, 2), undone(OTHER + 1, 1, NONE_STANDS)]], 1))
+
+    def test_damaged_reversals(self) -> None:
+        """Of its own number, of one that numbers nothing, with a code for a state, of a kind that is
+        not its own; and a number that was reversed is used."""
+        one = undone(FIRST + 1, 1)
+        for wrong in (undone(FIRST + 1, 2), undone(FIRST + 1, 0), undone(FIRST + 1, 1 << 21),
+                      undone(FIRST + 1, 1, 0), undone(FIRST + 1, 1, 1), undone(FIRST, 3)):
+            self.damaged(1, journal_of([[paid(FIRST)], [wrong]], 1))
+        record = one.record(OPEN)
+        self.damaged(1, paid(FIRST).record(OPEN) + record[:1] + b"\x01" + record[2:])
+        self.damaged(1, paid(FIRST).record(OPEN) + record[:1] + b"\x03" + record[2:])
+        record = paid(FIRST + 1, 1).record(OPEN)
+        self.damaged(1, paid(FIRST).record(OPEN) + record[:1] + b"\x02" + record[2:])
+        self.damaged(2, journal_of([[paid(FIRST + 3), one], [paid(FIRST)]], 1))
+        self.damaged(2, journal_of(
+            [[undone(FIRST + 1, 4)], [undone(FIRST + 2, 1)], [undone(FIRST + 3, 2)]], 1))
+
     def test_damage(self) -> None:
         one, two, three = paid(FIRST), paid(FIRST + 1), paid(OTHER)
         group = journal_of([[one], [two, three]], 1)
@@ -109,7 +153,7 @@ class Random(JournalCase):
         chance = journals.chance
         with QuickRuns(self.program) as runs:
             for _ in range(self.share_of(CASES)):
-                groups, data = journals.journal(chance.randrange(9))
+                groups, data = journals.entry_journal(chance.randrange(9))
                 if any(len(group) > 1 for group in groups) and chance.random() < 0.5:
                     data, _ = chance.choice(DAMAGES)(journals, groups, data)
                 elif data and chance.random() < 0.2:

@@ -10,8 +10,8 @@ from . import journal_file
 from .client import Exchange, payments, refused_requests
 from .journal_file import appended, groups_in, payments_in
 from .model_journal import (
-    Judged, added_by, answers_of, groups_by_reads, judged, reads_of_file, wrong_group)
-from .page_journals import RECORD, Group, Payment
+    Judged, added_by, answers_of, groups_by_reads, judged, reads_of_file, room_for, wrong_group)
+from .page_journals import RECORD, Entries, Group, Payment
 from .program import Ended, Word
 from .service import PACKETS, PLAIN, How
 from .service_case import ServiceCase, frames_of, stream_of
@@ -34,9 +34,14 @@ class JournalCase(ServiceCase):
     def journal(self) -> Path:
         return self.home / "journal"
 
-    def make_journal(self, room: int, groups: Sequence[Group] = ()) -> bytes:
-        """Makes the file `journal` anew, and answers its bytes."""
+    def make_journal(self, room: int, groups: Sequence[Entries] = ()) -> bytes:
+        """Makes the file `journal` anew, of so many records, and answers its bytes."""
         return journal_file.make_journal(self.journal, room, groups)
+
+    def make_room(self, payments: int, groups: Sequence[Entries] = ()) -> bytes:
+        """Makes it anew with room for so many payments, and no more. What is left is for
+        reversals."""
+        return self.make_journal(room_for(payments), groups)
 
     def kept(self) -> list[Payment]:
         """The payments that the journal keeps."""

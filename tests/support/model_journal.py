@@ -21,6 +21,21 @@ MOST_FRAMES = 1024
 READ = 1 << 16
 
 USED, FULL = 5, 6
+# Payments are refused while less than such a part of the room is left, which is for reversals.
+RESERVED = 16
+
+
+def fits(room: int, kept: int) -> bool:
+    """Whether a payment more finds room among so many records, of which so many are kept."""
+    return RESERVED * (room - kept) >= room > kept
+
+
+def room_for(payments: int) -> int:
+    """How many records a journal has that takes exactly so many payments, and no more."""
+    room = payments
+    while payments and not fits(room, payments - 1):
+        room += 1
+    return room
 
 
 @dataclass(frozen=True)
@@ -43,7 +58,7 @@ def payments_of_all(given: Iterable[Exchange]) -> list[Payment]:
 
 
 class Judge:
-    """A host that keeps these payments, and has room for so many in all."""
+    """A host that keeps these payments, among so many records in all."""
 
     def __init__(self, payments: Iterable[Payment], room: int) -> None:
         self.payments = list(payments)
@@ -57,7 +72,7 @@ class Judge:
         place = self.places.get(asked.serial)
         if place is not None:
             return Judged(self.answer_again(it, asked, place))
-        if len(self.payments) == self.room:
+        if not fits(self.room, len(self.payments)):
             return Judged(refusal(it.number, FULL))
         self.places[asked.serial] = len(self.payments)
         self.payments.append(asked)

@@ -1,4 +1,5 @@
-"""Journals of payments as files: writing them, spoiling them, and reading them strictly.
+"""Journals as files: writing them, spoiling them, and reading them strictly. A page reads those of
+payments alone.
 
 docs/FORMATS.md has the layout, under "Disk of a journal".
 """
@@ -12,9 +13,10 @@ from .dukpt import counter_of, iksn_of, serial_text, usable
 
 RECORD = 32
 MOST_FOLLOWERS = 4095
-OPEN, PAYMENT = 1, 1
+OPEN, PAYMENT, REVERSAL = 1, 1, 2
 CODES = {0: "approved", 14: "no such card", 30: "PIN block unreadable",
          51: "over the card's limit", 55: "wrong PIN"}
+UNDONE, NONE_STANDS = 129, 128
 
 
 # A journal by hand: one payment; then a group of two, whose second gate is closed, though not zero.
@@ -49,6 +51,28 @@ class Payment:
 
 
 @dataclass(frozen=True)
+class Reversal:
+    """Of the number with another counter under the same initial key serial number."""
+
+    serial: int
+    counter: int
+    state: int
+    mac: bytes
+
+    @property
+    def reversed(self) -> int:
+        return iksn_of(self.serial) + self.counter
+
+    def record(self, gate: int, followers: int = 0) -> bytes:
+        return (bytes([gate, REVERSAL]) + followers.to_bytes(2, "big")
+                + self.serial.to_bytes(10, "big") + self.counter.to_bytes(4, "big")
+                + bytes([self.state]) + self.mac + bytes(5))
+
+
+Entry = Union[Payment, Reversal]
+
+
+@dataclass(frozen=True)
 class Place:
     """The first and the last byte of what breaks a rule."""
 
@@ -57,37 +81,57 @@ class Place:
 
 
 Group = Sequence[Payment]
+Entries = Sequence[Entry]
 
 
-def journal_of(groups: Sequence[Group], room: int, chance: Optional[random.Random] = None) -> bytes:
-    """A journal of these groups, with room for so many payments more. What may be anything is zero,
+def journal_of(groups: Sequence[Entries], room: int, chance: Optional[random.Random] = None) -> bytes:
+    """A journal of these groups, with room for so many entries more. What may be anything is zero,
     or is drawn: the gates of followers, which are closed, and closed records behind the groups."""
     closed = (lambda: 0) if chance is None else (lambda: chance.choice((0, 0, 2, 0xFF)))
-    records = [payment.record(closed() if at else OPEN, 0 if at else len(group) - 1)
-               for group in groups for at, payment in enumerate(group)]
+    records = [entry.record(closed() if at else OPEN, 0 if at else len(group) - 1)
+               for group in groups for at, entry in enumerate(group)]
     rest = (bytes(RECORD) if chance is None or chance.random() < 0.4
             else bytes([closed()]) + chance.randbytes(RECORD - 1) for _ in range(room))
     return b"".join([*records, *rest])
 
 
-# What reading comes to: of each payment the first and last record of its group, and the payment.
+# What reading comes to: of each entry the first and last record of its group, and the entry.
 Row = tuple[int, int, Payment]
+EntryRow = tuple[int, int, Entry]
 
 
 def read_journal(data: bytes) -> Union[list[Row], Place]:
-    """The payments of a journal, or the first place where it breaks a rule."""
+    """The payments of a journal of payments alone, or the first place where it breaks a rule."""
+    found = read_records(data, (PAYMENT,))
+    if isinstance(found, Place):
+        return found
+    return [(first, last, payment_in(record)) for first, last, record in found]
+
+
+def read_entries(data: bytes) -> Union[list[EntryRow], Place]:
+    """The entries of a journal, or the first place where it breaks a rule."""
+    found = read_records(data, (PAYMENT, REVERSAL))
+    if isinstance(found, Place):
+        return found
+    return [(first, last, entry_in(record)) for first, last, record in found]
+
+
+def read_records(
+    data: bytes, kinds: Sequence[int]
+) -> Union[list[tuple[int, int, bytes]], Place]:
+    """The records of a journal with such kinds, or the first place where it breaks a rule."""
     if not data or len(data) % RECORD:
         return Place(len(data) - len(data) % RECORD, max(len(data) - 1, 0))
     records = [data[at : at + RECORD] for at in range(0, len(data), RECORD)]
-    rows: list[Row] = []
+    rows: list[tuple[int, int, bytes]] = []
     end = 0
     while end < len(records) and records[end][0] == OPEN:
         first, last = end, end + int.from_bytes(records[end][2:4], "big")
         for at in range(first, min(last + 1, len(records))):
-            wrong = wrong_bytes(records[at], at > first, len(records) - at)
+            wrong = wrong_bytes(records[at], at > first, len(records) - at, kinds)
             if wrong:
                 return Place(RECORD * at + wrong[0], RECORD * at + wrong[-1])
-            rows.append((first, last, payment_in(records[at])))
+            rows.append((first, last, records[at]))
         end = last + 1
     later = [at for at in range(end, len(records)) if records[at][0] == OPEN]
     return Place(RECORD * later[0], RECORD * later[0]) if later else rows
@@ -98,16 +142,26 @@ def payment_in(record: bytes) -> Payment:
                    record[18], record[19:27])
 
 
-def wrong_bytes(record: bytes, is_follower: bool, left: int) -> Sequence[int]:
-    """Which bytes of a payment's record break a rule first; so many records are left from it on."""
+def entry_in(record: bytes) -> Entry:
+    it = payment_in(record)
+    return Reversal(it.serial, it.amount, it.code, it.mac) if record[1] == REVERSAL else it
+
+
+def wrong_bytes(
+    record: bytes, is_follower: bool, left: int, kinds: Sequence[int] = (PAYMENT,)
+) -> Sequence[int]:
+    """Which bytes of an entry's record break a rule first; so many records are left from it on."""
     followers = int.from_bytes(record[2:4], "big")
     counts = (0,) if is_follower else range(min(MOST_FOLLOWERS + 1, left))
+    own, counter = counter_of(payment_in(record).serial), int.from_bytes(record[14:18], "big")
+    is_reversal = record[1] == REVERSAL
     rules = (
         ((0,), not (is_follower and record[0] == OPEN)),
-        ((1,), record[1] == PAYMENT),
+        ((1,), record[1] in kinds),
         ((2, 3), followers in counts),
-        ((11, 12, 13), usable(counter_of(payment_in(record).serial))),
-        ((18,), record[18] in CODES),
+        ((11, 12, 13), usable(own)),
+        ((14, 15, 16, 17), not is_reversal or (usable(counter) and counter != own)),
+        ((18,), record[18] in ((UNDONE, NONE_STANDS) if is_reversal else CODES)),
         *(((at,), record[at] == 0) for at in range(27, RECORD)),
     )
     return next((places for places, holds in rules if not holds), ())
@@ -196,16 +250,41 @@ class Journals:
             groups.append(group)
         return groups
 
+    def reversal(self, numbers: Sequence[int]) -> Reversal:
+        """Under a number of one of these terminals, of one of these numbers or of another."""
+        of = self.chance.choice(numbers)
+        own = self.serial(iksn_of(of))
+        while own == of:
+            own = self.serial(iksn_of(of))
+        return Reversal(own, counter_of(of), self.chance.choice((UNDONE, NONE_STANDS)),
+                        self.chance.randbytes(8))
+
+    def entry_groups(self, count: int) -> list[list[Entry]]:
+        """So many groups, in which reversals stand: of payments before and behind them, of numbers
+        that no payment has, and more than one of some."""
+        groups: list[list[Entry]] = [list(group) for group in self.groups(count)]
+        numbers = [it.serial for group in groups for it in group]
+        numbers += [self.serial(iksn_of(it)) for it in numbers[:2]]
+        for group in groups:
+            while self.chance.random() < 0.4:
+                group.insert(self.chance.randrange(len(group) + 1), self.reversal(numbers))
+        return groups
+
     def journal(self, count: int) -> tuple[list[list[Payment]], bytes]:
         groups = self.groups(count)
         return groups, journal_of(groups, self.chance.randrange(6), self.chance)
 
 
+    def entry_journal(self, count: int) -> tuple[list[list[Entry]], bytes]:
+        groups = self.entry_groups(count)
+        return groups, journal_of(groups, self.chance.randrange(6), self.chance)
+
+
 # A kind of damage: what it does to a journal of these groups, and where it stands then.
-Damage = Callable[[Journals, Sequence[Group], bytes], tuple[bytes, Place]]
+Damage = Callable[[Journals, Sequence[Entries], bytes], tuple[bytes, Place]]
 
 
-def starts_of(groups: Sequence[Group]) -> list[int]:
+def starts_of(groups: Sequence[Entries]) -> list[int]:
     """The first record of each group, and the first one behind the groups."""
     starts = [0]
     for group in groups:
@@ -219,21 +298,21 @@ def put(data: bytes, record: int, at: int, value: bytes) -> tuple[bytes, Place]:
     return data[:first] + value + data[first + len(value) :], Place(first, first + len(value) - 1)
 
 
-def any_payment(journals: Journals, groups: Sequence[Group]) -> int:
+def any_payment(journals: Journals, groups: Sequence[Entries]) -> int:
     return journals.chance.randrange(starts_of(groups)[-1])
 
 
-def unknown_kind(journals: Journals, groups: Sequence[Group], data: bytes) -> tuple[bytes, Place]:
+def unknown_kind(journals: Journals, groups: Sequence[Entries], data: bytes) -> tuple[bytes, Place]:
     kind = journals.chance.choice((0, 2, journals.chance.randint(2, 255)))
     return put(data, any_payment(journals, groups), 1, bytes([kind]))
 
 
-def no_code(journals: Journals, groups: Sequence[Group], data: bytes) -> tuple[bytes, Place]:
+def no_code(journals: Journals, groups: Sequence[Entries], data: bytes) -> tuple[bytes, Place]:
     code = journals.chance.choice([it for it in range(256) if it not in CODES])
     return put(data, any_payment(journals, groups), 18, bytes([code]))
 
 
-def unusable_counter(journals: Journals, groups: Sequence[Group], data: bytes
+def unusable_counter(journals: Journals, groups: Sequence[Entries], data: bytes
                      ) -> tuple[bytes, Place]:
     ones = journals.chance.choice((0, 11, 21))
     counter = sum(1 << it for it in journals.chance.sample(range(21), ones))
@@ -242,16 +321,16 @@ def unusable_counter(journals: Journals, groups: Sequence[Group], data: bytes
     return put(data, record, 11, (front << 16 | counter).to_bytes(3, "big"))
 
 
-def no_zeros(journals: Journals, groups: Sequence[Group], data: bytes) -> tuple[bytes, Place]:
+def no_zeros(journals: Journals, groups: Sequence[Entries], data: bytes) -> tuple[bytes, Place]:
     at, value = journals.chance.randrange(27, RECORD), journals.chance.randint(1, 255)
     return put(data, any_payment(journals, groups), at, bytes([value]))
 
 
-def open_inside(journals: Journals, groups: Sequence[Group], data: bytes) -> tuple[bytes, Place]:
+def open_inside(journals: Journals, groups: Sequence[Entries], data: bytes) -> tuple[bytes, Place]:
     return put(data, a_follower(journals, groups), 0, bytes([OPEN]))
 
 
-def open_behind(journals: Journals, groups: Sequence[Group], data: bytes) -> tuple[bytes, Place]:
+def open_behind(journals: Journals, groups: Sequence[Entries], data: bytes) -> tuple[bytes, Place]:
     """Behind the groups and one closed record at least."""
     end = starts_of(groups)[-1]
     data = data.ljust(RECORD * (end + 2), b"\x00")
@@ -259,18 +338,18 @@ def open_behind(journals: Journals, groups: Sequence[Group], data: bytes) -> tup
     return put(data, record, 0, bytes([OPEN]))
 
 
-def following_follower(journals: Journals, groups: Sequence[Group], data: bytes
+def following_follower(journals: Journals, groups: Sequence[Entries], data: bytes
                        ) -> tuple[bytes, Place]:
     followers = journals.chance.choice((1, 256, journals.chance.randint(1, 0xFFFF)))
     return put(data, a_follower(journals, groups), 2, followers.to_bytes(2, "big"))
 
 
-def a_follower(journals: Journals, groups: Sequence[Group]) -> int:
+def a_follower(journals: Journals, groups: Sequence[Entries]) -> int:
     return journals.chance.choice([start + at for start, group in zip(starts_of(groups), groups)
                                    for at in range(1, len(group))])
 
 
-def too_many(journals: Journals, groups: Sequence[Group], data: bytes) -> tuple[bytes, Place]:
+def too_many(journals: Journals, groups: Sequence[Entries], data: bytes) -> tuple[bytes, Place]:
     """More followers than a group may have, with records for all of them behind it."""
     followers = journals.chance.choice((MOST_FOLLOWERS + 1, journals.chance.randint(4096, 9000)))
     record = journals.chance.choice(starts_of(groups)[:-1])
@@ -278,7 +357,7 @@ def too_many(journals: Journals, groups: Sequence[Group], data: bytes) -> tuple[
     return put(data, record, 2, followers.to_bytes(2, "big"))
 
 
-def past_the_end(journals: Journals, groups: Sequence[Group], data: bytes) -> tuple[bytes, Place]:
+def past_the_end(journals: Journals, groups: Sequence[Entries], data: bytes) -> tuple[bytes, Place]:
     record = journals.chance.choice(starts_of(groups)[:-1])
     least = len(data) // RECORD - record
     followers = journals.chance.choice(
@@ -286,7 +365,7 @@ def past_the_end(journals: Journals, groups: Sequence[Group], data: bytes) -> tu
     return put(data, record, 2, followers.to_bytes(2, "big"))
 
 
-def broken_size(journals: Journals, groups: Sequence[Group], data: bytes) -> tuple[bytes, Place]:
+def broken_size(journals: Journals, groups: Sequence[Entries], data: bytes) -> tuple[bytes, Place]:
     """A piece of a record stands at the end."""
     piece = journals.chance.randint(1, RECORD - 1)
     return data + bytes(piece), Place(len(data), len(data) + piece - 1)

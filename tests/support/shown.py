@@ -229,52 +229,82 @@ def log_lines(data: bytes) -> list[str]:
               for iksn, it in of.items())]
 
 
-# Journals of payments, whose records are of 32 bytes
+# Journals of payments and reversals, whose records are of 32 bytes
 
-PAYMENT_BYTES = 32
+ENTRY_BYTES = 32
 MOST_FOLLOWERS = 4095
+STATES = {129: "01 undone", 128: "00 none stands"}
 
 
 def journal_lines(data: bytes) -> list[str]:
     """The lines of a journal, or the first record that does not go on with those before it."""
-    whole = len(data) // PAYMENT_BYTES
+    whole = len(data) // ENTRY_BYTES
     rows: list[tuple[int, bytes]] = []
     left, first, ended, known = 0, 0, False, set[int]()
     for place in range(whole):
-        record = data[PAYMENT_BYTES * place : PAYMENT_BYTES * (place + 1)]
+        record = data[ENTRY_BYTES * place : ENTRY_BYTES * (place + 1)]
         inside, is_open = left > 0, record[0] == 1
         if not inside and not is_open:
             ended = True
             continue
         number, followers = int.from_bytes(record[4:14], "big"), int.from_bytes(record[2:4], "big")
-        if (ended or inside == is_open or record[1] != 1
-                or followers > (0 if inside else MOST_FOLLOWERS) or f"{record[18]:02}" not in CODES
+        if (ended or inside == is_open or not is_decided(record)
+                or followers > (0 if inside else MOST_FOLLOWERS)
                 or any(record[27:]) or not usable(counter_of(number)) or number in known):
             stop("journal", place, "Damaged")
-        known.add(number)
+        known.update({number, reversed_by(record)} if record[1] == 2 else {number})
         left, first = (left - 1, first) if inside else (followers, place)
         rows.append((first, record))
-    if left or not whole or len(data) % PAYMENT_BYTES:
+    if left or not whole or len(data) % ENTRY_BYTES:
         stop("journal", whole, "Damaged")
-    return [*(payment_line(place, *row) for place, row in enumerate(rows)),
-            f"payments {len(rows)}", f"room {whole - len(rows)}",
-            *payer_lines([record for _, record in rows])]
+    records = [record for _, record in rows]
+    payments = sum(it[1] == 1 for it in records)
+    reversals = len(records) - payments
+    return [*(entry_line(place, *row) for place, row in enumerate(rows)),
+            f"payments {payments}", *([f"reversals {reversals}"] if reversals else []),
+            f"room {whole - len(rows)}", *payer_lines(records)]
 
 
-def payment_line(place: int, first: int, record: bytes) -> str:
+def is_decided(record: bytes) -> bool:
+    """Whether it has a kind, and what goes with that: a payment's code, or a reversal's state and
+    the counter of another number."""
+    counter, own = int.from_bytes(record[14:18], "big"), int.from_bytes(record[4:14], "big")
+    if record[1] == 2:
+        return record[18] in STATES and usable(counter) and counter != counter_of(own)
+    return record[1] == 1 and f"{record[18]:02}" in CODES
+
+
+def reversed_by(record: bytes) -> int:
+    """The number that a reversal is of."""
+    return iksn_of(int.from_bytes(record[4:14], "big")) + int.from_bytes(record[14:18], "big")
+
+
+def entry_line(place: int, first: int, record: bytes) -> str:
+    front, mac = f"{place} group {first} ksn {shown(record[4:14])}", shown(record[19:27])
+    if record[1] == 2:
+        return (f"reversal {front} of {serial_text(reversed_by(record))} mac {mac}"
+                f" state {STATES[record[18]]}")
     code = f"{record[18]:02}"
-    return (f"payment {place} group {first} ksn {shown(record[4:14])}"
-            f" amount {int.from_bytes(record[14:18], 'big')} mac {shown(record[19:27])}"
+    return (f"payment {front} amount {int.from_bytes(record[14:18], 'big')} mac {mac}"
             f" code {code} {CODES[code]}")
 
 
 def payer_lines(records: list[bytes]) -> list[str]:
     of: dict[int, list[bytes]] = {}
+    undone = {reversed_by(it) for it in records if it[1] == 2}
     for it in records:
         of.setdefault(iksn_of(int.from_bytes(it[4:14], "big")), []).append(it)
-    return [f"terminal {serial_text(iksn)} {len(own)} {shown(own[0][4:14])} {shown(own[-1][4:14])}"
-            f" approved {sum(int.from_bytes(it[14:18], 'big') for it in own if it[18] == 0)}"
-            for iksn, own in of.items()]
+    return [payer_line(iksn, own, undone) for iksn, own in of.items()]
+
+
+def payer_line(iksn: int, own: list[bytes], undone: set[int]) -> str:
+    """Of one terminal: what is undone is no part of the sum, and is counted, where any is."""
+    approved = [it for it in own if it[1] == 1 and it[18] == 0]
+    standing = [it for it in approved if int.from_bytes(it[4:14], "big") not in undone]
+    amount = sum(int.from_bytes(it[14:18], "big") for it in standing)
+    tail = f" undone {len(approved) - len(standing)}" if len(standing) < len(approved) else ""
+    return (f"terminal {serial_text(iksn)} {sum(it[1] == 1 for it in own)} {shown(own[0][4:14])}"
+            f" {shown(own[-1][4:14])} approved {amount}{tail}")
 
 
 # The whole
