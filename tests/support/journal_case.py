@@ -11,7 +11,7 @@ from .client import Exchange, payments, refused_requests
 from .journal_file import appended, groups_in, payments_in
 from .model_journal import (
     Judged, added_by, answers_of, groups_by_reads, judged, reads_of_file, room_for, wrong_group)
-from .page_journals import RECORD, Entries, Group, Payment
+from .page_journals import RECORD, Entries, Payment
 from .program import Ended, Word
 from .service import PACKETS, PLAIN, How
 from .service_case import ServiceCase, frames_of, stream_of

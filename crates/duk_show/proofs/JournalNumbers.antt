@@ -1,84 +1,151 @@
--- The numbers of a journal's payments.
-use Rattle.std.proofs.Common.{◌≡◌, ◌≢◌, ◌↔◌, ℕ, zero, suc, ◌<◌, List, [], ◌∷◌, ◌++◌, Contains, length, get_or, inl, inr, refl, sym, ◌∙◌, subst, arith, length-append}
-use Rattle.std.proofs.lemmas.List.{map-append}
-use Rattle.std.proofs.lemmas.List.Elements.{All-append, All-cons, All-nil, Contains-append_cases, Contains-append_left, Contains-append_right}
+-- The numbers that the entries of a journal use.
+use Rattle.std.proofs.Common.{◌≡◌, ◌⊎◌, ℕ, zero, suc, ◌<◌, ◌+◌, List, [], ◌∷◌, ◌++◌, Contains, flat_map, length, get_or, take, inl, inr, refl, sym, ap, ◌∙◌, subst, arith, length-append}
+use Rattle.std.proofs.lemmas.Grind.{flat_map-append}
+use Rattle.std.proofs.lemmas.List.{append-nil, take_more}
+use Rattle.std.proofs.lemmas.List.Elements.{All-append, All-cons, All-nil, Contains-append_cases, Contains-append_left, Contains-append_right, Contains-get_or}
 use Rattle.std.proofs.lemmas.List.Quantifiers.{all_pairs_push}
-use Rattle.std.specs.List.{AllPairs}
-use Rattle.duk_host.specs.Used.{AreUsable, IsOneMore, IsUsed, Lists}
-use Rattle.duk_journal.specs.Groups.{Payments}
-use Rattle.duk_journal.specs.declared.payment.Payment.{Payment}
+use Rattle.duk_host.specs.Used.{IsOneMore}
+use Rattle.duk_journal.specs.Entry.{MayStandUnder}
+use Rattle.duk_journal.specs.Groups.{Entries}
+use Rattle.duk_journal.specs.declared.entry.Entry.{Entry}
 use Rattle.duk_store.specs.Log.{Numbers}
 use Rattle.duk_tree.specs.Path.{IsUsable}
 use Rattle.duk_tree.specs.Serial.{Serial}
-use Rattle.duk_show.specs.Journal.{numbers_of}
+use Rattle.duk_show.specs.Standing.{UseNewNumbers, numbers_in, reversed_in, reversed_numbers, used_by}
+use Rattle.duk_show.specs.inner.Journal.{AddsAll, AreThose, AreUsedBy}
+
+pub none_in : {A : Type 0} (thing : A) → ¬ Contains [] thing
+none_in thing (k, within, is) = omega (arith, within)
 
 the_only : {A : Type 0} (thing other : A) → Contains (thing ∷ []) other → other ≡ thing
 the_only thing other (zero, within, is) = sym is
 the_only thing other (suc k, within, is) = absurd (omega (arith, within))
 
-the_one : {A : Type 0} (thing : A) → Contains (thing ∷ []) thing
+pub the_one : {A : Type 0} (thing : A) → Contains (thing ∷ []) thing
 the_one thing = (0, omega arith, refl)
 
-contains_at : {A : Type 0} (things : List A) (k : ℕ) (d thing : A) → k < length things → get_or things k d ≡ thing → Contains things thing
-contains_at [] k d thing within is = absurd (omega (arith, within))
-contains_at (first ∷ things) zero d thing within is = (0, omega arith, is)
-contains_at (first ∷ things) (suc k) d thing within is =
-    let rest = contains_at things k d thing (omega (arith, within)) is in (suc rest.0, omega (arith, rest.1), rest.2)
+-- a member of a list with one thing in front is that thing or was one
+pub front_or : {A : Type 0} (first : A) (things : List A) (other : A) → Contains (first ∷ things) other → (other ≡ first) ⊎ Contains things other
+front_or first things other contains = elim (Contains-append_cases (first ∷ []) things other contains) [
+  | inl is ↦ inl (the_only first other is)
+  | inr rest ↦ inr rest
+]
 
--- the list with a number at its end has the used numbers with it
-contains_more : (numbers used more : Numbers) (ksn : Serial) → ((other : Serial) → Contains numbers other ↔ IsUsed used other) → IsOneMore used ksn more
-    → (other : Serial) → Contains (numbers ++ ksn ∷ []) other ↔ IsUsed more other
-contains_more numbers used more ksn members one_more other = (
-  λ contains. elim (Contains-append_cases numbers (ksn ∷ []) other contains) [
-    | inl before ↦ (one_more other).1 (inl ((members other).0 before))
-    | inr last ↦ (one_more other).1 (inr (the_only ksn other last))
+-- what one thing of a list has is in what all have
+flat_in : {A B : Type 0} (f : A → List B) (things : List A) (thing : A) (other : B) → Contains things thing → Contains (f thing) other → Contains (flat_map f things) other
+flat_in f [] thing other is_in has = absurd (none_in thing is_in)
+flat_in f (first ∷ things) thing other is_in has = elim (front_or first things thing is_in) [
+  | inl is ↦ Contains-append_left (f first) (flat_map f things) other (subst (λ thing. Contains (f thing) other) is has)
+  | inr later ↦ Contains-append_right (f first) (flat_map f things) other (flat_in f things thing other later has)
+]
+
+-- what all have, one thing at a place has
+flat_at : {A B : Type 0} (f : A → List B) (things : List A) (d : A) (other : B) → Contains (flat_map f things) other → (k : ℕ) × (k < length things) × Contains (f (get_or things k d)) other
+flat_at f [] d other contains = absurd (none_in other contains)
+flat_at f (first ∷ things) d other contains = elim (Contains-append_cases (f first) (flat_map f things) other contains) [
+  | inl here ↦ (0, omega arith, here)
+  | inr later ↦ let rest = flat_at f things d other later in (suc rest.0, omega (arith, rest.1), rest.2)
+]
+
+-- ---- entries with one more at their end
+
+pub new_more : (entries : Entries) (entry : Entry) → UseNewNumbers entries → IsUsable entry.number.counter → MayStandUnder entry.number entry.decided → ¬ Contains (used_by entries) entry.number
+    → UseNewNumbers (entries ++ entry ∷ [])
+new_more entries entry are usable stands new = record {
+  usable = All-append (λ entry. IsUsable entry.number.counter) entries (entry ∷ []) are.usable
+      (All-cons (λ entry. IsUsable entry.number.counter) entry [] usable (All-nil (λ entry. IsUsable entry.number.counter)));
+  stand = All-append (λ entry. MayStandUnder entry.number entry.decided) entries (entry ∷ []) are.stand
+      (All-cons (λ entry. MayStandUnder entry.number entry.decided) entry [] stands (All-nil (λ entry. MayStandUnder entry.number entry.decided)));
+  new = all_pairs_push (λ earlier later. ¬ Contains (numbers_in earlier) later.number) entries entry are.new
+      (λ k d within has. new (flat_in numbers_in entries (get_or entries k d) entry.number (Contains-get_or entries k d within) has));
+}
+
+-- what entries have, and what one more has
+pub flat_push : {B : Type 0} (f : Entry → List B) (entries : Entries) (entry : Entry) → flat_map f (entries ++ entry ∷ []) ≡ flat_map f entries ++ f entry
+flat_push f entries entry = flat_map-append f entries (entry ∷ []) ∙ ap (λ more. flat_map f entries ++ more) (append-nil (f entry))
+
+-- numbers, and all of another list
+pub adds_those : (numbers more used now : Numbers) → AreThose numbers used → AddsAll more used now → AreThose (numbers ++ more) now
+adds_those numbers more used now those adds ksn = (
+  λ contains. elim (Contains-append_cases numbers more ksn contains) [
+    | inl before ↦ (adds ksn).1 (inl ((those ksn).0 before))
+    | inr last ↦ (adds ksn).1 (inr last)
   ],
-  λ is_used. elim ((one_more other).0 is_used) [
-    | inl was ↦ Contains-append_left numbers (ksn ∷ []) other ((members other).1 was)
-    | inr same ↦ Contains-append_right numbers (ksn ∷ []) other (subst (λ number. Contains (ksn ∷ []) number) (sym same) (the_one ksn))
+  λ is_used. elim ((adds ksn).0 is_used) [
+    | inl was ↦ Contains-append_left numbers more ksn ((those ksn).1 was)
+    | inr last ↦ Contains-append_right numbers more ksn last
   ],
 )
 
--- a list of numbers that may be used, with one more of these at its end
-usable_number : (numbers : Numbers) (ksn : Serial) → AreUsable numbers → IsUsable ksn.counter → ¬ Contains numbers ksn → AreUsable (numbers ++ ksn ∷ [])
-usable_number numbers ksn are usable fresh = record {
-  usable = All-append (λ number. IsUsable number.counter) numbers (ksn ∷ []) are.usable
-      (All-cons (λ number. IsUsable number.counter) ksn [] usable (All-nil (λ number. IsUsable number.counter)));
-  once = all_pairs_push (λ earlier later. earlier ≢ later) numbers ksn are.once
-      (λ k d within same. fresh (contains_at numbers k d ksn within same));
+-- one more, and then others, are these together
+pub adds_both : (ksn : Serial) (more used mid now : Numbers) → IsOneMore used ksn mid → AddsAll more mid now → AddsAll (ksn ∷ more) used now
+adds_both ksn more used mid now one_more adds other = (
+  λ is_used. elim ((adds other).0 is_used) [
+    | inl was ↦ elim ((one_more other).0 was) [
+        | inl before ↦ inl before
+        | inr same ↦ inr (Contains-append_left (ksn ∷ []) more other (subst (λ number. Contains (ksn ∷ []) number) (sym same) (the_one ksn)))
+      ]
+    | inr last ↦ inr (Contains-append_right (ksn ∷ []) more other last)
+  ],
+  λ either. elim either [
+    | inl before ↦ (adds other).1 (inl ((one_more other).1 (inl before)))
+    | inr contains ↦ elim (front_or ksn more other contains) [
+        | inl same ↦ (adds other).1 (inl ((one_more other).1 (inr same)))
+        | inr last ↦ (adds other).1 (inr last)
+      ]
+  ],
+)
+
+-- one more, as a list of one
+pub adds_one : (ksn : Serial) (used now : Numbers) → IsOneMore used ksn now → AddsAll (ksn ∷ []) used now
+adds_one ksn used now one_more other = (
+  λ is_used. elim ((one_more other).0 is_used) [
+    | inl before ↦ inl before
+    | inr same ↦ inr (subst (λ number. Contains (ksn ∷ []) number) (sym same) (the_one ksn))
+  ],
+  λ either. elim either [
+    | inl before ↦ (one_more other).1 (inl before)
+    | inr contains ↦ (one_more other).1 (inr (the_only ksn other contains))
+  ],
+)
+
+-- none more
+pub adds_none : (used : Numbers) → AddsAll [] used used
+adds_none used other = (λ is_used. inl is_used, λ either. elim either [ | inl before ↦ before | inr contains ↦ absurd (none_in other contains) ])
+
+-- the used numbers are those of the entries, with one more
+pub used_more : (entries : Entries) (entry : Entry) (used mid now : Numbers) → AreUsedBy entries used → IsUsable entry.number.counter → MayStandUnder entry.number entry.decided → ¬ Contains (used_by entries) entry.number
+    → IsOneMore used entry.number mid → AddsAll (reversed_in entry.number entry.decided) mid now → AreUsedBy (entries ++ entry ∷ []) now
+used_more entries entry used mid now are usable stands new one_more adds = record {
+  new_numbers = new_more entries entry are.new_numbers usable stands new;
+  members = subst (λ numbers. AreThose numbers now) (sym (flat_push numbers_in entries entry))
+      (adds_those (used_by entries) (numbers_in entry) used now are.members (adds_both entry.number (reversed_in entry.number entry.decided) used mid now one_more adds));
 }
 
--- the numbers of payments with one more at their end
-numbers_push : (payments : Payments) (payment : Payment) → numbers_of (payments ++ payment ∷ []) ≡ numbers_of payments ++ payment.number ∷ []
-numbers_push payments payment = map-append (λ (payment : Payment). payment.number) payments (payment ∷ [])
+-- the reversed numbers are those of the entries up to a place, with the next one
+pub reversed_more : (entries : Entries) (place : ℕ) (entry : Entry) (used now : Numbers) → place < length entries → entry ≡ get_or entries place entry
+    → AreThose (reversed_numbers (take place entries)) used → AddsAll (reversed_in entry.number entry.decided) used now
+    → AreThose (reversed_numbers (take (place + 1) entries)) now
+reversed_more entries place entry used now inside is those adds =
+    let before : Entries = take place entries in
+    let front : take (place + 1) entries ≡ before ++ entry ∷ [] = take_more entries place entry inside ∙ ap (λ (n : Entry). before ++ n ∷ []) (sym is) in
+    subst (λ (front : Entries). AreThose (reversed_numbers front) now) (sym front)
+    (subst (λ numbers. AreThose numbers now) (sym (flat_push (λ (entry : Entry). reversed_in entry.number entry.decided) before entry))
+    (adds_those (reversed_numbers before) (reversed_in entry.number entry.decided) used now those adds))
 
--- the used numbers are those of the payments, with one more
-pub lists_more : (payments : Payments) (payment : Payment) (used more : Numbers) → Lists (numbers_of payments) used → IsUsable payment.number.counter → ¬ Contains (numbers_of payments) payment.number → IsOneMore used payment.number more
-    → Lists (numbers_of (payments ++ payment ∷ [])) more
-lists_more payments payment used more lists usable fresh one_more = record {
-  usable = subst AreUsable (sym (numbers_push payments payment)) (usable_number (numbers_of payments) payment.number lists.usable usable fresh);
-  members = λ other.
-      let both = contains_more (numbers_of payments) used more payment.number lists.members one_more other in
-      let same = numbers_push payments payment in
-      (λ contains. both.0 (subst (λ numbers. Contains numbers other) same contains), λ is_used. subst (λ numbers. Contains numbers other) (sym same) (both.1 is_used));
-}
-
--- two places of one number
-stands_twice : (numbers more : Numbers) (ksn : Serial) → Contains numbers ksn → ¬ AllPairs (λ earlier later. earlier ≢ later) (numbers ++ ksn ∷ more)
-stands_twice numbers more ksn (k, within, is) once =
-    once k (length numbers) ksn within (omega (arith, length-append numbers (ksn ∷ more))) (front numbers k ksn within ∙ is ∙ sym (last numbers ksn))
+-- an entry of a list with new numbers has another number than those before it use
+pub new_number : (entries rest : Entries) (entry : Entry) → UseNewNumbers (entries ++ entry ∷ rest) → ¬ Contains (used_by entries) entry.number
+new_number entries rest entry are contains =
+    let found = flat_at numbers_in entries entry entry.number contains in
+    are.new found.0 (length entries) entry found.1 (omega (arith, length-append entries (entry ∷ rest)))
+    (subst (λ (number : Serial). Contains (numbers_in (get_or (entries ++ entry ∷ rest) found.0 entry)) number) (sym (ap (λ (e : Entry). e.number) (last entries entry)))
+    (subst (λ (e : Entry). Contains (numbers_in e) entry.number) (sym (front entries found.0 entry found.1)) found.2))
   where
-    front : (numbers : Numbers) (k : ℕ) (d : Serial) → k < length numbers → get_or (numbers ++ ksn ∷ more) k d ≡ get_or numbers k d
+    front : (entries : Entries) (k : ℕ) (d : Entry) → k < length entries → get_or (entries ++ entry ∷ rest) k d ≡ get_or entries k d
     front [] k d within = absurd (omega (arith, within))
-    front (first ∷ numbers) zero d within = refl
-    front (first ∷ numbers) (suc k) d within = front numbers k d (omega (arith, within))
+    front (first ∷ entries) zero d within = refl
+    front (first ∷ entries) (suc k) d within = front entries k d (omega (arith, within))
 
-    last : (numbers : Numbers) (d : Serial) → get_or (numbers ++ ksn ∷ more) (length numbers) d ≡ ksn
+    last : (entries : Entries) (d : Entry) → get_or (entries ++ entry ∷ rest) (length entries) d ≡ entry
     last [] d = refl
-    last (first ∷ numbers) d = last numbers d
-
--- a payment of a list with different numbers has another number than those before it
-pub new_number : (payments rest : Payments) (payment : Payment) → AreUsable (numbers_of (payments ++ payment ∷ rest)) → ¬ Contains (numbers_of payments) payment.number
-new_number payments rest payment are contains =
-    stands_twice (numbers_of payments) (numbers_of rest) payment.number contains
-    (subst (λ numbers. AllPairs (λ earlier later. earlier ≢ later) numbers) (map-append (λ (payment : Payment). payment.number) payments (payment ∷ rest)) are.once)
+    last (first ∷ entries) d = last entries d

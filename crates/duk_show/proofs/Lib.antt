@@ -11,5 +11,6 @@ mod JournalRecords
 mod JournalTallies
 mod LinesAppended
 mod LogRecords
+mod StandingPayments
 mod TerminalTallies
 mod Texts

@@ -1,45 +1,65 @@
--- What `show` prints of a journal of payments, and where the reading of one stops (this project's
+-- What `show` prints of a journal, and where the reading of one stops (this project's
 -- own, over its format).
-use Rattle.std.specs.Prelude.{◌≡◌, ◌⊎◌, ◌<◌, ◌≤◌, ◌+◌, ◌-◌, ◌*◌, ◌/◌, ◌==◌, ⊤, if◌then◌else◌, ℕ, zero, suc, Bool, List, [], ◌∷◌, ◌++◌, codes, decimal, length, map, nat_eq, sum_by, Contains}
+use Rattle.std.specs.Prelude.{◌≡◌, ◌⊎◌, ◌<◌, ◌≤◌, ◌+◌, ◌-◌, ◌*◌, ◌/◌, ◌==◌, ⊤, if◌then◌else◌, ℕ, zero, suc, Bool, List, [], ◌∷◌, ◌++◌, codes, count_by, decimal, length, map, nat_eq, sum_by, Contains}
 use Rattle.std.specs.List.{filter, list_any}
 use Rattle.hex.specs.Hex.{encode_upper}
 use Rattle.duk_commands.specs.Lines.{text_line}
 use Rattle.duk_frame.specs.Code.{code_text}
-use Rattle.duk_frame.specs.declared.code.Code.{Code}
-use Rattle.duk_frame.specs.declared.code.Code.TheVariants.{Approved}
-use Rattle.duk_host.specs.Used.{AreUsable}
-use Rattle.duk_journal.specs.Groups.{HasContents, KeepsPayments, Payments}
+use Rattle.duk_journal.specs.Entry.{reversed_by}
+use Rattle.duk_journal.specs.Groups.{Entries, HasContents, KeepsEntries}
 use Rattle.duk_journal.specs.RecordFormat.{IsJournalSize, IsOpen, gate_of, record_at, record_length}
-use Rattle.duk_journal.specs.declared.payment.Payment.{Payment}
+use Rattle.duk_journal.specs.declared.entry.Decided.{Decided}
+use Rattle.duk_journal.specs.declared.entry.Decided.TheVariants.{Payment, Reversal}
+use Rattle.duk_journal.specs.declared.entry.Entry.{Entry}
+use Rattle.duk_reversal.specs.declared.state.ReversalState.{ReversalState}
+use Rattle.duk_reversal.specs.declared.state.ReversalState.TheVariants.{NoneStands, Undone}
 use Rattle.duk_store.specs.Log.{Numbers}
-use Rattle.duk_tree.specs.Serial.{iksn_bytes, serial_bytes}
+use Rattle.duk_tree.specs.Serial.{Serial, iksn_bytes, serial_bytes}
 use Rattle.duk_show.specs.Frame.{code_words}
 use Rattle.duk_show.specs.Log.{last_after}
+use Rattle.duk_show.specs.Standing.{UseNewNumbers, is_payment, is_undone, standing_amount, used_by}
 use Rattle.duk_show.specs.declared.fault.ShowFault.{ShowFault}
 use Rattle.duk_show.specs.declared.fault.ShowFault.TheVariants.{JournalRefused, OutOfMemory}
 
--- the key serial numbers of payments, in their order
-abbrev pub numbers_of : Payments → Numbers
-numbers_of payments = map (λ payment. payment.number) payments
+-- the key serial numbers of entries, in their order
+abbrev pub numbers_of : Entries → Numbers
+numbers_of entries = map (λ entry. entry.number) entries
 
--- the bytes are those of a journal that keeps these payments, and their numbers are such that a host
--- may have used them: each numbers a transaction, and none occurs twice
-pub record IsJournal (bytes : List ℕ) (payments : Payments) : Type 0 where
+-- the bytes are those of a journal that keeps these entries, and their numbers are such that a host
+-- may have used them
+pub record IsJournal (bytes : List ℕ) (entries : Entries) : Type 0 where
   pub size : IsJournalSize (length bytes)
-  pub keeps : KeepsPayments bytes payments
-  pub usable : AreUsable (numbers_of payments)
+  pub keeps : KeepsEntries bytes entries
+  pub usable : UseNewNumbers entries
 
 -- ---- the lines
 
--- the line of the payment in the record at a place, whose group begins at this place or before it
-abbrev pub payment_line : ℕ → ℕ → Payment → List ℕ
-payment_line place group payment =
+-- what a reversal found: its byte, and words
+abbrev pub state_words : ReversalState → List ℕ
+state_words Undone = codes "01 undone"
+state_words NoneStands = codes "00 none stands"
+
+-- where a record stands, and its key serial number: its place, and where its group begins
+abbrev pub record_words : ℕ → ℕ → Serial → List ℕ
+record_words place group number =
+    decimal place ++ codes " group " ++ decimal group
+    ++ codes " ksn " ++ encode_upper (serial_bytes number)
+
+-- the line of the entry in the record at a place, whose group begins at this place or before it
+abbrev pub decided_line : ℕ → ℕ → Serial → List ℕ → Decided → List ℕ
+decided_line place group number mac (Payment amount code) =
     text_line (codes "payment")
-    (decimal place ++ codes " group " ++ decimal group
-    ++ codes " ksn " ++ encode_upper (serial_bytes payment.number)
-    ++ codes " amount " ++ decimal payment.amount
-    ++ codes " mac " ++ encode_upper payment.mac
-    ++ codes " code " ++ code_text payment.code ++ codes " " ++ code_words payment.code)
+    (record_words place group number ++ codes " amount " ++ decimal amount
+    ++ codes " mac " ++ encode_upper mac
+    ++ codes " code " ++ code_text code ++ codes " " ++ code_words code)
+decided_line place group number mac (Reversal counter state) =
+    text_line (codes "reversal")
+    (record_words place group number
+    ++ codes " of " ++ encode_upper (serial_bytes (reversed_by number counter))
+    ++ codes " mac " ++ encode_upper mac ++ codes " state " ++ state_words state)
+
+abbrev pub entry_line : ℕ → ℕ → Entry → List ℕ
+entry_line place group entry = decided_line place group entry.number entry.mac entry.decided
 
 -- where the group of the record at a place begins: there, where the record is open, or else where
 -- that of the record before it does
@@ -47,105 +67,115 @@ abbrev pub own_group : List ℕ → ℕ → ℕ → ℕ
 own_group bytes place before =
     if gate_of (record_at place bytes) == 1 then place else before
 
--- the lines of payments whose records stand from a place on, after a group that begins at another
-abbrev pub payment_lines : List ℕ → ℕ → ℕ → Payments → List ℕ
-payment_lines bytes before place [] = []
-payment_lines bytes before place (payment ∷ later) =
-    payment_line place (own_group bytes place before) payment
-    ++ payment_lines bytes (own_group bytes place before) (place + 1) later
+-- the lines of entries whose records stand from a place on, after a group that begins at another
+abbrev pub entry_lines : List ℕ → ℕ → ℕ → Entries → List ℕ
+entry_lines bytes before place [] = []
+entry_lines bytes before place (entry ∷ later) =
+    entry_line place (own_group bytes place before) entry
+    ++ entry_lines bytes (own_group bytes place before) (place + 1) later
 
--- a payment of the terminal with this initial key serial number
-abbrev pub is_by : ℕ → Payment → Bool
-is_by iksn payment = nat_eq payment.number.iksn iksn
+-- an entry of the terminal with this initial key serial number
+abbrev pub is_by : ℕ → Entry → Bool
+is_by iksn entry = nat_eq entry.number.iksn iksn
 
--- the amount of a payment, where it was approved
-abbrev pub amount_if_approved : Code → ℕ → ℕ
-amount_if_approved Approved amount = amount
-amount_if_approved _ amount = 0
+-- how many payments are undone, if any
+abbrev pub undone_words : ℕ → List ℕ
+undone_words undone = if undone == 0 then [] else codes " undone " ++ decimal undone
 
-abbrev pub approved_amount : Payment → ℕ
-approved_amount payment = amount_if_approved payment.code payment.amount
-
--- the line of the terminal of a payment, where it is the first of these: its initial key serial
--- number, how many of them are its own, the first number and the last, and the sum of the amounts
--- that were approved
-abbrev pub payer_line_of : Payment → Payments → List ℕ
-payer_line_of first payments =
-    let own = filter (is_by first.number.iksn) payments in
+-- the line of a terminal: its initial key serial number, how many payments of its own are kept, the
+-- first and the last of its numbers, the sum of the amounts that stand, and how many of its payments
+-- are undone, if any
+abbrev pub terminal_line : Serial → Serial → ℕ → ℕ → ℕ → List ℕ
+terminal_line first last payments approved undone =
     text_line (codes "terminal")
-    (encode_upper (iksn_bytes first.number.iksn) ++ codes " " ++ decimal (length own) ++ codes " "
-    ++ encode_upper (serial_bytes first.number) ++ codes " "
-    ++ encode_upper (serial_bytes (last_after first.number (numbers_of own)))
-    ++ codes " approved " ++ decimal (sum_by approved_amount own))
+    (encode_upper (iksn_bytes first.iksn) ++ codes " " ++ decimal payments ++ codes " "
+    ++ encode_upper (serial_bytes first) ++ codes " " ++ encode_upper (serial_bytes last)
+    ++ codes " approved " ++ decimal approved ++ undone_words undone)
 
--- the line of the terminal of a payment, where it is the first of that terminal: none before it is
+-- that of the terminal of an entry, where it is the first of these, among all that are kept
+abbrev pub payer_line_of : Entries → Entry → Entries → List ℕ
+payer_line_of all first entries =
+    let own = filter (is_by first.number.iksn) entries in
+    terminal_line first.number (last_after first.number (numbers_of own)) (count_by is_payment own)
+    (sum_by (standing_amount all) own) (count_by (is_undone all) own)
+
+-- the line of the terminal of an entry, where it is the first of that terminal: none before it is
 -- one
-abbrev pub payer_if_first : Payments → Payment → Payments → List ℕ
-payer_if_first before payment from =
-    if list_any (is_by payment.number.iksn) before then [] else payer_line_of payment from
+abbrev pub payer_if_first : Entries → Entries → Entry → Entries → List ℕ
+payer_if_first all before entry from =
+    if list_any (is_by entry.number.iksn) before then [] else payer_line_of all entry from
 
--- the lines of the terminals of some payments, in the order of their first ones, after payments that
+-- the lines of the terminals of some entries, in the order of their first ones, after entries that
 -- came before
-abbrev pub payer_lines : Payments → Payments → List ℕ
-payer_lines before [] = []
-payer_lines before (payment ∷ more) =
-    payer_if_first before payment (payment ∷ more) ++ payer_lines (before ++ payment ∷ []) more
+abbrev pub payer_lines : Entries → Entries → Entries → List ℕ
+payer_lines all before [] = []
+payer_lines all before (entry ∷ more) =
+    payer_if_first all before entry (entry ∷ more) ++ payer_lines all (before ++ entry ∷ []) more
 
--- the lines of a journal that keeps these payments
-abbrev pub journal_lines : List ℕ → Payments → List ℕ
-journal_lines bytes payments =
-    payment_lines bytes 0 0 payments
-    ++ text_line (codes "payments") (decimal (length payments))
-    ++ text_line (codes "room") (decimal (length bytes / record_length - length payments))
-    ++ payer_lines [] payments
+-- the line of how many reversals are kept, where there are any
+abbrev pub reversals_line : ℕ → List ℕ
+reversals_line count = if count == 0 then [] else text_line (codes "reversals") (decimal count)
+
+-- the lines of how many payments and reversals are kept, and of how many records there is room for
+abbrev pub count_lines : ℕ → Entries → List ℕ
+count_lines records entries =
+    text_line (codes "payments") (decimal (count_by is_payment entries))
+    ++ reversals_line (length entries - count_by is_payment entries)
+    ++ text_line (codes "room") (decimal (records - length entries))
+
+-- the lines of a journal that keeps these entries
+abbrev pub journal_lines : List ℕ → Entries → List ℕ
+journal_lines bytes entries =
+    entry_lines bytes 0 0 entries ++ count_lines (length bytes / record_length) entries
+    ++ payer_lines entries [] entries
 
 -- the bytes are those of a journal, and these are its lines
 pub record IsJournalText (bytes text : List ℕ) : Type 0 where
-  pub payments : Payments
-  pub is_journal : IsJournal bytes payments
-  pub text_is : text ≡ journal_lines bytes payments
+  pub entries : Entries
+  pub is_journal : IsJournal bytes entries
+  pub text_is : text ≡ journal_lines bytes entries
 
 -- ---- where the reading stops
 
--- these payments stand from a place on, where so many of a group that began before it are to come;
+-- these entries stand from a place on, where so many of a group that began before it are to come;
 -- behind them so many of the last group are
-abbrev pub StandFrom : Payments → ℕ → ℕ → ℕ → List ℕ → Type 0
+abbrev pub StandFrom : Entries → ℕ → ℕ → ℕ → List ℕ → Type 0
 StandFrom [] left place more bytes = left ≡ more
-StandFrom (payment ∷ later) zero place more bytes =
+StandFrom (entry ∷ later) zero place more bytes =
     (followers : ℕ) × IsOpen (record_at place bytes)
-    × HasContents followers payment (record_at place bytes)
+    × HasContents followers entry (record_at place bytes)
     × StandFrom later followers (place + 1) more bytes
-StandFrom (payment ∷ later) (suc left) place more bytes =
-    (¬ IsOpen (record_at place bytes)) × HasContents 0 payment (record_at place bytes)
+StandFrom (entry ∷ later) (suc left) place more bytes =
+    (¬ IsOpen (record_at place bytes)) × HasContents 0 entry (record_at place bytes)
     × StandFrom later left (place + 1) more bytes
 
--- the records before a place are those of a journal: these payments, of whose last group so many are
+-- the records before a place are those of a journal: these entries, of whose last group so many are
 -- to come; or whole groups, and closed records behind them
-pub record BeginsJournal (place left : ℕ) (payments : Payments) (bytes : List ℕ) : Type 0 where
-  pub within : length payments ≤ place
-  pub stand : StandFrom payments 0 0 left bytes
-  pub usable : AreUsable (numbers_of payments)
-  pub closed : (other : ℕ) → length payments ≤ other → other < place
+pub record BeginsJournal (place left : ℕ) (entries : Entries) (bytes : List ℕ) : Type 0 where
+  pub within : length entries ≤ place
+  pub stand : StandFrom entries 0 0 left bytes
+  pub usable : UseNewNumbers entries
+  pub closed : (other : ℕ) → length entries ≤ other → other < place
       → ¬ IsOpen (record_at other bytes)
-  pub whole : length payments < place → left ≡ 0
+  pub whole : length entries < place → left ≡ 0
 
--- a record has a payment whose number none of these has
-pub record HasNewPayment (followers : ℕ) (payments : Payments) (record_bytes : List ℕ) : Type 0 where
-  pub payment : Payment
-  pub contents : HasContents followers payment record_bytes
-  pub is_new : ¬ Contains (numbers_of payments) payment.number
+-- a record has an entry whose number none of these uses
+pub record HasNewEntry (followers : ℕ) (entries : Entries) (record_bytes : List ℕ) : Type 0 where
+  pub entry : Entry
+  pub contents : HasContents followers entry record_bytes
+  pub is_new : ¬ Contains (used_by entries) entry.number
 
--- the record at a place goes on with a journal: inside a group it is closed, and has a new payment,
--- after which it says none follows; else it is closed, or the first of a group, behind the payments
-abbrev pub GoesOn : ℕ → ℕ → Payments → List ℕ → Type 0
-GoesOn place zero payments record_bytes =
+-- the record at a place goes on with a journal: inside a group it is closed, and has a new entry,
+-- after which it says none follows; else it is closed, or the first of a group, behind the entries
+abbrev pub GoesOn : ℕ → ℕ → Entries → List ℕ → Type 0
+GoesOn place zero entries record_bytes =
     (¬ IsOpen record_bytes)
-    ⊎ ((length payments ≡ place) × (followers : ℕ) × HasNewPayment followers payments record_bytes)
-GoesOn place (suc left) payments record_bytes =
-    (¬ IsOpen record_bytes) × HasNewPayment 0 payments record_bytes
+    ⊎ ((length entries ≡ place) × (followers : ℕ) × HasNewEntry followers entries record_bytes)
+GoesOn place (suc left) entries record_bytes =
+    (¬ IsOpen record_bytes) × HasNewEntry 0 entries record_bytes
 
 -- the record at a place is not whole: the bytes end in it, or there is none at all
-pub record IsCutPayment (place : ℕ) (bytes : List ℕ) : Type 0 where
+pub record IsCutRecord (place : ℕ) (bytes : List ℕ) : Type 0 where
   pub begins : record_length * place ≤ length bytes
   pub ends : length bytes < record_length * place + record_length
   pub some : length bytes ≡ record_length * place → place ≡ 0
@@ -154,13 +184,13 @@ pub record IsCutPayment (place : ℕ) (bytes : List ℕ) : Type 0 where
 -- go on with what is before it, as one that is missing inside a group
 pub record IsJournalDamagedAt (bytes : List ℕ) (place : ℕ) : Type 0 where
   pub left : ℕ
-  pub payments : Payments
-  pub begins : BeginsJournal place left payments bytes
-  pub wrong : IsCutPayment place bytes ⊎ ¬ GoesOn place left payments (record_at place bytes)
+  pub entries : Entries
+  pub begins : BeginsJournal place left entries bytes
+  pub wrong : IsCutRecord place bytes ⊎ ¬ GoesOn place left entries (record_at place bytes)
 
 -- why bytes are not shown as a journal: the first record that is in none; memory may be refused
 abbrev pub IsJournalRefused : List ℕ → ShowFault → Type 0
 IsJournalRefused bytes (JournalRefused place) =
-    IsJournalDamagedAt bytes place × ((payments : Payments) → ¬ IsJournal bytes payments)
+    IsJournalDamagedAt bytes place × ((entries : Entries) → ¬ IsJournal bytes entries)
 IsJournalRefused bytes OutOfMemory = ⊤
 IsJournalRefused bytes why = ⊥

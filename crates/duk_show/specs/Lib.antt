@@ -7,6 +7,7 @@ pub mod Block
 pub mod ImageFault
 pub mod Image
 pub mod Log
+pub mod Standing
 pub mod Journal
 pub mod ShownText
 pub mod inner

@@ -1,66 +1,76 @@
 //! The command `show journal`.
 
-ghost use Rattle.std.specs.Prelude.{◌≡◌, ◌≤◌, ◌∷◌, ◌-◌, ◌*◌, ◌/◌, ◌++◌, [], IfErr, IfOk, MatchOption, OnOk, codes, decimal, flat_map, length};
-ghost use Rattle.duk_commands.specs.Lines.{text_line};
-ghost use Rattle.duk_host.specs.Used.{Lists};
+ghost use Rattle.std.specs.Prelude.{◌≡◌, ◌≤◌, ◌*◌, ◌/◌, ◌++◌, ◌+◌, [], All, IfErr, IfOk, MatchOption, OnOk, codes, count_by, decimal, flat_map, length};
+ghost use Rattle.hex.specs.Hex.{encode_upper};
+ghost use Rattle.arrayvec.specs.ArrayVec.{array_vec_len};
+ghost use Rattle.duk_frame.specs.Code.{code_text};
+ghost use Rattle.duk_journal.specs.Entry.{MayStandUnder};
 ghost use Rattle.duk_journal.specs.RecordFormat.{IsOpen};
 ghost use Rattle.duk_tree.specs.Path.{IsUsable};
-ghost use Rattle.duk_show.specs.Journal.{IsJournal, IsJournalRefused, IsJournalText, numbers_of, payment_line, payment_lines, payer_lines};
+ghost use Rattle.duk_tree.specs.Serial.{serial_bytes};
+ghost use Rattle.duk_show.specs.Frame.{code_words};
+ghost use Rattle.duk_show.specs.Journal.{IsJournal, IsJournalRefused, IsJournalText, count_lines, entry_line, entry_lines, payer_lines, record_words, reversals_line, state_words, undone_words};
+ghost use Rattle.duk_show.specs.Standing.{is_payment};
 ghost use Rattle.duk_show.specs.declared.fault.ShowFault.TheVariants.{OutOfMemory};
-ghost use Rattle.duk_show.specs.inner.Journal.{AreClosedBetween, AreGroups, IsLeftAfter, IsNewPayment, IsNextIn, IsNoneNext, IsNotNew, IsOpenAt, IsRecordNotTaken, IsRecordTaken};
+ghost use Rattle.duk_show.specs.inner.Journal.{AreClosedBetween, AreGroups, AreUsedBy, IsLeftAfter, IsNewEntry, IsNextIn, IsNoneNext, IsNotNew, IsOpenAt, IsRecordNotTaken, IsRecordTaken};
 ghost use Rattle.duk_show.specs.inner.JournalTallies.{payer_line};
 
 use crate::decimal::{push_amount, push_decimal, push_number_line};
 use crate::fault::ShowFault;
 use crate::frame::words_of_code;
 use crate::journal_tallies::{Payer, payers_of};
-use duk_commands::{Lines, push_end, push_text};
+use crate::standing::{payments_in, reversed_by_all, take_reversed};
+use duk_commands::{LINES_ROOM, Lines, push_end, push_text};
+use duk_frame::Code;
 use duk_host::UsedNumbers;
 use duk_io::append_hex;
-use duk_journal::{Contents, OPEN, Payment, RECORD_LENGTH, contents_of_record};
+use duk_journal::{Contents, Decided, Entry, OPEN, RECORD_LENGTH, contents_of_record};
+use duk_reversal::ReversalState;
+use duk_tree::Ksn;
 use std::alloc::Global;
 
-/// The lines of the bytes of a journal of payments: each payment that it keeps, in the order in which
-/// they were appended, with the places of its record and of the first one of its group; how many
-/// there are, and for how many more there is room; and for each initial key serial number, in the
-/// order of their first payments, how many payments it has, the first number and the last, and the
-/// sum of the amounts that were approved. The time grows with the payments alone.
+/// The lines of the bytes of a journal: each payment and each reversal that it keeps, in the order in
+/// which they were appended, with the places of its record and of the first one of its group; how many
+/// payments there are, how many reversals, if any, and for how many more there is room; and for each
+/// initial key serial number, in the order of their first entries, how many payments it has, the first
+/// number and the last, the sum of the amounts that stand (approved, and no reversal of it kept), and
+/// how many payments are undone, if any. The time grows with the entries alone.
 ///
 /// Refused with `JournalRefused` and the place of the first record that is in no journal, counted in
-/// records. Memory for payments and lines may be refused.
+/// records. Memory for entries and lines may be refused.
 pub fn journal_lines(alloc: Global, bytes: &[u8]) -> Result<Vec<u8>, ShowFault>
     ensures lines { IfOk result (λ text. IsJournalText bytes.now text.items) }
     ensures refused { IfErr result (IsJournalRefused bytes.now) }
 {
-    let payments = read_journal(alloc, bytes)?;
-    lines_of_journal(alloc, bytes, payments.as_slice())
+    let entries = read_journal(alloc, bytes)?;
+    lines_of_journal(alloc, bytes, entries.as_slice())
 }
 
-/// The payments that a journal keeps.
-fn read_journal(alloc: Global, bytes: &[u8]) -> Result<Vec<Payment>, ShowFault>
-    ensures journal { IfOk result (λ payments. IsJournal bytes.now payments.items) }
-    ensures fits { IfOk result (λ payments. 32 * length payments.items ≤ length bytes.now) }
+/// The entries that a journal keeps.
+fn read_journal(alloc: Global, bytes: &[u8]) -> Result<Vec<Entry>, ShowFault>
+    ensures journal { IfOk result (λ entries. IsJournal bytes.now entries.items) }
+    ensures fits { IfOk result (λ entries. 32 * length entries.items ≤ length bytes.now) }
     ensures refused { IfErr result (IsJournalRefused bytes.now) }
 {
     duk_journal::laws::one_contents();
-    let payments = read_groups(alloc, bytes)?;
+    let entries = read_groups(alloc, bytes)?;
     let records = bytes.len() / RECORD_LENGTH;
-    if let Some(place) = first_open(bytes, payments.len()) {
+    if let Some(place) = first_open(bytes, entries.len()) {
         return Err(ShowFault::JournalRefused { place });
     }
     if records == 0 || bytes.len() % RECORD_LENGTH != 0 {
         return Err(ShowFault::JournalRefused { place: records });
     }
-    Ok(payments)
+    Ok(entries)
 }
 
-/// The payments of the groups, up to the first record in a group's place that is closed.
-fn read_groups(alloc: Global, bytes: &[u8]) -> Result<Vec<Payment>, ShowFault>
-    ensures groups { IfOk result (λ payments. AreGroups bytes.now payments.items) }
+/// The entries of the groups, up to the first record in a group's place that is closed.
+fn read_groups(alloc: Global, bytes: &[u8]) -> Result<Vec<Entry>, ShowFault>
+    ensures groups { IfOk result (λ entries. AreGroups bytes.now entries.items) }
     ensures refused { IfErr result (IsJournalRefused bytes.now) }
 {
     duk_journal::laws::one_contents();
-    let mut payments = Vec::new(alloc);
+    let mut entries = Vec::new(alloc);
     let mut used = UsedNumbers::new(alloc);
     let mut left = 0;
     let records = bytes.len() / RECORD_LENGTH;
@@ -68,60 +78,64 @@ fn read_groups(alloc: Global, bytes: &[u8]) -> Result<Vec<Payment>, ShowFault>
         let start = RECORD_LENGTH * place;
         let record = &bytes[start..start + RECORD_LENGTH];
         if left == 0 && record[0] != OPEN {
-            return Ok(payments);
+            return Ok(entries);
         }
-        left = take_record(&mut payments, &mut used, left, record)?;
+        left = take_record(&mut entries, &mut used, left, record)?;
     }
     if left != 0 {
         return Err(ShowFault::JournalRefused { place: records });
     }
-    Ok(payments)
+    Ok(entries)
 }
 
-/// Takes the record behind these payments, where so many of the last group are to come, and gives how
+/// Takes the record behind these entries, where so many of the last group are to come, and gives how
 /// many are to come then.
 fn take_record(
-    payments: &mut Vec<Payment>,
+    entries: &mut Vec<Entry>,
     used: &mut UsedNumbers,
     left: u16,
     bytes: &[u8],
 ) -> Result<u16, ShowFault>
     requires whole { length bytes.now ≡ 32 }
     requires first { left ≡ 0 → IsOpen bytes.now }
-    requires listed { Lists (numbers_of payments.old.items) used.old }
+    requires listed { AreUsedBy entries.old.items used.old }
     ensures taken { IfOk result
-        (IsRecordTaken left bytes.now payments.old.items payments.new.items) }
-    ensures listed { IfOk result (λ _. Lists (numbers_of payments.new.items) used.new) }
-    ensures refused { IfErr result (IsRecordNotTaken left bytes.now payments.old.items) }
+        (IsRecordTaken left bytes.now entries.old.items entries.new.items) }
+    ensures listed { IfOk result (λ _. AreUsedBy entries.new.items used.new) }
+    ensures refused { IfErr result (IsRecordNotTaken left bytes.now entries.old.items) }
 {
     duk_journal::laws::one_contents();
     let Some(contents) = next_contents(left, bytes) else {
-        let place = payments.len();
+        let place = entries.len();
         return Err(ShowFault::JournalRefused { place });
     };
-    take_payment(payments, used, contents.payment)?;
+    take_entry(entries, used, contents.entry)?;
     Ok(left_after(left, contents.followers))
 }
 
-/// Takes a payment behind these, if none of them has its number.
-fn take_payment(
-    payments: &mut Vec<Payment>,
+/// Takes an entry behind these, if none of them uses its number.
+fn take_entry(
+    entries: &mut Vec<Entry>,
     used: &mut UsedNumbers,
-    payment: Payment,
+    entry: Entry,
 ) -> Result<(), ShowFault>
-    requires usable { IsUsable payment.number.counter }
-    requires listed { Lists (numbers_of payments.old.items) used.old }
-    ensures taken { OnOk result (IsNewPayment payments.old.items payment payments.new.items) }
-    ensures listed { OnOk result (Lists (numbers_of payments.new.items) used.new) }
-    ensures refused { IfErr result (IsNotNew payments.old.items payment) }
+    requires usable { IsUsable entry.number.counter }
+    requires stands { MayStandUnder entry.number entry.decided }
+    requires listed { AreUsedBy entries.old.items used.old }
+    ensures taken { OnOk result (IsNewEntry entries.old.items entry entries.new.items) }
+    ensures listed { OnOk result (AreUsedBy entries.new.items used.new) }
+    ensures refused { IfErr result (IsNotNew entries.old.items entry) }
 {
-    let place = payments.len();
-    match used.insert(payment.number) {
+    let place = entries.len();
+    match used.insert(entry.number) {
         Ok(true) => {}
         Ok(false) => return Err(ShowFault::JournalRefused { place }),
         Err(_) => return Err(ShowFault::OutOfMemory),
     }
-    match payments.push(payment) {
+    if take_reversed(used, &entry).is_err() {
+        return Err(ShowFault::OutOfMemory);
+    }
+    match entries.push(entry) {
         Ok(()) => Ok(()),
         Err(_) => Err(ShowFault::OutOfMemory),
     }
@@ -133,7 +147,7 @@ fn next_contents(left: u16, bytes: &[u8]) -> Option<Contents>
     requires whole { length bytes.now ≡ 32 }
     requires first { left ≡ 0 → IsOpen bytes.now }
     ensures { MatchOption result (IsNoneNext left bytes.now) (λ contents.
-        IsNextIn left contents.followers contents.payment bytes.now) }
+        IsNextIn left contents.followers contents.entry bytes.now) }
 {
     let Some(contents) = contents_of_record(bytes) else {
         return None;
@@ -164,24 +178,20 @@ fn first_open(bytes: &[u8], from: usize) -> Option<usize>
     None
 }
 
-/// The lines of a journal that keeps these payments.
-fn lines_of_journal(alloc: Global, bytes: &[u8], payments: &[Payment]) -> Result<Vec<u8>, ShowFault>
-    requires { 32 * length payments.now ≤ length bytes.now }
+/// The lines of a journal that keeps these entries.
+fn lines_of_journal(alloc: Global, bytes: &[u8], entries: &[Entry]) -> Result<Vec<u8>, ShowFault>
+    requires fits { 32 * length entries.now ≤ length bytes.now }
+    requires stand { All (λ entry. MayStandUnder entry.number entry.decided) entries.now }
     ensures lines { IfOk result (λ text. text.items
-        ≡ payment_lines bytes.now 0 0 payments.now
-        ++ text_line (codes "payments") (decimal (length payments.now))
-        ++ text_line (codes "room") (decimal (length bytes.now / 32 - length payments.now))
-        ++ payer_lines [] payments.now) }
+        ≡ entry_lines bytes.now 0 0 entries.now
+        ++ count_lines (length bytes.now / 32) entries.now
+        ++ payer_lines entries.now [] entries.now) }
     ensures refused { IfErr result (λ why. why ≡ OutOfMemory) }
 {
     let mut text = Vec::new(alloc);
-    push_payments(&mut text, bytes, payments)?;
-    push_counts(
-        &mut text,
-        payments.len(),
-        bytes.len() / RECORD_LENGTH - payments.len(),
-    )?;
-    push_terminals(alloc, &mut text, payments)?;
+    push_entries(&mut text, bytes, entries)?;
+    push_counts(&mut text, bytes.len() / RECORD_LENGTH, entries)?;
+    push_terminals(alloc, &mut text, entries)?;
     Ok(text)
 }
 
@@ -196,68 +206,156 @@ fn push(text: &mut Vec<u8>, more: &[u8]) -> Result<(), ShowFault>
     }
 }
 
-/// Appends the lines of how many payments there are, and for how many more there is room.
-fn push_counts(text: &mut Vec<u8>, count: usize, room: usize) -> Result<(), ShowFault>
-    ensures lines { OnOk result (text.new.items ≡ text.old.items
-        ++ text_line (codes "payments") (decimal count)
-        ++ text_line (codes "room") (decimal room)) }
+/// Appends the lines of how many payments there are, how many reversals, if any, and for how many more
+/// of so many records there is room.
+fn push_counts(text: &mut Vec<u8>, records: usize, entries: &[Entry]) -> Result<(), ShowFault>
+    requires { length entries.now ≤ records }
+    ensures lines { OnOk result
+        (text.new.items ≡ text.old.items ++ count_lines records entries.now) }
     ensures refused { IfErr result (λ why. why ≡ OutOfMemory) }
 {
+    let payments = count_payments(entries);
     let mut counts = Lines::new();
-    push_number_line(&mut counts, b"payments", count);
-    push_number_line(&mut counts, b"room", room);
+    push_number_line(&mut counts, b"payments", payments);
+    push_reversals(&mut counts, entries.len() - payments);
+    push_number_line(&mut counts, b"room", records - entries.len());
     push(text, counts.as_slice())
 }
 
-/// Appends the lines of payments.
-fn push_payments(text: &mut Vec<u8>, bytes: &[u8], payments: &[Payment]) -> Result<(), ShowFault>
-    requires { 32 * length payments.now ≤ length bytes.now }
+/// How many of the entries are payments.
+fn count_payments(entries: &[Entry]) -> usize
+    ensures count { result ≡ count_by is_payment entries.now }
+    ensures fits { result ≤ length entries.now }
+{
+    let mut count = 0;
+    for entry in entries {
+        count += payments_in(entry.decided);
+    }
+    count
+}
+
+/// Appends the line of how many reversals there are, where there are any.
+fn push_reversals(lines: &mut Lines, count: usize)
+    requires { array_vec_len lines.old + 40 ≤ LINES_ROOM }
+    ensures lines { lines.new.items ≡ lines.old.items ++ reversals_line count }
+    ensures len { array_vec_len lines.new ≤ array_vec_len lines.old + 40 }
+{
+    if count != 0 {
+        push_number_line(lines, b"reversals", count);
+    }
+}
+
+/// Appends the lines of entries.
+fn push_entries(text: &mut Vec<u8>, bytes: &[u8], entries: &[Entry]) -> Result<(), ShowFault>
+    requires fits { 32 * length entries.now ≤ length bytes.now }
+    requires stand { All (λ entry. MayStandUnder entry.number entry.decided) entries.now }
     ensures lines { OnOk result
-        (text.new.items ≡ text.old.items ++ payment_lines bytes.now 0 0 payments.now) }
+        (text.new.items ≡ text.old.items ++ entry_lines bytes.now 0 0 entries.now) }
     ensures refused { IfErr result (λ why. why ≡ OutOfMemory) }
 {
     let mut group = 0;
     let mut line = Lines::new();
-    for (place, payment) in payments.iter().enumerate() {
+    for (place, entry) in entries.iter().enumerate() {
         if bytes[RECORD_LENGTH * place] == OPEN {
             group = place;
         }
-        put_payment(&mut line, place, group, payment);
+        put_entry(&mut line, place, group, entry);
         push(text, line.as_slice())?;
     }
     Ok(())
 }
 
-/// Puts the line of the payment in the record at a place, whose group begins at this place or before
+/// Puts the line of the entry in the record at a place, whose group begins at this place or before
 /// it, in place of another line. Its buffer is used again, since a new one for each costs more than
 /// all the rest.
-fn put_payment(line: &mut Lines, place: usize, group: usize, payment: &Payment)
-    ensures { line.new.items ≡ payment_line place group payment.now }
+fn put_entry(line: &mut Lines, place: usize, group: usize, entry: &Entry)
+    requires { MayStandUnder entry.now.number entry.now.decided }
+    ensures { line.new.items ≡ entry_line place group entry.now }
 {
+    duk_tree::laws::paths();
     line.clear();
-    push_text(line, b"payment ");
+    match entry.decided {
+        Decided::Payment { amount, code } => {
+            push_text(line, b"payment ");
+            push_record(line, place, group, entry.number);
+            push_payment(line, amount, entry.mac, code);
+        }
+        Decided::Reversal { counter, state } => {
+            push_text(line, b"reversal ");
+            push_record(line, place, group, entry.number);
+            push_reversal(line, entry.number.with_counter(counter), entry.mac, state);
+        }
+    }
+    push_end(line);
+}
+
+/// Appends where a record stands, and its key serial number.
+fn push_record(line: &mut Lines, place: usize, group: usize, number: Ksn)
+    requires { array_vec_len line.old + 80 ≤ LINES_ROOM }
+    ensures words { line.new.items ≡ line.old.items ++ record_words place group number }
+    ensures len { array_vec_len line.new ≤ array_vec_len line.old + 80 }
+{
     push_decimal(line, place);
     push_text(line, b" group ");
     push_decimal(line, group);
     push_text(line, b" ksn ");
-    append_hex(line, &payment.number.bytes());
-    push_text(line, b" amount ");
-    push_decimal(line, payment.amount as usize);
-    push_text(line, b" mac ");
-    append_hex(line, &payment.mac);
-    push_text(line, b" code ");
-    push_text(line, &payment.code.text());
-    push_text(line, b" ");
-    push_text(line, words_of_code(payment.code).as_bytes());
-    push_end(line);
+    append_hex(line, &number.bytes());
 }
 
-/// Appends the lines of the terminals of these payments.
-fn push_terminals(alloc: Global, text: &mut Vec<u8>, payments: &[Payment]) -> Result<(), ShowFault>
-    ensures lines { OnOk result (text.new.items ≡ text.old.items ++ payer_lines [] payments.now) }
+/// Appends what a payment says behind its key serial number.
+fn push_payment(line: &mut Lines, amount: u32, mac: [u8; 8], code: Code)
+    requires { array_vec_len line.old + 90 ≤ LINES_ROOM }
+    ensures words { line.new.items ≡ line.old.items ++ codes " amount " ++ decimal amount
+        ++ codes " mac " ++ encode_upper mac
+        ++ codes " code " ++ code_text code ++ codes " " ++ code_words code }
+    ensures len { array_vec_len line.new ≤ array_vec_len line.old + 90 }
+{
+    push_text(line, b" amount ");
+    push_decimal(line, amount as usize);
+    push_text(line, b" mac ");
+    append_hex(line, &mac);
+    push_text(line, b" code ");
+    push_text(line, &code.text());
+    push_text(line, b" ");
+    push_text(line, words_of_code(code).as_bytes());
+}
+
+/// Appends what a reversal says behind its key serial number.
+fn push_reversal(line: &mut Lines, reversed: Ksn, mac: [u8; 8], state: ReversalState)
+    requires { array_vec_len line.old + 90 ≤ LINES_ROOM }
+    ensures words { line.new.items ≡ line.old.items
+        ++ codes " of " ++ encode_upper (serial_bytes reversed)
+        ++ codes " mac " ++ encode_upper mac ++ codes " state " ++ state_words state }
+    ensures len { array_vec_len line.new ≤ array_vec_len line.old + 90 }
+{
+    push_text(line, b" of ");
+    append_hex(line, &reversed.bytes());
+    push_text(line, b" mac ");
+    append_hex(line, &mac);
+    push_text(line, b" state ");
+    push_text(line, words_of_state(state).as_bytes());
+}
+
+/// What a reversal found, in words.
+fn words_of_state(state: ReversalState) -> &'static str
+    ensures words { result.now ≡ state_words state }
+    ensures short { length result.now ≤ 14 }
+{
+    match state {
+        ReversalState::Undone => "01 undone",
+        ReversalState::NoneStands => "00 none stands",
+    }
+}
+
+/// Appends the lines of the terminals of these entries.
+fn push_terminals(alloc: Global, text: &mut Vec<u8>, entries: &[Entry]) -> Result<(), ShowFault>
+    requires { All (λ entry. MayStandUnder entry.number entry.decided) entries.now }
+    ensures lines { OnOk result
+        (text.new.items ≡ text.old.items ++ payer_lines entries.now [] entries.now) }
     ensures refused { IfErr result (λ why. why ≡ OutOfMemory) }
 {
-    let payers = payers_of(alloc, payments)?;
+    let reversed = reversed_by_all(alloc, entries)?;
+    let payers = payers_of(alloc, entries, &reversed)?;
     push_payers(text, payers.values().as_slice())
 }
 
@@ -281,13 +379,26 @@ fn line_of_payer(payer: &Payer) -> Lines
     push_text(&mut line, b"terminal ");
     append_hex(&mut line, &payer.first.iksn().bytes());
     push_text(&mut line, b" ");
-    push_decimal(&mut line, payer.count);
+    push_decimal(&mut line, payer.payments);
     push_text(&mut line, b" ");
     append_hex(&mut line, &payer.first.bytes());
     push_text(&mut line, b" ");
     append_hex(&mut line, &payer.last.bytes());
     push_text(&mut line, b" approved ");
     push_amount(&mut line, payer.approved);
+    push_undone(&mut line, payer.undone);
     push_end(&mut line);
     line
+}
+
+/// Appends how many payments are undone, where any is.
+fn push_undone(line: &mut Lines, undone: usize)
+    requires { array_vec_len line.old + 28 ≤ LINES_ROOM }
+    ensures words { line.new.items ≡ line.old.items ++ undone_words undone }
+    ensures len { array_vec_len line.new ≤ array_vec_len line.old + 28 }
+{
+    if undone != 0 {
+        push_text(line, b" undone ");
+        push_decimal(line, undone);
+    }
 }

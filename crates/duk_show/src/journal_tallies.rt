@@ -1,71 +1,92 @@
 //! What a journal has of each terminal, found by its initial key serial number.
 
-ghost use Rattle.std.specs.Prelude.{◌≡◌, ◌<◌, ◌^◌, [], IfErr, IfOk, IfSome, OnOk, Some, flat_map, nat_eq};
-ghost use Rattle.duk_show.specs.Journal.{approved_amount, payer_lines};
+ghost use Rattle.std.specs.Prelude.{◌≡◌, [], IfErr, IfOk, IfSome, OnOk, Some, flat_map, nat_eq};
+ghost use Rattle.duk_show.specs.Journal.{payer_lines};
+ghost use Rattle.duk_show.specs.Standing.{reversed_numbers};
 ghost use Rattle.duk_show.specs.declared.fault.ShowFault.TheVariants.{OutOfMemory};
-ghost use Rattle.duk_show.specs.inner.JournalTallies.{HasRoom, next_payer, payer_line, with_payment};
+ghost use Rattle.duk_show.specs.inner.Journal.{AreThose};
+ghost use Rattle.duk_show.specs.inner.JournalTallies.{HasRoom, IsSmall, payer_line, with_share};
 ghost use Rattle.indexmap.specs.IndexMap.{IsUnique, Updates, get, insert_entry, values};
 
 use crate::fault::ShowFault;
+use crate::standing::share_of;
 use crate::tallies::number_of;
-use duk_frame::Code;
-use duk_journal::Payment;
+use duk_host::UsedNumbers;
+use duk_journal::Entry;
 use duk_tree::Ksn;
 use indexmap::IndexMap;
 use std::alloc::Global;
 
-/// The payments that a journal has of one terminal.
+/// What a journal has of one terminal.
 #[derive(Clone, Copy)]
 pub(crate) struct Payer {
-    /// The number of the first of them.
+    /// The first of its numbers.
     pub(crate) first: Ksn,
-    /// How many they are.
-    pub(crate) count: usize,
-    /// The number of the last of them.
+    /// The last of its numbers.
     pub(crate) last: Ksn,
-    /// The sum of the amounts that were approved.
+    /// How many payments of its own there are.
+    pub(crate) payments: usize,
+    /// The sum of the amounts that stand.
     pub(crate) approved: u128,
+    /// How many of its payments are undone.
+    pub(crate) undone: usize,
 }
 
-/// The terminals, in the order of their first payments, each under the number that its initial key
+/// What an entry adds to what there is of its terminal.
+#[derive(Clone, Copy)]
+pub(crate) struct Share {
+    /// 1 for a payment, 0 for a reversal.
+    pub(crate) payments: usize,
+    /// The amount, where it stands, or 0.
+    pub(crate) approved: u128,
+    /// 1 for a payment that is undone, or 0.
+    pub(crate) undone: usize,
+}
+
+/// The terminals, in the order of their first entries, each under the number that its initial key
 /// serial number is.
 pub(crate) type Payers = IndexMap<u128, Payer>;
 
-/// The terminals of these payments, in a time that grows with the payments alone.
-pub(crate) fn payers_of(alloc: Global, payments: &[Payment]) -> Result<Payers, ShowFault>
-    ensures lines { IfOk result
-        (λ payers. flat_map payer_line (values payers) ≡ payer_lines [] payments.now) }
+/// The terminals of these entries, of which these numbers were reversed, in a time that grows with
+/// the entries alone.
+pub(crate) fn payers_of(
+    alloc: Global,
+    entries: &[Entry],
+    reversed: &UsedNumbers,
+) -> Result<Payers, ShowFault>
+    requires { AreThose (reversed_numbers entries.now) reversed.now }
+    ensures lines { IfOk result (λ payers. flat_map payer_line (values payers)
+        ≡ payer_lines entries.now [] entries.now) }
     ensures refused { IfErr result (λ why. why ≡ OutOfMemory) }
 {
     let mut payers = IndexMap::new(alloc);
-    for payment in payments {
-        count_payment(&mut payers, payment)?;
+    for entry in entries {
+        let share = share_of(entry, reversed);
+        count_entry(&mut payers, entry.number, share)?;
     }
     Ok(payers)
 }
 
-/// Counts a payment for its terminal.
-fn count_payment(payers: &mut Payers, payment: &Payment) -> Result<(), ShowFault>
-    requires fits { IfSome (get nat_eq payers.old payment.now.number.iksn) HasRoom }
+/// Counts the share of an entry for the terminal of its number.
+fn count_entry(payers: &mut Payers, number: Ksn, share: Share) -> Result<(), ShowFault>
+    requires fits { IfSome (get nat_eq payers.old number.iksn) HasRoom }
+    requires small { IsSmall share }
     ensures entries { OnOk result (payers.new.entries ≡ insert_entry nat_eq payers.old.entries
-        payment.now.number.iksn
-        (next_payer (get nat_eq payers.old payment.now.number.iksn) payment.now)) }
-    ensures updates { OnOk result (Updates nat_eq payers.old payers.new payment.now.number.iksn
-        (Some (next_payer (get nat_eq payers.old payment.now.number.iksn) payment.now))) }
+        number.iksn (with_share (get nat_eq payers.old number.iksn) number share)) }
+    ensures updates { OnOk result (Updates nat_eq payers.old payers.new number.iksn
+        (Some (with_share (get nat_eq payers.old number.iksn) number share))) }
     ensures unique { OnOk result (IsUnique nat_eq payers.new) }
-    ensures amount { OnOk result (approved_amount payment.now < 2 ^ 32) }
     ensures refused { IfErr result (λ why. why ≡ OutOfMemory) }
 {
-    let number = payment.number;
-    let approved = approved_amount(payment);
     let key = number_of(number.iksn());
     let payer = match payers.get(&key) {
-        Some(payer) => one_more(payer, number, approved),
+        Some(payer) => one_more(payer, number, share),
         None => Payer {
             first: number,
-            count: 1,
             last: number,
-            approved,
+            payments: share.payments,
+            approved: share.approved,
+            undone: share.undone,
         },
     };
     match payers.insert(key, payer) {
@@ -74,27 +95,17 @@ fn count_payment(payers: &mut Payers, payment: &Payment) -> Result<(), ShowFault
     }
 }
 
-/// A terminal with one payment more: its number, and its amount, where it was approved.
-fn one_more(payer: &Payer, number: Ksn, approved: u128) -> Payer
+/// A terminal with one entry more: its number, and its share.
+fn one_more(payer: &Payer, number: Ksn, share: Share) -> Payer
     requires room { HasRoom payer.now }
-    requires fits { approved < 2 ^ 32 }
-    ensures { result ≡ with_payment (Some payer.now) number approved }
+    requires small { IsSmall share }
+    ensures { result ≡ with_share (Some payer.now) number share }
 {
     Payer {
         first: payer.first,
-        count: payer.count + 1,
         last: number,
-        approved: payer.approved + approved,
-    }
-}
-
-/// The amount of a payment, where it was approved, or 0.
-fn approved_amount(payment: &Payment) -> u128
-    ensures amount { result ≡ approved_amount payment.now }
-    ensures fits { result < 2 ^ 32 }
-{
-    match payment.code {
-        Code::Approved => payment.amount as u128,
-        _ => 0,
+        payments: payer.payments + share.payments,
+        approved: payer.approved + share.approved,
+        undone: payer.undone + share.undone,
     }
 }

@@ -1,6 +1,6 @@
 //! The command `show`: what a frame, a key block, a terminal's image, a log of used numbers or a
-//! journal of payments says, each as the lines that it makes of its argument, or the fault and the place at which reading it
-//! stops. Nothing is deciphered.
+//! journal says, each as the lines that it makes of its argument, or the fault and the place at which
+//! reading it stops. Nothing is deciphered.
 #![tactic(auto)]
 
 mod block;
@@ -16,6 +16,7 @@ mod journal_tallies;
 mod key_names;
 mod log;
 mod shown_text;
+mod standing;
 mod tallies;
 
 pub use block::block_lines;

@@ -1,60 +1,64 @@
 -- What only private functions and proofs say beside `Journal.antt`: this project's own.
-use Rattle.std.specs.Prelude.{◌≡◌, ◌<◌, ◌≤◌, ◌+◌, ◌/◌, ℕ, List, [], ◌∷◌, ◌++◌, ⊤, length, Contains}
-use Rattle.duk_journal.specs.Groups.{HasContents, Payments}
+use Rattle.std.specs.Prelude.{◌≡◌, ◌⊎◌, ◌↔◌, ◌<◌, ◌≤◌, ◌+◌, ◌/◌, ℕ, List, [], ◌∷◌, ◌++◌, ⊤, length, Contains}
+use Rattle.duk_host.specs.Used.{IsUsed}
+use Rattle.duk_journal.specs.Groups.{Entries, HasContents}
 use Rattle.duk_journal.specs.RecordFormat.{IsOpen, record_at, record_length}
-use Rattle.duk_journal.specs.declared.payment.Payment.{Payment}
-use Rattle.duk_show.specs.Journal.{BeginsJournal, GoesOn, numbers_of}
+use Rattle.duk_journal.specs.declared.entry.Entry.{Entry}
+use Rattle.duk_store.specs.Log.{Numbers}
+use Rattle.duk_tree.specs.Serial.{Serial}
+use Rattle.duk_show.specs.Journal.{BeginsJournal, GoesOn}
+use Rattle.duk_show.specs.Standing.{UseNewNumbers, used_by}
 use Rattle.duk_show.specs.declared.fault.ShowFault.{ShowFault}
 use Rattle.duk_show.specs.declared.fault.ShowFault.TheVariants.{JournalRefused, OutOfMemory}
 
 -- a record stands where so many of a group are to come: the first of a group, or one inside it
-pub record IsNextIn (left followers : ℕ) (payment : Payment) (record_bytes : List ℕ) : Type 0 where
-  pub contents : HasContents followers payment record_bytes
+pub record IsNextIn (left followers : ℕ) (entry : Entry) (record_bytes : List ℕ) : Type 0 where
+  pub contents : HasContents followers entry record_bytes
   pub inside : 1 ≤ left → (¬ IsOpen record_bytes) × (followers ≡ 0)
 
 abbrev pub IsNoneNext : ℕ → List ℕ → Type 0
 IsNoneNext left record_bytes =
-    (followers : ℕ) (payment : Payment) → ¬ IsNextIn left followers payment record_bytes
+    (followers : ℕ) (entry : Entry) → ¬ IsNextIn left followers entry record_bytes
 
 -- how many of a group are to come after a record
 pub record IsLeftAfter (left followers more : ℕ) : Type 0 where
   pub first : left ≡ 0 → more ≡ followers
   pub inside : 1 ≤ left → left ≡ more + 1
 
--- a payment with a new number is taken
-pub record IsNewPayment (old : Payments) (payment : Payment) (new : Payments) : Type 0 where
-  pub is_new : ¬ Contains (numbers_of old) payment.number
-  pub taken : new ≡ old ++ payment ∷ []
+-- an entry with a new number is taken
+pub record IsNewEntry (old : Entries) (entry : Entry) (new : Entries) : Type 0 where
+  pub is_new : ¬ Contains (used_by old) entry.number
+  pub taken : new ≡ old ++ entry ∷ []
 
--- the number of a payment occurs before
-abbrev pub IsNotNew : Payments → Payment → ShowFault → Type 0
-IsNotNew payments payment (JournalRefused place) =
-    (place ≡ length payments) × Contains (numbers_of payments) payment.number
-IsNotNew payments payment OutOfMemory = ⊤
-IsNotNew payments payment why = ⊥
+-- the number of an entry is used before
+abbrev pub IsNotNew : Entries → Entry → ShowFault → Type 0
+IsNotNew entries entry (JournalRefused place) =
+    (place ≡ length entries) × Contains (used_by entries) entry.number
+IsNotNew entries entry OutOfMemory = ⊤
+IsNotNew entries entry why = ⊥
 
--- a record with a new payment is taken
+-- a record with a new entry is taken
 pub record IsRecordTaken
-    (left : ℕ) (record_bytes : List ℕ) (old new : Payments) (more : ℕ) : Type 0 where
-  pub payment : Payment
+    (left : ℕ) (record_bytes : List ℕ) (old new : Entries) (more : ℕ) : Type 0 where
+  pub entry : Entry
   pub followers : ℕ
-  pub next : IsNextIn left followers payment record_bytes
+  pub next : IsNextIn left followers entry record_bytes
   pub left_after : IsLeftAfter left followers more
-  pub taken : IsNewPayment old payment new
+  pub taken : IsNewEntry old entry new
 
--- it does not go on with the payments before it
-abbrev pub IsRecordNotTaken : ℕ → List ℕ → Payments → ShowFault → Type 0
-IsRecordNotTaken left record_bytes payments (JournalRefused place) =
-    (place ≡ length payments) × ¬ GoesOn (length payments) left payments record_bytes
-IsRecordNotTaken left record_bytes payments OutOfMemory = ⊤
-IsRecordNotTaken left record_bytes payments why = ⊥
+-- it does not go on with the entries before it
+abbrev pub IsRecordNotTaken : ℕ → List ℕ → Entries → ShowFault → Type 0
+IsRecordNotTaken left record_bytes entries (JournalRefused place) =
+    (place ≡ length entries) × ¬ GoesOn (length entries) left entries record_bytes
+IsRecordNotTaken left record_bytes entries OutOfMemory = ⊤
+IsRecordNotTaken left record_bytes entries why = ⊥
 
--- these are the payments of all groups: behind them the bytes end, or a record is closed
-pub record AreGroups (bytes : List ℕ) (payments : Payments) : Type 0 where
-  pub begins : BeginsJournal (length payments) 0 payments bytes
-  pub within : length payments ≤ length bytes / record_length
-  pub ends : length payments < length bytes / record_length
-      → ¬ IsOpen (record_at (length payments) bytes)
+-- these are the entries of all groups: behind them the bytes end, or a record is closed
+pub record AreGroups (bytes : List ℕ) (entries : Entries) : Type 0 where
+  pub begins : BeginsJournal (length entries) 0 entries bytes
+  pub within : length entries ≤ length bytes / record_length
+  pub ends : length entries < length bytes / record_length
+      → ¬ IsOpen (record_at (length entries) bytes)
 
 -- the records from a place to another are closed
 abbrev pub AreClosedBetween : ℕ → ℕ → List ℕ → Type 0
@@ -67,3 +71,16 @@ pub record IsOpenAt (from : ℕ) (bytes : List ℕ) (place : ℕ) : Type 0 where
   pub inside : place < length bytes / record_length
   pub closed : AreClosedBetween from place bytes
   pub is_open : IsOpen (record_at place bytes)
+
+-- used numbers are those of a list
+abbrev pub AreThose : Numbers → Numbers → Type 0
+AreThose numbers used = (ksn : Serial) → Contains numbers ksn ↔ IsUsed used ksn
+
+-- used numbers are those of entries that a host may have appended
+pub record AreUsedBy (entries : Entries) (used : Numbers) : Type 0 where
+  pub new_numbers : UseNewNumbers entries
+  pub members : AreThose (used_by entries) used
+
+-- all these numbers are used now too
+abbrev pub AddsAll : Numbers → Numbers → Numbers → Type 0
+AddsAll numbers used more = (ksn : Serial) → IsUsed more ksn ↔ (IsUsed used ksn ⊎ Contains numbers ksn)

@@ -1,9 +1,9 @@
 use Rattle.std.proofs.Common.{◌≡◌, length}
-use Rattle.duk_host.specs.Used.{Lists}
-use Rattle.duk_show.specs.Journal.{BeginsJournal, numbers_of}
+use Rattle.duk_show.specs.Journal.{BeginsJournal}
+use Rattle.duk_show.specs.inner.Journal.{AreUsedBy}
 use Rattle.duk_show.proofs.journal.read_groups.Given as goal
 
--- the records so far have these payments, and the used numbers are theirs
+-- the records so far have these entries, and the used numbers are theirs
 abbrev pub invariant-loop-place : goal.invariant-loop-place
 invariant-loop-place l =
-    BeginsJournal l.place l.left l.payments.items l.bytes × Lists (numbers_of l.payments.items) l.used × (length l.payments.items ≡ l.place)
+    BeginsJournal l.place l.left l.entries.items l.bytes × AreUsedBy l.entries.items l.used × (length l.entries.items ≡ l.place)
