@@ -8,9 +8,9 @@ use Rattle.duk_host.specs.declared.fault.HostFault.{HostFault}
 use Rattle.duk_host.specs.declared.fault.HostFault.TheVariants as fault
 use Rattle.duk_io.specs.Known.{Known}
 use Rattle.duk_io.specs.Sink.{IsCut, IsWritten}
-use Rattle.duk_line.specs.Group.{AnswersFrames}
+use Rattle.duk_line.specs.Group.{AnswersFirst, AnswersFrames}
 use Rattle.duk_line.specs.Host.{HostMeaning, HostOf}
-use Rattle.duk_line.specs.Lifetime.{AreWrittenTo, IsService}
+use Rattle.duk_line.specs.Lifetime.{AreWrittenTo, EndsAt, IsService}
 use Rattle.duk_line.specs.Restart.{IsHostRestarted}
 use Rattle.duk_line.specs.Serve.{BytesFailed, FailsAtGroup, GroupFailed, IsReadToEnd, IsServed, Service, ServiceFailed}
 use Rattle.duk_line.proofs.Serving.{answers_then}
@@ -29,68 +29,56 @@ module _ {J I : Type 0} (meaning : HostMeaning J I) (laws : WritesInTurn) (made 
   abbrev pub Run : Service J I → HostFault → Type 0
   Run new why = (answers : List (List ℕ)) × IsService meaning made answers new.host × AreWrittenTo old.writer new.writer answers why
 
+  -- frames were answered, and the service ended so
+  run_to : (mid last : HostOf J I) (frames answers : List (List ℕ)) → AnswersFrames meaning frames old.host mid answers → EndsAt meaning mid last → IsService meaning made answers last
+  run_to mid last frames answers answered ends =
+      inr (record { up = old.host; mid = mid; found = found; frames = frames; restarted = restarted; answered = answered; ends = ends })
+
   is_run : (new : HostOf J I) (frames answers : List (List ℕ)) → AnswersFrames meaning frames old.host new answers → IsService meaning made answers new
-  is_run new frames answers answered = inr (record {
-    up = old.host;
-    mid = new;
-    found = found;
-    frames = frames;
-    restarted = restarted;
-    answered = answered;
-    ends = inl refl;
-  })
+  is_run new frames answers answered = run_to new new frames answers answered (inl refl)
 
   served_whole : (new : Service J I) (bytes rest : List ℕ) → IsServed meaning old new bytes rest → WholeRun new
   served_whole new bytes rest served = (served.answers, is_run new.host served.frames served.answers served.answered, served.written)
 
-  -- a group was answered after those before it, in part or whole, and its answers were written
-  with_group : (mid new : Service J I) (bytes rest : List ℕ) (group answers : List (List ℕ)) → IsServed meaning old mid bytes rest → AnswersFrames meaning group mid.host new.host answers → IsWritten mid.writer new.writer (concat answers) → WholeRun new
-  with_group mid new bytes rest group answers served answered written = (
-    served.answers ++ answers,
-    is_run new.host (served.frames ++ group) (served.answers ++ answers) (answers_then meaning old.host mid.host new.host served.frames group served.answers answers served.answered answered),
-    subst (λ text. IsWritten old.writer new.writer text) (sym (concat-append served.answers answers)) (laws.next old.writer mid.writer new.writer (concat served.answers) (concat answers) served.written written),
-  )
+  -- a group is answered after those before it, in part or whole, and the service ends so
+  with_group : (mid : Service J I) (between last : HostOf J I) (bytes rest : List ℕ) (group answers : List (List ℕ)) → (served : IsServed meaning old mid bytes rest)
+      → AnswersFrames meaning group mid.host between answers → EndsAt meaning between last → IsService meaning made (served.answers ++ answers) last
+  with_group mid between last bytes rest group answers served answered ends =
+      run_to between last (served.frames ++ group) (served.answers ++ answers) (answers_then meaning old.host mid.host between served.frames group served.answers answers served.answered answered) ends
 
-  cut_at_group : (mid new : Service J I) (bytes rest : List ℕ) (group answers : List (List ℕ)) → IsServed meaning old mid bytes rest → AnswersFrames meaning group mid.host new.host answers → IsCut mid.writer new.writer (concat answers) → Run new fault.Write
-  cut_at_group mid new bytes rest group answers served answered cut = (
-    served.answers ++ answers,
-    is_run new.host (served.frames ++ group) (served.answers ++ answers) (answers_then meaning old.host mid.host new.host served.frames group served.answers answers served.answered answered),
-    subst (λ text. IsCut old.writer new.writer text) (sym (concat-append served.answers answers)) (laws.cut old.writer mid.writer new.writer (concat served.answers) (concat answers) served.written cut),
-  )
+  written_both : (mid new : Service J I) (bytes rest : List ℕ) (answers : List (List ℕ)) → (served : IsServed meaning old mid bytes rest) → IsWritten mid.writer new.writer (concat answers)
+      → IsWritten old.writer new.writer (concat (served.answers ++ answers))
+  written_both mid new bytes rest answers served written =
+      subst (λ text. IsWritten old.writer new.writer text) (sym (concat-append served.answers answers)) (laws.next old.writer mid.writer new.writer (concat served.answers) (concat answers) served.written written)
+
+  cut_both : (mid new : Service J I) (bytes rest : List ℕ) (answers : List (List ℕ)) → (served : IsServed meaning old mid bytes rest) → IsCut mid.writer new.writer (concat answers)
+      → IsCut old.writer new.writer (concat (served.answers ++ answers))
+  cut_both mid new bytes rest answers served cut =
+      subst (λ text. IsCut old.writer new.writer text) (sym (concat-append served.answers answers)) (laws.cut old.writer mid.writer new.writer (concat served.answers) (concat answers) served.written cut)
+
+  -- memory was refused in a group
+  first_of_group : (mid new : Service J I) (bytes rest : List ℕ) (group answers : List (List ℕ)) → (served : IsServed meaning old mid bytes rest) → AnswersFirst meaning group mid.host new.host answers
+      → IsService meaning made (served.answers ++ answers) new.host
+  first_of_group mid new bytes rest group answers served first =
+      with_group mid first.before new.host bytes rest (take (length answers) group) answers served first.answers_are (inr (inl first.stopped))
 
   failed_group : (mid new : Service J I) (bytes rest : List ℕ) (group : List (List ℕ)) (why : HostFault) → IsServed meaning old mid bytes rest → GroupFailed meaning mid new group why → Run new why
   failed_group mid new bytes rest group fault.Write served failed = elim failed.answered [
-    | inl all ↦ cut_at_group mid new bytes rest group failed.answers served all failed.cut
-    | inr first ↦ cut_at_group mid new bytes rest (take (length failed.answers) group) failed.answers served first.answers_are failed.cut
+    | inl all ↦ (served.answers ++ failed.answers, with_group mid new.host new.host bytes rest group failed.answers served all (inl refl), cut_both mid new bytes rest failed.answers served failed.cut)
+    | inr first ↦ (served.answers ++ failed.answers, first_of_group mid new bytes rest group failed.answers served first, cut_both mid new bytes rest failed.answers served failed.cut)
   ]
   failed_group mid new bytes rest group fault.NoMemory served failed =
-      with_group mid new bytes rest (take (length failed.answers) group) failed.answers served failed.refused.answers_are failed.written
+      (served.answers ++ failed.answers, first_of_group mid new bytes rest group failed.answers served failed.refused, written_both mid new bytes rest failed.answers served failed.written)
   failed_group mid new bytes rest group (fault.Store why) served failed =
       let none : concat served.answers ++ concat failed.answers ≡ concat served.answers = ap (λ answers. concat served.answers ++ concat answers) failed.refused.1 ∙ append-nil (concat served.answers) in (
         served.answers,
-        inr (record {
-          up = old.host;
-          mid = mid.host;
-          found = found;
-          frames = served.frames;
-          restarted = restarted;
-          answered = served.answered;
-          ends = inr (group, why, failed.refused.0);
-        }),
+        run_to mid.host new.host served.frames served.answers served.answered (inr (inr (group, why, failed.refused.0))),
         subst (λ text. IsWritten old.writer new.writer text) none (laws.next old.writer mid.writer new.writer (concat served.answers) (concat failed.answers) served.written failed.written),
       )
   failed_group mid new bytes rest group fault.Stopped served failed =
       let none : concat served.answers ++ concat failed.answers ≡ concat served.answers = ap (λ answers. concat served.answers ++ concat answers) failed.refused.2 ∙ append-nil (concat served.answers) in (
         served.answers,
-        inr (record {
-          up = old.host;
-          mid = mid.host;
-          found = found;
-          frames = served.frames;
-          restarted = restarted;
-          answered = served.answered;
-          ends = inl failed.refused.1;
-        }),
+        run_to mid.host new.host served.frames served.answers served.answered (inl failed.refused.1),
         subst (λ text. IsWritten old.writer new.writer text) none (laws.next old.writer mid.writer new.writer (concat served.answers) (concat failed.answers) served.written failed.written),
       )
   failed_group mid new bytes rest group fault.Read served failed = absurd failed.refused

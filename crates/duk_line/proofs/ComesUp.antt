@@ -1,12 +1,11 @@
 -- Where no restart of a host, and no check, is refused as damaged.
 use Rattle.std.proofs.Common.{ℕ, inl, inr, subst, sym}
-use Rattle.duk_host.specs.Used.{AreUsable}
 use Rattle.duk_host.specs.declared.fault.HostFault.TheVariants as fault
-use Rattle.duk_journal.specs.Groups.{Payments}
+use Rattle.duk_journal.specs.Groups.{Entries}
 use Rattle.duk_journal.specs.Journal.{JournalMeaning}
 use Rattle.duk_store.specs.declared.fault.StoreFault.TheVariants.{Damaged}
 use Rattle.duk_line.specs.Check.{CheckRefused, IsChecked}
-use Rattle.duk_line.specs.Latest.{numbers_of}
+use Rattle.duk_line.specs.Latest.{UseNewNumbers}
 use Rattle.duk_line.specs.Restart.{IsUsableJournal}
 
 -- a usable journal is neither unsound, nor does a restart find what a host may not judge by
@@ -22,5 +21,5 @@ usable_once_checked meaning old new found checked honest =
     record {
       honest = now;
       sound = checked.sound honest;
-      usable = λ payments may_find. subst (λ (payments : Payments). AreUsable (numbers_of payments)) (sym ((checked.kept.finds now payments).0 may_find)) checked.usable;
+      usable = λ entries may_find. subst (λ (entries : Entries). UseNewNumbers entries) (sym ((checked.kept.finds now entries).0 may_find)) checked.new_numbers;
     }

@@ -2,27 +2,26 @@
 use Rattle.std.proofs.Common.{◌≡◌, ◌++◌, ℕ, None, Some, drop, length, take, inl, inr, refl, sym, ap, subst, ◌∙◌}
 use Rattle.std.proofs.lemmas.Bool.{false≢true}
 use Rattle.std.proofs.lemmas.List.{take-append-drop}
-use Rattle.duk_host.specs.Used.{AreUsable}
 use Rattle.duk_host.specs.declared.fault.HostFault.{HostFault}
 use Rattle.duk_host.specs.declared.fault.HostFault.TheVariants as fault
-use Rattle.duk_journal.specs.Groups.{Payments}
-use Rattle.duk_journal.specs.Journal.{IsReadStopped, JournalMeaning, JournalRestarted, PaymentsUnread}
+use Rattle.duk_journal.specs.Groups.{Entries}
+use Rattle.duk_journal.specs.Journal.{IsReadStopped, JournalMeaning, JournalRestarted, EntriesUnread}
 use Rattle.duk_store.specs.Restart.{Restarted, RestartFailed}
 use Rattle.duk_store.specs.StoreState.{FindsOnly, Stays, Stops, StoreState}
 use Rattle.duk_store.specs.declared.fault.StoreFault.{StoreFault}
 use Rattle.duk_store.specs.declared.fault.StoreFault.TheVariants as store_fault
 use Rattle.duk_line.specs.Check.{CheckRefused, IsChecked}
 use Rattle.duk_line.specs.Host.{HostMeaning, HostOf, IndexOf, KeepsAlone}
-use Rattle.duk_line.specs.Latest.{numbers_of}
+use Rattle.duk_line.specs.Latest.{UseNewNumbers}
 use Rattle.duk_line.specs.Restart.{HostRestartRefused, IsHostRestarted, PreservesEnds}
 use Rattle.duk_line.specs.inner.Host.{HoldsIndex}
 use Rattle.duk_line.specs.inner.Reading.{AreRead, ReadRefused}
 use Rattle.duk_line.proofs.Answering.{take_all}
-use Rattle.duk_line.proofs.FirstRead.{usable_front}
+use Rattle.duk_line.proofs.FirstRead.{new_front}
 use Rattle.duk_line.proofs.PiecesRead.{nature_on}
 
-finds_on : (mid new : StoreState Payments) (payments : Payments) → mid.honest → FindsOnly mid payments → Stays mid new → FindsOnly new payments
-finds_on mid new payments honest only stays = λ other.
+finds_on : (mid new : StoreState Entries) (entries : Entries) → mid.honest → FindsOnly mid entries → Stays mid new → FindsOnly new entries
+finds_on mid new entries honest only stays = λ other.
     let as_before = stays.found honest other in (λ found. (only other).0 (as_before.0 found), λ same. as_before.1 ((only other).1 same))
 
 sound_on : {J : Type 0} (meaning : JournalMeaning J) (old mid new : J) (count : ℕ) → JournalRestarted meaning old mid count → Stays (meaning.state_of mid) (meaning.state_of new) → (meaning.state_of old).honest → (meaning.state_of new).sound
@@ -46,7 +45,7 @@ restarted_on meaning old mid new count restarted stays = record {
       );
 }
 
--- ---- all payments are read
+-- ---- all entries are read
 
 module _ {J : Type 0} (meaning : JournalMeaning J) (old mid new : J) (count : ℕ) (index : IndexOf) (restarted : JournalRestarted meaning old mid count) (read : AreRead meaning mid new count index) where
   -- they are those that the restart found
@@ -66,7 +65,7 @@ module _ {J : Type 0} (meaning : JournalMeaning J) (old mid new : J) (count : �
           nature = after.nature;
           no_failure = after.no_failure;
           runs = after.runs;
-          finds = λ honest. subst (λ payments. FindsOnly (meaning.state_of new) payments) (all_seen honest) (after.found honest).1.finds;
+          finds = λ honest. subst (λ entries. FindsOnly (meaning.state_of new) entries) (all_seen honest) (after.found honest).1.finds;
         };
         was_found = λ honest. subst (meaning.state_of old).found (all_seen honest) (restarted.found honest).1.was_found;
       }
@@ -79,23 +78,23 @@ module _ {J : Type 0} (meaning : JournalMeaning J) (old mid new : J) (count : �
   }
 
   pub holds_read : meaning.count new ≡ count → HoldsIndex meaning new index
-  holds_read counted = record { payments = read.seen; index_is = read.index_is; kept = keeps_read counted }
+  holds_read counted = record { entries = read.seen; index_is = read.index_is; kept = keeps_read counted }
 
   pub is_checked : meaning.count new ≡ count → IsChecked meaning old new count
   is_checked counted = record {
-    payments = read.seen;
+    entries = read.seen;
     journal = journal_read;
     sound = sound_on meaning old mid new count restarted read.read.stays;
     counted = read.counted;
     kept = keeps_read counted;
-    usable = read.index_is.lists.usable;
+    new_numbers = read.index_is.sets.new_numbers;
   }
 
 pub is_restarted :
     {J I : Type 0} (meaning : HostMeaning J I) (old new : HostOf J I) (mid : J) (count : ℕ) (index : IndexOf) → JournalRestarted meaning.journal old.journal mid count → AreRead meaning.journal mid new.journal count index
     → PreservesEnds old new → new.state ≡ Some index → meaning.journal.count new.journal ≡ count → IsHostRestarted meaning old new count
 is_restarted meaning old new mid count index restarted read ends runs counted = record {
-  payments = read.seen;
+  entries = read.seen;
   ends = ends;
   journal = journal_read meaning.journal old.journal mid new.journal count index restarted read;
   counted = read.counted;
@@ -126,7 +125,7 @@ module _ {J : Type 0} (meaning : JournalMeaning J) (old mid new : J) (count : �
   }
 
   -- a reading that failed after a restart is a restart that failed
-  failed_on : (why : StoreFault) → PaymentsUnread meaning mid new why → RestartFailed (meaning.state_of old) (meaning.state_of new) why
+  failed_on : (why : StoreFault) → EntriesUnread meaning mid new why → RestartFailed (meaning.state_of old) (meaning.state_of new) why
   failed_on store_fault.Device unread = record {
     stops = unread_stops unread.0 (λ calm. absurd (unread.2 (restarted.nature.calm calm)));
     fault_is = λ same. unread.1 (same ∙ sym restarted.no_failure);
@@ -142,14 +141,14 @@ module _ {J : Type 0} (meaning : JournalMeaning J) (old mid new : J) (count : �
   failed_on store_fault.Worn unread = absurd unread
   failed_on store_fault.NoMemory unread = absurd unread
 
--- where the first payments may not be used, nor may all
-not_all_usable : (payments seen : Payments) → take (length seen) payments ≡ seen → ¬ AreUsable (numbers_of seen) → ¬ AreUsable (numbers_of payments)
-not_all_usable payments seen first bad are =
-    let rest = drop (length seen) payments in
-    let all : payments ≡ seen ++ rest = sym (take-append-drop (length seen) payments) ∙ ap (λ front. front ++ rest) first in
-    bad (usable_front seen rest (subst (λ payments. AreUsable (numbers_of payments)) all are))
+-- where the first entries may not be used, nor may all
+not_all_usable : (entries seen : Entries) → take (length seen) entries ≡ seen → ¬ UseNewNumbers seen → ¬ UseNewNumbers entries
+not_all_usable entries seen first bad are =
+    let rest = drop (length seen) entries in
+    let all : entries ≡ seen ++ rest = sym (take-append-drop (length seen) entries) ∙ ap (λ front. front ++ rest) first in
+    bad (new_front seen rest (subst UseNewNumbers all are))
 
--- why the payments are not read
+-- why the entries are not read
 pub check_refused :
     {J : Type 0} (meaning : JournalMeaning J) (old mid new : J) (count : ℕ) (why : HostFault) → JournalRestarted meaning old mid count → ReadRefused meaning mid new count why → CheckRefused meaning old new why
 unfolding restarted_on

@@ -1,4 +1,4 @@
--- The entries of the payments that can be answered again, as a ring.
+-- The places of the entries that can be answered again, as a ring.
 use Rattle.std.proofs.Common.{◌≡◌, ◌-◌, ◌+◌, ◌*◌, ◌/◌, ◌%◌, ◌^◌, ◌<◌, ◌≤◌, ℕ, zero, suc, List, [], ◌∷◌, ◌++◌, Contains, Option, Some, None, Result, Ok, Err, IsOk, OnOk, IfSome, inl, inr, length, drop, take, map, set, get_or, eqb, refl, sym, ap, subst, ◌∙◌, append_assoc, arith, length-append, true≢false}
 use Rattle.std.specs.List.{swap_remove, slice_get, IsDistinct}
 use Rattle.std.specs.Map.{keys_of, lookup}
@@ -8,20 +8,21 @@ use Rattle.std.proofs.lemmas.Map.Views.{Contains-from_lookup, exact_unsigned_eq,
 use Rattle.std.specs.Cmp.{nat_eq_equiv}
 use Rattle.indexmap.specs.IndexMap.{IndexMap, get, insert_entry}
 use Rattle.indexmap.proofs.CallerLemmas.{insert_entry-new}
-use Rattle.duk_journal.specs.Groups.{Payments}
-use Rattle.duk_journal.specs.declared.payment.Payment.{Payment}
+use Rattle.duk_journal.specs.Groups.{Entries}
+use Rattle.duk_journal.specs.declared.entry.Decided.{Decided}
+use Rattle.duk_journal.specs.declared.entry.Entry.{Entry}
 use Rattle.duk_tree.specs.Serial.{IsSerial, Serial}
 use Rattle.duk_line.specs.declared.latest.Kept.{Kept}
 use Rattle.duk_line.specs.Latest.{most_latest}
 use Rattle.std.proofs.lemmas.Bool.Decides.{eqb_tells}
 use Rattle.duk_line.proofs.Members.{front_or, none_in}
-use Rattle.duk_line.specs.inner.Latest.{HasCode, HasNoNumber, IsRing, kept_of, numbered, payment_in, payments_in, serial_number, with_latest}
+use Rattle.duk_line.specs.inner.Latest.{HasNoNumber, IsRing, entries_in, entry_at, entry_under, kept_of, numbered, serial_number, with_latest}
 
 pub on_ok : {T E P : Type 0} (result : Result T E) → IsOk result → OnOk result P → P
 on_ok (Ok value) is holds = holds
 on_ok (Err why) is holds = absurd (true≢false (sym is))
 
--- ---- entries and payments
+-- ---- places and entries
 
 numbered_again : (ksn : Serial) → IsSerial ksn → numbered (serial_number ksn) ≡ ksn
 numbered_again ksn is =
@@ -33,49 +34,49 @@ numbered_again ksn is =
 number_again : (number : ℕ) → serial_number (numbered number) ≡ number
 number_again number = omega arith
 
-pub entry_of : (payment : Payment) → IsSerial payment.number → payment_in (serial_number payment.number, kept_of payment) ≡ payment
-entry_of payment is =
-    let with : Serial → Payment = λ number. record payment { number = number } in
-    ap with (numbered_again payment.number is)
+pub entry_again : (entry : Entry) → IsSerial entry.number → entry_at (serial_number entry.number, kept_of entry) ≡ entry
+entry_again entry is =
+    let with : Serial → Entry = λ number. record entry { number = number } in
+    ap with (numbered_again entry.number is)
 
--- ---- one more entry
+-- ---- one more place
 
-push_nothing_gone : (latest : Payments) (payment : Payment) → length latest + 1 ≤ most_latest → latest ++ payment ∷ [] ≡ with_latest latest payment
-push_nothing_gone latest payment few =
-    let none : length (latest ++ payment ∷ []) - most_latest ≡ 0 = omega (arith, length-append latest (payment ∷ [])) in
-    sym (ap (λ count. drop count (latest ++ payment ∷ [])) none)
+push_nothing_gone : (latest : Entries) (entry : Entry) → length latest + 1 ≤ most_latest → latest ++ entry ∷ [] ≡ with_latest latest entry
+push_nothing_gone latest entry few =
+    let none : length (latest ++ entry ∷ []) - most_latest ≡ 0 = omega (arith, length-append latest (entry ∷ [])) in
+    sym (ap (λ count. drop count (latest ++ entry ∷ [])) none)
 
-push_one_gone : (latest : Payments) (payment : Payment) → length latest ≡ most_latest → drop 1 (latest ++ payment ∷ []) ≡ with_latest latest payment
-push_one_gone latest payment full =
-    let one : length (latest ++ payment ∷ []) - most_latest ≡ 1 = omega (arith, length-append latest (payment ∷ [])) in
-    sym (ap (λ count. drop count (latest ++ payment ∷ [])) one)
+push_one_gone : (latest : Entries) (entry : Entry) → length latest ≡ most_latest → drop 1 (latest ++ entry ∷ []) ≡ with_latest latest entry
+push_one_gone latest entry full =
+    let one : length (latest ++ entry ∷ []) - most_latest ≡ 1 = omega (arith, length-append latest (entry ∷ [])) in
+    sym (ap (λ count. drop count (latest ++ entry ∷ [])) one)
 
-at_front : (entries : List (ℕ × Kept)) → payments_in 0 entries ≡ map payment_in entries
-at_front entries = ap (λ entries. map payment_in entries) (append-nil entries)
+at_front : (places : List (ℕ × Kept)) → entries_in 0 places ≡ map entry_at places
+at_front places = ap (λ places. map entry_at places) (append-nil places)
 
--- what an insertion of a payment does, where none has its number
+-- what an insertion of an entry does, where none has its number
 pub inserted :
-    {S : Type 0} (map : IndexMap ℕ Kept S) (key : ℕ) (kept : Kept) (payment : Payment) (after : List (ℕ × Kept)) → after ≡ insert_entry eqb map.entries key kept
-    → key ≡ serial_number payment.number → kept ≡ kept_of payment → get eqb map (serial_number payment.number) ≡ None
-    → after ≡ map.entries ++ (serial_number payment.number, kept_of payment) ∷ []
-inserted map key kept payment after after_is key_is kept_is none =
-    after_is ∙ ap (λ key. insert_entry eqb map.entries key kept) key_is ∙ ap (λ kept. insert_entry eqb map.entries (serial_number payment.number) kept) kept_is
-    ∙ insert_entry-new eqb map (serial_number payment.number) (kept_of payment) none
+    {S : Type 0} (map : IndexMap ℕ Kept S) (key : ℕ) (kept : Kept) (entry : Entry) (after : List (ℕ × Kept)) → after ≡ insert_entry eqb map.entries key kept
+    → key ≡ serial_number entry.number → kept ≡ kept_of entry → get eqb map (serial_number entry.number) ≡ None
+    → after ≡ map.entries ++ (serial_number entry.number, kept_of entry) ∷ []
+inserted map key kept entry after after_is key_is kept_is none =
+    after_is ∙ ap (λ key. insert_entry eqb map.entries key kept) key_is ∙ ap (λ kept. insert_entry eqb map.entries (serial_number entry.number) kept) kept_is
+    ∙ insert_entry-new eqb map (serial_number entry.number) (kept_of entry) none
 
--- where there are fewer than can be, an entry goes behind the others
-pub pushed : (oldest : ℕ) (entries after : List (ℕ × Kept)) (payment : Payment) → IsSerial payment.number → IsRing oldest (length entries) → length after ≤ most_latest
-    → after ≡ entries ++ (serial_number payment.number, kept_of payment) ∷ [] → payments_in oldest after ≡ with_latest (payments_in oldest entries) payment
-pushed oldest entries after payment is ring few after_is =
-    let entry : ℕ × Kept = (serial_number payment.number, kept_of payment) in
-    let longer : length after ≡ length entries + 1 = ap length after_is ∙ length-append entries (entry ∷ []) in
+-- where there are fewer than can be, a place goes behind the others
+pub pushed : (oldest : ℕ) (places after : List (ℕ × Kept)) (entry : Entry) → IsSerial entry.number → IsRing oldest (length places) → length after ≤ most_latest
+    → after ≡ places ++ (serial_number entry.number, kept_of entry) ∷ [] → entries_in oldest after ≡ with_latest (entries_in oldest places) entry
+pushed oldest places after entry is ring few after_is =
+    let place : ℕ × Kept = (serial_number entry.number, kept_of entry) in
+    let longer : length after ≡ length places + 1 = ap length after_is ∙ length-append places (place ∷ []) in
     let first : oldest ≡ 0 = ring.begins (omega (arith, longer, few)) in
-    let new : payments_in oldest after ≡ map payment_in entries ++ payment ∷ [] =
-    ap (λ oldest. payments_in oldest after) first ∙ at_front after ∙ ap (λ entries. map payment_in entries) after_is ∙ map-append payment_in entries (entry ∷ [])
-    ∙ ap (λ payment. map payment_in entries ++ payment ∷ []) (entry_of payment is) in
-    let old : payments_in oldest entries ≡ map payment_in entries = ap (λ oldest. payments_in oldest entries) first ∙ at_front entries in
-    new ∙ push_nothing_gone (map payment_in entries) payment (omega (arith, length-map entries payment_in, longer, few)) ∙ ap (λ latest. with_latest latest payment) (sym old)
+    let new : entries_in oldest after ≡ map entry_at places ++ entry ∷ [] =
+    ap (λ oldest. entries_in oldest after) first ∙ at_front after ∙ ap (λ places. map entry_at places) after_is ∙ map-append entry_at places (place ∷ [])
+    ∙ ap (λ entry. map entry_at places ++ entry ∷ []) (entry_again entry is) in
+    let old : entries_in oldest places ≡ map entry_at places = ap (λ oldest. entries_in oldest places) first ∙ at_front places in
+    new ∙ push_nothing_gone (map entry_at places) entry (omega (arith, length-map places entry_at, longer, few)) ∙ ap (λ latest. with_latest latest entry) (sym old)
 
--- ---- an entry in the place of the oldest
+-- ---- a new place in that of the oldest
 
 front_set : {A : Type 0} (things more : List A) (i : ℕ) (thing : A) → i < length things → take (length things) (set (things ++ more) i thing) ≡ set things i thing
 front_set [] more i thing within = absurd (omega (arith, within))
@@ -154,41 +155,41 @@ turned_length : {A : Type 0} (i : ℕ) (things : List A) → length (drop i thin
 turned_length i things =
     omega (arith, length-append (drop i things) (take i things), length-append (take i things) (drop i things), ap length (take-append-drop i things))
 
--- where there are as many as can be, an entry takes the place of the oldest
+-- where there are as many as can be, a new place stands where the oldest did
 pub replaced :
-    (oldest next : ℕ) (entries after : List (ℕ × Kept)) (payment : Payment) → IsSerial payment.number → IsRing oldest (length entries) → length entries ≡ most_latest
-    → after ≡ set entries oldest (serial_number payment.number, kept_of payment) → length after ≡ most_latest
+    (oldest next : ℕ) (places after : List (ℕ × Kept)) (entry : Entry) → IsSerial entry.number → IsRing oldest (length places) → length places ≡ most_latest
+    → after ≡ set places oldest (serial_number entry.number, kept_of entry) → length after ≡ most_latest
     → (oldest + 1 < most_latest → next ≡ oldest + 1) → (oldest + 1 ≡ most_latest → next ≡ 0)
-    → payments_in next after ≡ with_latest (payments_in oldest entries) payment
-replaced oldest next entries after payment is ring full after_is as_many before around =
-    let entry : ℕ × Kept = (serial_number payment.number, kept_of payment) in
-    let within : oldest < length entries = omega (arith, ring.inside, full) in
-    let old = drop oldest entries ++ take oldest entries in
+    → entries_in next after ≡ with_latest (entries_in oldest places) entry
+replaced oldest next places after entry is ring full after_is as_many before around =
+    let place : ℕ × Kept = (serial_number entry.number, kept_of entry) in
+    let within : oldest < length places = omega (arith, ring.inside, full) in
+    let old = drop oldest places ++ take oldest places in
     let one : drop next after ++ take next after ≡ drop (oldest + 1) after ++ take (oldest + 1) after = next_turned after oldest next as_many before around ring.inside in
-    let two : drop (oldest + 1) after ++ take (oldest + 1) after ≡ drop 1 (old ++ entry ∷ []) =
-    ap (λ after. drop (oldest + 1) after ++ take (oldest + 1) after) after_is ∙ turned oldest entries entry within in
-    let three : map payment_in (old ++ entry ∷ []) ≡ map payment_in old ++ payment ∷ [] =
-    map-append payment_in old (entry ∷ []) ∙ ap (λ payment. map payment_in old ++ payment ∷ []) (entry_of payment is) in
-    let all : length (map payment_in old) ≡ most_latest = length-map old payment_in ∙ turned_length oldest entries ∙ full in
-    ap (λ entries. map payment_in entries) (one ∙ two) ∙ sym (drop-map payment_in 1 (old ++ entry ∷ [])) ∙ ap (λ payments. drop 1 payments) three
-    ∙ push_one_gone (map payment_in old) payment all
+    let two : drop (oldest + 1) after ++ take (oldest + 1) after ≡ drop 1 (old ++ place ∷ []) =
+    ap (λ after. drop (oldest + 1) after ++ take (oldest + 1) after) after_is ∙ turned oldest places place within in
+    let three : map entry_at (old ++ place ∷ []) ≡ map entry_at old ++ entry ∷ [] =
+    map-append entry_at old (place ∷ []) ∙ ap (λ entry. map entry_at old ++ entry ∷ []) (entry_again entry is) in
+    let all : length (map entry_at old) ≡ most_latest = length-map old entry_at ∙ turned_length oldest places ∙ full in
+    ap (λ places. map entry_at places) (one ∙ two) ∙ sym (drop-map entry_at 1 (old ++ place ∷ [])) ∙ ap (λ entries. drop 1 entries) three
+    ∙ push_one_gone (map entry_at old) entry all
 
-pub replaced_entries : (entries after : List (ℕ × Kept)) (oldest : ℕ) (entry gone : ℕ × Kept) (all : List (ℕ × Kept)) → oldest < length entries → all ≡ entries ++ entry ∷ []
-    → after ≡ swap_remove all oldest gone → after ≡ set entries oldest entry
-replaced_entries entries after oldest entry gone all within all_is after_is =
-    after_is ∙ ap (λ all. swap_remove all oldest gone) all_is ∙ swapped entries oldest entry gone within
+pub replaced_entries : (places after : List (ℕ × Kept)) (oldest : ℕ) (place gone : ℕ × Kept) (all : List (ℕ × Kept)) → oldest < length places → all ≡ places ++ place ∷ []
+    → after ≡ swap_remove all oldest gone → after ≡ set places oldest place
+replaced_entries places after oldest place gone all within all_is after_is =
+    after_is ∙ ap (λ all. swap_remove all oldest gone) all_is ∙ swapped places oldest place gone within
 
 has_item : {A : Type 0} (things : List A) (i : ℕ) → i < length things → ¬ (None ≡ slice_get things i)
 has_item [] i within none = absurd (omega (arith, within))
 has_item (first ∷ things) zero within none = cc
 has_item (first ∷ things) (suc i) within none = has_item things i (omega (arith, within)) none
 
--- what a removal of the oldest leaves, once another entry is behind the others
-pub removed : (entries all after : List (ℕ × Kept)) (oldest : ℕ) (entry : ℕ × Kept) (found : Option (ℕ × Kept)) → oldest < length entries → all ≡ entries ++ entry ∷ []
-    → found ≡ slice_get all oldest → IfSome found (λ gone. after ≡ swap_remove all oldest gone) → after ≡ set entries oldest entry
-removed entries all after oldest entry None within all_is is holds =
-    absurd (has_item all oldest (omega (arith, within, ap length all_is, length-append entries (entry ∷ []))) is)
-removed entries all after oldest entry (Some gone) within all_is is holds = replaced_entries entries after oldest entry gone all within all_is holds
+-- what a removal of the oldest leaves, once another place is behind the others
+pub removed : (places all after : List (ℕ × Kept)) (oldest : ℕ) (place : ℕ × Kept) (found : Option (ℕ × Kept)) → oldest < length places → all ≡ places ++ place ∷ []
+    → found ≡ slice_get all oldest → IfSome found (λ gone. after ≡ swap_remove all oldest gone) → after ≡ set places oldest place
+removed places all after oldest place None within all_is is holds =
+    absurd (has_item all oldest (omega (arith, within, ap length all_is, length-append places (place ∷ []))) is)
+removed places all after oldest place (Some gone) within all_is is holds = replaced_entries places after oldest place gone all within all_is holds
 
 pub ring_after : (oldest next count : ℕ) → oldest < most_latest → count ≡ most_latest → (oldest + 1 < most_latest → next ≡ oldest + 1) → (oldest + 1 ≡ most_latest → next ≡ 0)
     → IsRing next count
@@ -201,7 +202,7 @@ ring_after oldest next count within full before around = record {
   ];
 }
 
--- ---- a payment that is looked for
+-- ---- an entry that is looked for
 
 pub one_found : {A : Type 0} (found : Option A) (one other : A) → found ≡ Some one → found ≡ Some other → one ≡ other
 one_found found one other is same = cc
@@ -232,34 +233,29 @@ from_turn i things thing contains = subst (λ things. Contains things thing) (ta
   | inr before ↦ Contains-append_left (take i things) (drop i things) thing before
 ])
 
--- the payment of an entry that is found
-pub found_code : (oldest : ℕ) (entries : List (ℕ × Kept)) (ksn : Serial) (mac : List ℕ) (kept : Kept) → IsSerial ksn → lookup (eqb (serial_number ksn)) entries ≡ Some kept → kept.mac ≡ mac
-    → HasCode (payments_in oldest entries) ksn mac kept.code
-found_code oldest entries ksn mac kept is found same =
-    let entry : ℕ × Kept = (serial_number ksn, kept) in
-    let contains : Contains entries entry = Contains-from_lookup exact_unsigned_eq (serial_number ksn) kept entries found in
-    record {
-      payment = payment_in entry;
-      kept = in_map payment_in (drop oldest entries ++ take oldest entries) entry (in_turn oldest entries entry contains);
-      number = numbered_again ksn is;
-      mac_is = same;
-      code_is = refl;
-    }
+-- the entry of a place that is found
+pub found_entry : (oldest : ℕ) (places : List (ℕ × Kept)) (ksn : Serial) (mac : List ℕ) (kept : Kept) → IsSerial ksn → lookup (eqb (serial_number ksn)) places ≡ Some kept → kept.mac ≡ mac
+    → Contains (entries_in oldest places) (entry_under ksn mac kept.decided)
+found_entry oldest places ksn mac kept is found same =
+    let place : ℕ × Kept = (serial_number ksn, kept) in
+    let contains : Contains places place = Contains-from_lookup exact_unsigned_eq (serial_number ksn) kept places found in
+    let own : entry_at place ≡ entry_under ksn mac kept.decided =
+    ap (λ ksn. entry_under ksn kept.mac kept.decided) (numbered_again ksn is) ∙ ap (λ mac. entry_under ksn mac kept.decided) same in
+    subst (λ entry. Contains (entries_in oldest places) entry) own (in_map entry_at (drop oldest places ++ take oldest places) place (in_turn oldest places place contains))
 
--- a payment with a number is that of the entry that is found under it
-pub only_entry : (oldest : ℕ) (entries : List (ℕ × Kept)) (ksn : Serial) (payment : Payment) → IsDistinct eqb (keys_of entries)
-    → Contains (payments_in oldest entries) payment → payment.number ≡ ksn → (kept : Kept) × (lookup (eqb (serial_number ksn)) entries ≡ Some kept) × (kept.mac ≡ payment.mac)
-only_entry oldest entries ksn payment distinct contains same =
-    let from = from_map payment_in (drop oldest entries ++ take oldest entries) payment contains in
-    let entry = from.0 in
-    let key : entry.0 ≡ serial_number ksn = sym (number_again entry.0) ∙ ap (λ (payment : Payment). serial_number payment.number) from.2 ∙ ap serial_number same in
-    let found = lookup-from_Contains nat_eq_equiv entry.0 entry.1 entries distinct (from_turn oldest entries entry from.1) in
-    (entry.1, subst (λ key. lookup (eqb key) entries ≡ Some entry.1) key found, ap (λ (payment : Payment). payment.mac) from.2)
+-- an entry with a number is that of the place that is found under it
+pub only_place : (oldest : ℕ) (places : List (ℕ × Kept)) (ksn : Serial) (mac : List ℕ) (decided : Decided) → IsDistinct eqb (keys_of places)
+    → Contains (entries_in oldest places) (entry_under ksn mac decided) → (kept : Kept) × (lookup (eqb (serial_number ksn)) places ≡ Some kept) × (kept.mac ≡ mac) × (kept.decided ≡ decided)
+only_place oldest places ksn mac decided distinct contains =
+    let from = from_map entry_at (drop oldest places ++ take oldest places) (entry_under ksn mac decided) contains in
+    let place = from.0 in
+    let key : place.0 ≡ serial_number ksn = sym (number_again place.0) ∙ ap (λ (entry : Entry). serial_number entry.number) from.2 in
+    let found = lookup-from_Contains nat_eq_equiv place.0 place.1 places distinct (from_turn oldest places place from.1) in
+    (place.1, subst (λ key. lookup (eqb key) places ≡ Some place.1) key found, ap (λ (entry : Entry). entry.mac) from.2, ap (λ (entry : Entry). entry.decided) from.2)
 
--- where no payment has a number, no entry is found under it
-pub absent : (oldest : ℕ) (entries : List (ℕ × Kept)) (ksn : Serial) (found : Option Kept) → IsSerial ksn → lookup (eqb (serial_number ksn)) entries ≡ found
-    → HasNoNumber (payments_in oldest entries) ksn → lookup (eqb (serial_number ksn)) entries ≡ None
-absent oldest entries ksn None is found none = found
-absent oldest entries ksn (Some kept) is found none =
-    let has = found_code oldest entries ksn kept.mac kept is found refl in
-    absurd (none has.payment has.kept has.number)
+-- where no entry has a number, no place is found under it
+pub absent : (oldest : ℕ) (places : List (ℕ × Kept)) (ksn : Serial) (found : Option Kept) → IsSerial ksn → lookup (eqb (serial_number ksn)) places ≡ found
+    → HasNoNumber (entries_in oldest places) ksn → lookup (eqb (serial_number ksn)) places ≡ None
+absent oldest places ksn None is found none = found
+absent oldest places ksn (Some kept) is found none =
+    absurd (none (entry_under ksn kept.mac kept.decided) (found_entry oldest places ksn kept.mac kept is found refl) refl)

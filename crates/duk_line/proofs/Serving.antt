@@ -11,11 +11,11 @@ use Rattle.duk_host.specs.declared.fault.HostFault.{HostFault}
 use Rattle.duk_host.specs.declared.fault.HostFault.TheVariants as fault
 use Rattle.duk_io.specs.Known.{Known}
 use Rattle.duk_io.specs.Sink.{IsCut, IsWritten}
-use Rattle.duk_journal.specs.Groups.{Payments}
+use Rattle.duk_journal.specs.Groups.{Entries}
 use Rattle.duk_store.specs.StoreState.{PreservesNature, StoreState}
 use Rattle.duk_line.specs.Group.{AnswersFrames, GroupRefused}
 use Rattle.duk_line.specs.Host.{HostMeaning, HostOf, JudgesBy, basis_of}
-use Rattle.duk_line.specs.Judgement.{line_basis, with_payments}
+use Rattle.duk_line.specs.Judgement.{line_basis, with_entries}
 use Rattle.duk_line.specs.Judged.{AreJudged}
 use Rattle.duk_line.specs.Serve.{AreAnswersCut, BytesFailed, FailsAtGroup, FailsAtLength, GroupFailed, IsServed, Service}
 use Rattle.duk_line.specs.inner.Serve.{AreAnswered, AreBeforeTooLong, AreCollected}
@@ -44,21 +44,22 @@ module _ {J I : Type 0} (meaning : HostMeaning J I) where
     ends = record { keys = refl; issuer = refl };
     nature = nature_stays (meaning.journal.state_of now.journal);
     capacity = refl;
-    answered = λ payments judges. ([], refl, subst (λ payments. JudgesBy meaning now payments) (sym (append-nil payments)) judges);
+    answered = λ entries judges. ([], refl, subst (λ entries. JudgesBy meaning now entries) (sym (append-nil entries)) judges);
     stopped = λ none. record { no_frames = refl; no_answers = refl; same = refl };
   }
 
   -- what is left to judge by
   basis_after :
-      (old mid new : HostOf J I) (frames answers : List (List ℕ)) (payments added : Payments)
-      → AnswersFrames meaning frames old mid answers → JudgesBy meaning old payments → JudgesBy meaning mid (payments ++ added)
-      → basis_of meaning mid (payments ++ added) ≡ with_payments (basis_of meaning old payments) added
-  basis_after old mid new frames answers payments added first before after =
+      (old mid new : HostOf J I) (frames answers : List (List ℕ)) (entries added : Entries)
+      → AnswersFrames meaning frames old mid answers → JudgesBy meaning old entries → JudgesBy meaning mid (entries ++ added)
+      → basis_of meaning mid (entries ++ added) ≡ with_entries (basis_of meaning old entries) added
+  basis_after old mid new frames answers entries added first before after =
       let room : meaning.journal.capacity mid.journal - meaning.journal.count mid.journal ≡ meaning.journal.capacity old.journal - meaning.journal.count old.journal - length added =
-      omega (arith, first.capacity, before.kept.counted, after.kept.counted, length-append payments added) in
-      ap (λ keys. line_basis keys (payments ++ added) (meaning.journal.capacity mid.journal - meaning.journal.count mid.journal) (meaning.decides mid.issuer)) first.ends.keys
-      ∙ ap (λ room. line_basis old.keys (payments ++ added) room (meaning.decides mid.issuer)) room
-      ∙ ap (λ issuer. line_basis old.keys (payments ++ added) (meaning.journal.capacity old.journal - meaning.journal.count old.journal - length added) (meaning.decides issuer)) first.ends.issuer
+      omega (arith, first.capacity, before.kept.counted, after.kept.counted, length-append entries added) in
+      ap (λ keys. line_basis keys (entries ++ added) (meaning.journal.capacity mid.journal) (meaning.journal.capacity mid.journal - meaning.journal.count mid.journal) (meaning.decides mid.issuer)) first.ends.keys
+      ∙ ap (λ room. line_basis old.keys (entries ++ added) (meaning.journal.capacity mid.journal) room (meaning.decides mid.issuer)) room
+      ∙ ap (λ capacity. line_basis old.keys (entries ++ added) capacity (meaning.journal.capacity old.journal - meaning.journal.count old.journal - length added) (meaning.decides mid.issuer)) first.capacity
+      ∙ ap (λ issuer. line_basis old.keys (entries ++ added) (meaning.journal.capacity old.journal) (meaning.journal.capacity old.journal - meaning.journal.count old.journal - length added) (meaning.decides issuer)) first.ends.issuer
 
   -- frames, and then others
   pub answers_then :
@@ -69,12 +70,12 @@ module _ {J I : Type 0} (meaning : HostMeaning J I) where
     ends = record { keys = second.ends.keys ∙ first.ends.keys; issuer = second.ends.issuer ∙ first.ends.issuer };
     nature = nature_then (meaning.journal.state_of old.journal) (meaning.journal.state_of mid.journal) (meaning.journal.state_of new.journal) first.nature second.nature;
     capacity = second.capacity ∙ first.capacity;
-    answered = λ payments judges.
-        let one = first.answered payments judges in
-        let two = second.answered (payments ++ one.0) one.2 in
-        let basis = basis_after old mid new frames answers payments one.0 first judges one.2 in
-        let judged = joined (basis_of meaning old payments) frames others answers more one.0 two.0 one.1 (subst (λ basis. AreJudged basis others more two.0) basis two.1) in
-        (one.0 ++ two.0, judged, subst (λ payments. JudgesBy meaning new payments) (append_assoc payments one.0 two.0) two.2);
+    answered = λ entries judges.
+        let one = first.answered entries judges in
+        let two = second.answered (entries ++ one.0) one.2 in
+        let basis = basis_after old mid new frames answers entries one.0 first judges one.2 in
+        let judged = joined (basis_of meaning old entries) frames others answers more one.0 two.0 one.1 (subst (λ basis. AreJudged basis others more two.0) basis two.1) in
+        (one.0 ++ two.0, judged, subst (λ entries. JudgesBy meaning new entries) (append_assoc entries one.0 two.0) two.2);
     stopped = λ none.
         let one = first.stopped none in
         let two = second.stopped (ap (λ (host : HostOf J I). host.state) one.same ∙ none) in

@@ -1,26 +1,25 @@
 -- A journal that is checked as a host checks it: this project's own, over a host's restart.
 use Rattle.std.specs.Prelude.{◌≡◌, ◌⊎◌, ℕ, length}
-use Rattle.duk_host.specs.Used.{AreUsable}
 use Rattle.duk_host.specs.declared.fault.HostFault.{HostFault}
 use Rattle.duk_host.specs.declared.fault.HostFault.TheVariants as fault
-use Rattle.duk_journal.specs.Groups.{Payments}
+use Rattle.duk_journal.specs.Groups.{Entries}
 use Rattle.duk_journal.specs.Journal.{JournalMeaning, JournalRestarted}
 use Rattle.duk_store.specs.Restart.{Restarted, RestartFailed}
 use Rattle.duk_store.specs.declared.fault.StoreFault.TheVariants.{Damaged}
 use Rattle.duk_line.specs.Host.{KeepsAlone}
-use Rattle.duk_line.specs.Latest.{numbers_of}
+use Rattle.duk_line.specs.Latest.{UseNewNumbers}
 use Rattle.duk_line.specs.Restart.{FoundUnusable}
 
--- a journal's restart found so many payments, it keeps them and nothing else, and a host may judge by
--- them: each of their numbers numbers a transaction, and none occurs twice. An honest journal is
--- sound then, so that no restart of a host over it is refused as damaged
+-- a journal's restart found so many entries, it keeps them and nothing else, and a host may judge by
+-- them: each uses a new number. An honest journal is sound then, so that no restart of a host over it
+-- is refused as damaged
 pub record IsChecked {J : Type 0} (meaning : JournalMeaning J) (old new : J) (found : ℕ) : Type 0 where
-  pub payments : Payments
-  pub journal : Restarted (meaning.state_of old) (meaning.state_of new) payments
+  pub entries : Entries
+  pub journal : Restarted (meaning.state_of old) (meaning.state_of new) entries
   pub sound : (meaning.state_of old).honest → (meaning.state_of new).sound
-  pub counted : length payments ≡ found
-  pub kept : KeepsAlone meaning new payments
-  pub usable : AreUsable (numbers_of payments)
+  pub counted : length entries ≡ found
+  pub kept : KeepsAlone meaning new entries
+  pub new_numbers : UseNewNumbers entries
 
 -- why it is not: as the restart of a host is refused
 abbrev pub CheckRefused : {J : Type 0} → JournalMeaning J → J → J → HostFault → Type 0

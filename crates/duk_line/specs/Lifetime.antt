@@ -1,13 +1,13 @@
 -- Services over one journal, one after the other, each over what the one before may have left in it:
 -- this project's own.
-use Rattle.std.specs.Prelude.{◌≡◌, ◌⊎◌, ◌++◌, ℕ, List, [], ◌∷◌}
+use Rattle.std.specs.Prelude.{◌≡◌, ◌⊎◌, ◌++◌, ℕ, List, None, [], ◌∷◌}
 use Rattle.std.specs.List.{concat}
 use Rattle.duk_host.specs.declared.fault.HostFault.{HostFault}
 use Rattle.duk_host.specs.declared.fault.HostFault.TheVariants as fault
 use Rattle.duk_hsm.specs.Keys.{HsmKeys}
 use Rattle.duk_io.specs.Known.{Known}
 use Rattle.duk_io.specs.Sink.{IsCut, IsWritten}
-use Rattle.duk_journal.specs.Groups.{Payments}
+use Rattle.duk_journal.specs.Groups.{Entries}
 use Rattle.duk_store.specs.StoreState.{FindsWithin}
 use Rattle.duk_store.specs.declared.fault.StoreFault.{StoreFault}
 use Rattle.duk_line.specs.Group.{AnswersFrames, IsGroupNotKept}
@@ -18,16 +18,17 @@ use Rattle.duk_line.specs.Restart.{HostRestartRefused, IsHostRestarted}
 -- nothing but what the service before may have left
 pub record IsMadeOver
     {J I : Type 0} (meaning : HostMeaning J I) (keys : HsmKeys)
-    (left : Payments → Type 0) (host : HostOf J I) : Type 0 where
+    (left : Entries → Type 0) (host : HostOf J I) : Type 0 where
   pub keys_are : host.keys ≡ keys
   pub honest : (meaning.journal.state_of host.journal).honest
   pub within : FindsWithin (meaning.journal.state_of host.journal) left
 
--- a service ends once some frames are answered, whatever the cause, or at a group whose payments are
--- not kept
+-- a service ends once some frames are answered, whatever the cause; where memory is refused, which
+-- stops the host; or at a group whose entries are not kept
 abbrev pub EndsAt : {J I : Type 0} → HostMeaning J I → HostOf J I → HostOf J I → Type 0
 EndsAt meaning mid last =
     (last ≡ mid)
+    ⊎ (last ≡ record mid { state = None })
     ⊎ ((group : List (List ℕ)) × (why : StoreFault) × IsGroupNotKept meaning group mid last why)
 
 -- the host is restarted and answers frames in turn
@@ -70,8 +71,8 @@ all_answers (answers ∷ later) = answers ++ all_answers later
 -- the answers of services, one after the other, each over what the one before may have left, and
 -- what the journal may keep after the last
 abbrev pub IsLifetime : {J I : Type 0} → HostMeaning J I → HsmKeys
-    → (Payments → Type 0) → List (List (List ℕ)) → (Payments → Type 0) → Type 0
-IsLifetime meaning keys left [] after = (payments : Payments) → after payments → left payments
+    → (Entries → Type 0) → List (List (List ℕ)) → (Entries → Type 0) → Type 0
+IsLifetime meaning keys left [] after = (entries : Entries) → after entries → left entries
 IsLifetime {J} {I} meaning keys left (answers ∷ later) after =
     (made : HostOf J I) × (last : HostOf J I) × IsMadeOver meaning keys left made
     × IsService meaning made answers last

@@ -1,45 +1,45 @@
 -- The restart of a host over a journal: this project's own.
 use Rattle.std.specs.Prelude.{◌≡◌, ◌⊎◌, ℕ, None, length}
-use Rattle.duk_host.specs.Used.{AreUsable}
 use Rattle.duk_host.specs.declared.fault.HostFault.{HostFault}
 use Rattle.duk_host.specs.declared.fault.HostFault.TheVariants as fault
-use Rattle.duk_journal.specs.Groups.{Payments}
+use Rattle.duk_journal.specs.Groups.{Entries}
 use Rattle.duk_journal.specs.Journal.{JournalMeaning, JournalRestarted}
 use Rattle.duk_store.specs.Restart.{Restarted, RestartFailed}
 use Rattle.duk_store.specs.StoreState.{FindsWithin, StoreState}
 use Rattle.duk_store.specs.declared.fault.StoreFault.{StoreFault}
 use Rattle.duk_store.specs.declared.fault.StoreFault.TheVariants.{Damaged}
 use Rattle.duk_line.specs.Host.{HostMeaning, HostOf, JudgesBy}
-use Rattle.duk_line.specs.Latest.{numbers_of}
+use Rattle.duk_line.specs.Latest.{UseNewNumbers}
 
 -- all but the journal and the index is as it was
 pub record PreservesEnds {J I : Type 0} (old new : HostOf J I) : Type 0 where
   pub keys : new.keys ≡ old.keys
   pub issuer : new.issuer ≡ old.issuer
 
--- a restart that is done: the journal's is, and the host judges by the payments that it found
+-- a restart that is done: the journal's is, and the host judges by the entries that it found
 pub record IsHostRestarted
     {J I : Type 0} (meaning : HostMeaning J I) (old new : HostOf J I) (found : ℕ) : Type 0 where
-  pub payments : Payments
+  pub entries : Entries
   pub ends : PreservesEnds old new
-  pub journal : Restarted (meaning.journal.state_of old.journal) (meaning.journal.state_of new.journal) payments
-  pub counted : length payments ≡ found
-  pub judges : JudgesBy meaning new payments
+  pub journal : Restarted (meaning.journal.state_of old.journal) (meaning.journal.state_of new.journal) entries
+  pub counted : length entries ≡ found
+  pub judges : JudgesBy meaning new entries
 
--- the journal kept a payment whose number numbers no transaction, or two of one number
+-- the journal kept an entry whose number numbers no transaction, under which what was decided may
+-- not stand, or which one before it used
 pub record FoundUnusable
     {J : Type 0} (meaning : JournalMeaning J) (old new : J) : Type 0 where
   pub count : ℕ
   pub journal : JournalRestarted meaning old new count
   pub not_usable : (honest : (meaning.state_of old).honest)
-      → ¬ AreUsable (numbers_of (journal.found honest).0)
+      → ¬ UseNewNumbers (journal.found honest).0
 
--- a journal that keeps to its model and is sound, where each list that a restart may find has usable
--- numbers, none of them twice
-pub record IsUsableJournal (journal : StoreState Payments) : Type 0 where
+-- a journal that keeps to its model and is sound, where each entry of a list that a restart may find
+-- uses a new number
+pub record IsUsableJournal (journal : StoreState Entries) : Type 0 where
   pub honest : journal.honest
   pub sound : journal.sound
-  pub usable : FindsWithin journal (λ payments. AreUsable (numbers_of payments))
+  pub usable : FindsWithin journal UseNewNumbers
 
 -- a restart that failed: the host is stopped, since its journal failed, or found such a list
 pub record HostRestartStopped

@@ -9,7 +9,7 @@ abbrev pub host_view : {N : ℕ} {J I : Type 0} → Inside N J I → HostOf J I
 host_view host =
     record { keys = host.hsm; issuer = host.issuer; journal = host.journal; state = host.state }
 
--- two indexes have one map of the payments that can be answered again, and the oldest in one place
+-- two indexes have one map of the entries that can be answered again, and the oldest in one place
 pub record HaveOneRing (one other : index.Inside) : Type 0 where
   pub map : one.map ≡ other.map
   pub oldest : one.oldest ≡ other.oldest

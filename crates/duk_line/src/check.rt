@@ -8,11 +8,12 @@ use duk_host::HostFault;
 use duk_journal::Journal;
 use std::alloc::Global;
 
-/// Brings a journal up and reads all its payments, as the restart of a host over it does, and gives
+/// Brings a journal up and reads all its entries, as the restart of a host over it does, and gives
 /// how many there are. A host may judge by them then.
 ///
-/// Refused as that restart is: with `Store` of the journal's fault, or of `Damaged` where a number
-/// that it keeps occurs twice or numbers no transaction; and with `NoMemory`.
+/// Refused as that restart is: with `Store` of the journal's fault, or of `Damaged` where the number
+/// of an entry numbers no transaction, was used before or cannot have what was decided; and with
+/// `NoMemory`.
 pub fn check_journal<J: Journal>(alloc: Global, journal: &mut J) -> Result<u64, HostFault>
     ensures checked { IfOk result (IsChecked J.meaning journal.old journal.new) }
     ensures refused { IfErr result (CheckRefused J.meaning journal.old journal.new) }

@@ -5,19 +5,19 @@ ghost use Rattle.std.specs.Option.{option_to_list};
 ghost use Rattle.duk_line.specs.Group.{most_frames};
 
 use duk_frame::Frame;
-use duk_journal::Payment;
+use duk_journal::Entry;
 use std::alloc::{AllocError, Global};
 use std::marker::Model;
 
 /// The most frames of a group.
 pub const MOST_FRAMES: usize = 1024;
 
-/// The answers to a group of frames, in the order of these, and the payments that the group adds.
+/// The answers to a group of frames, in the order of these, and the entries that the group adds.
 /// Only `new` takes memory: room for the answers to as many frames as a group may have.
 #[derive(Drop)]
 pub struct Group {
     answers: Vec<Frame>,
-    payments: Vec<Payment>,
+    entries: Vec<Entry>,
 }
 
 impl Model for Group {
@@ -29,21 +29,21 @@ impl Model for Group {
 
     ghost view = { λ group. record {
       answers = map (λ answer. answer.items) group.answers.items;
-      payments = group.payments.items;
+      entries = group.entries.items;
     } };
 
-    ghost invariant = { λ group. HasRoom group.answers group.payments };
+    ghost invariant = { λ group. HasRoom group.answers group.entries };
 }
 
 impl Group {
     /// An empty group.
     pub fn new(alloc: Global) -> Result<Self, AllocError>
         ensures answers { IfOk result (λ group. group.answers ≡ []) }
-        ensures payments { IfOk result (λ group. group.payments ≡ []) }
+        ensures entries { IfOk result (λ group. group.entries ≡ []) }
     {
         let answers = Vec::with_capacity(alloc, MOST_FRAMES)?;
-        let payments = Vec::with_capacity(alloc, MOST_FRAMES)?;
-        Ok(Group { answers, payments })
+        let entries = Vec::with_capacity(alloc, MOST_FRAMES)?;
+        Ok(Group { answers, entries })
     }
 
     /// The answers, at most as many as a group may have frames.
@@ -54,31 +54,31 @@ impl Group {
         &self.answers
     }
 
-    /// The payments.
-    pub(crate) fn payments(&self) -> &[Payment]
-        ensures { result.now ≡ self.now.payments }
+    /// The entries.
+    pub(crate) fn entries(&self) -> &[Entry]
+        ensures { result.now ≡ self.now.entries }
     {
-        &self.payments
+        &self.entries
     }
 
     /// Empties the group.
     pub(crate) fn clear(&mut self)
         ensures answers { self.new.answers ≡ [] }
-        ensures payments { self.new.payments ≡ [] }
+        ensures entries { self.new.entries ≡ [] }
     {
         self.answers.clear();
-        self.payments.clear();
+        self.entries.clear();
     }
 
-    /// Adds the answer to the next frame, and its payment, if it makes one.
-    pub(crate) fn push(&mut self, answer: Frame, payment: Option<Payment>)
+    /// Adds the answer to the next frame, and its entry, if it makes one.
+    pub(crate) fn push(&mut self, answer: Frame, entry: Option<Entry>)
         requires { length self.old.answers < most_frames }
         ensures answers { self.new.answers ≡ self.old.answers ++ answer.items ∷ [] }
-        ensures payments { self.new.payments ≡ self.old.payments ++ option_to_list payment }
+        ensures entries { self.new.entries ≡ self.old.entries ++ option_to_list entry }
     {
         self.answers.push_reserved(answer);
-        if let Some(payment) = payment {
-            self.payments.push_reserved(payment);
+        if let Some(entry) = entry {
+            self.entries.push_reserved(entry);
         }
     }
 }

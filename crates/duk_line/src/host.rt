@@ -14,13 +14,13 @@ use crate::reading::index_of;
 use duk_frame::Frame;
 use duk_host::{HostFault, Issuer};
 use duk_hsm::Hsm;
-use duk_journal::{Journal, Payment};
+use duk_journal::{Entry, Journal};
 use duk_store::StoreFault;
 use std::alloc::Global;
 use std::marker::Model;
 
-/// A host: a security module, the issuer of the cards, and the journal of the payments. It is made
-/// stopped. While it runs, the used numbers and the payments that can be answered again are in
+/// A host: a security module, the issuer of the cards, and the journal of what was decided. It is
+/// made stopped. While it runs, the used numbers and the entries that can be answered again are in
 /// memory.
 #[derive(Drop)]
 pub struct JournalHost<const N: usize, J: Journal, I: Issuer> {
@@ -59,11 +59,11 @@ impl<const N: usize, J: Journal, I: Issuer> JournalHost<N, J, I> {
         }
     }
 
-    /// Brings journal and host up, reads the payments of the journal, and gives how many there are.
+    /// Brings journal and host up, reads the entries of the journal, and gives how many there are.
     ///
-    /// Refused with `Store`: of the journal's fault, or with `Damaged` where a number that it keeps
-    /// occurs twice or numbers no transaction; and with `NoMemory`. The host is stopped after
-    /// either.
+    /// Refused with `Store`: of the journal's fault, or with `Damaged` where the number of an entry
+    /// numbers no transaction, was used before or cannot have what was decided; and with `NoMemory`.
+    /// The host is stopped after either.
     pub fn restart(&mut self) -> Result<u64, HostFault>
         ensures restarted { IfOk result
             (IsHostRestarted (host_meaning_of J.meaning I.decides) self.old self.new) }
@@ -81,12 +81,12 @@ impl<const N: usize, J: Journal, I: Issuer> JournalHost<N, J, I> {
         Ok(kept)
     }
 
-    /// Judges the frames of a group in turn, each with the payments that the earlier ones leave,
-    /// appends the payments that they add to the journal, and puts the answers into `group`.
+    /// Judges the frames of a group in turn, each with the entries that the earlier ones leave,
+    /// appends the entries that they add to the journal, and puts the answers into `group`.
     ///
     /// Refused with `Stopped`; with `NoMemory` at the first frame to be accepted for which memory is
-    /// refused, where the frames before it are answered; and with `Store`, where the payments are
-    /// not kept, the host is stopped, and there are no answers.
+    /// refused, where the frames before it are answered; and with `Store`, where the entries are
+    /// not kept, and there are no answers. The host is stopped after each.
     pub fn answer(&mut self, frames: &[Frame], group: &mut Group) -> Result<(), HostFault>
         requires few { length frames.now ≤ most_frames }
         ensures answered { OnOk result (AnswersFrames (host_meaning_of J.meaning I.decides)
@@ -98,9 +98,10 @@ impl<const N: usize, J: Journal, I: Issuer> JournalHost<N, J, I> {
         let Some(index) = &mut self.state else {
             return Err(HostFault::Stopped);
         };
+        let kept = self.journal.len();
         let room = self.journal.room();
-        let judged = judge_frames(&self.hsm, &self.issuer, index, room, frames, group);
-        match keep(&mut self.journal, group.payments()) {
+        let judged = judge_frames(&self.hsm, &self.issuer, index, kept, room, frames, group);
+        match keep(&mut self.journal, group.entries()) {
             Ok(()) => {}
             Err(fault) => {
                 self.state = None;
@@ -110,7 +111,10 @@ impl<const N: usize, J: Journal, I: Issuer> JournalHost<N, J, I> {
         }
         match judged {
             Ok(()) => Ok(()),
-            Err(_refused) => Err(HostFault::NoMemory),
+            Err(_refused) => {
+                self.state = None;
+                Err(HostFault::NoMemory)
+            }
         }
     }
 
@@ -136,15 +140,15 @@ impl<const N: usize, J: Journal, I: Issuer> JournalHost<N, J, I> {
     }
 }
 
-/// Appends the payments of a group, if there are any.
-fn keep<J: Journal>(journal: &mut J, payments: &[Payment]) -> Result<(), StoreFault>
-    requires kept { MayBeKept J.meaning journal.old payments.now }
-    ensures kept { OnOk result (AreKept J.meaning journal.old journal.new payments.now) }
+/// Appends the entries of a group, if there are any.
+fn keep<J: Journal>(journal: &mut J, entries: &[Entry]) -> Result<(), StoreFault>
+    requires kept { MayBeKept J.meaning journal.old entries.now }
+    ensures kept { OnOk result (AreKept J.meaning journal.old journal.new entries.now) }
     ensures capacity { J.meaning.capacity journal.new ≡ J.meaning.capacity journal.old }
-    ensures failed { IfErr result (KeepFailed J.meaning journal.old journal.new payments.now) }
+    ensures failed { IfErr result (KeepFailed J.meaning journal.old journal.new entries.now) }
 {
-    if payments.is_empty() {
+    if entries.is_empty() {
         return Ok(());
     }
-    journal.append(payments)
+    journal.append(entries)
 }

@@ -1,25 +1,28 @@
-//! What a host over a journal has in memory of its payments.
+//! What a host over a journal has in memory of its entries.
 
-ghost use Rattle.std.specs.Prelude.{◌≡◌, [], true, IfOk, IfNone, IfSome, OnErr};
+ghost use Rattle.std.specs.Prelude.{◌≡◌, ◌↔◌, [], true, Contains, IfOk, IfSome, IsTrue, Some};
 ghost use Rattle.std.specs.Bool.{MatchBool};
+ghost use Rattle.duk_host.specs.Used.{IsUsed};
+ghost use Rattle.duk_journal.specs.Entry.{MayStandUnder};
+ghost use Rattle.duk_journal.specs.declared.entry.Decided.{Decided};
 ghost use Rattle.duk_tree.specs.Path.{IsUsable};
-ghost use Rattle.duk_host.specs.Used.{IsOneMore, IsUsed};
-ghost use Rattle.duk_line.specs.inner.Index.{IsListed};
-ghost use Rattle.duk_line.specs.inner.Latest.{HasCode, HasNone, with_latest};
+ghost use Rattle.duk_line.specs.Host.{IsApproved};
+ghost use Rattle.duk_line.specs.inner.Index.{IsListed, TakesNumbers};
+ghost use Rattle.duk_line.specs.inner.Latest.{entry_under, with_latest};
 
-use crate::latest::{Kept, code_of, push};
-use duk_frame::Code;
+use crate::latest::{Kept, decided, push};
+use crate::sets::NumberSets;
 use duk_host::UsedNumbers;
-use duk_journal::Payment;
+use duk_journal::{Decided, Entry};
 use duk_tree::Ksn;
 use indexmap::IndexMap;
 use std::alloc::{AllocError, Global};
 use std::marker::Model;
 
-/// The used numbers, and the payments that can be answered again.
+/// The numbers that the entries use, and the entries that can be answered again.
 #[derive(Drop)]
 pub struct Index {
-    used: UsedNumbers,
+    sets: NumberSets,
     map: IndexMap<u128, Kept>,
     oldest: usize,
 }
@@ -27,26 +30,30 @@ pub struct Index {
 impl Model for Index {
     ghost use Rattle.duk_line.specs.Host.{IndexOf};
     ghost use Rattle.duk_line.specs.inner.Index.{IsIndexed};
-    ghost use Rattle.duk_line.specs.inner.Latest.{payments_in};
+    ghost use Rattle.duk_line.specs.inner.Latest.{entries_in};
 
     ghost Value = { IndexOf };
 
     ghost view = { λ index. record {
-      used = index.used;
-      latest = payments_in index.oldest index.map.entries;
+      used = index.sets.used;
+      others = index.sets.others;
+      reversed = index.sets.reversed;
+      latest = entries_in index.oldest index.map.entries;
     } };
 
-    ghost invariant = { λ index. IsIndexed index.used index.map index.oldest };
+    ghost invariant = { λ index. IsIndexed index.sets.used index.map index.oldest };
 }
 
 impl Index {
-    /// No payment is kept. This takes no memory.
+    /// No entry is kept. This takes no memory.
     pub(crate) fn new(alloc: Global) -> Self
         ensures used { result.used ≡ [] }
+        ensures others { result.others ≡ [] }
+        ensures reversed { result.reversed ≡ [] }
         ensures latest { result.latest ≡ [] }
     {
         Index {
-            used: UsedNumbers::new(alloc),
+            sets: NumberSets::new(alloc),
             map: IndexMap::new(alloc),
             oldest: 0,
         }
@@ -57,46 +64,63 @@ impl Index {
         ensures used { result.now ≡ self.now.used }
         ensures listed { IsListed self.now.used }
     {
-        &self.used
+        &self.sets.used
     }
 
-    /// The code of the payment with this number and this MAC, if it can be answered again.
-    pub(crate) fn code_of(&self, ksn: Ksn, mac: [u8; 8]) -> Option<Code>
-        ensures found { IfSome result (HasCode self.now.latest ksn mac) }
-        ensures none { IfNone result (HasNone self.now.latest ksn mac) }
+    /// Whether an approved payment of this number is kept.
+    pub(crate) fn has_approved(&self, ksn: Ksn) -> bool
+        ensures { IsTrue result ↔ IsApproved self.now.used self.now.others ksn }
     {
-        code_of(&self.map, self.oldest, ksn, mac)
+        self.sets.used.contains(ksn) && !self.sets.others.contains(ksn)
     }
 
-    /// Adds the number of a payment that cannot be answered again, and reports whether it was not
-    /// used before.
-    pub(crate) fn take_number(&mut self, ksn: Ksn) -> Result<bool, AllocError>
-        requires usable { IsUsable ksn.counter }
-        ensures added { IfOk result (λ _. IsOneMore self.old.used ksn self.new.used) }
-        ensures fresh { IfOk result
-            (λ fresh. MatchBool fresh (¬ IsUsed self.old.used ksn) (IsUsed self.old.used ksn)) }
-        ensures latest { self.new.latest ≡ self.old.latest }
-        ensures same { OnErr result (self.new ≡ self.old) }
+    /// Whether this number was reversed.
+    pub(crate) fn is_reversed(&self, ksn: Ksn) -> bool
+        ensures { IsTrue result ↔ IsUsed self.now.reversed ksn }
     {
-        self.used.insert(ksn)
+        self.sets.reversed.contains(ksn)
     }
 
-    /// Adds a payment as the latest, and reports whether its number was not used before. Memory is
-    /// asked for before anything changes.
-    pub(crate) fn take(&mut self, payment: &Payment) -> Result<bool, AllocError>
-        requires usable { IsUsable payment.now.number.counter }
-        ensures added { IfOk result (λ _. IsOneMore self.old.used payment.now.number self.new.used) }
+    /// What was decided of the request with this number and this MAC, if it can be answered again.
+    pub(crate) fn decided(&self, ksn: Ksn, mac: [u8; 8]) -> Option<Decided>
+        ensures found { IfSome result
+            (λ decided. Contains self.now.latest (entry_under ksn mac decided)) }
+        ensures every { (decided : Decided) → Contains self.now.latest (entry_under ksn mac decided)
+            → result ≡ Some decided }
+    {
+        decided(&self.map, self.oldest, ksn, mac)
+    }
+
+    /// Takes an entry as the latest, and reports whether its number was not used before. Where it
+    /// was, or where memory is refused, the index is no longer that of a list of entries.
+    pub(crate) fn take(&mut self, entry: &Entry) -> Result<bool, AllocError>
+        requires usable { IsUsable entry.now.number.counter }
+        requires stands { MayStandUnder entry.now.number entry.now.decided }
         ensures fresh { IfOk result (λ fresh. MatchBool fresh
-            (¬ IsUsed self.old.used payment.now.number) (IsUsed self.old.used payment.now.number)) }
+            (¬ IsUsed self.old.used entry.now.number) (IsUsed self.old.used entry.now.number)) }
+        ensures numbers { IfOk result
+            (λ fresh. fresh ≡ true → TakesNumbers self.old self.new entry.now) }
         ensures last { IfOk result (λ fresh. fresh ≡ true
-            → self.new.latest ≡ with_latest self.old.latest payment.now) }
-        ensures same { OnErr result (self.new ≡ self.old) }
+            → self.new.latest ≡ with_latest self.old.latest entry.now) }
     {
         self.map.reserve(1)?;
-        if !self.used.insert(payment.number)? {
+        if !self.sets.take(entry)? {
             return Ok(false);
         }
-        self.oldest = push(&mut self.map, self.oldest, payment);
+        self.oldest = push(&mut self.map, self.oldest, entry);
         Ok(true)
+    }
+
+    /// Takes the numbers of an entry that cannot be answered again, as `take` does.
+    pub(crate) fn take_numbers(&mut self, entry: &Entry) -> Result<bool, AllocError>
+        requires usable { IsUsable entry.now.number.counter }
+        requires stands { MayStandUnder entry.now.number entry.now.decided }
+        ensures fresh { IfOk result (λ fresh. MatchBool fresh
+            (¬ IsUsed self.old.used entry.now.number) (IsUsed self.old.used entry.now.number)) }
+        ensures numbers { IfOk result
+            (λ fresh. fresh ≡ true → TakesNumbers self.old self.new entry.now) }
+        ensures latest { self.new.latest ≡ self.old.latest }
+    {
+        self.sets.take(entry)
     }
 }

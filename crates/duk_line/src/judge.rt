@@ -1,38 +1,50 @@
 //! How the frames of a group are judged.
 
-ghost use Rattle.std.specs.Prelude.{◌≡◌, ◌≤◌, ◌<◌, ◌-◌, ℕ, List, [], All, IfErr, IfOk, IfSome, IsSome, OnErr, OnOk, get_or, length, map, take};
+ghost use Rattle.std.specs.Prelude.{◌≡◌, ◌≤◌, ◌-◌, ℕ, [], All, IfOk, IfSome, IsSome, OnErr, OnOk, length, map};
 ghost use Rattle.std.specs.Option.{option_to_list};
-ghost use Rattle.duk_frame.specs.Request.{IsRequest};
-ghost use Rattle.duk_host.specs.Judgement.{IsAuthentic};
-ghost use Rattle.duk_hsm.specs.Keys.{HsmKeys};
-ghost use Rattle.duk_hsm.specs.TransactionKeys.{AreTransactionKeys};
+ghost use Rattle.duk_journal.specs.Entry.{MayStandUnder};
 ghost use Rattle.duk_tree.specs.Path.{IsUsable};
 ghost use Rattle.duk_line.specs.Group.{most_frames};
-ghost use Rattle.duk_line.specs.Judgement.{payment_of};
-ghost use Rattle.duk_line.specs.inner.Judged.{AcceptableBy, JudgesFrame, JudgesFrames, MayBeAccepted, SettlesBy};
+ghost use Rattle.duk_line.specs.Judgement.{room_for_payments};
+ghost use Rattle.duk_line.specs.inner.Judged.{JudgesFirst, JudgesFrame, JudgesFrames, MayBeAccepted};
 
 use crate::group::Group;
 use crate::index::Index;
-use duk_frame::{Code, Frame, Request};
-use duk_host::{Issuer, Payment as Opened, admit, authenticate, code_for, reply_with};
+use crate::payment::judge_payment;
+use crate::reversal::judge_reversal;
+use duk_frame::Frame;
+use duk_host::Issuer;
 use duk_hsm::Hsm;
-use duk_journal::Payment;
+use duk_journal::Entry;
+use duk_reversal::read_reversal;
 use std::alloc::AllocError;
 
-/// A frame that is judged: its answer, and the payment that it makes.
+/// A frame that is judged: its answer, and the entry that is kept of it.
 #[derive(Drop)]
 pub(crate) struct Judged {
     pub(crate) answer: Frame,
-    pub(crate) added: Option<Payment>,
+    pub(crate) added: Option<Entry>,
 }
 
-/// Judges frames in turn, each with the index as the earlier ones leave it, and adds their answers
-/// and payments to the group. Where memory is refused, the frames before are judged, and
-/// the next is a request that would be accepted.
+/// For how many more entries there is room, and for how many payments: the last of the room is for
+/// reversals.
+#[derive(Clone, Copy)]
+struct Room {
+    entries: u64,
+    payments: u64,
+}
+
+/// Judges frames in turn, each with the index and the room as the earlier ones leave them, and adds
+/// their answers and entries to the group. A journal keeps so many entries, and has room for so many
+/// more.
+///
+/// Where memory is refused, the frames before are judged, and there is no reason against the next.
+/// The index is then no longer that of a list of entries.
 pub(crate) fn judge_frames<const N: usize, I: Issuer>(
     hsm: &Hsm<N>,
     issuer: &I,
     index: &mut Index,
+    kept: u64,
     room: u64,
     frames: &[Frame],
     group: &mut Group,
@@ -40,122 +52,73 @@ pub(crate) fn judge_frames<const N: usize, I: Issuer>(
     requires few { length frames.now ≤ most_frames }
     requires zone { IsSome hsm.now.zone }
     requires no_answers { group.old.answers ≡ [] }
-    requires no_payments { group.old.payments ≡ [] }
-    ensures judged { JudgesFrames hsm.now (I.decides issuer.now) room
-        (take (length group.new.answers) (map (λ frame. frame.items) frames.now))
-        index.old index.new group.new.answers group.new.payments }
-    ensures all { OnOk result (length group.new.answers ≡ length frames.now) }
-    ensures fewer { OnErr result (length group.new.answers < length frames.now) }
-    ensures refused { OnErr result (MayBeAccepted hsm.now index.new
-        (room - length group.new.payments) (get_or
-        (map (λ frame. frame.items) frames.now) (length group.new.answers) [])) }
-    ensures usable { All (λ payment. IsUsable payment.number.counter) group.new.payments }
-    ensures fits { length group.new.payments ≤ room }
-    ensures most { length group.new.payments ≤ most_frames }
+    requires no_entries { group.old.entries ≡ [] }
+    ensures judged { OnOk result ((capacity : ℕ) → room ≡ capacity - kept
+        → JudgesFrames hsm.now (I.decides issuer.now) capacity room
+        (map (λ frame. frame.items) frames.now) index.old index.new group.new.answers
+        group.new.entries) }
+    ensures stopped { OnErr result ((capacity : ℕ) → room ≡ capacity - kept
+        → JudgesFirst hsm.now (I.decides issuer.now) capacity room
+        (map (λ frame. frame.items) frames.now) index.old group.new.answers
+        group.new.entries) }
+    ensures usable { All (λ entry. IsUsable entry.number.counter) group.new.entries }
+    ensures stand { All (λ entry. MayStandUnder entry.number entry.decided) group.new.entries }
+    ensures fits { length group.new.entries ≤ room }
+    ensures most { length group.new.entries ≤ most_frames }
 {
     for frame in frames {
-        let left = room - group.payments().len() as u64;
+        let left = room_after(kept, room, group.entries().len() as u64);
         let judged = judge_frame(hsm, issuer, index, left, frame.as_slice())?;
         group.push(judged.answer, judged.added);
     }
     Ok(())
 }
 
-/// Judges a frame. Where memory is refused, which comes only of a request that would be accepted,
-/// nothing changes.
+/// The room that entries leave which are added to a journal: one that keeps so many, and has room for
+/// so many more.
+fn room_after(kept: u64, room: u64, added: u64) -> Room
+    requires { added ≤ room }
+    ensures entries { result.entries ≡ room - added }
+    ensures payments { (capacity : ℕ) → room ≡ capacity - kept
+        → result.payments ≡ room_for_payments capacity (room - added) }
+    ensures within { result.payments ≤ result.entries }
+{
+    let entries = room - added;
+    let capacity = u128::from(kept) + u128::from(room);
+    let payments = if capacity <= 16 * u128::from(entries) {
+        entries
+    } else {
+        0
+    };
+    Room { entries, payments }
+}
+
+/// Judges a frame: as a reversal where it is one, and else as a request. Memory is refused only where
+/// there is no reason against it.
 fn judge_frame<const N: usize, I: Issuer>(
     hsm: &Hsm<N>,
     issuer: &I,
     index: &mut Index,
-    room: u64,
+    room: Room,
     frame: &[u8],
 ) -> Result<Judged, AllocError>
     requires zone { IsSome hsm.now.zone }
-    ensures judged { IfOk result (λ judged. JudgesFrame hsm.now (I.decides issuer.now) room
-        frame.now index.old index.new judged.answer.items judged.added) }
-    ensures usable { IfOk result (λ judged. IfSome judged.added
-        (λ payment. IsUsable payment.number.counter)) }
-    ensures room { IfOk result (λ judged. length (option_to_list judged.added) ≤ room) }
-    ensures same { OnErr result (index.new ≡ index.old) }
-    ensures refused { OnErr result (MayBeAccepted hsm.now index.old room frame.now) }
+    requires within { room.payments ≤ room.entries }
+    ensures judged { IfOk result (λ judged. (capacity : ℕ)
+        → room.payments ≡ room_for_payments capacity room.entries
+        → JudgesFrame hsm.now (I.decides issuer.now) capacity room.entries frame.now
+        index.old index.new judged.answer.items judged.added) }
+    ensures usable { IfOk result
+        (λ judged. IfSome judged.added (λ entry. IsUsable entry.number.counter)) }
+    ensures stands { IfOk result
+        (λ judged. IfSome judged.added (λ entry. MayStandUnder entry.number entry.decided)) }
+    ensures room { IfOk result (λ judged. length (option_to_list judged.added) ≤ room.entries) }
+    ensures refused { OnErr result ((capacity : ℕ)
+        → room.payments ≡ room_for_payments capacity room.entries
+        → MayBeAccepted hsm.now index.old capacity room.entries frame.now) }
 {
-    match settle(hsm, index, room, frame) {
-        Ok(opened) => accept(issuer, index, &opened),
-        Err(answer) => Ok(Judged {
-            answer,
-            added: None,
-        }),
-    }
-}
-
-/// The request that is to be accepted, or the answer that changes nothing: a refusal, or a reply that
-/// is given again.
-fn settle<const N: usize>(
-    hsm: &Hsm<N>,
-    index: &Index,
-    room: u64,
-    frame: &[u8],
-) -> Result<Opened, Frame>
-    ensures request { IfOk result (λ opened. IsRequest frame.now opened.request) }
-    ensures authentic { IfOk result (λ opened. IsAuthentic hsm.now opened.request) }
-    ensures opened { IfOk result
-        (λ opened. AreTransactionKeys hsm.now opened.request.ksn opened.transaction) }
-    ensures acceptable { IfOk result
-        (λ opened. AcceptableBy hsm.now index.now room opened.request) }
-    ensures room { OnOk result (0 < room) }
-    ensures settled { IfErr result (λ answer. SettlesBy hsm.now index.now room frame.now answer.items) }
-{
-    duk_frame::laws::one_reading();
-    let opened = match authenticate(hsm, frame) {
-        Ok(opened) => opened,
-        Err(refusal) => return Err(refusal),
-    };
-    let request = &opened.request;
-    if let Some(code) = index.code_of(request.ksn, request.mac) {
-        return Err(reply_with(&opened.transaction, request.ksn, code));
-    }
-    match admit(&opened, index.used(), room) {
-        Ok(()) => Ok(opened),
-        Err(refusal) => Err(refusal),
-    }
-}
-
-/// Accepts a request: decides it, and takes its payment into the index.
-fn accept<I: Issuer>(issuer: &I, index: &mut Index, opened: &Opened) -> Result<Judged, AllocError>
-    requires opened { (keys : HsmKeys)
-        × AreTransactionKeys keys opened.now.request.ksn opened.now.transaction }
-    requires zone { IsSome opened.now.transaction.zone }
-    requires usable { IsUsable opened.now.request.ksn.counter }
-    ensures accepted { IfOk result (λ judged. (keys : HsmKeys) (room : ℕ) (bytes : List ℕ)
-        → IsRequest bytes opened.now.request
-        → AreTransactionKeys keys opened.now.request.ksn opened.now.transaction
-        → AcceptableBy keys index.old room opened.now.request
-        → JudgesFrame keys (I.decides issuer.now) room bytes index.old index.new
-        judged.answer.items judged.added) }
-    ensures usable { IfOk result (λ judged. IfSome judged.added
-        (λ payment. IsUsable payment.number.counter)) }
-    ensures one { IfOk result (λ judged. length (option_to_list judged.added) ≤ 1) }
-    ensures same { OnErr result (index.new ≡ index.old) }
-{
-    let request = &opened.request;
-    let code = code_for(opened, issuer);
-    let payment = payment_of(request, code);
-    index.take(&payment)?;
-    Ok(Judged {
-        answer: reply_with(&opened.transaction, request.ksn, code),
-        added: Some(payment),
-    })
-}
-
-/// What is kept of a request that is accepted with a code.
-fn payment_of(request: &Request, code: Code) -> Payment
-    ensures { result ≡ payment_of request.now code }
-{
-    let mac = request.mac;
-    Payment {
-        number: request.ksn,
-        amount: request.amount,
-        code,
-        mac,
+    match read_reversal(frame) {
+        Some(reversal) => judge_reversal(hsm, index, room.entries, &reversal),
+        None => judge_payment(hsm, issuer, index, room.payments, frame),
     }
 }

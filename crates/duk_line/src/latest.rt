@@ -1,63 +1,63 @@
-//! The payments that can be answered again.
+//! The entries that can be answered again.
 //!
-//! They are in a map by their numbers. Once there are as many as can be, its entries are a ring: a
-//! payment takes the place of the oldest, and the one behind that is then the oldest.
+//! They are in a map by their numbers. Once there are as many as can be, its places are a ring: an
+//! entry takes the place of the oldest, and the one behind that is then the oldest.
 
-ghost use Rattle.std.specs.Prelude.{◌≡◌, ◌<◌, ◌+◌, nat_eq, IfSome, IfNone, length};
+ghost use Rattle.std.specs.Prelude.{◌≡◌, ◌<◌, ◌+◌, nat_eq, Contains, IfSome, Some, length};
 ghost use Rattle.indexmap.specs.IndexMap.{IsUnique, spare};
+ghost use Rattle.duk_journal.specs.declared.entry.Decided.{Decided};
 ghost use Rattle.duk_tree.specs.Serial.{IsSerial};
-ghost use Rattle.duk_line.specs.inner.Latest.{HasCode, HasNoNumber, HasNone, IsRing, kept_of, payments_in, serial_number, with_latest};
+ghost use Rattle.duk_line.specs.inner.Latest.{HasNoNumber, IsRing, entries_in, entry_under, kept_of, serial_number, with_latest};
 
 use byteorder::{BigEndian, ByteOrder};
-use duk_frame::Code;
-use duk_journal::Payment;
+use duk_journal::{Decided, Entry};
 use duk_tree::Ksn;
 use indexmap::IndexMap;
 
-/// How many payments can be answered again.
+/// How many entries can be answered again.
 pub(crate) const MOST_LATEST: usize = 1_048_576;
 
-/// What is kept of a payment beside its number.
+/// What is kept of an entry beside its number.
 #[derive(Clone, Copy)]
 pub(crate) struct Kept {
-    amount: u32,
-    code: Code,
+    decided: Decided,
     mac: [u8; 8],
 }
 
-/// The code of the payment with this number and this MAC.
-pub(crate) fn code_of(
+/// What was decided of the request with this number and this MAC.
+pub(crate) fn decided(
     map: &IndexMap<u128, Kept>,
     oldest: usize,
     ksn: Ksn,
     mac: [u8; 8],
-) -> Option<Code>
+) -> Option<Decided>
     requires unique { IsUnique nat_eq map.now }
-    ensures found { IfSome result (HasCode (payments_in oldest map.now.entries) ksn mac) }
-    ensures none { IfNone result (HasNone (payments_in oldest map.now.entries) ksn mac) }
+    ensures found { IfSome result (λ decided. Contains (entries_in oldest map.now.entries)
+        (entry_under ksn mac decided)) }
+    ensures every { (decided : Decided) → Contains (entries_in oldest map.now.entries)
+        (entry_under ksn mac decided) → result ≡ Some decided }
 {
     let kept = map.get(&number_of(ksn))?;
     if kept.mac == mac {
-        Some(kept.code)
+        Some(kept.decided)
     } else {
         None
     }
 }
 
-/// Puts a payment last, where there is room in the map, and drops the oldest where there were as
-/// many as can be. Gives where the oldest is then.
-pub(crate) fn push(map: &mut IndexMap<u128, Kept>, oldest: usize, payment: &Payment) -> usize
+/// Puts an entry last, where there is room in the map, and drops the oldest where there were as many
+/// as can be. Gives where the oldest is then.
+pub(crate) fn push(map: &mut IndexMap<u128, Kept>, oldest: usize, entry: &Entry) -> usize
     requires unique { IsUnique nat_eq map.old }
     requires ring { IsRing oldest (length map.old.entries) }
     requires room { 0 < spare map.old }
-    requires new { HasNoNumber (payments_in oldest map.old.entries) payment.now.number }
+    requires new { HasNoNumber (entries_in oldest map.old.entries) entry.now.number }
     ensures unique { IsUnique nat_eq map.new }
     ensures ring { IsRing result (length map.new.entries) }
-    ensures last { payments_in result map.new.entries
-        ≡ with_latest (payments_in oldest map.old.entries) payment.now }
+    ensures last { entries_in result map.new.entries
+        ≡ with_latest (entries_in oldest map.old.entries) entry.now }
 {
-    map.insert(number_of(payment.number), kept_of(payment))
-        .unwrap();
+    map.insert(number_of(entry.number), kept_of(entry)).unwrap();
     if map.len() <= MOST_LATEST {
         return oldest;
     }
@@ -65,14 +65,13 @@ pub(crate) fn push(map: &mut IndexMap<u128, Kept>, oldest: usize, payment: &Paym
     place_after(oldest)
 }
 
-/// What is kept of a payment beside its number.
-fn kept_of(payment: &Payment) -> Kept
-    ensures { result ≡ kept_of payment.now }
+/// What is kept of an entry beside its number.
+fn kept_of(entry: &Entry) -> Kept
+    ensures { result ≡ kept_of entry.now }
 {
-    let mac = payment.mac;
+    let mac = entry.mac;
     Kept {
-        amount: payment.amount,
-        code: payment.code,
+        decided: entry.decided,
         mac,
     }
 }

@@ -4,24 +4,29 @@ ghost use Rattle.std.specs.Prelude.{◌≡◌, ◌≢◌, ◌++◌, ℕ, [], Lis
 ghost use Rattle.std.specs.List.{concat};
 ghost use Rattle.duk_frame.specs.Answer.{IsRefusal};
 ghost use Rattle.duk_frame.specs.Request.{IsRequest};
+ghost use Rattle.duk_frame.specs.declared.code.Code.{Code};
 ghost use Rattle.duk_frame.specs.declared.request.Request.{Request};
 ghost use Rattle.duk_host.specs.Judgement.{IsAuthentic, IsReplyWith};
 ghost use Rattle.duk_host.specs.Lifetime.{AcceptsAlike};
 ghost use Rattle.duk_host.specs.Serve.{Supply};
-ghost use Rattle.duk_host.specs.Used.{AreUsable};
 ghost use Rattle.duk_host.specs.declared.fault.HostFault.{HostFault};
 ghost use Rattle.duk_host.specs.declared.fault.HostFault.TheVariants as fault;
 ghost use Rattle.duk_hsm.specs.Keys.{HsmKeys};
 ghost use Rattle.duk_io.specs.Sink.{IsWritten};
-ghost use Rattle.duk_journal.specs.Groups.{Payments};
-ghost use Rattle.duk_journal.specs.declared.payment.Payment.{Payment};
+ghost use Rattle.duk_journal.specs.Groups.{Entries};
+ghost use Rattle.duk_journal.specs.declared.entry.Entry.{Entry};
+ghost use Rattle.duk_reversal.specs.Numbers.{Numbers};
+ghost use Rattle.duk_reversal.specs.Reversal.{IsReversal};
+ghost use Rattle.duk_reversal.specs.declared.reversal.Reversal.{Reversal};
+ghost use Rattle.duk_reversal.specs.declared.state.ReversalState.{ReversalState};
+ghost use Rattle.duk_store.specs.StoreState.{FindsWithin};
 ghost use Rattle.duk_store.specs.declared.fault.StoreFault.TheVariants.{Damaged};
 ghost use Rattle.duk_tree.specs.Serial.{Serial};
 ghost use Rattle.duk_line.specs.Check.{CheckRefused, IsChecked};
 ghost use Rattle.duk_line.specs.Host.{HostOf, host_meaning_of};
-ghost use Rattle.duk_line.specs.Judged.{AreJudged, AreRepliesOf, AreTwoGroups, IsReplyOf};
-ghost use Rattle.duk_line.specs.Judgement.{IsJudged, LineBasis, with_payments};
-ghost use Rattle.duk_line.specs.Latest.{IsPaymentOf, latest_payments, numbers_of};
+ghost use Rattle.duk_line.specs.Judged.{AreJudged, AreRepliesOf, AreReversalRepliesOf, AreTwoGroups, IsAsTold, IsReplyOf, IsReversalReplyOf, TellWhatIsKept, TellsAlike, TellsReversal};
+ghost use Rattle.duk_line.specs.Judgement.{IsAuthenticReversal, IsJudged, IsPaymentKept, IsReversalKept, IsReversalReplyWith, LineBasis, with_entries};
+ghost use Rattle.duk_line.specs.Latest.{Stands, UseNewNumbers, latest_entries, reversed_numbers, used_by};
 ghost use Rattle.duk_line.specs.Lifetime.{AreWrittenTo, IsLifetime, IsService, all_answers};
 ghost use Rattle.duk_line.specs.Restart.{HostRestartRefused, IsHostRestarted, IsUsableJournal};
 ghost use Rattle.duk_line.specs.Serve.{IsReadToEnd, Service, ServiceFailed};
@@ -39,82 +44,131 @@ use duk_journal::Journal;
 /// any first part of it and the rest, by what that left. There are as many answers as frames.
 pub fn grouping()
     ensures joined { (basis : LineBasis) (frames more answers others : List (List ℕ))
-        → (added further : Payments) → AreJudged basis frames answers added
-        → AreJudged (with_payments basis added) more others further
+        → (added further : Entries) → AreJudged basis frames answers added
+        → AreJudged (with_entries basis added) more others further
         → AreJudged basis (frames ++ more) (answers ++ others) (added ++ further) }
-    ensures parted { (basis : LineBasis) (frames more answers : List (List ℕ)) (added : Payments)
+    ensures parted { (basis : LineBasis) (frames more answers : List (List ℕ)) (added : Entries)
         → AreJudged basis (frames ++ more) answers added
         → AreTwoGroups basis frames more answers added }
-    ensures as_many { (basis : LineBasis) (frames answers : List (List ℕ)) (added : Payments)
+    ensures as_many { (basis : LineBasis) (frames answers : List (List ℕ)) (added : Entries)
         → AreJudged basis frames answers added → length answers ≡ length frames }
 {}
 
-/// Frames in turn never make a second payment of a number.
-pub fn one_payment()
-    ensures { (basis : LineBasis) (frames answers : List (List ℕ)) (added : Payments)
-        → AreJudged basis frames answers added → AreUsable (numbers_of basis.payments)
-        → AreUsable (numbers_of (basis.payments ++ added)) }
+/// Frames in turn add no entry whose own number was used before, by a payment, by a reversal or as a
+/// number that was reversed.
+pub fn new_numbers()
+    ensures { (basis : LineBasis) (frames answers : List (List ℕ)) (added : Entries)
+        → AreJudged basis frames answers added → UseNewNumbers basis.entries
+        → UseNewNumbers (basis.entries ++ added) }
 {}
 
-/// Each accepted reply among the answers to frames is the reply to a payment of the list that they
-/// leave, and stays one of each longer list. In a list without a number twice, all accepted replies
-/// to one number are equal, byte for byte.
+/// Each reply among the answers to frames is the reply to an entry of the list that they leave, and
+/// stays one of each longer list. In a list in which each entry uses a new number, all replies to one
+/// number are equal, byte for byte: those to its payment, or those to the reversal that uses it.
 pub fn one_reply()
-    ensures kept { (basis : LineBasis) (frames answers : List (List ℕ)) (added : Payments)
+    ensures kept { (basis : LineBasis) (frames answers : List (List ℕ)) (added : Entries)
         → AreJudged basis frames answers added
-        → AreRepliesOf basis.keys (basis.payments ++ added) answers }
-    ensures longer { (keys : HsmKeys) (payments added : Payments) (ksn : Serial) (frame : List ℕ)
-        → IsReplyOf keys payments ksn frame → IsReplyOf keys (payments ++ added) ksn frame }
-    ensures equal { (keys : HsmKeys) (payments : Payments) (ksn : Serial) (one other : List ℕ)
-        → AreUsable (numbers_of payments) → IsReplyOf keys payments ksn one
-        → IsReplyOf keys payments ksn other → one ≡ other }
+        → AreRepliesOf basis.keys (basis.entries ++ added) answers
+        × AreReversalRepliesOf basis.keys (basis.entries ++ added) answers }
+    ensures longer { (keys : HsmKeys) (entries added : Entries) (ksn : Serial) (frame : List ℕ)
+        → IsReplyOf keys entries ksn frame → IsReplyOf keys (entries ++ added) ksn frame }
+    ensures reversal_longer { (keys : HsmKeys) (entries added : Entries) (numbers : Numbers)
+        → (state : ReversalState) (frame : List ℕ)
+        → IsReversalReplyOf keys entries numbers state frame
+        → IsReversalReplyOf keys (entries ++ added) numbers state frame }
+    ensures equal { (keys : HsmKeys) (entries : Entries) (ksn : Serial) (one other : List ℕ)
+        → UseNewNumbers entries → IsReplyOf keys entries ksn one
+        → IsReplyOf keys entries ksn other → one ≡ other }
+    ensures reversal_equal { (keys : HsmKeys) (entries : Entries) (numbers others : Numbers)
+        → (state told : ReversalState) (one other : List ℕ)
+        → UseNewNumbers entries → numbers.ksn ≡ others.ksn
+        → IsReversalReplyOf keys entries numbers state one
+        → IsReversalReplyOf keys entries others told other → one ≡ other }
+    ensures one_kind { (keys : HsmKeys) (entries : Entries) (numbers : Numbers)
+        → (state : ReversalState) (one other : List ℕ)
+        → UseNewNumbers entries → IsReplyOf keys entries numbers.ksn one
+        → ¬ IsReversalReplyOf keys entries numbers state other }
 {
     duk_frame::laws::one_reading();
     duk_frame::laws::payments();
     duk_host::laws::refusals();
+    duk_reversal::laws::one_reading();
+    duk_reversal::laws::apart_from_payments();
+    duk_reversal::laws::authentic();
 }
 
-/// An authentic request whose payment is one of the latest is given its reply, and adds nothing.
+/// An authentic request whose payment is one of the latest entries, and not undone, is given its reply,
+/// and adds nothing.
 pub fn answered_again()
-    ensures { (basis : LineBasis) (frame answer : List ℕ) (added : Payments)
-        → (request : Request) (payment : Payment) → AreUsable (numbers_of basis.payments)
+    ensures { (basis : LineBasis) (frame answer : List ℕ) (added : Entries)
+        → (request : Request) (code : Code) → UseNewNumbers basis.entries
         → IsJudged basis frame answer added → IsRequest frame request
-        → IsAuthentic basis.keys request → Contains (latest_payments basis.payments) payment
-        → IsPaymentOf request payment
-        → IsReplyWith basis.keys request.ksn payment.code answer × (added ≡ []) }
+        → IsAuthentic basis.keys request → IsPaymentKept basis request code
+        → IsReplyWith basis.keys request.ksn code answer × (added ≡ []) }
 {
     duk_frame::laws::one_reading();
+    duk_host::laws::used_again();
+    duk_reversal::laws::one_reading();
+    duk_reversal::laws::apart_from_payments();
 }
 
-/// An authentic request of a number that has a payment is refused as of a used number, and adds
-/// nothing, where it has another MAC than that payment, and where that is not one of the latest.
+/// An authentic request of a number that an entry uses is refused as of a used number, and adds
+/// nothing, where it has another MAC than that entry, where that is not one of the latest, and where
+/// the number was reversed.
 pub fn not_answered_again()
-    ensures other_mac { (basis : LineBasis) (frame answer : List ℕ) (added : Payments)
-        → (request : Request) (payment : Payment) → AreUsable (numbers_of basis.payments)
+    ensures other_mac { (basis : LineBasis) (frame answer : List ℕ) (added : Entries)
+        → (request : Request) (entry : Entry) → UseNewNumbers basis.entries
         → IsJudged basis frame answer added → IsRequest frame request
-        → IsAuthentic basis.keys request → Contains basis.payments payment
-        → payment.number ≡ request.ksn → payment.mac ≢ request.mac
+        → IsAuthentic basis.keys request → Contains basis.entries entry
+        → entry.number ≡ request.ksn → entry.mac ≢ request.mac
         → IsRefusal answer request.ksn 5 × (added ≡ []) }
-    ensures older { (basis : LineBasis) (frame answer : List ℕ) (added : Payments)
-        → (request : Request) (payment : Payment) → AreUsable (numbers_of basis.payments)
+    ensures older { (basis : LineBasis) (frame answer : List ℕ) (added : Entries)
+        → (request : Request) (entry : Entry) → UseNewNumbers basis.entries
         → IsJudged basis frame answer added → IsRequest frame request
-        → IsAuthentic basis.keys request → Contains basis.payments payment
-        → payment.number ≡ request.ksn → ¬ Contains (latest_payments basis.payments) payment
+        → IsAuthentic basis.keys request → Contains basis.entries entry
+        → entry.number ≡ request.ksn → ¬ Contains (latest_entries basis.entries) entry
+        → IsRefusal answer request.ksn 5 × (added ≡ []) }
+    ensures undone { (basis : LineBasis) (frame answer : List ℕ) (added : Entries)
+        → (request : Request) → IsJudged basis frame answer added → IsRequest frame request
+        → IsAuthentic basis.keys request → Contains (reversed_numbers basis.entries) request.ksn
         → IsRefusal answer request.ksn 5 × (added ≡ []) }
 {
     duk_frame::laws::one_reading();
     duk_host::laws::used_again();
+    duk_reversal::laws::one_reading();
+    duk_reversal::laws::apart_from_payments();
 }
 
-/// By one basis whose payments have usable numbers, none of them twice, a frame has at most one
-/// answer and adds one list of payments; so do frames in turn. By the keys, the room and the issuer
-/// a list of payments thus settles what each further frame is answered with.
+/// An authentic reversal that is one of the latest entries is given its reply, and adds nothing. Any
+/// other of a used number is refused for that.
+pub fn reversed_again()
+    ensures again { (basis : LineBasis) (frame answer : List ℕ) (added : Entries)
+        → (reversal : Reversal) (state : ReversalState) → UseNewNumbers basis.entries
+        → IsJudged basis frame answer added → IsReversal frame reversal
+        → IsAuthenticReversal basis.keys reversal → IsReversalKept basis reversal state
+        → IsReversalReplyWith basis.keys reversal.numbers state answer × (added ≡ []) }
+    ensures used { (basis : LineBasis) (frame answer : List ℕ) (added : Entries)
+        → (reversal : Reversal) → IsJudged basis frame answer added → IsReversal frame reversal
+        → IsAuthenticReversal basis.keys reversal
+        → Contains (used_by basis.entries) reversal.numbers.ksn
+        → ((state : ReversalState) → ¬ IsReversalKept basis reversal state)
+        → IsRefusal answer reversal.numbers.ksn 5 × (added ≡ []) }
+{
+    duk_frame::laws::one_reading();
+    duk_host::laws::used_again();
+    duk_reversal::laws::one_reading();
+    duk_reversal::laws::apart_from_payments();
+}
+
+/// By one basis whose entries each use a new number, a frame has at most one answer and adds one list
+/// of entries; so do frames in turn. By the keys, the capacity, the room and the issuer a list of
+/// entries thus settles what each further frame is answered with.
 pub fn one_judgement()
-    ensures frame { (basis : LineBasis) (frame answer other : List ℕ) (added further : Payments)
-        → AreUsable (numbers_of basis.payments) → IsJudged basis frame answer added
+    ensures frame { (basis : LineBasis) (frame answer other : List ℕ) (added further : Entries)
+        → UseNewNumbers basis.entries → IsJudged basis frame answer added
         → IsJudged basis frame other further → (answer ≡ other) × (added ≡ further) }
     ensures frames { (basis : LineBasis) (frames answers others : List (List ℕ))
-        → (added further : Payments) → AreUsable (numbers_of basis.payments)
+        → (added further : Entries) → UseNewNumbers basis.entries
         → AreJudged basis frames answers added → AreJudged basis frames others further
         → (answers ≡ others) × (added ≡ further) }
 {
@@ -122,10 +176,38 @@ pub fn one_judgement()
     duk_host::laws::one_answer();
     duk_host::laws::refusals();
     duk_host::laws::replies();
+    duk_host::laws::used_again();
+    duk_reversal::laws::one_reading();
+    duk_reversal::laws::apart_from_payments();
 }
 
-/// Over a journal that keeps to its model, is sound, and keeps no list with a number that numbers no
-/// transaction, or stands twice, no restart of a host is refused as damaged, and no check is. Such a
+/// Once a reversal of a number is kept, no entry of that number is added, whatever frames come: so no
+/// payment of it is accepted that comes late. And no payment of it ever stands.
+pub fn undone()
+    ensures no_more { (basis : LineBasis) (frames answers : List (List ℕ)) (added : Entries)
+        → (number : Serial) (entry : Entry) → AreJudged basis frames answers added
+        → Contains (reversed_numbers basis.entries) number → Contains added entry
+        → entry.number ≢ number }
+    ensures never_stands { (basis : LineBasis) (frames answers : List (List ℕ)) (added : Entries)
+        → (number : Serial) → AreJudged basis frames answers added
+        → Contains (reversed_numbers basis.entries) number
+        → ¬ Stands (basis.entries ++ added) number }
+{}
+
+/// Each reversal tells what is kept: that a payment is undone exactly where an approved payment of the
+/// number that it reverses is kept. Frames in turn leave that so, also of the reversals before them. So
+/// where a reversal was told that none stands, no payment of the number is approved later.
+pub fn told_what_stands()
+    ensures frames { (basis : LineBasis) (frames answers : List (List ℕ)) (added : Entries)
+        → AreJudged basis frames answers added → TellWhatIsKept basis.entries
+        → TellWhatIsKept (basis.entries ++ added) }
+    ensures told { (keys : HsmKeys) (entries : Entries) (numbers : Numbers)
+        → (state : ReversalState) (frame : List ℕ) → TellWhatIsKept entries
+        → IsReversalReplyOf keys entries numbers state frame → IsAsTold entries numbers state }
+{}
+
+/// Over a journal that keeps to its model, is sound, and keeps no list but of entries that each use a
+/// new number, no restart of a host is refused as damaged, and no check is. Such a
 /// journal is each one that a check has passed.
 pub fn comes_up<J: Journal, I: Issuer>()
     ensures host { (old new : HostOf J I) → IsUsableJournal (J.meaning.state_of old.journal)
@@ -139,21 +221,33 @@ pub fn comes_up<J: Journal, I: Issuer>()
 
 /// All that services over one journal answer, one after the other, however each of them ends, and
 /// wherever a step of the journal's device fails. All accepted replies to a number that any of them
-/// gives are equal, byte for byte; and the journal keeps the payment of each.
+/// gives are equal, byte for byte, and so are all replies to reversals that use one number; and the
+/// journal keeps the entry of each. Where reversals tell what was kept at first, as in a journal that is
+/// new, what each reversal was told is so of whatever the journal keeps after the last service.
 pub fn lifetimes<J: Journal, I: Issuer>()
     ensures alike { (keys : HsmKeys) (first last : J)
         → (services : List (List (List ℕ)))
         → IsLifetime (host_meaning_of J.meaning I.decides) keys
         (J.meaning.state_of first).found services (J.meaning.state_of last).found
-        → AcceptsAlike (all_answers services) }
+        → AcceptsAlike (all_answers services) × TellsAlike (all_answers services) }
     ensures kept { (keys : HsmKeys) (first last : J)
-        → (services : List (List (List ℕ))) (payments : Payments)
+        → (services : List (List (List ℕ))) (entries : Entries)
         → IsLifetime (host_meaning_of J.meaning I.decides) keys
         (J.meaning.state_of first).found services (J.meaning.state_of last).found
-        → (J.meaning.state_of last).found payments
-        → AreRepliesOf keys payments (all_answers services) }
+        → (J.meaning.state_of last).found entries
+        → AreRepliesOf keys entries (all_answers services)
+        × AreReversalRepliesOf keys entries (all_answers services) }
+    ensures told { (keys : HsmKeys) (first last : J)
+        → (services : List (List (List ℕ))) (entries : Entries) (answer : List ℕ)
+        → (numbers : Numbers) (state : ReversalState)
+        → FindsWithin (J.meaning.state_of first) TellWhatIsKept
+        → IsLifetime (host_meaning_of J.meaning I.decides) keys
+        (J.meaning.state_of first).found services (J.meaning.state_of last).found
+        → (J.meaning.state_of last).found entries → Contains (all_answers services) answer
+        → TellsReversal numbers state answer → IsAsTold entries numbers state }
 {
     one_reply();
+    told_what_stands();
 }
 
 /// What `serve` does after a restart is a service, however it ends: at the end of its input, or
@@ -175,7 +269,7 @@ pub fn each_service<J: Journal, I: Issuer>()
 }
 
 /// Nothing is hidden beside what contracts see, but for a host's allocator, spare room, and how the
-/// latest payments lie in an index: hosts, indexes, groups and workspaces that are equal to them are
+/// latest entries lie in an index: hosts, indexes, groups and workspaces that are equal to them are
 /// equal in each field.
 pub fn nothing_else<const N: usize, J: Journal, I: Issuer>()
     ensures host { (one other : host.Inside N J I) → one.alloc ≡ other.alloc
@@ -183,7 +277,7 @@ pub fn nothing_else<const N: usize, J: Journal, I: Issuer>()
     ensures index { (one other : index.Inside) → HaveOneRing one other
         → index_view.view one ≡ index_view.view other → one ≡ other }
     ensures group { (one other : group.Inside) → one.answers ≡ other.answers
-        → one.payments ≡ other.payments → one ≡ other }
+        → one.entries ≡ other.entries → one ≡ other }
     ensures workspace { (one other : workspace.Inside) → one.frames ≡ other.frames
         → one.group ≡ other.group → one ≡ other }
 {}

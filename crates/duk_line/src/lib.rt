@@ -1,9 +1,9 @@
 //! A payment host over a journal, for a busy line.
 //!
-//! It judges requests as `duk_host` does, a group of frames at a time: what a group accepts goes into
-//! the journal together, with one pair of syncs, before any answer of the group goes out. The journal
-//! keeps what was decided, so a request whose payment is one of the latest is given its reply again
-//! in any run. A restart reads the journal by large pieces.
+//! It judges requests as `duk_host` does, and reversals of payments, a group of frames at a time: what
+//! a group accepts goes into the journal together, with one pair of syncs, before any answer of the
+//! group goes out. The journal keeps what was decided, so a request or a reversal that is one of the
+//! latest is given its reply again in any run. A restart reads the journal by large pieces.
 #![tactic(auto)]
 
 mod check;
@@ -13,8 +13,12 @@ mod index;
 mod judge;
 mod latest;
 pub mod laws;
+mod payment;
 mod reading;
+mod reason;
+mod reversal;
 mod service;
+mod sets;
 mod workspace;
 
 pub use check::check_journal;

@@ -1,27 +1,28 @@
 //! How the index of a host is read from its journal.
 
-ghost use Rattle.std.specs.Prelude.{◌≡◌, ◌≤◌, ◌∷◌, [], true, IfErr, IfOk, OnOk, length};
+ghost use Rattle.std.specs.Prelude.{◌≡◌, ◌≤◌, ◌↔◌, ◌∷◌, [], true, IfErr, IfOk, IsTrue, OnOk, length};
 ghost use Rattle.std.specs.Bool.{MatchBool};
 ghost use Rattle.duk_host.specs.Used.{IsUsed};
+ghost use Rattle.duk_journal.specs.Entry.{MayStandUnder};
 ghost use Rattle.duk_tree.specs.Path.{IsUsable};
-ghost use Rattle.duk_line.specs.inner.Reading.{AreRead, ReadRefused, TakeRefused, TakesPayments};
+ghost use Rattle.duk_line.specs.inner.Reading.{AreRead, ReadRefused, TakeRefused, TakesEntries};
 
 use crate::index::Index;
 use crate::latest::MOST_LATEST;
 use duk_frame::Code;
 use duk_host::HostFault;
-use duk_journal::{Journal, Payment};
+use duk_journal::{Decided, Entry, Journal};
 use duk_store::StoreFault;
 use duk_tree::{Ksn, usable};
 use std::alloc::{AllocError, Global};
 
-/// How many payments are read at a time, at most: a piece of 64 KiB of a journal on a disk.
+/// How many entries are read at a time, at most: a piece of 64 KiB of a journal on a disk.
 const PIECE: usize = 2048;
 
-/// The index of the payments that a journal keeps, as many as its restart found.
+/// The index of the entries that a journal keeps, as many as its restart found.
 ///
-/// Refused with `Store`: of the journal's fault, or with `Damaged` where a number stands twice or
-/// numbers no transaction; and with `NoMemory`.
+/// Refused with `Store`: of the journal's fault, or with `Damaged` where the number of an entry
+/// numbers no transaction, was used before or cannot have what was decided; and with `NoMemory`.
 pub(crate) fn index_of<J: Journal>(
     alloc: Global,
     journal: &mut J,
@@ -36,15 +37,15 @@ pub(crate) fn index_of<J: Journal>(
     ensures refused { IfErr result (ReadRefused J.meaning journal.old journal.new kept) }
 {
     let mut index = Index::new(alloc);
-    let mut piece = vec![in alloc; no_payment(); PIECE]?;
+    let mut piece = vec![in alloc; no_entry(); PIECE]?;
     let mut place = 0;
     while place < kept {
         let count = (kept - place).min(PIECE as u64);
-        let payments = &mut piece[..count as usize];
-        if let Err(fault) = journal.read(place, payments) {
+        let entries = &mut piece[..count as usize];
+        if let Err(fault) = journal.read(place, entries) {
             return Err(HostFault::Store(fault));
         }
-        if let Err(fault) = take_piece(&mut index, payments, kept - place) {
+        if let Err(fault) = take_piece(&mut index, entries, kept - place) {
             return Err(fault);
         }
         place += count;
@@ -53,24 +54,26 @@ pub(crate) fn index_of<J: Journal>(
 }
 
 /// What a place holds before it is read into.
-fn no_payment() -> Payment {
-    Payment {
+fn no_entry() -> Entry {
+    Entry {
         number: Ksn::from_bytes([0; 10]),
-        amount: 0,
-        code: Code::Approved,
+        decided: Decided::Payment {
+            amount: 0,
+            code: Code::Approved,
+        },
         mac: [0; 8],
     }
 }
 
-/// Takes payments into the index, of which and of those behind them there are so many.
-fn take_piece(index: &mut Index, payments: &[Payment], left: u64) -> Result<(), HostFault>
-    requires { length payments.now ≤ left }
-    ensures taken { OnOk result (TakesPayments left payments.now index.old index.new) }
-    ensures refused { IfErr result (TakeRefused left payments.now index.old) }
+/// Takes entries into the index, of which and of those behind them there are so many.
+fn take_piece(index: &mut Index, entries: &[Entry], left: u64) -> Result<(), HostFault>
+    requires { length entries.now ≤ left }
+    ensures taken { OnOk result (TakesEntries left entries.now index.old index.new) }
+    ensures refused { IfErr result (TakeRefused left entries.now index.old) }
 {
     let mut rest = left;
-    for payment in payments {
-        if let Err(fault) = take_one(index, payment, rest) {
+    for entry in entries {
+        if let Err(fault) = take_one(index, entry, rest) {
             return Err(fault);
         }
         rest -= 1;
@@ -78,38 +81,53 @@ fn take_piece(index: &mut Index, payments: &[Payment], left: u64) -> Result<(), 
     Ok(())
 }
 
-/// Takes a payment into the index, of which and of those behind it there are so many. It can be
+/// Takes an entry into the index, of which and of those behind it there are so many. It can be
 /// answered again if it is one of the latest.
 ///
-/// Refused with `NoMemory`, and with `Store` of `Damaged` where its number was read before or numbers
-/// no transaction.
-fn take_one(index: &mut Index, payment: &Payment, left: u64) -> Result<(), HostFault>
+/// Refused with `NoMemory`, and with `Store` of `Damaged` where its number numbers no transaction,
+/// was used before or cannot have what was decided.
+fn take_one(index: &mut Index, entry: &Entry, left: u64) -> Result<(), HostFault>
     requires { 1 ≤ left }
-    ensures taken { OnOk result (TakesPayments left (payment.now ∷ []) index.old index.new) }
-    ensures refused { IfErr result (TakeRefused left (payment.now ∷ []) index.old) }
+    ensures taken { OnOk result (TakesEntries left (entry.now ∷ []) index.old index.new) }
+    ensures refused { IfErr result (TakeRefused left (entry.now ∷ []) index.old) }
 {
-    if !usable(payment.number.counter()) {
+    if !usable(entry.number.counter()) {
         return Err(HostFault::Store(StoreFault::Damaged));
     }
-    if take_into(index, payment, left)? {
+    if !may_stand(entry) {
+        return Err(HostFault::Store(StoreFault::Damaged));
+    }
+    if take_into(index, entry, left)? {
         Ok(())
     } else {
         Err(HostFault::Store(StoreFault::Damaged))
     }
 }
 
-/// Takes a payment with a usable number into the index, and reports whether the number was not used
-/// before.
-fn take_into(index: &mut Index, payment: &Payment, left: u64) -> Result<bool, AllocError>
+/// Whether what was decided may stand under the number of an entry: a payment under any, a reversal
+/// where the number that it is of is usable, and another.
+fn may_stand(entry: &Entry) -> bool
+    ensures { IsTrue result ↔ MayStandUnder entry.now.number entry.now.decided }
+{
+    match entry.decided {
+        Decided::Payment { .. } => true,
+        Decided::Reversal { counter, .. } => usable(counter) && counter != entry.number.counter(),
+    }
+}
+
+/// Takes an entry that may stand under its usable number into the index, and reports whether the
+/// number was not used before.
+fn take_into(index: &mut Index, entry: &Entry, left: u64) -> Result<bool, AllocError>
     requires some { 1 ≤ left }
-    requires usable { IsUsable payment.now.number.counter }
+    requires usable { IsUsable entry.now.number.counter }
+    requires stands { MayStandUnder entry.now.number entry.now.decided }
     ensures taken { IfOk result (λ fresh. MatchBool fresh
-        (TakesPayments left (payment.now ∷ []) index.old index.new)
-        (IsUsed index.old.used payment.now.number)) }
+        (TakesEntries left (entry.now ∷ []) index.old index.new)
+        (IsUsed index.old.used entry.now.number)) }
 {
     if left <= MOST_LATEST as u64 {
-        index.take(payment)
+        index.take(entry)
     } else {
-        index.take_number(payment.number)
+        index.take_numbers(entry)
     }
 }

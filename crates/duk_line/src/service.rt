@@ -33,7 +33,7 @@ const FEW: usize = 16;
 const FEW_ANSWERS: usize = 1_024;
 
 /// Answers the frames of the input. Those that a read ends are answered together, in groups: the
-/// payments of a group are kept before any of its answers is written.
+/// entries of a group are kept before any of its answers is written.
 ///
 /// Refused, as they come, with `Read`, where a read failed, and `Truncated`, where the input ends
 /// inside a frame, each after all whole frames are answered; with what `answer` refuses of a group,

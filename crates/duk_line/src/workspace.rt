@@ -35,7 +35,7 @@ impl Workspace {
     pub fn new(alloc: Global) -> Result<Self, AllocError>
         ensures frames { IfOk result (λ work. work.frames ≡ []) }
         ensures answers { IfOk result (λ work. work.group.answers ≡ []) }
-        ensures payments { IfOk result (λ work. work.group.payments ≡ []) }
+        ensures entries { IfOk result (λ work. work.group.entries ≡ []) }
     {
         let frames = Vec::with_capacity(alloc, MOST_FRAMES)?;
         let group = Group::new(alloc)?;

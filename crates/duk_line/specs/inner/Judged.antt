@@ -1,55 +1,118 @@
--- What single functions make of a frame and of the index of some payments: this project's own.
-use Rattle.std.specs.Prelude.{◌≡◌, ◌≤◌, ◌++◌, ℕ, List, All, Option, length, take}
+-- What single functions make of a frame and of the index of some entries: this project's own.
+use Rattle.std.specs.Prelude.{◌≡◌, ◌≤◌, ◌<◌, ◌-◌, ◌++◌, ℕ, List, [], All, Contains, None, Option, get_or, length, take}
 use Rattle.std.specs.Option.{option_to_list}
-use Rattle.duk_frame.specs.Request.{IsRequest}
+use Rattle.duk_frame.specs.declared.code.Code.{Code}
 use Rattle.duk_frame.specs.declared.request.Request.{Request}
-use Rattle.duk_host.specs.Judgement.{Decision, IsAcceptable}
-use Rattle.duk_hsm.specs.Keys.{HsmKeys}
-use Rattle.duk_journal.specs.Groups.{Payments}
-use Rattle.duk_journal.specs.declared.payment.Payment.{Payment}
+use Rattle.duk_host.specs.Judgement.{Decision, IsAcceptable, basis_with}
+use Rattle.duk_host.specs.Used.{IsUsed}
+use Rattle.duk_hsm.specs.Commands.{HasBadCounter, IsOtherMac}
+use Rattle.duk_hsm.specs.Keys.{HsmKeys, key_set_of}
+use Rattle.duk_journal.specs.Entry.{MayStandUnder}
+use Rattle.duk_journal.specs.Groups.{Entries}
+use Rattle.duk_journal.specs.declared.entry.Entry.{Entry}
+use Rattle.duk_reversal.specs.Reversal.{reversal_text}
+use Rattle.duk_reversal.specs.declared.reversal.Reversal as reversal_frame
+use Rattle.duk_reversal.specs.declared.state.ReversalState.{ReversalState}
 use Rattle.duk_tree.specs.Path.{IsUsable}
+use Rattle.duk_tree.specs.Serial.{Serial, prefix_of}
 use Rattle.duk_line.specs.Host.{IndexOf, IsIndexOf}
 use Rattle.duk_line.specs.Judged.{AreJudged}
-use Rattle.duk_line.specs.Judgement.{IsJudged, IsSettled, line_basis, without_repeats}
+use Rattle.duk_line.specs.Judgement.{IsJudged, IsReversalAcceptable, IsSettled, MayBeTaken, line_basis, reversal_entry}
+use Rattle.duk_line.specs.Latest.{payment_entry, used_by}
+use Rattle.duk_line.specs.declared.reason.Reason.{Reason}
+use Rattle.duk_line.specs.declared.reason.Reason.TheVariants as reason
 
--- by any payments of which the index is, the bytes are settled with this frame
-abbrev pub SettlesBy : HsmKeys → IndexOf → ℕ → List ℕ → List ℕ → Type 0
-SettlesBy keys index room bytes frame = (payments : Payments) (decides : Decision)
-    → IsIndexOf payments index → IsSettled (line_basis keys payments room decides) bytes frame
+-- the payment with this number and this MAC is one of the latest entries of an index, with this code,
+-- and is not undone
+pub record IsCodeKept (index : IndexOf) (ksn : Serial) (mac : List ℕ) (code : Code) : Type 0 where
+  pub amount : ℕ
+  pub kept : Contains index.latest (payment_entry ksn amount code mac)
+  pub not_undone : ¬ IsUsed index.reversed ksn
 
--- by any such payments, the request may be accepted
+-- the reversal is one of the latest entries of an index, and found this then
+abbrev pub IsStateKept : IndexOf → reversal_frame.Reversal → ReversalState → Type 0
+IsStateKept index reversal state = Contains index.latest (reversal_entry reversal state)
+
+-- why the MAC of a reversal is not verified. Each reason says that those before it do not hold
+abbrev pub IsAgainstMac : HsmKeys → reversal_frame.Reversal → Reason → Type 0
+IsAgainstMac keys reversal reason.UnknownKeySet =
+    key_set_of keys (prefix_of reversal.numbers.ksn) ≡ None
+IsAgainstMac keys reversal reason.BadCounter = HasBadCounter keys reversal.numbers.ksn
+IsAgainstMac keys reversal reason.BadMac =
+    IsOtherMac keys reversal.numbers.ksn (reversal_text reversal.numbers) reversal.mac
+IsAgainstMac keys reversal _ = ⊥
+
+-- the number is not used, and there is no room for it
+pub record IsNewWithoutRoom (index : IndexOf) (room : ℕ) (ksn : Serial) : Type 0 where
+  pub new : ¬ IsUsed index.used ksn
+  pub full : room ≡ 0
+
+-- why a number cannot be used by a reversal: it is used, or else there is no room
+abbrev pub IsAgainstNumber : IndexOf → ℕ → Serial → Reason → Type 0
+IsAgainstNumber index room ksn reason.Used = IsUsed index.used ksn
+IsAgainstNumber index room ksn reason.JournalFull = IsNewWithoutRoom index room ksn
+IsAgainstNumber index room ksn _ = ⊥
+
+-- by any entries of which the index is, the bytes are settled with this frame
+abbrev pub SettlesBy : HsmKeys → IndexOf → ℕ → ℕ → List ℕ → List ℕ → Type 0
+SettlesBy keys index capacity room bytes frame = (entries : Entries) (decides : Decision)
+    → IsIndexOf entries index → IsSettled (line_basis keys entries capacity room decides) bytes frame
+
+-- by any such entries, the request may be accepted, where there is room for so many payments
 abbrev pub AcceptableBy : HsmKeys → IndexOf → ℕ → Request → Type 0
-AcceptableBy keys index room request = (payments : Payments) (decides : Decision)
-    → IsIndexOf payments index
-    → IsAcceptable (without_repeats (line_basis keys payments room decides)) request
+AcceptableBy keys index payments request = (entries : Entries) (decides : Decision)
+    → IsIndexOf entries index
+    → IsAcceptable (basis_with keys (used_by entries) [] payments decides) request
 
--- the bytes are a request that may be accepted by any such payments
-abbrev pub MayBeAccepted : HsmKeys → IndexOf → ℕ → List ℕ → Type 0
-MayBeAccepted keys index room bytes =
-    (request : Request) × IsRequest bytes request × AcceptableBy keys index room request
+-- by any such entries, the reversal may be accepted, where there is room for so many of them
+abbrev pub ReversalAcceptableBy : HsmKeys → IndexOf → ℕ → reversal_frame.Reversal → Type 0
+ReversalAcceptableBy keys index room reversal = (entries : Entries) (capacity : ℕ)
+    → (decides : Decision) → IsIndexOf entries index
+    → IsReversalAcceptable (line_basis keys entries capacity room decides) reversal
 
--- by any such payments, the bytes are judged so, and the new index is of these and what is added
+-- by any such entries, there is no reason against the bytes
+abbrev pub MayBeAccepted : HsmKeys → IndexOf → ℕ → ℕ → List ℕ → Type 0
+MayBeAccepted keys index capacity room bytes = (entries : Entries) (decides : Decision)
+    → IsIndexOf entries index → MayBeTaken (line_basis keys entries capacity room decides) bytes
+
+-- by any such entries, the bytes are judged so, and the new index is of these and what is added
 abbrev pub JudgesFrame :
-    HsmKeys → Decision → ℕ → List ℕ → IndexOf → IndexOf → List ℕ → Option Payment → Type 0
-JudgesFrame keys decides room bytes old new frame added = (payments : Payments)
-    → IsIndexOf payments old
-    → IsJudged (line_basis keys payments room decides) bytes frame (option_to_list added)
-    × IsIndexOf (payments ++ option_to_list added) new
+    HsmKeys → Decision → ℕ → ℕ → List ℕ → IndexOf → IndexOf → List ℕ → Option Entry → Type 0
+JudgesFrame keys decides capacity room bytes old new frame added = (entries : Entries)
+    → IsIndexOf entries old
+    → IsJudged (line_basis keys entries capacity room decides) bytes frame (option_to_list added)
+    × IsIndexOf (entries ++ option_to_list added) new
 
--- by any such payments, frames are judged in turn
+-- by any such entries, frames are judged in turn
 abbrev pub JudgesFrames :
-    HsmKeys → Decision → ℕ → List (List ℕ) → IndexOf → IndexOf → List (List ℕ) → Payments → Type 0
-JudgesFrames keys decides room frames old new answers added = (payments : Payments)
-    → IsIndexOf payments old
-    → AreJudged (line_basis keys payments room decides) frames answers added
-    × IsIndexOf (payments ++ added) new
+    HsmKeys → Decision → ℕ → ℕ → List (List ℕ) → IndexOf → IndexOf → List (List ℕ) → Entries
+    → Type 0
+JudgesFrames keys decides capacity room frames old new answers added = (entries : Entries)
+    → IsIndexOf entries old
+    → AreJudged (line_basis keys entries capacity room decides) frames answers added
+    × IsIndexOf (entries ++ added) new
 
--- the first frames of a group are judged: these are as many as there are answers
+-- memory was refused at a frame: those before it are judged, and by the index that they leave there
+-- is no reason against it. Of the index after that nothing is said
+pub record JudgesFirst
+    (keys : HsmKeys) (decides : Decision) (capacity room : ℕ) (frames : List (List ℕ))
+    (old : IndexOf) (answers : List (List ℕ)) (added : Entries) : Type 0 where
+  pub fewer : length answers < length frames
+  pub before : IndexOf
+  pub judged : JudgesFrames keys decides capacity room (take (length answers) frames) old before
+      answers added
+  pub may_be_accepted : MayBeAccepted keys before capacity (room - length added)
+      (get_or frames (length answers) [])
+
+-- the first frames of a group are judged, where a journal keeps so many entries and has room for so many
+-- more: these frames are as many as there are answers
 pub record AreJudgedSoFar
-    (keys : HsmKeys) (decides : Decision) (room : ℕ) (frames : List (List ℕ)) (count : ℕ)
-    (old new : IndexOf) (answers : List (List ℕ)) (added : Payments) : Type 0 where
-  pub judged : JudgesFrames keys decides room (take count frames) old new answers added
+    (keys : HsmKeys) (decides : Decision) (kept room : ℕ) (frames : List (List ℕ)) (count : ℕ)
+    (old new : IndexOf) (answers : List (List ℕ)) (added : Entries) : Type 0 where
+  pub judged : (capacity : ℕ) → room ≡ capacity - kept
+      → JudgesFrames keys decides capacity room (take count frames) old new answers added
   pub counted : length answers ≡ count
-  pub usable : All (λ payment. IsUsable payment.number.counter) added
+  pub usable : All (λ entry. IsUsable entry.number.counter) added
+  pub stand : All (λ entry. MayStandUnder entry.number entry.decided) added
   pub fits : length added ≤ room
   pub fewer : length added ≤ length answers

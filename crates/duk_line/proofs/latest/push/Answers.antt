@@ -1,7 +1,7 @@
 use Rattle.std.proofs.Common.{◌≡◌, ◌∷◌, [], ℕ, List, length, set, eqb, refl, ap, ◌∙◌, arith, length-append}
 use Rattle.std.proofs.Math.ListN.{length-set}
 use Rattle.std.specs.Map.{lookup}
-use Rattle.duk_journal.specs.declared.payment.Payment.{Payment}
+use Rattle.duk_journal.specs.declared.entry.Entry.{Entry}
 use Rattle.duk_line.specs.Latest.{most_latest}
 use Rattle.duk_line.specs.declared.latest.Kept.{Kept}
 use Rattle.duk_line.specs.inner.Latest.{kept_of, serial_number}
@@ -10,30 +10,30 @@ use Rattle.duk_line.proofs.latest.push.Goals as goal
 
 pub returns-then-len-le-MOST_LATEST-clause-last : goal.returns-then-len-le-MOST_LATEST-clause-last
 returns-then-len-le-MOST_LATEST-clause-last c =
-    let payment = c.args.payment.now in
+    let entry = c.args.entry.now in
     let added = on_ok c.insert.result (c.insert.ensures.succeeds c.requires.room) c.insert.ensures.entries in
-    let none = absent c.args.oldest c.args.map.now.entries payment.number (lookup (eqb (serial_number payment.number)) c.args.map.now.entries) c.number_of.ensures.serial refl c.requires.new in
-    let all = inserted c.args.map.now c.number_of.result c.kept_of.result payment c.insert.new.self.entries added c.number_of.ensures.value c.kept_of.ensures none in
-    pushed c.args.oldest c.args.map.now.entries c.insert.new.self.entries payment c.number_of.ensures.serial c.requires.ring (omega arith) all
+    let none = absent c.args.oldest c.args.map.now.entries entry.number (lookup (eqb (serial_number entry.number)) c.args.map.now.entries) c.number_of.ensures.serial refl c.requires.new in
+    let all = inserted c.args.map.now c.number_of.result c.kept_of.result entry c.insert.new.self.entries added c.number_of.ensures.value c.kept_of.ensures none in
+    pushed c.args.oldest c.args.map.now.entries c.insert.new.self.entries entry c.number_of.ensures.serial c.requires.ring (omega arith) all
 
 -- what there is, where there were as many as can be
-record IsReplaced (entries after : List (ℕ × Kept)) (oldest : ℕ) (payment : Payment) : Type 0 where
-  full : length entries ≡ most_latest
-  after_is : after ≡ set entries oldest (serial_number payment.number, kept_of payment)
+record IsReplaced (places after : List (ℕ × Kept)) (oldest : ℕ) (entry : Entry) : Type 0 where
+  full : length places ≡ most_latest
+  after_is : after ≡ set places oldest (serial_number entry.number, kept_of entry)
   as_many : length after ≡ most_latest
 
-replaced_there : (c : goal.After-place_after) → IsReplaced c.args.map.now.entries c.swap_remove_index.new.self.entries c.args.oldest c.args.payment.now
+replaced_there : (c : goal.After-place_after) → IsReplaced c.args.map.now.entries c.swap_remove_index.new.self.entries c.args.oldest c.args.entry.now
 replaced_there c =
-    let payment = c.args.payment.now in
-    let entries = c.args.map.now.entries in
-    let entry : ℕ × Kept = (serial_number payment.number, kept_of payment) in
+    let entry = c.args.entry.now in
+    let places = c.args.map.now.entries in
+    let place : ℕ × Kept = (serial_number entry.number, kept_of entry) in
     let added = on_ok c.insert.result (c.insert.ensures.succeeds c.requires.room) c.insert.ensures.entries in
-    let none = absent c.args.oldest c.args.map.now.entries payment.number (lookup (eqb (serial_number payment.number)) c.args.map.now.entries) c.number_of.ensures.serial refl c.requires.new in
-    let all = inserted c.args.map.now c.number_of.result c.kept_of.result payment c.insert.new.self.entries added c.number_of.ensures.value c.kept_of.ensures none in
-    let full : length entries ≡ most_latest = omega (arith, c.requires.ring.most, ap length all, length-append entries (entry ∷ [])) in
-    let after_is = removed entries c.insert.new.self.entries c.swap_remove_index.new.self.entries c.args.oldest entry c.swap_remove_index.result
+    let none = absent c.args.oldest c.args.map.now.entries entry.number (lookup (eqb (serial_number entry.number)) c.args.map.now.entries) c.number_of.ensures.serial refl c.requires.new in
+    let all = inserted c.args.map.now c.number_of.result c.kept_of.result entry c.insert.new.self.entries added c.number_of.ensures.value c.kept_of.ensures none in
+    let full : length places ≡ most_latest = omega (arith, c.requires.ring.most, ap length all, length-append places (place ∷ [])) in
+    let after_is = removed places c.insert.new.self.entries c.swap_remove_index.new.self.entries c.args.oldest place c.swap_remove_index.result
     (omega (arith, c.requires.ring.inside, full)) all c.swap_remove_index.ensures.entry c.swap_remove_index.ensures.entries in
-    record { full = full; after_is = after_is; as_many = ap length after_is ∙ length-set entries c.args.oldest entry ∙ full }
+    record { full = full; after_is = after_is; as_many = ap length after_is ∙ length-set places c.args.oldest place ∙ full }
 
 pub returns-clause-ring : goal.returns-clause-ring
 returns-clause-ring c =
@@ -42,5 +42,5 @@ returns-clause-ring c =
 pub returns-clause-last : goal.returns-clause-last
 returns-clause-last c =
     let there = replaced_there c in
-    replaced c.args.oldest c.place_after.result c.args.map.now.entries c.swap_remove_index.new.self.entries c.args.payment.now c.number_of.ensures.serial c.requires.ring there.full there.after_is there.as_many
+    replaced c.args.oldest c.place_after.result c.args.map.now.entries c.swap_remove_index.new.self.entries c.args.entry.now c.number_of.ensures.serial c.requires.ring there.full there.after_is there.as_many
     c.place_after.ensures.next c.place_after.ensures.around

@@ -1,15 +1,41 @@
 use Rattle.duk_line.specs.Host.{host_meaning_of}
-use Rattle.duk_line.proofs.LifetimeOfServices.{ReplyLaws, alike_in_lifetime, kept_in_lifetime}
+use Rattle.duk_line.specs.Judged.{TellWhatIsKept}
+use Rattle.duk_line.proofs.LifetimeOfServices.{alike_in_lifetime, kept_in_lifetime}
+use Rattle.duk_line.proofs.RepliesOfServices.{AllAlike, HasAll, ReplyLaws, has_none, replies_kept_up, tells_kept_up}
+use Rattle.duk_line.proofs.laws.lifetimes.Given.{Over}
 use Rattle.duk_line.proofs.laws.lifetimes.Goals as goal
+use Rattle.duk_line.proofs.laws.lifetimes.Goals.{After-told_what_stands}
+
+module _ (g : Over) (c : After-told_what_stands g) where
+  replies : ReplyLaws
+  replies = record {
+    kept = c.one_reply.ensures.kept;
+    longer = c.one_reply.ensures.longer;
+    reversal_longer = c.one_reply.ensures.reversal_longer;
+    equal = c.one_reply.ensures.equal;
+    reversal_equal = c.one_reply.ensures.reversal_equal;
+  }
 
 pub returns-clause-alike : goal.returns-clause-alike
 returns-clause-alike g c keys first last services life =
     let meaning = g.J.Journal.meaning in
-    let laws : ReplyLaws = record { kept = c.one_reply.ensures.kept; longer = c.one_reply.ensures.longer; equal = c.one_reply.ensures.equal } in
-    alike_in_lifetime laws (host_meaning_of meaning g.I.Issuer.decides) keys (meaning.state_of first).found (meaning.state_of last).found services life
+    let all = alike_in_lifetime (host_meaning_of meaning g.I.Issuer.decides) keys (HasAll keys) AllAlike (replies_kept_up (replies g c) keys)
+    (meaning.state_of first).found (meaning.state_of last).found services (λ entries found. has_none keys entries) life in
+    (all.payments, all.reversals)
 
 pub returns-clause-kept : goal.returns-clause-kept
-returns-clause-kept g c keys first last services payments life found =
+returns-clause-kept g c keys first last services entries life found =
     let meaning = g.J.Journal.meaning in
-    let laws : ReplyLaws = record { kept = c.one_reply.ensures.kept; longer = c.one_reply.ensures.longer; equal = c.one_reply.ensures.equal } in
-    kept_in_lifetime laws (host_meaning_of meaning g.I.Issuer.decides) keys (meaning.state_of first).found (meaning.state_of last).found services life payments found
+    let all = kept_in_lifetime (host_meaning_of meaning g.I.Issuer.decides) keys (HasAll keys) AllAlike (replies_kept_up (replies g c) keys)
+    (meaning.state_of first).found (meaning.state_of last).found services (λ entries found. has_none keys entries) life entries found in
+    (all.payments, all.reversals)
+
+pub returns-clause-told : goal.returns-clause-told
+returns-clause-told g c keys first last services entries answer numbers state begins life found is_in tells =
+    let meaning = g.J.Journal.meaning in
+    let host = host_meaning_of meaning g.I.Issuer.decides in
+    let all = kept_in_lifetime host keys (HasAll keys) AllAlike (replies_kept_up (replies g c) keys)
+    (meaning.state_of first).found (meaning.state_of last).found services (λ entries found. has_none keys entries) life entries found in
+    let tell = kept_in_lifetime host keys (λ answers entries. TellWhatIsKept entries) (λ answers. Unit {0}) (tells_kept_up keys c.told_what_stands.ensures.frames)
+    (meaning.state_of first).found (meaning.state_of last).found services begins life entries found in
+    c.told_what_stands.ensures.told keys entries numbers state answer tell (all.reversals answer numbers state is_in tells)

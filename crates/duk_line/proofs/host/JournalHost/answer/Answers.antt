@@ -1,20 +1,9 @@
-use Rattle.std.proofs.Common.{◌≢◌, ◌<◌, [], None, Some, get_or, length, map, take, sym, subst, ◌∙◌, arith}
-use Rattle.std.proofs.lemmas.List.{length-map}
-use Rattle.duk_line.specs.Group.{AnswersFrames, IsGroupNotKept}
+use Rattle.std.proofs.Common.{None, Some, map, subst}
+use Rattle.duk_line.specs.Group.{AnswersFirst, AnswersFrames, IsGroupNotKept}
 use Rattle.duk_line.specs.Host.{HostOf, host_meaning_of}
 use Rattle.duk_line.specs.inner.Keep.{AreKept, KeepFailed}
-use Rattle.duk_line.proofs.Answering.{answers_first, held, holds_after, host_with, not_kept, not_stopped, room_left, take_all, would_accept}
+use Rattle.duk_line.proofs.Answering.{answers_all, answers_first, held, holds_after, host_with, not_kept, room_is, room_left}
 use Rattle.duk_line.proofs.host.JournalHost.answer.Goals as goal
-
-pub invariant_of-self-in-Ok : goal.invariant_of-self-in-Ok
-invariant_of-self-in-Ok g c =
-    let meaning = g.J.Journal.meaning in
-    let inside = c.self.inside in
-    let group = c.judge_frames-judged.new.group in
-    let holds = held meaning inside.hsm inside.journal inside.state c.in-Some.index c.self.invariant c.in-Some.is in
-    let kept = subst (λ payments. AreKept meaning inside.journal c.keep.new.journal payments) c.payments.ensures c.in-Ok.ensures.kept in
-    holds_after meaning inside.hsm (g.I.Issuer.decides inside.issuer) c.room-room.result (take (length group.answers) (map (λ frame. frame.items) c.args.frames.now))
-    inside.journal c.keep.new.journal c.in-Some.index c.judge_frames-judged.new.index group.answers group.payments c.self.invariant.zone holds c.judge_frames-judged.ensures.judged kept
 
 pub returns-in-Err-clause-refused : goal.returns-in-Err-clause-refused
 returns-in-Err-clause-refused g c =
@@ -23,11 +12,23 @@ returns-in-Err-clause-refused g c =
     let group = c.judge_frames-judged.new.group in
     let frames = map (λ frame. frame.items) c.args.frames.now in
     let holds = held g.J.Journal.meaning inside.hsm inside.journal inside.state c.in-Some.index c.self.invariant c.in-Some.is in
-    let room = room_left g.J.Journal.meaning inside.journal c.in-Some.index c.room-room.result holds c.room-room.ensures in
-    let failed = subst (λ payments. KeepFailed g.J.Journal.meaning inside.journal c.keep.new.journal payments c.in-Err.fault) c.payments.ensures c.in-Err.ensures.failed in
-    let by_fields = not_kept meaning inside.hsm inside.issuer inside.journal c.keep.new.journal inside.state c.in-Some.index c.judge_frames-judged.new.index c.room-room.result frames group.answers group.payments
-    c.in-Some.is room c.judge_frames-judged.ensures.judged c.in-Err.fault failed in
+    let left = room_left g.J.Journal.meaning inside.journal c.in-Some.index c.len-kept.result c.room-room.result holds c.len-kept.ensures c.room-room.ensures in
+    let all = room_is g.J.Journal.meaning inside.journal c.in-Some.index c.room-room.result holds c.room-room.ensures in
+    let failed = subst (λ entries. KeepFailed g.J.Journal.meaning inside.journal c.keep.new.journal entries c.in-Err.fault) c.entries.ensures c.in-Err.ensures.failed in
+    let by_fields = not_kept meaning inside.hsm inside.issuer inside.journal c.keep.new.journal inside.state c.in-Some.index c.judge_frames-judged.new.index c.room-room.result frames group.answers group.entries
+    c.in-Some.is all c.judge_frames-judged.result c.len-kept.result c.in-Err.fault left c.judge_frames-judged.ensures.judged c.judge_frames-judged.ensures.stopped failed in
     (subst (λ (old : HostOf g.row.J.Denot g.row.I.Denot). IsGroupNotKept meaning frames old (host_with inside.hsm inside.issuer c.keep.new.journal None) c.in-Err.fault) c.self.view_is by_fields, c.clear-in-Err.ensures.answers)
+
+pub invariant_of-self-in-Ok-judged : goal.invariant_of-self-in-Ok-judged
+invariant_of-self-in-Ok-judged g c =
+    let meaning = g.J.Journal.meaning in
+    let inside = c.self.inside in
+    let group = c.judge_frames-judged.new.group in
+    let holds = held meaning inside.hsm inside.journal inside.state c.in-Some.index c.self.invariant c.in-Some.is in
+    let left = room_left meaning inside.journal c.in-Some.index c.len-kept.result c.room-room.result holds c.len-kept.ensures c.room-room.ensures in
+    let kept = subst (λ entries. AreKept meaning inside.journal c.keep.new.journal entries) c.entries.ensures c.in-Ok.ensures.kept in
+    holds_after meaning inside.hsm (g.I.Issuer.decides inside.issuer) (meaning.capacity inside.journal) c.room-room.result (map (λ frame. frame.items) c.args.frames.now)
+    inside.journal c.keep.new.journal c.in-Some.index c.judge_frames-judged.new.index group.answers group.entries c.self.invariant.zone holds (c.in-Ok-judged.ensures.judged (meaning.capacity inside.journal) left) kept
 
 pub returns-in-Ok-judged-clause-answered : goal.returns-in-Ok-judged-clause-answered
 returns-in-Ok-judged-clause-answered g c =
@@ -36,13 +37,12 @@ returns-in-Ok-judged-clause-answered g c =
     let group = c.judge_frames-judged.new.group in
     let frames = map (λ frame. frame.items) c.args.frames.now in
     let holds = held g.J.Journal.meaning inside.hsm inside.journal inside.state c.in-Some.index c.self.invariant c.in-Some.is in
-    let room = room_left g.J.Journal.meaning inside.journal c.in-Some.index c.room-room.result holds c.room-room.ensures in
-    let kept = subst (λ payments. AreKept g.J.Journal.meaning inside.journal c.keep.new.journal payments) c.payments.ensures c.in-Ok.ensures.kept in
-    let by_fields = answers_first meaning inside.hsm inside.issuer inside.journal c.keep.new.journal inside.state c.in-Some.index c.judge_frames-judged.new.index c.room-room.result frames group.answers group.payments
-    c.in-Some.is room c.judge_frames-judged.ensures.judged kept c.keep.ensures.capacity in
-    let all = take_all frames (length group.answers) (c.in-Ok-judged.ensures.all ∙ sym (length-map c.args.frames.now (λ frame. frame.items))) in
-    subst (λ (old : HostOf g.row.J.Denot g.row.I.Denot). AnswersFrames meaning frames old (host_with inside.hsm inside.issuer c.keep.new.journal (Some c.judge_frames-judged.new.index)) group.answers) c.self.view_is
-    (subst (λ frames. AnswersFrames meaning frames (host_with inside.hsm inside.issuer inside.journal inside.state) (host_with inside.hsm inside.issuer c.keep.new.journal (Some c.judge_frames-judged.new.index)) group.answers) all by_fields)
+    let left = room_left g.J.Journal.meaning inside.journal c.in-Some.index c.len-kept.result c.room-room.result holds c.len-kept.ensures c.room-room.ensures in
+    let all = room_is g.J.Journal.meaning inside.journal c.in-Some.index c.room-room.result holds c.room-room.ensures in
+    let kept = subst (λ entries. AreKept g.J.Journal.meaning inside.journal c.keep.new.journal entries) c.entries.ensures c.in-Ok.ensures.kept in
+    let by_fields = answers_all meaning inside.hsm inside.issuer inside.journal c.keep.new.journal inside.state c.in-Some.index c.judge_frames-judged.new.index c.room-room.result frames group.answers group.entries
+    c.in-Some.is all (c.in-Ok-judged.ensures.judged (meaning.journal.capacity inside.journal) left) kept c.keep.ensures.capacity in
+    subst (λ (old : HostOf g.row.J.Denot g.row.I.Denot). AnswersFrames meaning frames old (host_with inside.hsm inside.issuer c.keep.new.journal (Some c.judge_frames-judged.new.index)) group.answers) c.self.view_is by_fields
 
 pub returns-in-Err-judged-clause-refused : goal.returns-in-Err-judged-clause-refused
 returns-in-Err-judged-clause-refused g c =
@@ -51,16 +51,9 @@ returns-in-Err-judged-clause-refused g c =
     let group = c.judge_frames-judged.new.group in
     let frames = map (λ frame. frame.items) c.args.frames.now in
     let holds = held g.J.Journal.meaning inside.hsm inside.journal inside.state c.in-Some.index c.self.invariant c.in-Some.is in
-    let room = room_left g.J.Journal.meaning inside.journal c.in-Some.index c.room-room.result holds c.room-room.ensures in
-    let kept = subst (λ payments. AreKept g.J.Journal.meaning inside.journal c.keep.new.journal payments) c.payments.ensures c.in-Ok.ensures.kept in
-    let by_fields = answers_first meaning inside.hsm inside.issuer inside.journal c.keep.new.journal inside.state c.in-Some.index c.judge_frames-judged.new.index c.room-room.result frames group.answers group.payments
-    c.in-Some.is room c.judge_frames-judged.ensures.judged kept c.keep.ensures.capacity in
-    let fewer : length group.answers < length frames = omega (arith, c.in-Err-judged.ensures.fewer, length-map c.args.frames.now (λ frame. frame.items)) in
-    let next = would_accept meaning inside.hsm inside.issuer inside.journal c.keep.new.journal inside.state c.in-Some.index c.judge_frames-judged.new.index c.room-room.result frames group.answers group.payments
-    c.in-Some.is room c.judge_frames-judged.ensures.judged (get_or frames (length group.answers) []) kept c.keep.ensures.capacity c.in-Err-judged.ensures.refused in
-    record {
-      was_running = subst (λ (old : HostOf g.row.J.Denot g.row.I.Denot). old.state ≢ None) c.self.view_is (not_stopped inside.state c.in-Some.index c.in-Some.is);
-      fewer = fewer;
-      answers_are = subst (λ (old : HostOf g.row.J.Denot g.row.I.Denot). AnswersFrames meaning (take (length group.answers) frames) old (host_with inside.hsm inside.issuer c.keep.new.journal (Some c.judge_frames-judged.new.index)) group.answers) c.self.view_is by_fields;
-      would_accept = next;
-    }
+    let left = room_left g.J.Journal.meaning inside.journal c.in-Some.index c.len-kept.result c.room-room.result holds c.len-kept.ensures c.room-room.ensures in
+    let all = room_is g.J.Journal.meaning inside.journal c.in-Some.index c.room-room.result holds c.room-room.ensures in
+    let kept = subst (λ entries. AreKept g.J.Journal.meaning inside.journal c.keep.new.journal entries) c.entries.ensures c.in-Ok.ensures.kept in
+    let by_fields = answers_first meaning inside.hsm inside.issuer inside.journal c.keep.new.journal inside.state c.in-Some.index c.judge_frames-judged.new.index c.room-room.result frames group.answers group.entries
+    c.in-Some.is all (c.in-Err-judged.ensures.stopped (meaning.journal.capacity inside.journal) left) kept c.keep.ensures.capacity in
+    subst (λ (old : HostOf g.row.J.Denot g.row.I.Denot). AnswersFirst meaning frames old (host_with inside.hsm inside.issuer c.keep.new.journal None) group.answers) c.self.view_is by_fields

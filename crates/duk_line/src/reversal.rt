@@ -1,0 +1,208 @@
+//! How a reversal is judged by what a journal keeps.
+
+ghost use Rattle.std.specs.Prelude.{◌≡◌, ◌≤◌, ◌<◌, ℕ, List, IfErr, IfNone, IfOk, IfSome, OnErr, OnOk, length};
+ghost use Rattle.std.specs.Option.{option_to_list};
+ghost use Rattle.duk_host.specs.Judgement.{Decision};
+ghost use Rattle.duk_host.specs.Used.{IsUsed};
+ghost use Rattle.duk_hsm.specs.Keys.{HsmKeys};
+ghost use Rattle.duk_hsm.specs.TransactionKeys.{AreTransactionKeys};
+ghost use Rattle.duk_journal.specs.Entry.{MayStandUnder};
+ghost use Rattle.duk_journal.specs.Groups.{Entries};
+ghost use Rattle.duk_reversal.specs.Numbers.{AreNumbers};
+ghost use Rattle.duk_reversal.specs.Reversal.{IsReversal};
+ghost use Rattle.duk_reversal.specs.declared.state.ReversalState.{ReversalState};
+ghost use Rattle.duk_tree.specs.Path.{IsUsable};
+ghost use Rattle.duk_line.specs.Host.{HasSets};
+ghost use Rattle.duk_line.specs.Judgement.{FindsState, IsAuthenticReversal, IsReversalReplyWith, reversal_entry};
+ghost use Rattle.duk_line.specs.inner.Judged.{IsAgainstMac, IsAgainstNumber, IsStateKept, JudgesFrame, MayBeAccepted, ReversalAcceptableBy, SettlesBy};
+
+use crate::index::Index;
+use crate::judge::Judged;
+use crate::reason::Reason;
+use duk_frame::Frame;
+use duk_hsm::{Hsm, HsmFault, Transaction};
+use duk_journal::{Decided, Entry};
+use duk_reversal::{Reversal, ReversalNumbers, ReversalReply, ReversalState};
+use duk_tree::Ksn;
+use std::alloc::AllocError;
+
+/// Judges a reversal, where there is room for so many entries. Memory is refused only where there is
+/// no reason against it.
+pub(crate) fn judge_reversal<const N: usize>(
+    hsm: &Hsm<N>,
+    index: &mut Index,
+    room: u64,
+    reversal: &Reversal,
+) -> Result<Judged, AllocError>
+    ensures judged { IfOk result (λ judged. (decides : Decision) (capacity : ℕ) (bytes : List ℕ)
+        → IsReversal bytes reversal.now → JudgesFrame hsm.now decides capacity room bytes
+        index.old index.new judged.answer.items judged.added) }
+    ensures usable { IfOk result
+        (λ judged. IfSome judged.added (λ entry. IsUsable entry.number.counter)) }
+    ensures stands { IfOk result
+        (λ judged. IfSome judged.added (λ entry. MayStandUnder entry.number entry.decided)) }
+    ensures room { IfOk result (λ judged. length (option_to_list judged.added) ≤ room) }
+    ensures refused { OnErr result ((capacity : ℕ) (bytes : List ℕ)
+        → IsReversal bytes reversal.now → MayBeAccepted hsm.now index.old capacity room bytes) }
+{
+    match settle(hsm, index, room, reversal) {
+        Ok(transaction) => accept(index, reversal, &transaction),
+        Err(answer) => Ok(Judged {
+            answer,
+            added: None,
+        }),
+    }
+}
+
+/// The transaction of a reversal that is to be accepted, or the answer that changes nothing: a
+/// refusal, or its reply that is given again.
+fn settle<const N: usize>(
+    hsm: &Hsm<N>,
+    index: &Index,
+    room: u64,
+    reversal: &Reversal,
+) -> Result<Transaction, Frame>
+    ensures opened { IfOk result (AreTransactionKeys hsm.now reversal.now.numbers.ksn) }
+    ensures acceptable { OnOk result (ReversalAcceptableBy hsm.now index.now room reversal.now) }
+    ensures authentic { OnOk result (IsAuthenticReversal hsm.now reversal.now) }
+    ensures room { OnOk result (0 < room) }
+    ensures settled { IfErr result (λ answer. (capacity : ℕ) (bytes : List ℕ)
+        → IsReversal bytes reversal.now
+        → SettlesBy hsm.now index.now capacity room bytes answer.items) }
+{
+    let ksn = reversal.numbers.ksn();
+    let transaction = match open_authentic(hsm, reversal) {
+        Ok(transaction) => transaction,
+        Err(reason) => return Err(reason.answer(ksn)),
+    };
+    if let Some(state) = state_kept(index, reversal) {
+        return Err(reply_with(&transaction, reversal.numbers, state));
+    }
+    match check_number(index, room, ksn) {
+        Ok(()) => Ok(transaction),
+        Err(reason) => Err(reason.answer(ksn)),
+    }
+}
+
+/// The transaction of a reversal, or the least reason against its MAC.
+fn open_authentic<const N: usize>(hsm: &Hsm<N>, reversal: &Reversal) -> Result<Transaction, Reason>
+    ensures opened { IfOk result (AreTransactionKeys hsm.now reversal.now.numbers.ksn) }
+    ensures authentic { OnOk result (IsAuthenticReversal hsm.now reversal.now) }
+    ensures refused { IfErr result (IsAgainstMac hsm.now reversal.now) }
+{
+    let transaction = match hsm.open(reversal.numbers.ksn()) {
+        Ok(transaction) => transaction,
+        Err(HsmFault::NoKeySet) => return Err(Reason::UnknownKeySet),
+        // The only other fault of this call is that of the counter.
+        Err(_) => return Err(Reason::BadCounter),
+    };
+    let text = Reversal::text(reversal.numbers);
+    match transaction.verify(text.as_slice(), reversal.mac) {
+        Ok(()) => Ok(transaction),
+        Err(_) => Err(Reason::BadMac),
+    }
+}
+
+/// Whether a number can be used by a reversal, or why not.
+fn check_number(index: &Index, room: u64, ksn: Ksn) -> Result<(), Reason>
+    ensures fresh { OnOk result (¬ IsUsed index.now.used ksn) }
+    ensures room { OnOk result (0 < room) }
+    ensures refused { IfErr result (IsAgainstNumber index.now room ksn) }
+{
+    if index.used().contains(ksn) {
+        Err(Reason::Used)
+    } else if room == 0 {
+        Err(Reason::JournalFull)
+    } else {
+        Ok(())
+    }
+}
+
+/// What the same reversal found, if it can be answered again: it is one of the latest entries.
+fn state_kept(index: &Index, reversal: &Reversal) -> Option<ReversalState>
+    ensures found { IfSome result (IsStateKept index.now reversal.now) }
+    ensures none { IfNone result
+        ((state : ReversalState) → ¬ IsStateKept index.now reversal.now state) }
+{
+    let numbers = reversal.numbers;
+    let (counter, state) = match index.decided(numbers.ksn(), reversal.mac)? {
+        Decided::Reversal { counter, state } => (counter, state),
+        Decided::Payment { .. } => return None,
+    };
+    if counter != numbers.reversed().counter() {
+        return None;
+    }
+    Some(state)
+}
+
+/// Accepts a reversal: looks what it finds, and takes its entry into the index.
+fn accept(
+    index: &mut Index,
+    reversal: &Reversal,
+    transaction: &Transaction,
+) -> Result<Judged, AllocError>
+    requires usable { IsUsable reversal.now.numbers.ksn.counter }
+    ensures accepted { IfOk result (λ judged. (keys : HsmKeys) (decides : Decision)
+        → (capacity room : ℕ) (bytes : List ℕ) → IsReversal bytes reversal.now
+        → AreTransactionKeys keys reversal.now.numbers.ksn transaction.now
+        → ReversalAcceptableBy keys index.old room reversal.now
+        → JudgesFrame keys decides capacity room bytes index.old index.new
+        judged.answer.items judged.added) }
+    ensures usable { IfOk result
+        (λ judged. IfSome judged.added (λ entry. IsUsable entry.number.counter)) }
+    ensures stands { IfOk result
+        (λ judged. IfSome judged.added (λ entry. MayStandUnder entry.number entry.decided)) }
+    ensures one { IfOk result (λ judged. length (option_to_list judged.added) ≤ 1) }
+{
+    let numbers = reversal.numbers;
+    let state = state_of(index, numbers.reversed());
+    let entry = entry_of(reversal, state);
+    let answer = reply_with(transaction, numbers, state);
+    index.take(&entry)?;
+    Ok(Judged {
+        answer,
+        added: Some(entry),
+    })
+}
+
+/// What a reversal of this number finds.
+fn state_of(index: &Index, number: Ksn) -> ReversalState
+    ensures { (entries : Entries) → HasSets entries index.now → FindsState entries number result }
+{
+    if index.has_approved(number) {
+        ReversalState::Undone
+    } else {
+        ReversalState::NoneStands
+    }
+}
+
+/// What is kept of a reversal that found this.
+fn entry_of(reversal: &Reversal, state: ReversalState) -> Entry
+    ensures entry { result ≡ reversal_entry reversal.now state }
+    ensures numbers { AreNumbers reversal.now.numbers }
+{
+    let mac = reversal.mac;
+    Entry {
+        number: reversal.numbers.ksn(),
+        decided: Decided::Reversal {
+            counter: reversal.numbers.reversed().counter(),
+            state,
+        },
+        mac,
+    }
+}
+
+/// The reply to a reversal with these numbers and this state.
+fn reply_with(transaction: &Transaction, numbers: ReversalNumbers, state: ReversalState) -> Frame
+    ensures { (keys : HsmKeys) → AreTransactionKeys keys numbers.ksn transaction.now
+        → IsReversalReplyWith keys numbers state result.items }
+{
+    let text = ReversalReply::text(numbers, state);
+    let mac = transaction.reply_mac(text.as_slice());
+    let reply = ReversalReply {
+        numbers,
+        state,
+        mac,
+    };
+    reply.bytes()
+}
