@@ -100,11 +100,15 @@ pub record HasFirst (bytes : List ℕ) (followers : ℕ) (entry : Entry) : Type 
 pub first_of_kept : (bytes : List ℕ) (entries : Entries) → 1 ≤ length entries → KeepsEntries bytes entries
     → (followers : ℕ) × (entry : Entry) × HasFirst bytes followers entry
 first_of_kept bytes [] some keeps = absurd (omega (arith, some))
-first_of_kept bytes (p ∷ later) some keeps = (keeps.0, p, record {
-  gate = sym (gate_is 0 bytes) ∙ keeps.1;
-  kind = sym (kind_is bytes) ∙ kind_of_contents keeps.0 p (record_at 0 bytes) keeps.2;
-  contents = keeps.2;
-})
+first_of_kept bytes (p ∷ later) some keeps = (
+  keeps.0,
+  p,
+  record {
+    gate = sym (gate_is 0 bytes) ∙ keeps.1;
+    kind = sym (kind_is bytes) ∙ kind_of_contents keeps.0 p (record_at 0 bytes) keeps.2;
+    contents = keeps.2;
+  },
+)
 
 -- zero is no kind
 pub zero_is_no_kind : IsNoKind 0

@@ -74,17 +74,17 @@ module _ (laws : ReadingLaws) (basis : LineBasis) (frame answer : List ℕ) (add
       → Contains basis.entries entry → entry.number ≡ request.ksn → entry.mac ≢ request.mac → IsRefusal answer request.ksn 5 × (added ≡ [])
   other_mac request entry new judged is_request authentic kept number other =
       refused_as_used request judged is_request authentic (subst (λ number. Contains (used_by basis.entries) number) number (own_used basis.entries entry kept)) (λ code again.
-          let own = payment_entry request.ksn again.amount code request.mac in
-          other (ap (λ (entry : Entry). entry.mac) (one_entry basis.entries entry own new.new kept (latest_kept basis.entries own again.kept) number)))
+      let own = payment_entry request.ksn again.amount code request.mac in
+      other (ap (λ (entry : Entry). entry.mac) (one_entry basis.entries entry own new.new kept (latest_kept basis.entries own again.kept) number)))
 
   -- the entry of the number is not one of the latest
   pub older : (request : Request) (entry : Entry) → UseNewNumbers basis.entries → IsJudged basis frame answer added → IsRequest frame request → IsAuthentic basis.keys request
       → Contains basis.entries entry → entry.number ≡ request.ksn → ¬ Contains (latest_entries basis.entries) entry → IsRefusal answer request.ksn 5 × (added ≡ [])
   older request entry new judged is_request authentic kept number no_more =
       refused_as_used request judged is_request authentic (subst (λ number. Contains (used_by basis.entries) number) number (own_used basis.entries entry kept)) (λ code again.
-          let own = payment_entry request.ksn again.amount code request.mac in
-          let same : own ≡ entry = one_entry basis.entries own entry new.new (latest_kept basis.entries own again.kept) kept (sym number) in
-          no_more (subst (λ entry. Contains (latest_entries basis.entries) entry) same again.kept))
+      let own = payment_entry request.ksn again.amount code request.mac in
+      let same : own ≡ entry = one_entry basis.entries own entry new.new (latest_kept basis.entries own again.kept) kept (sym number) in
+      no_more (subst (λ entry. Contains (latest_entries basis.entries) entry) same again.kept))
 
   -- the number is reversed
   pub undone : (request : Request) → IsJudged basis frame answer added → IsRequest frame request → IsAuthentic basis.keys request
@@ -108,8 +108,7 @@ module _ (laws : ReadingLaws) (basis : LineBasis) (frame answer : List ℕ) (add
       let first = reversal_entry reversal again.state in
       let second = reversal_entry reversal state in
       let state_is : again.state ≡ state = same_state reversal.numbers reversal.numbers reversal.mac reversal.mac again.state state
-      (one_entry basis.entries first second new.new (latest_kept basis.entries first ours) (latest_kept basis.entries second kept) refl) in
-      (
+      (one_entry basis.entries first second new.new (latest_kept basis.entries first ours) (latest_kept basis.entries second kept) refl) in (
         subst (λ state. IsReversalReplyWith basis.keys reversal.numbers state answer) state_is
             (subst (λ (reversal : Reversal). IsReversalReplyWith basis.keys reversal.numbers again.state answer) same again.reply),
         none,

@@ -86,8 +86,8 @@ module _ {J I : Type 0} (meaning : HostMeaning J I) (keys : HsmKeys) (Holds : Li
               let not_kept = failed.2.not_kept entries judges in
               let basis = basis_of meaning mid entries in
               let more : (list : Entries) → found_of mid list → Holds answers (list ++ not_kept.2) = λ list found.
-                  subst (λ list. Holds answers (list ++ not_kept.2)) (sym ((judges.kept.finds h list).0 found))
-                  (laws.fewer answers not_kept.1 (entries ++ not_kept.2) (laws.judged basis answers (take not_kept.0 failed.0) not_kept.1 not_kept.2 keys_are not_kept.3 holds)) in
+              subst (λ list. Holds answers (list ++ not_kept.2)) (sym ((judges.kept.finds h list).0 found))
+              (laws.fewer answers not_kept.1 (entries ++ not_kept.2) (laws.judged basis answers (take not_kept.0 failed.0) not_kept.1 not_kept.2 keys_are not_kept.3 holds)) in
               left_by_append answers mid last not_kept.2 failed.1 h only more not_kept.4
         ]
       ]

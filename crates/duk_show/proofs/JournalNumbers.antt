@@ -82,17 +82,17 @@ pub adds_both : (ksn : Serial) (more used mid now : Numbers) → IsOneMore used 
 adds_both ksn more used mid now one_more adds other = (
   λ is_used. elim ((adds other).0 is_used) [
     | inl was ↦ elim ((one_more other).0 was) [
-        | inl before ↦ inl before
-        | inr same ↦ inr (Contains-append_left (ksn ∷ []) more other (subst (λ number. Contains (ksn ∷ []) number) (sym same) (the_one ksn)))
-      ]
+      | inl before ↦ inl before
+      | inr same ↦ inr (Contains-append_left (ksn ∷ []) more other (subst (λ number. Contains (ksn ∷ []) number) (sym same) (the_one ksn)))
+    ]
     | inr last ↦ inr (Contains-append_right (ksn ∷ []) more other last)
   ],
   λ either. elim either [
     | inl before ↦ (adds other).1 (inl ((one_more other).1 (inl before)))
     | inr contains ↦ elim (front_or ksn more other contains) [
-        | inl same ↦ (adds other).1 (inl ((one_more other).1 (inr same)))
-        | inr last ↦ (adds other).1 (inr last)
-      ]
+      | inl same ↦ (adds other).1 (inl ((one_more other).1 (inr same)))
+      | inr last ↦ (adds other).1 (inr last)
+    ]
   ],
 )
 
@@ -111,7 +111,7 @@ adds_one ksn used now one_more other = (
 
 -- none more
 pub adds_none : (used : Numbers) → AddsAll [] used used
-adds_none used other = (λ is_used. inl is_used, λ either. elim either [ | inl before ↦ before | inr contains ↦ absurd (none_in other contains) ])
+adds_none used other = (λ is_used. inl is_used, λ either. elim either [ inl before ↦ before | inr contains ↦ absurd (none_in other contains) ])
 
 -- the used numbers are those of the entries, with one more
 pub used_more : (entries : Entries) (entry : Entry) (used mid now : Numbers) → AreUsedBy entries used → IsUsable entry.number.counter → MayStandUnder entry.number entry.decided → ¬ Contains (used_by entries) entry.number

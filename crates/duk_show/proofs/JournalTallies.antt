@@ -48,8 +48,8 @@ module _ (all : Entries) where
       same_line entry.number last _ (count_by is_payment (entry ∷ own)) _ (sum_by (standing_amount all) (entry ∷ own)) _ (count_by (is_undone all) (entry ∷ own))
       (sym (counts_more is_payment entry own)) (sym (sum_by-cons (standing_amount all) entry own)) (sym (counts_more (is_undone all) entry own))
       ∙ ap (λ (b : Bool). let found : Entries = cond b (entry ∷ own) own in
-          terminal_line entry.number (last_after entry.number (numbers_of found)) (count_by is_payment found) (sum_by (standing_amount all) found) (count_by (is_undone all) found))
-          (sym (eq-eqb entry.number.iksn entry.number.iksn refl))
+      terminal_line entry.number (last_after entry.number (numbers_of found)) (count_by is_payment found) (sum_by (standing_amount all) found) (count_by (is_undone all) found))
+      (sym (eq-eqb entry.number.iksn entry.number.iksn refl))
 
   -- the line of a terminal, after an entry of its own
   own_line : (payer : Payer) (entry : Entry) (own : Entries) → payer_line (with_own all (next_payer all (Some payer) entry) own) ≡ payer_line (with_own all payer (entry ∷ own))

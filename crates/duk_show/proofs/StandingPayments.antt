@@ -20,12 +20,12 @@ same_or_not : (n m : Serial) → ((is_number n m ≡ true) × (m ≡ n)) ⊎ ((i
 same_or_not n m = elim (eqb_tells n.iksn m.iksn) [
   | inr other ↦ inr (ap (λ b. b && nat_eq n.counter m.counter) other.0, λ same. other.1 (ap (λ (s : Serial). s.iksn) (sym same)))
   | inl iksn ↦ elim (eqb_tells n.counter m.counter) [
-      | inr other ↦ inr (ap (λ b. b && nat_eq n.counter m.counter) iksn.0 ∙ other.0, λ same. other.1 (ap (λ (s : Serial). s.counter) (sym same)))
-      | inl counter ↦ inl (
-          ap (λ b. b && nat_eq n.counter m.counter) iksn.0 ∙ counter.0,
-          sym (ap (λ (i : ℕ). record { iksn = i; counter = n.counter }) iksn.1 ∙ ap (λ (k : ℕ). record { iksn = m.iksn; counter = k }) counter.1),
-        )
-    ]
+    | inr other ↦ inr (ap (λ b. b && nat_eq n.counter m.counter) iksn.0 ∙ other.0, λ same. other.1 (ap (λ (s : Serial). s.counter) (sym same)))
+    | inl counter ↦ inl (
+      ap (λ b. b && nat_eq n.counter m.counter) iksn.0 ∙ counter.0,
+      sym (ap (λ (i : ℕ). record { iksn = i; counter = n.counter }) iksn.1 ∙ ap (λ (k : ℕ). record { iksn = m.iksn; counter = k }) counter.1),
+    )
+  ]
 ]
 
 -- a number is found where it is one of them
@@ -33,9 +33,9 @@ tells : (numbers : Numbers) (n : Serial) → (list_any (is_number n) numbers ≡
 tells [] n = (λ is. absurd (true≢false (sym is)), λ contains. absurd (none_in n contains))
 tells (m ∷ numbers) n = elim (same_or_not n m) [
   | inl same ↦ (
-      λ is. Contains-append_left (m ∷ []) numbers n (subst (λ number. Contains (m ∷ []) number) same.1 (the_one m)),
-      λ contains. ap (λ b. b || list_any (is_number n) numbers) same.0,
-    )
+    λ is. Contains-append_left (m ∷ []) numbers n (subst (λ number. Contains (m ∷ []) number) same.1 (the_one m)),
+    λ contains. ap (λ b. b || list_any (is_number n) numbers) same.0,
+  )
   | inr other ↦
       let rest : list_any (is_number n) (m ∷ numbers) ≡ list_any (is_number n) numbers = ap (λ b. b || list_any (is_number n) numbers) other.0 in (
         λ is. Contains-append_right (m ∷ []) numbers n ((tells numbers n).0 (sym rest ∙ is)),

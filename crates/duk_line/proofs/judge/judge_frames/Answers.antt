@@ -22,9 +22,9 @@ loop-frame-preserved g c =
     let within : c.loop-frame.frame-index < length frames = omega (arith, c.loop-frame-test.true, length-map c.args.frames.now (λ frame. frame.items)) in
     let is = item_of (λ frame. frame.items) c.args.frames.now c.loop-frame.frame-index c.frame-item.result c.loop-frame-test.true (sym c.frame-item.is) in
     let here : (capacity : ℕ) → c.args.room ≡ capacity - c.args.kept → JudgesFrame keys decides capacity (c.args.room - length group.entries) frame mid new answer one = λ capacity room_is.
-        let payments : left.payments ≡ room_for_payments capacity left.entries = c.room_after-left.ensures.payments capacity room_is ∙ sym (ap (room_for_payments capacity) c.room_after-left.ensures.entries) in
-        let judged = subst (λ frame. JudgesFrame keys decides capacity left.entries frame mid new answer one) c.as_slice.ensures.value (c.in_ok-judged.ensures.judged capacity payments) in
-        subst (λ left. JudgesFrame keys decides capacity left frame mid new answer one) left_is judged in
+    let payments : left.payments ≡ room_for_payments capacity left.entries = c.room_after-left.ensures.payments capacity room_is ∙ sym (ap (room_for_payments capacity) c.room_after-left.ensures.entries) in
+    let judged = subst (λ frame. JudgesFrame keys decides capacity left.entries frame mid new answer one) c.as_slice.ensures.value (c.in_ok-judged.ensures.judged capacity payments) in
+    subst (λ left. JudgesFrame keys decides capacity left frame mid new answer one) left_is judged in
     let fits : length (option_to_list one) ≤ c.args.room - length group.entries = subst (λ left. length (option_to_list one) ≤ left) left_is c.in_ok-judged.ensures.room in
     let so_far = so_far_more keys decides c.args.kept c.args.room frames c.loop-frame.frame-index frame c.args.index.now mid new group.answers answer group.entries one
     c.loop-frame.invariant within is here c.in_ok-judged.ensures.usable c.in_ok-judged.ensures.stands fits in

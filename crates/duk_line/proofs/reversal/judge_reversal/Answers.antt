@@ -5,7 +5,7 @@ use Rattle.duk_line.proofs.reversal.judge_reversal.Goals as goal
 pub returns-in-Ok-clause-judged : goal.returns-in-Ok-clause-judged
 returns-in-Ok-clause-judged g c =
     if_ok c.accept.result c.accept.ensures.accepted (λ judged so decides capacity bytes is_reversal.
-        so c.args.hsm.now decides capacity c.args.room bytes is_reversal c.in-Ok.ensures.opened c.in-Ok.ensures.acceptable)
+    so c.args.hsm.now decides capacity c.args.room bytes is_reversal c.in-Ok.ensures.opened c.in-Ok.ensures.acceptable)
 
 pub returns-in-Ok-clause-room : goal.returns-in-Ok-clause-room
 returns-in-Ok-clause-room g c = if_ok c.accept.result c.accept.ensures.one (λ judged one. omega (arith, one, c.in-Ok.ensures.room))
