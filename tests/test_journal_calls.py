@@ -9,8 +9,8 @@ from typing import Sequence
 
 from .support.client import Exchange, payments
 from .support.journal_case import CANNOT_OPEN, JOURNAL_FAILED, JournalCase, stream_of
-from .support.journal_file import appended
-from .support.model_journal import groups_by_reads, judged, payments_of_all, room_for
+from .support.journal_file import appended, records_for
+from .support.model_journal import groups_by_reads, judged, payments_of_all
 from .support.page_journals import RECORD, journal_of
 from .support.program import Ended, Program
 from .support.service_case import answers_to
@@ -94,7 +94,7 @@ class Calls(Traced):
         new costs nothing but its answer."""
         for old, count in ((0, 1), (0, 3), (2, 5), (0, 1024), (3, 1030)):
             requests = payments(old + count)
-            room = room_for(old + count) + 2
+            room = records_for(old + count) + 2
             self.make_journal(room, [payments_of_all(requests[:old])] if old else [])
             before = self.journal.read_bytes()
             ended, steps = self.traced(requests)

@@ -110,7 +110,7 @@ class Deployed(ScriptCase):
     def test_a_half_closed_connection(self) -> None:
         """A client that ends its side alone gets all its answers, and then the end."""
         requests = payments(1500)
-        self.make_journal(1500)
+        self.make_room(1500)
         client, connection = socket.socketpair()
         with client, connection:
             script = subprocess.Popen(

@@ -15,7 +15,7 @@ from .support.cut_disk import Failure, Lost, Plan
 from .support.cut_file import CutFile
 from .support.journal_case import (
     JOURNAL_FAILED, ON_JOURNAL, JournalCase, alone, frames_of, stream_of)
-from .support.journal_file import appended, bodies_of, payments_in
+from .support.journal_file import appended, bodies_of, payments_in, records_for
 from .support.model_journal import groups_by_reads, judged, payments_of_all
 from .support.page_journals import RECORD, journal_of
 from .support.program import Ended, Limits
@@ -125,11 +125,12 @@ class FailedReads(JournalCase):
         file = CutFile(self.folder(), b"")
         self.addCleanup(file.close)
         words = ("serve", "bank.toml", "--journal", file.path)
-        file.make(bytes(RECORD * 280))
+        room = records_for(280)
+        file.make(bytes(RECORD * room))
         for seed in range(4):
             file.begin(Plan(seed, in_pieces=True))
             before = file.image()
-            found = judged(requests[: 100 * seed + 50], payments_in(before), 280)
+            found = judged(requests[: 100 * seed + 50], payments_in(before), room)
             stream = stream_of(requests[: 100 * seed + 50])
             self.write("input", stream)
             with open(self.home / "input", "rb") as given:

@@ -9,7 +9,7 @@ import subprocess
 from .support.client import payments
 from .support.journal_case import (
     CANNOT_OPEN, JOURNAL_FAILED, ON_JOURNAL, JournalCase, alone, frames_of, stream_of)
-from .support.journal_file import payments_in
+from .support.journal_file import payments_in, records_for
 from .support.model_journal import payments_of_all
 from .support.page_journals import (
     BY_HAND, DAMAGES, RECORD, Journals, Payment, Place, journal_of, put, read_journal, scratched)
@@ -167,15 +167,15 @@ class Right(JournalCase):
         journals = Journals(self.chance)
         serials = {it.serial: it for it in (journals.payment(0) for _ in range(50))}
         groups = [[*serials.values()]]
-        self.make_room(len(serials) + 3, groups)
+        self.make_journal(records_for(len(serials) + 3), groups)
         found = self.check_file(payments(5), what="behind foreign numbers")
-        self.assertEqual(sum(it.payment is not None for it in found), 3)
+        self.assertEqual(sum(it.entry is not None for it in found), 3)
 
     def test_groups_of_the_most_records(self) -> None:
         """A group may have 4,096 records, though the service makes none of so many."""
         kept = payments_of_all(payments(9000))
         groups = [kept[:4096], kept[4096:8192], kept[8192:]]
-        self.make_room(9010, groups)
+        self.make_journal(records_for(9010), groups)
         self.check_file(payments(9020), what="great groups")
 
     def test_closed_records(self) -> None:

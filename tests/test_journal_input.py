@@ -24,7 +24,7 @@ class EndOfInput(JournalCase):
         """At each place of the third request; the two before are one group."""
         two, third = payments(3)[:2], payments(3)[2].frame
         for cut in range(1, len(third)):
-            self.make_journal(4)
+            self.make_room(4)
             self.check_file(two, third[:cut], IN_A_FRAME, what=f"{cut} bytes of it")
 
     def test_no_frame(self) -> None:
@@ -40,7 +40,7 @@ class EndOfInput(JournalCase):
     def test_requests_behind_what_is_no_frame(self) -> None:
         """They are neither answered nor kept."""
         requests = payments(9)
-        self.make_journal(9)
+        self.make_room(9)
         self.check_file(requests[:3], b"\x00\x3f" + stream_of(requests[3:]), TOO_LONG)
         self.assertEqual(len(self.kept()), 3)
 
@@ -48,7 +48,7 @@ class EndOfInput(JournalCase):
         """A folder can be opened and not read. What was read before is kept."""
         folder = os.open(self.home, os.O_RDONLY)
         self.addCleanup(os.close, folder)
-        self.make_journal(2)
+        self.make_room(2)
         self.check(ON_JOURNAL, (), b"", READ_FAILED, how=How(given=folder))
         self.assert_bytes(bytes(64), "nothing was read")
 
@@ -63,7 +63,7 @@ class Pieces(JournalCase):
         requests = payments(3)
         stream = stream_of(requests)
         for at in range(1, len(stream)):
-            self.make_journal(4)
+            self.make_room(4)
             pieces = [stream[:at], stream[at:]]
             self.check_run(requests, pieces, how=PACKETS, what=f"cut at {at}")
             first = sum(len(stream_of(requests[: count + 1])) <= at for count in range(3))
@@ -73,7 +73,7 @@ class Pieces(JournalCase):
     def test_each_byte_a_read(self) -> None:
         requests = [*payments(3), payments(1)[0]]
         for behind, fault in ((b"", ""), (requests[0].frame[:10], IN_A_FRAME)):
-            self.make_journal(4)
+            self.make_room(4)
             pieces = [bytes([byte]) for byte in stream_of(requests) + behind]
             self.check_run(requests, pieces, fault=fault, how=PACKETS, what="each byte a read")
             self.assertEqual([len(it) for it in groups_in(self.journal.read_bytes())], [1, 1, 1])
@@ -165,7 +165,7 @@ class LostOutput(JournalCase):
 
     def test_a_full_device(self) -> None:
         requests = payments(20)
-        self.make_journal(30)
+        self.make_room(30)
         with open("/dev/full", "wb") as full:
             ended = self.serve_file(stream_of(requests), how=How(taken=full.fileno()))
         self.assert_output(ended, b"", WRITE_FAILED, "an output that takes nothing")
@@ -198,7 +198,7 @@ class ManyReads(JournalCase):
         malformed = Exchange(b"\x00\x3e" + bytes(62), refusal(bytes(10), 1))
         count, first = READS // len(malformed.frame) + 1, payments(1)[0]
         pieces = (bytes([byte]) for byte in malformed.frame * count)
-        self.make_journal(1)
+        self.make_room(1)
         service = self.start(*ON_JOURNAL, how=PACKETS)
         service.talk(itertools.chain(pieces, [first.frame, b"\x00"]))
         wanted = malformed.answer * count + first.answer

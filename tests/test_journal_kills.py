@@ -8,14 +8,13 @@ from __future__ import annotations
 
 import signal
 import time
-from typing import Iterable, Sequence
+from typing import Iterable
 
-from .support.client import Exchange, payments, refused_requests, split
+from .support.client import Exchange, payments, refused_requests
 from .support.journal_case import JournalCase, stream_of
-from .support.journal_file import appended, groups_in, payments_in
-from .support.model_journal import (
-    MOST_FRAMES, added_by, answers_of, judged, payment_of, wrong_group)
-from .support.page_journals import RECORD, Payment
+from .support.journal_kills import KilledRuns
+from .support.model_journal import answers_of, payment_of
+from .support.page_journals import Entry
 from .support.service import FOREVER, NARROW, PLAIN, SECONDS, Service, cuts
 
 # The payments of a history are so many of these, and the journal has room for all but a few.
@@ -26,18 +25,14 @@ WORDS = ("serve", "wide.toml", "--journal", "journal")
 PIECES = (0, 0, 60, 400, 5000)
 
 
-def records_of(image: bytes) -> list[bytes]:
-    return [image[at : at + RECORD] for at in range(0, len(image), RECORD)]
-
-
-class Kills(JournalCase):
+class Kills(KilledRuns):
     """Histories of killed runs; each of these tests has some, and they run beside one another."""
 
     weight = 8
 
     def setUp(self) -> None:
         super().setUp()
-        self.kills = self.midst = self.unread = self.histories = self.again = self.torn = 0
+        self.histories = 0
 
     def test_histories_1(self) -> None:
         self.play_histories()
@@ -74,8 +69,7 @@ class Kills(JournalCase):
     def begin_history(self) -> None:
         first = self.chance.randrange(ALL - PAYMENTS + 1)
         self.items = payments(ALL)[first : first + PAYMENTS]
-        # The reply of each number, whenever it was read.
-        self.replies: dict[bytes, bytes] = {}
+        self.replies = {}
         self.make_room(PAYMENTS - LACKS)
         self.histories += 1
 
@@ -132,59 +126,6 @@ class Kills(JournalCase):
         self.assertEqual(len(self.kept()), PAYMENTS - LACKS, "in the end the journal is full")
         self.assertEqual(len(self.replies), PAYMENTS - LACKS, "in the end each has its reply")
 
-    # The judgement of a run
-
-    def judge_kill(self, before: bytes, order: Sequence[Exchange], output: bytes) -> None:
-        """What a killed run wrote are the first answers; what it left are the payments of before,
-        and those of the first groups, all whose answers were read among them; and of one further
-        group perhaps the bodies, or the first of them."""
-        after = self.journal.read_bytes()
-        room = len(before) // RECORD
-        found = judged(order, payments_in(before), room)
-        self.assertTrue(answers_of(found).startswith(output), "an answer is not that to its request")
-        groups = groups_in(after)[len(groups_in(before)) :]
-        added = [it for group in groups for it in group]
-        self.assertEqual(added, added_by(found)[: len(added)], "the payments of the requests")
-        self.assertIsNone(wrong_group(order, found, groups))
-        is_torn = self.judge_rest(appended(before, groups), after, added_by(found)[len(added) :])
-        self.torn += is_torn
-        answered = split(output)[0]
-        count = len(added_by(found[: len(answered)]))
-        self.assertLessEqual(count, len(added), "an accepted reply, and no payment in the journal")
-        self.read_replies(output, payments_in(after))
-        self.kills += 1
-        self.midst += len(answered) < len(order) and (len(added) > 0 or is_torn)
-        self.unread += len(added) - count
-
-    def judge_rest(self, wanted: bytes, after: bytes, more: Sequence[Payment]) -> bool:
-        """Behind the groups that are open there are at most the first bodies of one group more. It
-        answers whether there are any."""
-        if wanted == after:
-            return False
-        first = RECORD * len(payments_in(after))
-        rest, before = records_of(after[first:]), records_of(wanted[first:])
-        count = 1 + max(at for at, it in enumerate(rest) if it != before[at])
-        followers = int.from_bytes(rest[0][2:4], "big")
-        self.assertIn(followers + 1, range(count, MOST_FRAMES + 1), "bodies, and their number")
-        self.assertLessEqual(count, len(more), "more bodies than there are payments")
-        for at, it in enumerate(more[:count]):
-            self.assertEqual(rest[at], it.record(0, 0 if at else followers),
-                             f"body {at} of a group that is not open")
-        return True
-
-    def read_replies(self, output: bytes, kept: Sequence[Payment]) -> None:
-        """Each number that was replied to is in the journal, with the code of that reply, and has
-        one reply in all runs."""
-        codes = {it.serial.to_bytes(10, "big"): it.code for it in kept}
-        for answer in split(output)[0]:
-            if answer[2:4] != b"\x01\x02":
-                continue
-            number = answer[4:14]
-            self.assertEqual(codes.get(number), int(answer[14:16]), f"{number.hex()} in the journal")
-            self.again += number in self.replies
-            self.assertEqual(self.replies.setdefault(number, answer), answer,
-                             f"{number.hex()} has two replies")
-
 
 class KillsOneByOne(JournalCase):
     """Each request waits for its answer, and the run is killed behind some answer."""
@@ -196,7 +137,7 @@ class KillsOneByOne(JournalCase):
         is kept or not."""
         requests = payments(60)
         self.make_room(60)
-        listed: list[Payment] = []
+        listed: list[Entry] = []
         while len(listed) < 40:
             count = self.chance.randint(0, 5)
             service = self.start(*WORDS)

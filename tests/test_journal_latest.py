@@ -1,15 +1,17 @@
-"""The latest 1,048,576 payments of a journal are answered again, and each one before is used."""
+"""The latest 1,048,576 entries of a journal are answered again, and each one before is used."""
 from __future__ import annotations
 
 import time
 
-from .support.client import first_counters, payments
+from .support.client import Exchange, first_counters, payments
 from .support.journal_case import JournalCase, alone
+from .support.journal_file import LAST_PART
 from .support.large_stores import payments_in_rounds
-from .support.model_journal import LATEST, added_by, payments_of_all, room_for
+from .support.model_journal import LATEST, added_by, judged
 from .support.page_journals import RECORD, Payment, journal_of
+from .support.reversals import undoing
 
-# So many payments that a client knows stand first. The others behind them, of so many terminals in so
+# So many entries that a client knows stand first. The others behind them, of so many terminals in so
 # many rounds, leave a few of them among the latest.
 FIRST, AMONG = 40, 16
 TERMINALS, ROUNDS = 1028, 1020
@@ -22,14 +24,17 @@ class Latest(JournalCase):
 
     def setUp(self) -> None:
         super().setUp()
-        kept = FIRST + TERMINALS * ROUNDS
-        self.assertEqual(kept, LATEST + FIRST - AMONG)
-        self.requests = payments(2 * FIRST)
-        self.first = payments_of_all(self.requests[:FIRST])
+        self.assertEqual(FIRST + TERMINALS * ROUNDS, LATEST + FIRST - AMONG)
+
+    def make(self, requests: list[Exchange]) -> None:
+        """Makes the journal that keeps the first of these, and has room for the others."""
+        self.requests = requests
+        first = added_by(judged(requests[:FIRST], [], LAST_PART * FIRST))
+        self.assertEqual(len(first), FIRST)
         others = payments_in_rounds(range(1, TERMINALS + 1)).rounds(first_counters(ROUNDS))
-        self.journal.write_bytes(journal_of(alone(self.first), 0) + others
-                                 + bytes(RECORD * (room_for(kept + 60) - kept)))
-        self.all = [*self.first, *[OTHER] * (TERMINALS * ROUNDS)]
+        self.all = [*first, *[OTHER] * (TERMINALS * ROUNDS)]
+        room = 60 + len(self.all) // (LAST_PART - 1)
+        self.journal.write_bytes(journal_of(alone(first), 0) + others + bytes(room * RECORD))
 
     def replies(self, places: list[int], what: str) -> list[bool]:
         """Whether the requests at these places have a reply, and no refusal. They are judged in one
@@ -38,10 +43,28 @@ class Latest(JournalCase):
         found = self.check_file([self.requests[it] for it in places], what=what, kept=self.all)
         self.tells(f"{what}, over {len(self.all)} payments: {time.monotonic() - began:.2f} s")
         self.all += added_by(found)
-        return [it.answer[2:4] == b"\x01\x02" for it in found]
+        return [it.answer[2:4] in (b"\x01\x02", b"\x01\x05") for it in found]
 
     def test_the_border(self) -> None:
         """Each further payment makes one of them older, in the same group too."""
+        self.make(list(payments(2 * FIRST)))
+        self.judge_the_border()
+
+    def test_the_border_of_reversals(self) -> None:
+        """So does each further reversal, of what is kept and of what is not, and each of them is
+        answered again as long."""
+        undo = list(undoing(2 * FIRST))
+        self.make([*undo[FIRST:], *undo[:FIRST]])
+        self.judge_the_border()
+
+    def test_the_border_of_both(self) -> None:
+        """Payments that are declined, and reversals that no payment meets, in turn."""
+        declined = [it for it in payments(6 * FIRST) if it.answer[14:16] != b"00"][:FIRST]
+        undo = undoing(8 * FIRST)[6 * FIRST : 7 * FIRST]
+        self.make([it for pair in zip(declined, undo) for it in pair])
+        self.judge_the_border()
+
+    def judge_the_border(self) -> None:
         oldest = FIRST - AMONG
         self.assertEqual(self.replies(list(range(FIRST)), "all again"),
                          [False] * oldest + [True] * AMONG)

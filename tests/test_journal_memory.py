@@ -5,8 +5,9 @@ from typing import Optional, Sequence
 
 from .support.client import Exchange, payments, split
 from .support.journal_case import JournalCase, alone, stream_of
+from .support.journal_file import records_for
 from .support.little_memory import AMPLE, PAGE, least_to_start
-from .support.model_journal import added_by, answers_of, judged, payments_of_all, room_for
+from .support.model_journal import added_by, answers_of, judged, payments_of_all
 from .support.program import Limits
 from .support.service import How
 
@@ -38,7 +39,7 @@ class LittleMemory(JournalCase):
         """Looks for the least size that is enough, and tries sizes below and about it. It answers
         the most requests that were answered before memory was refused."""
         self.requests, self.before = requests, payments_of_all(kept)
-        self.room = room_for(len(kept) + len(requests))
+        self.room = records_for(len(kept) + len(requests))
         self.found = judged(requests, self.before, self.room)
         refused, ample = least_to_start(self.program), AMPLE
         least, counts = refused, []

@@ -97,7 +97,7 @@ class Silent(PeerCase):
         one, two = (it.frame for it in payments(2))
         for given, whole, fault in ((b"", 0, ""), (one, 1, ""), (one[:20], 0, IN_A_FRAME),
                                     (one[:1], 0, IN_A_FRAME), (one + two[:-1], 1, IN_A_FRAME)):
-            self.make_journal(3)
+            self.make_room(3)
             answers, what = answers_to(payments(whole)), f"{len(given)} bytes"
             service = self.start(*ON_JOURNAL, how=CONNECTION)
             service.ask_all(given, len(answers))

@@ -25,7 +25,7 @@ class Rows(JournalCase):
         """In one group: six codes, a repeat, another request of a number, and each refusal."""
         first = payments(7)
         requests = [*first[:6], first[0], another(first[0]), *self.mixed(30)]
-        self.make_journal(100)
+        self.make_room(100)
         self.check_file(requests, what="one group")
         self.check_file(requests, what="once more")
 
@@ -81,7 +81,7 @@ class Rows(JournalCase):
 
     def test_numbers_in_any_order(self) -> None:
         """Each with gaps, and gaps filled later: what is used is exactly what came."""
-        self.make_journal(900)
+        self.make_room(900)
         requests = list(payments(1600))
         for _ in range(4):
             order = self.chance.sample(requests, 400)

@@ -20,7 +20,7 @@ from typing import Sequence
 
 from .support.client import Exchange, payments
 from .support.journal_case import JournalCase, frames_of, stream_of, sync_file
-from .support.model_journal import room_for
+from .support.journal_file import records_for
 from .support.program import SECONDS, Ended
 from .support.service_case import answers_to
 
@@ -106,7 +106,7 @@ class Speed(JournalCase):
         self.make_log(OF_A_LOG)
         sync_file(self.log)
         self.journal.unlink(missing_ok=True)
-        made = self.program.run("new-journal", "journal", str(room_for(MANY)), folder=self.home)
+        made = self.program.run("new-journal", "journal", str(records_for(MANY)), folder=self.home)
         self.assert_ended(made, 0, b"", b"", "new-journal")
 
     def run_once(self, words: Sequence[str], requests: Sequence[Exchange]) -> Took:

@@ -16,8 +16,8 @@ from typing import Sequence
 from .support.client import PAN, PIN, Exchange, Purchase, payments, payments_of
 from .support.cut_disk import CutDisk
 from .support.journal_case import ON_JOURNAL, JournalCase, stream_of
-from .support.journal_file import appended, payments_in
-from .support.model_journal import answers_of, groups_by_reads, judged, payments_of_all, room_for
+from .support.journal_file import appended, payments_in, records_for
+from .support.model_journal import answers_of, groups_by_reads, judged, payments_of_all
 from .support.page_journals import RECORD, Payment, journal_of
 from .support.program import Program
 from .support.quick import QuickRuns
@@ -82,7 +82,7 @@ class Torn(JournalCase):
         """Tears a journal of so many old payments, to which so many are added."""
         requests = payments(old + more)
         kept = payments_of_all(requests[:old])
-        rest = room_for(old + room + more) - old
+        rest = room + records_for(old + more) - old
         chance = self.chance if drawn else None
         image = journal_of([kept], rest, chance)
         self.journal.write_bytes(image)

@@ -6,6 +6,7 @@ import os
 from collections import Counter
 
 from .support.case import ProgramCase
+from .support.dukpt import iksn_of
 from .support.page_journals import (
     BY_HAND, DAMAGES, NONE_STANDS, OPEN, RECORD, UNDONE, Journals, Payment, Reversal, journal_of,
     scratched)
@@ -49,7 +50,8 @@ def paid(serial: int, amount: int = 1, code: int = 0) -> Payment:
 
 
 def undone(serial: int, counter: int, state: int = UNDONE) -> Reversal:
-    return Reversal(serial, counter, state, bytes(8))
+    """Of the number with this counter, of the same terminal."""
+    return Reversal(serial, iksn_of(serial) + counter, state, bytes(8))
 
 
 class JournalCase(ProgramCase):
@@ -102,15 +104,14 @@ class Rows(JournalCase):
     def test_damaged_reversals(self) -> None:
         """Of its own number, of one that numbers nothing, with a code for a state, of a kind that is
         not its own; and a number that was reversed is used."""
-        one = undone(FIRST + 1, 1)
-        for wrong in (undone(FIRST + 1, 2), undone(FIRST + 1, 0), undone(FIRST + 1, 1 << 21),
-                      undone(FIRST + 1, 1, 0), undone(FIRST + 1, 1, 1), undone(FIRST, 3)):
-            self.damaged(1, journal_of([[paid(FIRST)], [wrong]], 1))
+        one, front = undone(FIRST + 1, 1), paid(FIRST).record(OPEN)
+        for wrong in (undone(FIRST + 1, 2), undone(FIRST + 1, 0), undone(FIRST, 3)):
+            self.damaged(1, front + wrong.record(OPEN))
         record = one.record(OPEN)
-        self.damaged(1, paid(FIRST).record(OPEN) + record[:1] + b"\x01" + record[2:])
-        self.damaged(1, paid(FIRST).record(OPEN) + record[:1] + b"\x03" + record[2:])
+        for at, value in ((1, 1), (1, 3), (15, 0x20), (18, 0), (18, 1), (18, 127), (18, 130)):
+            self.damaged(1, front + record[:at] + bytes([value]) + record[at + 1 :])
         record = paid(FIRST + 1, 1).record(OPEN)
-        self.damaged(1, paid(FIRST).record(OPEN) + record[:1] + b"\x02" + record[2:])
+        self.damaged(1, front + record[:1] + b"\x02" + record[2:])
         self.damaged(2, journal_of([[paid(FIRST + 3), one], [paid(FIRST)]], 1))
         self.damaged(2, journal_of(
             [[undone(FIRST + 1, 4)], [undone(FIRST + 2, 1)], [undone(FIRST + 3, 2)]], 1))

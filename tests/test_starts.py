@@ -8,8 +8,9 @@ from typing import Sequence
 from .support.client import (
     PURCHASES, Exchange, first_counters, payments, payments_of, refusal)
 from .support.journal_case import ON_JOURNAL, JournalCase
+from .support.journal_file import LAST_PART
 from .support.large_stores import Rounds, numbers_in_rounds, payments_in_rounds
-from .support.model_journal import USED, room_for
+from .support.model_journal import USED
 from .support.program import Word
 from .support.service_case import ON_LOG
 from .test_service_speed import EMPTY_FRAME
@@ -36,8 +37,8 @@ class StartCase(JournalCase):
         self, words: Sequence[Word], rounds: Rounds, counters: Sequence[int], new: Exchange,
         room: int = 1,
     ) -> tuple[float, int]:
-        """The seconds that a start takes, and the most bytes, with room for so many records more.
-        Then the first number is refused, and a new one is accepted."""
+        """The seconds that a start takes, and the most bytes. Then the first number is refused, and a
+        new one is accepted."""
         rounds.write(self.home / words[-1], counters, room)
         used = payments(1)[0]
         assert used.number is not None
@@ -56,10 +57,11 @@ class OverJournals(StartCase):
     def test_numbers_in_order(self) -> None:
         counters = first_counters(NUMBERS * min(self.times, MOST_TIMES) + 1)
         new = payments_of(counters[-1:], PURCHASES[:1])[0]
-        kept = len(TERMINALS) * len(counters[:-1])
-        seconds, peak = self.start_over(ON_JOURNAL, payments_in_rounds(TERMINALS), counters[:-1], new,
-                                        room_for(kept + 1) - kept)
-        share = kept / ALL
+        records = len(TERMINALS) * len(counters[:-1])
+        seconds, peak = self.start_over(
+            ON_JOURNAL, payments_in_rounds(TERMINALS), counters[:-1], new,
+            1 + records // (LAST_PART - 1))
+        share = records / ALL
         self.assertLess(seconds, max(LEAST_SECONDS, share * SECONDS))
         self.assertLess(peak, OF_THE_LATEST + share * (BYTES - OF_THE_LATEST))
 

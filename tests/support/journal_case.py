@@ -8,10 +8,10 @@ from typing import Iterable, Optional, Sequence
 
 from . import journal_file
 from .client import Exchange, payments, refused_requests
-from .journal_file import appended, groups_in, payments_in
+from .journal_file import appended, entries_in, groups_in, records_for
 from .model_journal import (
-    Judged, added_by, answers_of, groups_by_reads, judged, reads_of_file, room_for, wrong_group)
-from .page_journals import RECORD, Entries, Payment
+    Judged, added_by, answers_of, groups_by_reads, judged, reads_of_file, wrong_group)
+from .page_journals import RECORD, Entry, Group
 from .program import Ended, Word
 from .service import PACKETS, PLAIN, How
 from .service_case import ServiceCase, frames_of, stream_of
@@ -22,8 +22,8 @@ CANNOT_OPEN = "journal: cannot open"
 JOURNAL_FAILED = "journal: failed"
 
 
-def alone(given: Iterable[Payment]) -> list[list[Payment]]:
-    """Each payment as a group of its own."""
+def alone(given: Iterable[Entry]) -> list[list[Entry]]:
+    """Each entry as a group of its own."""
     return [[it] for it in given]
 
 
@@ -34,18 +34,17 @@ class JournalCase(ServiceCase):
     def journal(self) -> Path:
         return self.home / "journal"
 
-    def make_journal(self, room: int, groups: Sequence[Entries] = ()) -> bytes:
+    def make_journal(self, room: int, groups: Sequence[Group] = ()) -> bytes:
         """Makes the file `journal` anew, of so many records, and answers its bytes."""
         return journal_file.make_journal(self.journal, room, groups)
 
-    def make_room(self, payments: int, groups: Sequence[Entries] = ()) -> bytes:
-        """Makes it anew with room for so many payments, and no more. What is left is for
-        reversals."""
-        return self.make_journal(room_for(payments), groups)
+    def make_room(self, payments: int) -> bytes:
+        """The same with room for so many payments, and none more."""
+        return self.make_journal(records_for(payments))
 
-    def kept(self) -> list[Payment]:
-        """The payments that the journal keeps."""
-        return payments_in(self.journal.read_bytes())
+    def kept(self) -> list[Entry]:
+        """The payments and reversals that the journal keeps."""
+        return entries_in(self.journal.read_bytes())
 
     # Runs that are judged
 
@@ -63,7 +62,7 @@ class JournalCase(ServiceCase):
         reads make of them, and ends with this fault, if one is named. The requests come in these
         pieces, or at once with these bytes behind them."""
         before = self.journal.read_bytes()
-        found = judged(requests, payments_in(before), len(before) // RECORD)
+        found = judged(requests, entries_in(before), len(before) // RECORD)
         ended = self.run_service(words, [stream_of(requests) + behind] if pieces is None else pieces,
                                  how)
         self.assert_output(ended, answers_of(found), fault, what)
@@ -73,7 +72,7 @@ class JournalCase(ServiceCase):
     def check_packets(self, packets: Sequence[Sequence[Exchange]], what: str = "") -> None:
         """The same where each packet of requests is one read, so that each byte is known."""
         before, requests = self.journal.read_bytes(), [it for packet in packets for it in packet]
-        found = judged(requests, payments_in(before), len(before) // RECORD)
+        found = judged(requests, entries_in(before), len(before) // RECORD)
         ended = self.run_service(ON_JOURNAL, [stream_of(it) for it in packets], PACKETS)
         self.assert_output(ended, answers_of(found), "", what)
         reads = [len(stream_of([it for packet in packets[: at + 1] for it in packet]))
@@ -87,13 +86,13 @@ class JournalCase(ServiceCase):
         fault: str = "",
         words: Sequence[Word] = ON_JOURNAL,
         what: str = "",
-        kept: Optional[Sequence[Payment]] = None,
+        kept: Optional[Sequence[Entry]] = None,
     ) -> list[Judged]:
         """The same where the requests stand in a file, whose reads are known, and with them each
-        byte of the journal. To read the payments that it keeps takes long if they are very many,
-        and these may be known."""
+        byte of the journal. To read the entries that it keeps takes long if they are very many, and
+        these may be known."""
         before, stream = self.journal.read_bytes(), stream_of(requests) + behind
-        kept = payments_in(before) if kept is None else kept
+        kept = entries_in(before) if kept is None else kept
         found = judged(requests, kept, len(before) // RECORD)
         ended = self.serve_file(stream, words)
         self.assert_output(ended, answers_of(found), fault, what)
@@ -124,7 +123,7 @@ class JournalCase(ServiceCase):
     def assert_grown(
         self, before: bytes, requests: Sequence[Exchange], found: Sequence[Judged], what: str
     ) -> None:
-        """That the journal has the payments of before, those that the requests added, in a way to
+        """That the journal has the entries of before, those that the requests added, in a way to
         group them that reads may have, and else the bytes of before."""
         after = self.journal.read_bytes()
         groups = groups_in(after)[len(groups_in(before)) :]
@@ -133,8 +132,8 @@ class JournalCase(ServiceCase):
         wrong = wrong_group(requests, found, groups)
         self.assertIsNone(wrong, what)
 
-    def assert_payments(self, requests: Sequence[Payment], what: str) -> None:
-        self.assertEqual(self.kept(), list(requests), what)
+    def assert_payments(self, entries: Sequence[Entry], what: str) -> None:
+        self.assertEqual(self.kept(), list(entries), what)
 
     # Requests
 

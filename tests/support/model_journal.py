@@ -1,7 +1,8 @@
-"""A host over a journal: what it answers to frames in turn, and the payments that it keeps of them.
+"""A host over a journal: what it answers to frames in turn, and the payments and reversals that it
+keeps of them.
 
-It is written from docs/FORMATS.md and docs/OPERATION.md. The frames are those of `client`, which
-knows whether they are requests with a right MAC, and the reply that each is owed.
+It is written from docs/FORMATS.md and docs/OPERATION.md. The frames are those of `client` and
+`reversals`, which know whether they have a right MAC, and the reply that each is owed.
 """
 from __future__ import annotations
 
@@ -12,38 +13,25 @@ from typing import Iterable, Iterator, Optional, Sequence
 from .client import BDK, Exchange, refusal
 from .dukpt import derive
 from .frames import write_reply
-from .page_journals import Payment
+from .journal_file import LAST_PART
+from .page_journals import NONE_STANDS, UNDONE, Entry, Payment, Reversal
+from .reversals import Reversing
 
-# How many of the payments that it keeps a host answers again: the latest.
+# How many of the entries that it keeps a host answers again: the latest.
 LATEST = 1 << 20
 # Frames that one read ends are answered in groups of so many at most; a read takes so many bytes.
 MOST_FRAMES = 1024
 READ = 1 << 16
 
 USED, FULL = 5, 6
-# Payments are refused while less than such a part of the room is left, which is for reversals.
-RESERVED = 16
-
-
-def fits(room: int, kept: int) -> bool:
-    """Whether a payment more finds room among so many records, of which so many are kept."""
-    return RESERVED * (room - kept) >= room > kept
-
-
-def room_for(payments: int) -> int:
-    """How many records a journal has that takes exactly so many payments, and no more."""
-    room = payments
-    while payments and not fits(room, payments - 1):
-        room += 1
-    return room
 
 
 @dataclass(frozen=True)
 class Judged:
-    """The answer to a frame, and the payment that is kept of it, if it is accepted."""
+    """The answer to a frame, and the entry that is kept of it, if it is accepted."""
 
     answer: bytes
-    payment: Optional[Payment] = None
+    entry: Optional[Entry] = None
 
 
 def payment_of(it: Exchange) -> Payment:
@@ -58,41 +46,83 @@ def payments_of_all(given: Iterable[Exchange]) -> list[Payment]:
 
 
 class Judge:
-    """A host that keeps these payments, among so many records in all."""
+    """A host that keeps these entries, and has room for so many in all."""
 
-    def __init__(self, payments: Iterable[Payment], room: int) -> None:
-        self.payments = list(payments)
+    def __init__(self, entries: Iterable[Entry], room: int) -> None:
+        self.entries: list[Entry] = list(entries)
         self.room = room
-        self.places = {it.serial: at for at, it in enumerate(self.payments)}
+        # Where the entry of each number stands, and the numbers that were reversed.
+        self.places = {it.serial: at for at, it in enumerate(self.entries)}
+        self.reversed = {it.reversed for it in self.entries if isinstance(it, Reversal)}
+
+    @property
+    def left(self) -> int:
+        return self.room - len(self.entries)
 
     def judge(self, it: Exchange) -> Judged:
         if it.number is None:
             return Judged(it.answer)
+        if isinstance(it, Reversing):
+            return self.judge_reversal(it, it.number)
+        return self.judge_payment(it, it.number)
+
+    def judge_payment(self, it: Exchange, number: bytes) -> Judged:
         asked = payment_of(it)
-        place = self.places.get(asked.serial)
-        if place is not None:
-            return Judged(self.answer_again(it, asked, place))
-        if not fits(self.room, len(self.payments)):
-            return Judged(refusal(it.number, FULL))
-        self.places[asked.serial] = len(self.payments)
-        self.payments.append(asked)
+        if self.is_used(asked.serial):
+            return Judged(self.reply_again(it, asked) or refusal(number, USED))
+        if LAST_PART * self.left < self.room:
+            return Judged(refusal(number, FULL))
+        self.keep(asked)
         return Judged(it.answer, asked)
 
-    def answer_again(self, it: Exchange, asked: Payment, place: int) -> bytes:
-        """The answer to a request whose number stands at this place: the reply with the code that
-        is kept, if it is the same request, and one of the latest."""
-        assert it.number is not None
-        kept = self.payments[place]
-        if kept.mac != asked.mac or place < len(self.payments) - LATEST:
-            return refusal(it.number, USED)
+    def judge_reversal(self, it: Reversing, number: bytes) -> Judged:
+        serial, reversed_serial = (int.from_bytes(one, "big") for one in (number, it.reversed))
+        if self.is_used(serial):
+            found = self.latest(serial, it.mac)
+            is_again = isinstance(found, Reversal)
+            return Judged(it.reply(found.state) if is_again else refusal(number, USED))
+        if self.left == 0:
+            return Judged(refusal(number, FULL))
+        state = UNDONE if self.was_approved(reversed_serial) else NONE_STANDS
+        made = Reversal(serial, reversed_serial, state, it.mac)
+        self.keep(made)
+        self.reversed.add(reversed_serial)
+        return Judged(it.reply(state), made)
+
+    def is_used(self, serial: int) -> bool:
+        return serial in self.places or serial in self.reversed
+
+    def keep(self, entry: Entry) -> None:
+        self.places[entry.serial] = len(self.entries)
+        self.entries.append(entry)
+
+    def was_approved(self, serial: int) -> bool:
+        """Whether an approved payment of a number is kept, undone or not."""
+        place = self.places.get(serial)
+        found = None if place is None else self.entries[place]
+        return isinstance(found, Payment) and found.code == 0
+
+    def latest(self, serial: int, mac: bytes) -> Optional[Entry]:
+        """The entry of a number, if it has this MAC and is one of the latest."""
+        place = self.places.get(serial)
+        if place is None or place < len(self.entries) - LATEST:
+            return None
+        return self.entries[place] if self.entries[place].mac == mac else None
+
+    def reply_again(self, it: Exchange, asked: Payment) -> Optional[bytes]:
+        """The reply with the code that is kept, if it is the same request, one of the latest, and
+        its payment was not undone."""
+        kept = self.latest(asked.serial, asked.mac)
+        if not isinstance(kept, Payment) or kept.serial in self.reversed:
+            return None
         if kept.code == asked.code:
             return it.answer
         return write_reply(derive(BDK, kept.serial), kept.serial, f"{kept.code:02}")
 
 
-def judged(given: Iterable[Exchange], payments: Iterable[Payment], room: int) -> list[Judged]:
-    """What a host that keeps these payments makes of frames in turn."""
-    judge = Judge(payments, room)
+def judged(given: Iterable[Exchange], entries: Iterable[Entry], room: int) -> list[Judged]:
+    """What a host that keeps these entries makes of frames in turn."""
+    judge = Judge(entries, room)
     return [judge.judge(it) for it in given]
 
 
@@ -100,8 +130,17 @@ def answers_of(found: Iterable[Judged]) -> bytes:
     return b"".join(it.answer for it in found)
 
 
-def added_by(found: Iterable[Judged]) -> list[Payment]:
-    return [it.payment for it in found if it.payment is not None]
+def added_by(found: Iterable[Judged]) -> list[Entry]:
+    return [it.entry for it in found if it.entry is not None]
+
+
+def books_of(entries: Iterable[Entry]) -> dict[int, int]:
+    """The payments that stand, by their numbers: those that were approved, and of which no reversal
+    is kept."""
+    kept = list(entries)
+    undone = {it.reversed for it in kept if isinstance(it, Reversal)}
+    return {it.serial: it.amount for it in kept
+            if isinstance(it, Payment) and it.code == 0 and it.serial not in undone}
 
 
 # Groups
@@ -114,8 +153,8 @@ def reads_of_file(size: int) -> list[int]:
 
 def groups_by_reads(
     given: Sequence[Exchange], found: Sequence[Judged], reads: Iterable[int]
-) -> list[list[Payment]]:
-    """The groups of payments, where so many bytes are read behind each read."""
+) -> list[list[Entry]]:
+    """The groups of entries, where so many bytes are read behind each read."""
     groups = []
     for frames in frames_by_reads(given, reads):
         for first in range(0, len(frames), MOST_FRAMES):
@@ -136,18 +175,18 @@ def frames_by_reads(given: Sequence[Exchange], reads: Iterable[int]) -> Iterator
 
 
 def wrong_group(
-    given: Sequence[Exchange], found: Sequence[Judged], groups: Iterable[Sequence[Payment]]
+    given: Sequence[Exchange], found: Sequence[Judged], groups: Iterable[Sequence[Entry]]
 ) -> Optional[str]:
-    """What is wrong with the way in which added payments are grouped: any is right in which the
+    """What is wrong with the way in which added entries are grouped: any is right in which the
     frames from the first to the last of a group may have come by one read."""
     ends = list(accumulate(len(it.frame) for it in given))
-    places = [at for at, it in enumerate(found) if it.payment is not None]
+    places = [at for at, it in enumerate(found) if it.entry is not None]
     at = 0
     for group in groups:
         first, last = places[at], places[at + len(group) - 1]
         at += len(group)
         if last - first >= MOST_FRAMES:
-            return f"a group of {len(group)} payments of {last - first + 1} frames"
+            return f"a group of {len(group)} entries of {last - first + 1} frames"
         if ends[last] - ends[first] >= READ:
-            return f"a group of {len(group)} payments of {ends[last] - ends[first]} bytes"
+            return f"a group of {len(group)} entries of {ends[last] - ends[first]} bytes"
     return None

@@ -1,5 +1,4 @@
-"""Journals as files: writing them, spoiling them, and reading them strictly. A page reads those of
-payments alone.
+"""Journals as files: writing them, spoiling them, and reading them strictly.
 
 docs/FORMATS.md has the layout, under "Disk of a journal".
 """
@@ -7,16 +6,23 @@ from __future__ import annotations
 
 import random
 from dataclasses import dataclass
-from typing import Callable, Optional, Sequence, Union
+from typing import Any, Callable, Optional, Sequence, Union
 
 from .dukpt import counter_of, iksn_of, serial_text, usable
 
 RECORD = 32
 MOST_FOLLOWERS = 4095
-OPEN, PAYMENT, REVERSAL = 1, 1, 2
+OPEN = 1
+# The kinds of records.
+PAYMENT, REVERSAL = 1, 2
+PAYMENTS_ALONE = (PAYMENT,)
+BOTH_KINDS = (PAYMENT, REVERSAL)
+# The states that a reversal is told, and what is added to them in a record.
+NONE_STANDS, UNDONE = 0, 1
+OF_A_STATE = 128
 CODES = {0: "approved", 14: "no such card", 30: "PIN block unreadable",
          51: "over the card's limit", 55: "wrong PIN"}
-UNDONE, NONE_STANDS = 129, 128
+STATES = (OF_A_STATE + NONE_STANDS, OF_A_STATE + UNDONE)
 
 
 # A journal by hand: one payment; then a group of two, whose second gate is closed, though not zero.
@@ -45,31 +51,33 @@ class Payment:
     mac: bytes
 
     def record(self, gate: int, followers: int = 0) -> bytes:
-        return (bytes([gate, PAYMENT]) + followers.to_bytes(2, "big")
-                + self.serial.to_bytes(10, "big") + self.amount.to_bytes(4, "big")
-                + bytes([self.code]) + self.mac + bytes(5))
+        return record_of(gate, PAYMENT, followers, self.serial, self.amount, self.code, self.mac)
 
 
 @dataclass(frozen=True)
 class Reversal:
-    """Of the number with another counter under the same initial key serial number."""
+    """A reversal under the number `serial`, of another one of its terminal."""
 
     serial: int
-    counter: int
+    reversed: int
     state: int
     mac: bytes
 
-    @property
-    def reversed(self) -> int:
-        return iksn_of(self.serial) + self.counter
-
     def record(self, gate: int, followers: int = 0) -> bytes:
-        return (bytes([gate, REVERSAL]) + followers.to_bytes(2, "big")
-                + self.serial.to_bytes(10, "big") + self.counter.to_bytes(4, "big")
-                + bytes([self.state]) + self.mac + bytes(5))
+        counter = counter_of(self.reversed)
+        told = OF_A_STATE + self.state
+        return record_of(gate, REVERSAL, followers, self.serial, counter, told, self.mac)
 
 
 Entry = Union[Payment, Reversal]
+
+
+def record_of(
+    gate: int, kind: int, followers: int, serial: int, number: int, decided: int, mac: bytes
+) -> bytes:
+    """A record: `number` is its amount or counter, and `decided` its code or what was told."""
+    return (bytes([gate, kind]) + followers.to_bytes(2, "big") + serial.to_bytes(10, "big")
+            + number.to_bytes(4, "big") + bytes([decided]) + mac + bytes(5))
 
 
 @dataclass(frozen=True)
@@ -80,13 +88,12 @@ class Place:
     last: int
 
 
-Group = Sequence[Payment]
-Entries = Sequence[Entry]
+Group = Sequence[Entry]
 
 
-def journal_of(groups: Sequence[Entries], room: int, chance: Optional[random.Random] = None) -> bytes:
-    """A journal of these groups, with room for so many entries more. What may be anything is zero,
-    or is drawn: the gates of followers, which are closed, and closed records behind the groups."""
+def journal_of(groups: Sequence[Group], room: int, chance: Optional[random.Random] = None) -> bytes:
+    """A journal of these groups, with so many records more. What may be anything is zero, or is
+    drawn: the gates of followers, which are closed, and closed records behind the groups."""
     closed = (lambda: 0) if chance is None else (lambda: chance.choice((0, 0, 2, 0xFF)))
     records = [entry.record(closed() if at else OPEN, 0 if at else len(group) - 1)
                for group in groups for at, entry in enumerate(group)]
@@ -96,34 +103,16 @@ def journal_of(groups: Sequence[Entries], room: int, chance: Optional[random.Ran
 
 
 # What reading comes to: of each entry the first and last record of its group, and the entry.
-Row = tuple[int, int, Payment]
-EntryRow = tuple[int, int, Entry]
+Row = tuple[int, int, Any]
 
 
-def read_journal(data: bytes) -> Union[list[Row], Place]:
-    """The payments of a journal of payments alone, or the first place where it breaks a rule."""
-    found = read_records(data, (PAYMENT,))
-    if isinstance(found, Place):
-        return found
-    return [(first, last, payment_in(record)) for first, last, record in found]
-
-
-def read_entries(data: bytes) -> Union[list[EntryRow], Place]:
-    """The entries of a journal, or the first place where it breaks a rule."""
-    found = read_records(data, (PAYMENT, REVERSAL))
-    if isinstance(found, Place):
-        return found
-    return [(first, last, entry_in(record)) for first, last, record in found]
-
-
-def read_records(
-    data: bytes, kinds: Sequence[int]
-) -> Union[list[tuple[int, int, bytes]], Place]:
-    """The records of a journal with such kinds, or the first place where it breaks a rule."""
+def read_journal(data: bytes, kinds: Sequence[int] = PAYMENTS_ALONE) -> Union[list[Row], Place]:
+    """The entries of a journal, or the first place where it breaks a rule. It may have records of
+    these kinds."""
     if not data or len(data) % RECORD:
         return Place(len(data) - len(data) % RECORD, max(len(data) - 1, 0))
     records = [data[at : at + RECORD] for at in range(0, len(data), RECORD)]
-    rows: list[tuple[int, int, bytes]] = []
+    rows: list[Row] = []
     end = 0
     while end < len(records) and records[end][0] == OPEN:
         first, last = end, end + int.from_bytes(records[end][2:4], "big")
@@ -131,37 +120,40 @@ def read_records(
             wrong = wrong_bytes(records[at], at > first, len(records) - at, kinds)
             if wrong:
                 return Place(RECORD * at + wrong[0], RECORD * at + wrong[-1])
-            rows.append((first, last, records[at]))
+            rows.append((first, last, entry_in(records[at])))
         end = last + 1
     later = [at for at in range(end, len(records)) if records[at][0] == OPEN]
     return Place(RECORD * later[0], RECORD * later[0]) if later else rows
 
 
-def payment_in(record: bytes) -> Payment:
-    return Payment(int.from_bytes(record[4:14], "big"), int.from_bytes(record[14:18], "big"),
-                   record[18], record[19:27])
+def read_entries(data: bytes) -> Union[list[Row], Place]:
+    """The payments and reversals of a journal, or the first place where it breaks a rule."""
+    return read_journal(data, BOTH_KINDS)
 
 
 def entry_in(record: bytes) -> Entry:
-    it = payment_in(record)
-    return Reversal(it.serial, it.amount, it.code, it.mac) if record[1] == REVERSAL else it
+    serial, number = int.from_bytes(record[4:14], "big"), int.from_bytes(record[14:18], "big")
+    if record[1] == REVERSAL:
+        return Reversal(serial, iksn_of(serial) + number, record[18] - OF_A_STATE, record[19:27])
+    return Payment(serial, number, record[18], record[19:27])
 
 
 def wrong_bytes(
-    record: bytes, is_follower: bool, left: int, kinds: Sequence[int] = (PAYMENT,)
+    record: bytes, is_follower: bool, left: int, kinds: Sequence[int]
 ) -> Sequence[int]:
     """Which bytes of an entry's record break a rule first; so many records are left from it on."""
-    followers = int.from_bytes(record[2:4], "big")
+    followers, serial = int.from_bytes(record[2:4], "big"), int.from_bytes(record[4:14], "big")
     counts = (0,) if is_follower else range(min(MOST_FOLLOWERS + 1, left))
-    own, counter = counter_of(payment_in(record).serial), int.from_bytes(record[14:18], "big")
+    reversed_counter = int.from_bytes(record[14:18], "big")
     is_reversal = record[1] == REVERSAL
     rules = (
         ((0,), not (is_follower and record[0] == OPEN)),
         ((1,), record[1] in kinds),
         ((2, 3), followers in counts),
-        ((11, 12, 13), usable(own)),
-        ((14, 15, 16, 17), not is_reversal or (usable(counter) and counter != own)),
-        ((18,), record[18] in ((UNDONE, NONE_STANDS) if is_reversal else CODES)),
+        ((11, 12, 13), usable(counter_of(serial))),
+        ((14, 15, 16, 17), not is_reversal
+         or usable(reversed_counter) and reversed_counter != counter_of(serial)),
+        ((18,), record[18] in (STATES if is_reversal else CODES)),
         *(((at,), record[at] == 0) for at in range(27, RECORD)),
     )
     return next((places for places, holds in rules if not holds), ())
@@ -251,12 +243,12 @@ class Journals:
         return groups
 
     def reversal(self, numbers: Sequence[int]) -> Reversal:
-        """Under a number of one of these terminals, of one of these numbers or of another."""
+        """Of one of these numbers, under another one of its terminal."""
         of = self.chance.choice(numbers)
         own = self.serial(iksn_of(of))
         while own == of:
             own = self.serial(iksn_of(of))
-        return Reversal(own, counter_of(of), self.chance.choice((UNDONE, NONE_STANDS)),
+        return Reversal(own, of, self.chance.choice((UNDONE, NONE_STANDS)),
                         self.chance.randbytes(8))
 
     def entry_groups(self, count: int) -> list[list[Entry]]:
@@ -274,17 +266,16 @@ class Journals:
         groups = self.groups(count)
         return groups, journal_of(groups, self.chance.randrange(6), self.chance)
 
-
     def entry_journal(self, count: int) -> tuple[list[list[Entry]], bytes]:
         groups = self.entry_groups(count)
         return groups, journal_of(groups, self.chance.randrange(6), self.chance)
 
 
 # A kind of damage: what it does to a journal of these groups, and where it stands then.
-Damage = Callable[[Journals, Sequence[Entries], bytes], tuple[bytes, Place]]
+Damage = Callable[[Journals, Sequence[Group], bytes], tuple[bytes, Place]]
 
 
-def starts_of(groups: Sequence[Entries]) -> list[int]:
+def starts_of(groups: Sequence[Group]) -> list[int]:
     """The first record of each group, and the first one behind the groups."""
     starts = [0]
     for group in groups:
@@ -298,21 +289,21 @@ def put(data: bytes, record: int, at: int, value: bytes) -> tuple[bytes, Place]:
     return data[:first] + value + data[first + len(value) :], Place(first, first + len(value) - 1)
 
 
-def any_payment(journals: Journals, groups: Sequence[Entries]) -> int:
+def any_payment(journals: Journals, groups: Sequence[Group]) -> int:
     return journals.chance.randrange(starts_of(groups)[-1])
 
 
-def unknown_kind(journals: Journals, groups: Sequence[Entries], data: bytes) -> tuple[bytes, Place]:
+def unknown_kind(journals: Journals, groups: Sequence[Group], data: bytes) -> tuple[bytes, Place]:
     kind = journals.chance.choice((0, 2, journals.chance.randint(2, 255)))
     return put(data, any_payment(journals, groups), 1, bytes([kind]))
 
 
-def no_code(journals: Journals, groups: Sequence[Entries], data: bytes) -> tuple[bytes, Place]:
+def no_code(journals: Journals, groups: Sequence[Group], data: bytes) -> tuple[bytes, Place]:
     code = journals.chance.choice([it for it in range(256) if it not in CODES])
     return put(data, any_payment(journals, groups), 18, bytes([code]))
 
 
-def unusable_counter(journals: Journals, groups: Sequence[Entries], data: bytes
+def unusable_counter(journals: Journals, groups: Sequence[Group], data: bytes
                      ) -> tuple[bytes, Place]:
     ones = journals.chance.choice((0, 11, 21))
     counter = sum(1 << it for it in journals.chance.sample(range(21), ones))
@@ -321,16 +312,16 @@ def unusable_counter(journals: Journals, groups: Sequence[Entries], data: bytes
     return put(data, record, 11, (front << 16 | counter).to_bytes(3, "big"))
 
 
-def no_zeros(journals: Journals, groups: Sequence[Entries], data: bytes) -> tuple[bytes, Place]:
+def no_zeros(journals: Journals, groups: Sequence[Group], data: bytes) -> tuple[bytes, Place]:
     at, value = journals.chance.randrange(27, RECORD), journals.chance.randint(1, 255)
     return put(data, any_payment(journals, groups), at, bytes([value]))
 
 
-def open_inside(journals: Journals, groups: Sequence[Entries], data: bytes) -> tuple[bytes, Place]:
+def open_inside(journals: Journals, groups: Sequence[Group], data: bytes) -> tuple[bytes, Place]:
     return put(data, a_follower(journals, groups), 0, bytes([OPEN]))
 
 
-def open_behind(journals: Journals, groups: Sequence[Entries], data: bytes) -> tuple[bytes, Place]:
+def open_behind(journals: Journals, groups: Sequence[Group], data: bytes) -> tuple[bytes, Place]:
     """Behind the groups and one closed record at least."""
     end = starts_of(groups)[-1]
     data = data.ljust(RECORD * (end + 2), b"\x00")
@@ -338,18 +329,18 @@ def open_behind(journals: Journals, groups: Sequence[Entries], data: bytes) -> t
     return put(data, record, 0, bytes([OPEN]))
 
 
-def following_follower(journals: Journals, groups: Sequence[Entries], data: bytes
+def following_follower(journals: Journals, groups: Sequence[Group], data: bytes
                        ) -> tuple[bytes, Place]:
     followers = journals.chance.choice((1, 256, journals.chance.randint(1, 0xFFFF)))
     return put(data, a_follower(journals, groups), 2, followers.to_bytes(2, "big"))
 
 
-def a_follower(journals: Journals, groups: Sequence[Entries]) -> int:
+def a_follower(journals: Journals, groups: Sequence[Group]) -> int:
     return journals.chance.choice([start + at for start, group in zip(starts_of(groups), groups)
                                    for at in range(1, len(group))])
 
 
-def too_many(journals: Journals, groups: Sequence[Entries], data: bytes) -> tuple[bytes, Place]:
+def too_many(journals: Journals, groups: Sequence[Group], data: bytes) -> tuple[bytes, Place]:
     """More followers than a group may have, with records for all of them behind it."""
     followers = journals.chance.choice((MOST_FOLLOWERS + 1, journals.chance.randint(4096, 9000)))
     record = journals.chance.choice(starts_of(groups)[:-1])
@@ -357,7 +348,7 @@ def too_many(journals: Journals, groups: Sequence[Entries], data: bytes) -> tupl
     return put(data, record, 2, followers.to_bytes(2, "big"))
 
 
-def past_the_end(journals: Journals, groups: Sequence[Entries], data: bytes) -> tuple[bytes, Place]:
+def past_the_end(journals: Journals, groups: Sequence[Group], data: bytes) -> tuple[bytes, Place]:
     record = journals.chance.choice(starts_of(groups)[:-1])
     least = len(data) // RECORD - record
     followers = journals.chance.choice(
@@ -365,7 +356,7 @@ def past_the_end(journals: Journals, groups: Sequence[Entries], data: bytes) -> 
     return put(data, record, 2, followers.to_bytes(2, "big"))
 
 
-def broken_size(journals: Journals, groups: Sequence[Entries], data: bytes) -> tuple[bytes, Place]:
+def broken_size(journals: Journals, groups: Sequence[Group], data: bytes) -> tuple[bytes, Place]:
     """A piece of a record stands at the end."""
     piece = journals.chance.randint(1, RECORD - 1)
     return data + bytes(piece), Place(len(data), len(data) + piece - 1)
