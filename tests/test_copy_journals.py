@@ -116,6 +116,16 @@ class Copied(CopyCase):
         self.check_copy(journal_of([payments_of_all(requests[:5])], 0) + b"\x00" + torn[1:], "torn")
         self.assertEqual(self.copy.read_bytes()[5 * RECORD :], bytes(7 * RECORD))
 
+    def test_its_owner_alone_may_read_it(self) -> None:
+        """It has amounts and MACs, also where a mask would let all read it."""
+        self.make_journal(4, [payments_of_all(payments(2))])
+        before = os.umask(0o022)
+        try:
+            self.assert_output(self.copy_to(), b"", "", "under a mask of 022")
+        finally:
+            os.umask(before)
+        self.assertEqual(self.copy.stat().st_mode & 0o777, 0o600)
+
     def test_by_links(self) -> None:
         """The journal may be named by a link, and is the file behind it."""
         self.make_journal(4, [payments_of_all(payments(2))])
@@ -148,7 +158,9 @@ class Refused(CopyCase):
     def test_what_cannot_be_opened(self) -> None:
         self.make_journal(3)
         os.mkdir(self.home / "folder")
-        for old in ("missing", "missing/journal", "folder", ".", "", "bank.toml/journal"):
+        os.mkfifo(self.home / "pipe")
+        for old in ("missing", "missing/journal", "folder", ".", "", "bank.toml/journal", "pipe",
+                    "/dev/zero"):
             self.refuse(CANNOT_OPEN, f"the journal {old!r}", old=old)
             self.refuse(CANNOT_OPEN, f"the journal {old!r}, before the copy", "journal", old)
 

@@ -9,7 +9,9 @@ from __future__ import annotations
 import itertools
 import os
 import signal
+import time
 from collections import Counter
+from concurrent.futures import ThreadPoolExecutor
 from pathlib import Path
 from typing import Sequence
 
@@ -17,8 +19,8 @@ from .support.client import payments
 from .support.journal_case import CANNOT_OPEN, JOURNAL_FAILED, alone
 from .support.journal_file import DamagedJournal, payments_in
 from .support.model_journal import payments_of_all
-from .support.page_journals import RECORD
-from .support.program import Ended, Word
+from .support.page_journals import RECORD, journal_of
+from .support.program import SECONDS, Ended, Word
 from .support.small_files import PAGE, SmallFiles
 from .support.traced_files import (
     OPENS, READS, REMOVES, SYNCS, WRITES, Call, assert_kept, covered, places, traced)
@@ -61,7 +63,8 @@ class Calls(CallCase):
 
     def assert_order(self, calls: Sequence[Call], size: int, but: range, what: str) -> None:
         """The journal is opened, locked and read to its end before the copy is made, and never written;
-        the copy is made and kept in order, and written, but that these bytes are right already."""
+        the copy is made and kept in order, and written, but that these bytes are right already. It is
+        read to its end once it is written and synced, and before its folder is synced."""
         opened, locked, made = (places(calls, names, file) for names, file in (
             (OPENS, OLD), (("flock",), OLD), (OPENS, NEW)))
         self.assertEqual((len(opened), len(locked), len(made)), (1, 1, 1), what)
@@ -75,6 +78,14 @@ class Calls(CallCase):
                          f"{what}: read before the copy is made")
         self.assertEqual(places(calls, WRITES, OLD), [], f"{what}: the journal is written")
         assert_kept(calls, NEW, FOLDER, size, but)
+        self.assert_checked(calls, size, what)
+
+    def assert_checked(self, calls: Sequence[Call], size: int, what: str) -> None:
+        """All of the copy is read between the sync behind its last write and that of its folder."""
+        written, synced, read = (places(calls, names, NEW) for names in (WRITES, SYNCS, READS))
+        first = min(at for at in synced if at > written[-1])
+        again = [calls[at] for at in read if first < at < places(calls, SYNCS, FOLDER)[0]]
+        self.assertEqual(covered(again), [range(size)], f"{what}: read before the folder is synced")
 
     def test_syncs_for_a_loss_of_power(self) -> None:
         """It leaves any of the writes since the last sync. So a file that has no journal's size, or begins
@@ -112,6 +123,59 @@ class Calls(CallCase):
         if call.file != OLD:
             return CANNOT_MAKE
         return CANNOT_OPEN if call.name in (*OPENS, "flock") else JOURNAL_FAILED
+
+
+class Changing(CallCase):
+    """A journal that is read otherwise the second time, as a file after a failed sync may be: what is
+    written is no copy then. It keeps more than a read-ahead takes, of one piece and of two."""
+
+    weight = 4
+    # So many seconds the lock of the copy takes, behind the check of the journal.
+    DELAY = 1.0
+    FEW, MANY = 200, PIECE + 200
+
+    def test_another_record(self) -> None:
+        """The first that it keeps, one in the middle, or the last."""
+        for kept in (self.FEW, self.MANY):
+            image = self.make_journal(kept + 100, alone(payments_of_all(payments(kept))))
+            for place in (0, kept // 2, kept - 1):
+                for what, record in (("zeros", bytes(RECORD)), ("closed", b"\x00"),
+                                     ("of another kind", b"\x01\x07")):
+                    at = RECORD * place
+                    changed = image[:at] + record + image[at + len(record) :]
+                    self.assert_refused(image, changed, f"record {place} of {kept} is {what}")
+
+    def test_a_number_twice(self) -> None:
+        """Each record is that of a journal, and no host comes up over them all."""
+        image = self.make_journal(self.FEW, alone(payments_of_all(payments(self.FEW))))
+        self.assert_refused(image, image[:RECORD] + image[:RECORD] + image[2 * RECORD :], "twice")
+
+    def test_one_more(self) -> None:
+        """As many are copied as the check found."""
+        kept = payments_of_all(payments(self.FEW + 1))
+        image = self.make_journal(len(kept), alone(kept[: self.FEW]))
+        ended = self.copied_from(image, journal_of(alone(kept), 0))
+        self.assert_output(ended, b"", "", "one more")
+        self.assertEqual((self.made / "copy").read_bytes(), copied(image))
+
+    def assert_refused(self, image: bytes, changed: bytes, what: str) -> None:
+        self.assert_output(self.copied_from(image, changed), b"", CANNOT_MAKE, what)
+        self.assertEqual([*self.made.iterdir()], [], what)
+
+    def copied_from(self, image: bytes, changed: bytes) -> Ended:
+        """How a copy ends of a journal that has the first bytes while it is checked, and the others while
+        it is copied, which the lock of the copy's file holds up."""
+        self.journal.write_bytes(image)
+        delay = f"inject=flock:delay_exit={int(self.DELAY * 1e6)}:when=2"
+        with ThreadPoolExecutor() as pool:
+            ended = pool.submit(self.traced, delay)
+            deadline = time.monotonic() + SECONDS
+            while not (self.made / "copy").exists():
+                self.assertLess(time.monotonic(), deadline, "no file is made")
+                time.sleep(0.001)
+            self.journal.write_bytes(changed)
+            self.assertEqual((self.made / "copy").stat().st_size, 0, "changed too late")
+            return ended.result()[0]
 
 
 class LeftCase(CallCase):

@@ -23,7 +23,8 @@ FOUND = (
         CopyWay.MADE_FIRST, CopyWay.READS_A_PART, CopyWay.LOCKED_LATE, CopyWay.NOT_LOCKED,
         CopyWay.OLD_NOT_LOCKED, CopyWay.NO_ZEROS, CopyWay.SYNCED_EARLY, CopyWay.NOT_SYNCED,
         CopyWay.FOLDER_FIRST, CopyWay.FOLDER_NOT_SYNCED, CopyWay.OLD_WRITTEN,
-        CopyWay.OLD_TO_WRITE, CopyWay.OVERWRITES)),
+        CopyWay.OLD_TO_WRITE, CopyWay.OVERWRITES, CopyWay.NOT_CHECKED, CopyWay.CHECKED_UNSYNCED,
+        CopyWay.CHECKED_LATE, CopyWay.CHECKED_IN_PART)),
     (Calls, "test_syncs_for_a_loss_of_power", (
         CopyWay.MARK_NOT_SYNCED, CopyWay.LAST_WITH_THE_REST, CopyWay.FIRST_TO_LAST,
         CopyWay.RECORD_LAST, CopyWay.HEAD_LAST)),

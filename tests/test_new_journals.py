@@ -40,6 +40,15 @@ class NewJournals(JournalCase):
             self.assertGreaterEqual(512 * self.journal.stat().st_blocks, RECORD * int(records))
             self.journal.unlink()
 
+    def test_its_owner_alone_may_read_it(self) -> None:
+        """Also where a mask would let all read it."""
+        before = os.umask(0o022)
+        try:
+            self.assert_output(self.make("journal", "2"), b"", "", "under a mask of 022")
+        finally:
+            os.umask(before)
+        self.assertEqual(self.journal.stat().st_mode & 0o777, 0o600)
+
     def test_a_service_over_it(self) -> None:
         self.assert_output(self.make("journal", "2"), b"", "", "two payments")
         requests = payments(3)

@@ -43,6 +43,10 @@ class CopyWay(Enum):
     OLD_WRITTEN = "a byte of the journal is written again"
     OLD_TO_WRITE = "the journal is opened to be written, and is not"
     OVERWRITES = "a file that is there is begun anew"
+    NOT_CHECKED = "the copy is not read again"
+    CHECKED_UNSYNCED = "the copy is read before its last sync"
+    CHECKED_LATE = "the copy is read behind the sync of its folder"
+    CHECKED_IN_PART = "what the copy keeps is read, and no more"
     NOT_REMOVED = "a copy that failed is not removed"
 
 
@@ -134,6 +138,12 @@ class Copy:
         elif way not in (CopyWay.FIRST_TO_LAST, CopyWay.NO_ZEROS, *FIRST_OF_THE_REST):
             write(self.file, self.image, size - 1, size)
 
+    def check(self) -> None:
+        """Reads the copy."""
+        last = self.kept if self.way is CopyWay.CHECKED_IN_PART else len(self.image)
+        for at in range(0, last, PIECE):
+            os.pread(self.file, min(PIECE, last - at), at)
+
     def sync(self) -> None:
         if self.way is not CopyWay.NOT_SYNCED:
             os.fdatasync(self.file)
@@ -150,10 +160,16 @@ class Copy:
         self.end()
         if self.way is CopyWay.FOLDER_FIRST:
             self.sync_folder()
+        if self.way is CopyWay.CHECKED_UNSYNCED:
+            self.check()
         if self.way is not CopyWay.SYNCED_EARLY:
             self.sync()
+        if self.way not in (CopyWay.CHECKED_UNSYNCED, CopyWay.NOT_CHECKED, CopyWay.CHECKED_LATE):
+            self.check()
         if self.way is not CopyWay.FOLDER_FIRST:
             self.sync_folder()
+        if self.way is CopyWay.CHECKED_LATE:
+            self.check()
 
 
 def main(way: str) -> int:

@@ -1,28 +1,56 @@
 -- What is known of a journal that is checked, and then copied.
-use Rattle.std.proofs.Common.{◌≡◌, ◌∙◌, ap, ℕ, List, inl, inr, refl, subst, sym, true}
+use Rattle.std.proofs.Common.{◌≡◌, ◌∙◌, ap, ℕ, List, inl, inr, length, refl, subst, sym, true}
 use Rattle.duk_copy.specs.Copy.{IsCopied, copied_bytes}
 use Rattle.duk_journal.specs.DiskJournal.{DiskJournalOf, MayFindEntries, disk_journal_meaning, is_journal_running, new_disk_journal}
 use Rattle.duk_journal.specs.Groups.{Entries, KeepsEntries}
+use Rattle.duk_journal.specs.Journal.{JournalMeaning}
 use Rattle.duk_journal.specs.RecordFormat.{IsJournalSize}
 use Rattle.duk_line.specs.Check.{IsChecked}
-use Rattle.duk_service.specs.CopyJournal.{HasCopiedJournal, HasKept, IsCopyJournalRefused, IsOldChecked}
-use Rattle.duk_service.specs.LogFiles.{DiskKnown, IsDisk, MakingKnown}
+use Rattle.duk_service.specs.CopyJournal.{HasCopiedJournal, HasKept, IsCopyJournalRefused, IsCopyRefused, IsOldChecked, IsOtherJournal, Keeps}
+use Rattle.duk_service.specs.LogFiles.{DiskKnown, FolderKnown, IsDisk, MakingKnown}
 use Rattle.duk_service.specs.declared.copy_journal.CopyJournalFault.{CopyJournalFault}
 use Rattle.duk_service.specs.declared.copy_journal.CopyJournalFault.TheVariants as fault
-use Rattle.duk_service.specs.inner.CopyJournal.{CopyNotKept, CopyNotMade, IsCopyMade, IsNotChecked}
+use Rattle.duk_service.specs.inner.CopyJournal.{CheckedNotKept, CopyNotMade, CopyNotWritten, IsCopyMade, IsNotChecked, NewNotChecked, NewNotKept}
 use Rattle.duk_store.specs.Disk.{DiskMeaning, DiskState, HasFailed, LeavesReads, PreservesBytes, PreservesDisk}
 use Rattle.duk_store.specs.declared.fault.StoreFault.TheVariants.{Device}
 
--- why a made disk is not kept, or what was copied not read
-pub not_made : {D : Type 0} (meaning : DiskMeaning D) (making : MakingKnown D) (size : ℕ) (old old' : DiskState) (made last : D) (why : CopyJournalFault)
-    → IsDisk (making.disk size) made → CopyNotKept making.folder size old old' (meaning.state_of made) (meaning.state_of last) why
-    → CopyNotMade meaning making size old old' why
-not_made meaning making size old old' made last fault.Failed is_made failed = record { made = made; is_made = is_made; failed = failed }
-not_made meaning making size old old' made last fault.Unmade is_made (inl failed) =
-    inr (inl (record { made = made; last = last; is_made = is_made; failed = failed }))
-not_made meaning making size old old' made last fault.Unmade is_made (inr unsynced) = inr (inr unsynced)
-not_made meaning making size old old' made last fault.OutOfMemory is_made failed = absurd failed
-not_made meaning making size old old' made last fault.Unopened is_made failed = absurd failed
+-- why a made disk is not written, or what was copied not read
+pub not_made : {D : Type 0} (meaning : DiskMeaning D) (making : MakingKnown D) (size kept : ℕ) (old old' : DiskState) (made last : D) (why : CopyJournalFault)
+    → IsDisk (making.disk size) made → CopyNotWritten size old old' (meaning.state_of made) (meaning.state_of last) why
+    → CopyNotMade meaning making size kept old old' why
+not_made meaning making size kept old old' made last fault.Failed is_made failed = record { made = made; is_made = is_made; failed = failed }
+not_made meaning making size kept old old' made last fault.Unmade is_made failed =
+    inl (inr (inl (record { made = made; last = last; is_made = is_made; failed = failed })))
+not_made meaning making size kept old old' made last fault.OutOfMemory is_made failed = absurd failed
+not_made meaning making size kept old old' made last fault.Unopened is_made failed = absurd failed
+
+-- why a written disk is not kept
+pub not_kept : {D : Type 0} (meaning : DiskMeaning D) (making : MakingKnown D) (size kept : ℕ) (old old' : DiskState) (made filled : D) (why : CopyJournalFault)
+    → IsDisk (making.disk size) made → IsCopied kept old (meaning.state_of made) (meaning.state_of filled)
+    → NewNotKept meaning making.folder kept filled why → CopyNotMade meaning making size kept old old' why
+not_kept meaning making size kept old old' made filled fault.OutOfMemory is_made written refused = tt
+not_kept meaning making size kept old old' made filled fault.Unmade is_made written (inl other) =
+    inr (record { made = made; filled = filled; last = other.last; is_made = is_made; written = written; other = other.other })
+not_kept meaning making size kept old old' made filled fault.Unmade is_made written (inr unsynced) = inl (inr (inr unsynced))
+not_kept meaning making size kept old old' made filled fault.Failed is_made written refused = absurd refused
+not_kept meaning making size kept old old' made filled fault.Unopened is_made written refused = absurd refused
+
+-- why a disk is not kept over which a journal is not
+pub disk_not_kept : {D : Type 0} (meaning : DiskMeaning D) (folder : FolderKnown) (kept : ℕ) (filled : D) (last : DiskJournalOf D) (why : CopyJournalFault)
+    → CheckedNotKept (disk_journal_meaning meaning) folder kept (new_disk_journal filled) last why → NewNotKept meaning folder kept filled why
+disk_not_kept meaning folder kept filled last fault.OutOfMemory refused = tt
+disk_not_kept meaning folder kept filled last fault.Unmade (inl other) = inl (record { last = last; other = other })
+disk_not_kept meaning folder kept filled last fault.Unmade (inr unsynced) = inr unsynced
+disk_not_kept meaning folder kept filled last fault.Failed refused = absurd refused
+disk_not_kept meaning folder kept filled last fault.Unopened refused = absurd refused
+
+-- why a journal is not kept that is not checked
+pub checked_not_kept : {J : Type 0} (meaning : JournalMeaning J) (folder : FolderKnown) (kept : ℕ) (old new : J) (why : CopyJournalFault)
+    → NewNotChecked meaning kept old new why → CheckedNotKept meaning folder kept old new why
+checked_not_kept meaning folder kept old new fault.OutOfMemory refused = tt
+checked_not_kept meaning folder kept old new fault.Unmade refused = inl refused
+checked_not_kept meaning folder kept old new fault.Failed refused = absurd refused
+checked_not_kept meaning folder kept old new fault.Unopened refused = absurd refused
 
 -- what is copied of a disk is copied of it as it is read later
 copied_from : (kept : ℕ) (old later before after : DiskState) → PreservesDisk old later → PreservesBytes old later → IsCopied kept old before after → IsCopied kept later before after
@@ -34,6 +62,13 @@ copied_from kept old later before after nature bytes copied = record {
   keeps = λ h k entries keeps counted. copied.keeps (nature.honest.1 h) k entries (subst (λ (all : List ℕ). KeepsEntries all entries) bytes.reads keeps) counted;
   sound = λ h k size entries keeps counted. copied.sound (nature.honest.1 h) k size entries (subst (λ (all : List ℕ). KeepsEntries all entries) bytes.reads keeps) counted;
 }
+
+-- a checked disk finds what it found before its check, and nothing else
+still_finds : {D : Type 0} (meaning : DiskMeaning D) (filled : D) (last : DiskJournalOf D) (found : ℕ)
+    → IsChecked (disk_journal_meaning meaning) (new_disk_journal filled) last found → (meaning.state_of filled).honest
+    → (entries : Entries) → Keeps meaning filled entries → Keeps meaning last.disk entries
+still_finds meaning filled last found checked honest entries keeps =
+    subst (λ (it : Entries). Keeps meaning last.disk it) ((keeps checked.entries).0 (checked.journal.was_found honest)) (checked.journal.settles.finds honest)
 
 module _ {D : Type 0} (meaning : DiskMeaning D) (known : DiskKnown D) (making : MakingKnown D) (opened : D) (journal : DiskJournalOf D)
     (disk last : D) (found : ℕ) (is_opened : IsDisk known opened)
@@ -81,6 +116,14 @@ module _ {D : Type 0} (meaning : DiskMeaning D) (known : DiskKnown D) (making : 
       let held = disk_found honest in
       subst (λ (bytes : List ℕ). KeepsEntries bytes checked.entries) ((one checked.kept.runs (disk_honest honest) held.0).0 held.1) held.2
 
+  -- what is copied of it is copied of it as it was read last
+  copied_since : PreservesDisk (meaning.state_of disk) (meaning.state_of last) → PreservesBytes (meaning.state_of disk) (meaning.state_of last)
+      → (made filled : D) → IsCopied found (meaning.state_of disk) (meaning.state_of made) (meaning.state_of filled)
+      → IsCopied (length checked.entries) (meaning.state_of last) (meaning.state_of made) (meaning.state_of filled)
+  copied_since nature bytes made filled copied =
+      subst (λ (kept : ℕ). IsCopied kept (meaning.state_of last) (meaning.state_of made) (meaning.state_of filled)) (sym checked.counted)
+      (copied_from found (meaning.state_of disk) (meaning.state_of last) (meaning.state_of made) (meaning.state_of filled) nature bytes copied)
+
   pub has_copied : PreservesDisk (meaning.state_of disk) (meaning.state_of last) → PreservesBytes (meaning.state_of disk) (meaning.state_of last)
       → (is_journal_running journal.kept ≡ true → (meaning.state_of disk).honest → LeavesReads (meaning.state_of disk))
       → IsCopyMade meaning making (meaning.state_of opened).size found (meaning.state_of disk)
@@ -89,14 +132,17 @@ module _ {D : Type 0} (meaning : DiskMeaning D) (known : DiskKnown D) (making : 
   has_copied nature bytes one copy = record {
     old = old_checked nature bytes;
     made = copy.made;
-    last = copy.last;
+    filled = copy.filled;
+    last = copy.kept_is.last;
     is_made = copy.is_made;
-    size_is = copy.kept_is.size_is;
-    written = subst (λ (kept : ℕ). IsCopied kept (meaning.state_of last) (meaning.state_of copy.made) (meaning.state_of copy.last)) (sym checked.counted)
-        (copied_from found (meaning.state_of disk) (meaning.state_of last) (meaning.state_of copy.made) (meaning.state_of copy.last) nature bytes copy.kept_is.copied);
-    finds = λ old_honest new_honest. copy.kept_is.copied.keeps (disk_honest old_honest) new_honest checked.entries (reads_keep one old_honest) checked.counted;
-    sound = λ old_honest new_honest size. copy.kept_is.copied.sound (disk_honest old_honest) new_honest (subst (λ (n : ℕ). IsJournalSize n) (sym copy.kept_is.size_is) size) checked.entries (reads_keep one old_honest) checked.counted;
-    folder = copy.kept_is.synced;
+    size_is = copy.written.size_is;
+    written = copied_since nature bytes copy.made copy.filled copy.written.copied;
+    checked = subst (λ (kept : ℕ). IsChecked (disk_journal_meaning meaning) (new_disk_journal copy.filled) copy.kept_is.last kept) (sym checked.counted) copy.kept_is.checked;
+    finds = λ old_honest new_honest. still_finds meaning copy.filled copy.kept_is.last found copy.kept_is.checked
+        (copy.written.copied.nature.honest.0 new_honest) checked.entries
+        (copy.written.copied.keeps (disk_honest old_honest) new_honest checked.entries (reads_keep one old_honest) checked.counted);
+    sound = λ new_honest. copy.kept_is.checked.sound (copy.written.copied.nature.honest.0 new_honest);
+    folder = copy.synced;
   }
 
   -- a device step failed after the check
@@ -109,10 +155,10 @@ module _ {D : Type 0} (meaning : DiskMeaning D) (known : DiskKnown D) (making : 
 
   pub not_copied : (why : CopyJournalFault) → PreservesBytes (meaning.state_of disk) (meaning.state_of last)
       → PreservesDisk (meaning.state_of disk) (meaning.state_of last)
-      → CopyNotMade meaning making (meaning.state_of opened).size (meaning.state_of disk) (meaning.state_of last) why
+      → CopyNotMade meaning making (meaning.state_of opened).size found (meaning.state_of disk) (meaning.state_of last) why
       → IsCopyJournalRefused meaning known making why
   unfolding old_checked
-  not_copied fault.OutOfMemory bytes nature refused = absurd refused
+  not_copied fault.OutOfMemory bytes nature refused = (opened, is_opened)
   not_copied fault.Unopened bytes nature refused = absurd refused
   not_copied fault.Failed bytes nature refused = inr (record {
     old = old_checked nature bytes;
@@ -120,7 +166,18 @@ module _ {D : Type 0} (meaning : DiskMeaning D) (known : DiskKnown D) (making : 
     is_made = refused.is_made;
     failed = failed_since refused.failed;
   })
-  not_copied fault.Unmade bytes nature refused = record { old = old_checked nature bytes; unmade = refused }
+  not_copied fault.Unmade bytes nature (inl unmade) = record { old = old_checked nature bytes; unmade = inl unmade }
+  not_copied fault.Unmade bytes nature (inr refused) = record {
+    old = old_checked nature bytes;
+    unmade = inr (record {
+      made = refused.made;
+      filled = refused.filled;
+      last = refused.last;
+      is_made = refused.is_made;
+      written = copied_since nature bytes refused.made refused.filled refused.written;
+      other = subst (λ (kept : ℕ). IsOtherJournal (disk_journal_meaning meaning) kept (new_disk_journal refused.filled) refused.last) (sym checked.counted) refused.other;
+    });
+  }
 
 -- a journal that is not checked
 pub not_checked : {D : Type 0} (meaning : DiskMeaning D) (known : DiskKnown D) (making : MakingKnown D) (opened : D) (journal : DiskJournalOf D) (why : CopyJournalFault)

@@ -1,13 +1,13 @@
 -- What `copy-journal` makes (this project's own).
-use Rattle.std.specs.Prelude.{◌≡◌, ◌⊎◌, ◌↔◌, ℕ, List, None, length}
+use Rattle.std.specs.Prelude.{◌≢◌, ◌≡◌, ◌⊎◌, ◌↔◌, ℕ, List, None, length}
 use Rattle.duk_copy.specs.Copy.{IsCopied}
 use Rattle.duk_host.specs.declared.fault.HostFault.TheVariants.{Store}
 use Rattle.duk_io.specs.Known.{Known}
 use Rattle.duk_io.specs.Sink.{IsTried}
 use Rattle.duk_journal.specs.DiskJournal.{DiskJournalOf, MayFindEntries, disk_journal_meaning, disk_journal_state, new_disk_journal}
 use Rattle.duk_journal.specs.Groups.{Entries}
-use Rattle.duk_journal.specs.RecordFormat.{IsJournalSize}
-use Rattle.duk_line.specs.Check.{CheckRefused}
+use Rattle.duk_journal.specs.Journal.{JournalMeaning}
+use Rattle.duk_line.specs.Check.{CheckRefused, IsChecked}
 use Rattle.duk_line.specs.Latest.{UseNewNumbers}
 use Rattle.duk_service.specs.LogFiles.{DiskKnown, IsDisk, IsFolderSynced, IsNoDisk, MakingKnown}
 use Rattle.duk_service.specs.NewJournal.{IsUnmade, new_journal_line}
@@ -16,7 +16,7 @@ use Rattle.duk_service.specs.ServeJournalFiles.{unopened_journal_line}
 use Rattle.duk_service.specs.declared.copy_journal.CopyJournalFault.{CopyJournalFault}
 use Rattle.duk_service.specs.declared.copy_journal.CopyJournalFault.TheVariants as fault
 use Rattle.duk_service.specs.declared.new_journal.JournalFault.TheVariants.{OutOfMemory, Unmade}
-use Rattle.duk_store.specs.Disk.{DiskMeaning, HasFailed}
+use Rattle.duk_store.specs.Disk.{DiskMeaning, DiskState, HasFailed}
 use Rattle.duk_store.specs.StoreState.{FindsOnly}
 use Rattle.duk_store.specs.declared.fault.StoreFault.{StoreFault}
 use Rattle.duk_store.specs.declared.fault.StoreFault.TheVariants.{Device}
@@ -44,22 +44,25 @@ pub record IsOldChecked {D : Type 0} (meaning : DiskMeaning D) (known : DiskKnow
   pub kept : HasKept meaning opened last entries
 
 -- status 0 of `copy-journal`: OLD is checked, a file of its size is made, what OLD keeps is written
--- over all of its disk and synced, and its folder is synced; where both disks are honest, a journal
--- over that of the file finds what OLD keeps, and nothing else, and no restart finds it damaged
+-- over all of its disk and synced, that disk is checked, and its folder is synced. Where the disk of
+-- the file is honest, a host comes up over it, with as many entries as OLD keeps, whatever OLD is;
+-- and where that of OLD is too, a journal over it finds what OLD keeps, and nothing else
 pub record HasCopiedJournal {D : Type 0} (meaning : DiskMeaning D) (known : DiskKnown D)
     (making : MakingKnown D) : Type 0 where
   pub old : IsOldChecked meaning known
   pub made : D
-  pub last : D
+  pub filled : D
+  pub last : DiskJournalOf D
   pub is_made : IsDisk (making.disk (meaning.state_of old.opened).size) made
   pub size_is : (meaning.state_of made).size ≡ (meaning.state_of old.opened).size
   pub written : IsCopied (length old.entries) (meaning.state_of old.last)
-      (meaning.state_of made) (meaning.state_of last)
+      (meaning.state_of made) (meaning.state_of filled)
+  pub checked : IsChecked (disk_journal_meaning meaning) (new_disk_journal filled) last
+      (length old.entries)
   pub finds : (meaning.state_of old.opened).honest → (meaning.state_of made).honest
-      → Keeps meaning last old.entries
-  pub sound : (meaning.state_of old.opened).honest → (meaning.state_of made).honest
-      → IsJournalSize (meaning.state_of old.opened).size
-      → (disk_journal_state (meaning.state_of last) None).sound
+      → Keeps meaning last.disk old.entries
+  pub sound : (meaning.state_of made).honest
+      → (disk_journal_state (meaning.state_of last.disk) None).sound
   pub folder : IsFolderSynced making.folder
 
 -- OLD's disk is opened, and no host would come up over it: no file is made
@@ -78,11 +81,31 @@ pub record IsOldUnread {D : Type 0} (meaning : DiskMeaning D) (known : DiskKnown
   pub is_made : IsDisk (making.disk (meaning.state_of old.opened).size) made
   pub failed : HasFailed (meaning.state_of old.opened) (meaning.state_of old.last) Device
 
--- OLD is checked, and no file of its size is made, or not whole, or its folder cannot be synced
+-- why a journal that is written with so many entries is no copy: its check is refused, or finds
+-- another number
+abbrev pub IsOtherJournal : {J : Type 0} → JournalMeaning J → ℕ → J → J → Type 0
+IsOtherJournal meaning kept old new =
+    ((why : StoreFault) × CheckRefused meaning old new (Store why))
+    ⊎ ((found : ℕ) × IsChecked meaning old new found × (found ≢ kept))
+
+-- a disk is made, so many entries of OLD are written over it and synced, and it is no copy
+pub record IsCopyRefused {D : Type 0} (meaning : DiskMeaning D) (known : DiskKnown D) (kept : ℕ)
+    (old : DiskState) : Type 0 where
+  pub made : D
+  pub filled : D
+  pub last : DiskJournalOf D
+  pub is_made : IsDisk known made
+  pub written : IsCopied kept old (meaning.state_of made) (meaning.state_of filled)
+  pub other : IsOtherJournal (disk_journal_meaning meaning) kept (new_disk_journal filled) last
+
+-- OLD is checked, and no file of its size is made, or not whole, or what is written is no copy, or
+-- its folder cannot be synced
 pub record IsCopyUnmade {D : Type 0} (meaning : DiskMeaning D) (known : DiskKnown D)
     (making : MakingKnown D) : Type 0 where
   pub old : IsOldChecked meaning known
   pub unmade : IsUnmade meaning making (meaning.state_of old.opened).size
+      ⊎ IsCopyRefused meaning (making.disk (meaning.state_of old.opened).size)
+      (length old.entries) (meaning.state_of old.last)
 
 -- why no journal is copied; memory may be refused at any time once OLD is opened
 abbrev pub IsCopyJournalRefused : {D : Type 0} → DiskMeaning D → DiskKnown D → MakingKnown D

@@ -2,9 +2,11 @@
 
 ghost use Rattle.std.specs.Prelude.{◌≡◌, ◌≤◌, ◌*◌, ◌⊎◌, IfErr, IfOk, OnOk, length, replicate};
 ghost use Rattle.duk_io.specs.Sink.{IsUntouched};
+ghost use Rattle.duk_journal.specs.DiskJournal.{disk_journal_meaning};
 ghost use Rattle.duk_line.specs.Check.{IsChecked};
 ghost use Rattle.duk_service.specs.CopyJournal.{HasCopiedJournal, HasNotCopiedJournal, IsCopyJournalRefused, copy_journal_line};
-ghost use Rattle.duk_service.specs.inner.CopyJournal.{CopyNotKept, CopyNotMade, IsCopyKept, IsCopyMade, IsNotChecked};
+ghost use Rattle.duk_service.specs.LogFiles.{IsFolderSynced};
+ghost use Rattle.duk_service.specs.inner.CopyJournal.{CheckedNotKept, CopyNotMade, CopyNotWritten, IsCopyMade, IsCopyWritten, IsNewChecked, IsNotChecked, NewNotChecked, NewNotKept};
 ghost use Rattle.duk_store.specs.Disk.{PreservesBytes, PreservesDisk};
 
 use crate::ending::EndingFault;
@@ -26,7 +28,8 @@ pub enum CopyJournalFault {
     Unopened,
     /// The journal is damaged, or a device step of it failed.
     Failed,
-    /// The copy's file cannot be made, written or synced, or its folder cannot be synced.
+    /// The copy's file cannot be made, written or synced, what was written does not keep what the
+    /// journal does, or the file's folder cannot be synced.
     Unmade,
 }
 
@@ -69,7 +72,8 @@ struct Pieces {
 }
 
 /// Makes a file of the size of a journal's, with what that keeps, and gives the status: 0, or 1 with
-/// a line on `fault`. The journal is checked before the file is made.
+/// a line on `fault`. The journal is checked before the file is made, and the file before its folder
+/// is synced: a journal that is read otherwise the second time is not copied.
 ///
 /// The faults, in this order: `journal: cannot open`; `journal: failed`; `journal: cannot make`. In
 /// place of each but the first may stand `out of memory`. A file that was made and cannot be kept is removed
@@ -97,7 +101,7 @@ where
     }
 }
 
-/// Copies a journal. Memory is asked for before the copy's file is made.
+/// Copies a journal. All memory but that of the copy's check is asked for before its file is made.
 fn make_copy<S: LogFiles>(
     alloc: Global,
     files: &S,
@@ -126,7 +130,7 @@ where
         return Err(CopyJournalFault::OutOfMemory);
     };
     let mut disk = journal.into_disk();
-    make_new(files, new, size, kept, &mut disk, &mut pieces)
+    make_new(alloc, files, new, size, kept, &mut disk, &mut pieces)
 }
 
 /// Checks a journal as the restart of a host over it does, and gives how many entries it keeps.
@@ -152,9 +156,10 @@ fn new_pieces(alloc: Global) -> Result<Pieces, AllocError>
     Ok(Pieces { zeros, piece })
 }
 
-/// Makes a file of so many bytes, with so many entries of a disk, and syncs it and its folder. Where
-/// it cannot be kept it is removed again, if it can be.
+/// Makes a file of so many bytes, with so many entries of a disk, syncs and checks it, and syncs its
+/// folder. Where it cannot be kept it is removed again, if it can be.
 fn make_new<S: LogFiles>(
+    alloc: Global,
     files: &S,
     file: &str,
     size: u64,
@@ -171,7 +176,7 @@ where
     ensures made { OnOk result (IsCopyMade S.Disk.meaning (S.making files.now file.now) size kept
         (S.Disk.meaning.state_of old.old)) }
     ensures refused { IfErr result (CopyNotMade S.Disk.meaning (S.making files.now file.now) size
-        (S.Disk.meaning.state_of old.old) (S.Disk.meaning.state_of old.new)) }
+        kept (S.Disk.meaning.state_of old.old) (S.Disk.meaning.state_of old.new)) }
     ensures nature { PreservesDisk
         (S.Disk.meaning.state_of old.old) (S.Disk.meaning.state_of old.new) }
     ensures bytes { PreservesBytes
@@ -180,8 +185,8 @@ where
     let Ok(mut disk) = files.make_disk(file, size) else {
         return Err(CopyJournalFault::Unmade);
     };
-    match keep_copy(files, file, size, kept, old, pieces, &mut disk) {
-        Ok(()) => Ok(()),
+    match write_new(size, kept, old, pieces, &mut disk) {
+        Ok(()) => keep_new(alloc, files, file, kept, disk),
         Err(why) => {
             files.remove_made(file, disk);
             Err(why)
@@ -189,33 +194,26 @@ where
     }
 }
 
-/// Writes so many entries of a disk over one that was made under a path, and zeros behind them,
-/// syncs it, and then its folder.
-fn keep_copy<S: LogFiles>(
-    files: &S,
-    file: &str,
+/// Writes so many entries of a disk over one that was made, of this size, and zeros behind them, and
+/// syncs it.
+fn write_new<D: Disk>(
     size: u64,
     kept: u64,
-    old: &mut S::Disk,
+    old: &mut D,
     pieces: &mut Pieces,
-    disk: &mut S::Disk,
+    disk: &mut D,
 ) -> Result<(), CopyJournalFault>
-where
-    S::Disk: Disk,
     requires zeros { pieces.old.zeros.items ≡ replicate 65536 0 }
     requires piece { length pieces.old.piece.items ≡ 65536 }
-    requires inside { 32 * kept ≤ (S.Disk.meaning.state_of old.old).size }
+    requires inside { 32 * kept ≤ (D.meaning.state_of old.old).size }
     requires room { 32 * kept ≤ size }
-    ensures kept { OnOk result (IsCopyKept (S.making files.now file.now).folder size kept
-        (S.Disk.meaning.state_of old.old)
-        (S.Disk.meaning.state_of disk.old) (S.Disk.meaning.state_of disk.new)) }
-    ensures refused { IfErr result (CopyNotKept (S.making files.now file.now).folder size
-        (S.Disk.meaning.state_of old.old) (S.Disk.meaning.state_of old.new)
-        (S.Disk.meaning.state_of disk.old) (S.Disk.meaning.state_of disk.new)) }
-    ensures nature { PreservesDisk
-        (S.Disk.meaning.state_of old.old) (S.Disk.meaning.state_of old.new) }
-    ensures bytes { PreservesBytes
-        (S.Disk.meaning.state_of old.old) (S.Disk.meaning.state_of old.new) }
+    ensures written { OnOk result (IsCopyWritten size kept (D.meaning.state_of old.old)
+        (D.meaning.state_of disk.old) (D.meaning.state_of disk.new)) }
+    ensures refused { IfErr result (CopyNotWritten size
+        (D.meaning.state_of old.old) (D.meaning.state_of old.new)
+        (D.meaning.state_of disk.old) (D.meaning.state_of disk.new)) }
+    ensures nature { PreservesDisk (D.meaning.state_of old.old) (D.meaning.state_of old.new) }
+    ensures bytes { PreservesBytes (D.meaning.state_of old.old) (D.meaning.state_of old.new) }
 {
     if disk.size() != size {
         return Err(CopyJournalFault::Unmade);
@@ -227,12 +225,87 @@ where
         pieces.zeros.as_slice(),
         &mut pieces.piece[..],
     ) {
+        Ok(()) => Ok(()),
+        Err(CopyFault::Old) => Err(CopyJournalFault::Failed),
+        Err(CopyFault::New) => Err(CopyJournalFault::Unmade),
+    }
+}
+
+/// Checks that a written disk keeps so many entries, and syncs the folder of its path. Where it
+/// cannot be kept it is removed again, if it can be.
+fn keep_new<S: LogFiles>(
+    alloc: Global,
+    files: &S,
+    file: &str,
+    kept: u64,
+    disk: S::Disk,
+) -> Result<(), CopyJournalFault>
+where
+    S::Disk: Disk,
+    ensures checked { OnOk result (IsNewChecked S.Disk.meaning kept disk) }
+    ensures synced { OnOk result (IsFolderSynced (S.making files.now file.now).folder) }
+    ensures refused { IfErr result
+        (NewNotKept S.Disk.meaning (S.making files.now file.now).folder kept disk) }
+{
+    let Ok(mut journal) = DiskJournal::new(alloc, disk) else {
+        remove_new(files, file);
+        return Err(CopyJournalFault::OutOfMemory);
+    };
+    match keep_checked(alloc, files, file, kept, &mut journal) {
+        Ok(()) => Ok(()),
+        Err(why) => {
+            files.remove_made(file, journal.into_disk());
+            Err(why)
+        }
+    }
+}
+
+/// Removes a file that was made, whose disk is closed, if it can be opened again.
+fn remove_new<S: LogFiles>(files: &S, file: &str) {
+    if let Ok(disk) = files.open_disk(file) {
+        files.remove_made(file, disk);
+    }
+}
+
+/// Checks that a journal keeps so many entries, and then syncs the folder of its path.
+fn keep_checked<S: LogFiles>(
+    alloc: Global,
+    files: &S,
+    file: &str,
+    kept: u64,
+    journal: &mut DiskJournal<S::Disk>,
+) -> Result<(), CopyJournalFault>
+where
+    S::Disk: Disk,
+    ensures checked { OnOk result (IsChecked (disk_journal_meaning S.Disk.meaning)
+        journal.old journal.new kept) }
+    ensures synced { OnOk result (IsFolderSynced (S.making files.now file.now).folder) }
+    ensures refused { IfErr result (CheckedNotKept (disk_journal_meaning S.Disk.meaning)
+        (S.making files.now file.now).folder kept journal.old journal.new) }
+{
+    match check_new(alloc, kept, journal) {
         Ok(()) => {}
-        Err(CopyFault::Old) => return Err(CopyJournalFault::Failed),
-        Err(CopyFault::New) => return Err(CopyJournalFault::Unmade),
+        Err(why) => return Err(why),
     }
     match files.sync_folder(file) {
         Ok(()) => Ok(()),
+        Err(_) => Err(CopyJournalFault::Unmade),
+    }
+}
+
+/// Checks a journal as the restart of a host over it does, and that it keeps so many entries.
+fn check_new<J: Journal>(alloc: Global, kept: u64, journal: &mut J) -> Result<(), CopyJournalFault>
+    ensures checked { OnOk result (IsChecked J.meaning journal.old journal.new kept) }
+    ensures refused { IfErr result (NewNotChecked J.meaning kept journal.old journal.new) }
+{
+    match check_journal(alloc, journal) {
+        Ok(found) => {
+            if found != kept {
+                return Err(CopyJournalFault::Unmade);
+            }
+            Ok(())
+        }
+        Err(HostFault::NoMemory) => Err(CopyJournalFault::OutOfMemory),
         Err(_) => Err(CopyJournalFault::Unmade),
     }
 }

@@ -9,7 +9,7 @@ use duk_explain::Reason;
 use duk_store::{FileDisk, FileMedium, MediumDisk, ReadAhead};
 use std::fs::{File, OpenOptions};
 use std::io::ErrorKind;
-use std::os::unix::fs::FileExt;
+use std::os::unix::fs::{FileExt, OpenOptionsExt};
 use std::path::Path;
 use std::rt::Files;
 use std::{fs, io};
@@ -49,12 +49,14 @@ pub(crate) fn make_file<R: Files<File = File>>(
     }
 }
 
-/// A file under a path where there is none, not even a link.
+/// A file under a path where there is none, not even a link. Its owner alone may read and write it:
+/// a journal has amounts and MACs.
 fn open_new<R: Files<File = File>>(files: &R, path: &str) -> io::Result<File> {
     OpenOptions::new()
         .read(true)
         .write(true)
         .create_new(true)
+        .mode(0o600)
         .open(files, path)
 }
 

@@ -1,14 +1,15 @@
 -- What only private functions and proofs say beside `CopyJournal.antt`: this project's own.
-use Rattle.std.specs.Prelude.{◌≡◌, ⊤, ℕ}
+use Rattle.std.specs.Prelude.{◌≢◌, ◌≡◌, ◌⊎◌, ⊤, ℕ}
 use Rattle.duk_copy.specs.Copy.{IsCopied}
 use Rattle.duk_host.specs.declared.fault.HostFault.TheVariants.{Store}
+use Rattle.duk_journal.specs.DiskJournal.{DiskJournalOf, disk_journal_meaning, new_disk_journal}
 use Rattle.duk_journal.specs.Journal.{JournalMeaning}
-use Rattle.duk_line.specs.Check.{CheckRefused}
-use Rattle.duk_service.specs.LogFiles.{FolderKnown, IsDisk, IsFolderSynced, MakingKnown}
+use Rattle.duk_line.specs.Check.{CheckRefused, IsChecked}
+use Rattle.duk_service.specs.CopyJournal.{IsCopyRefused, IsOtherJournal}
+use Rattle.duk_service.specs.LogFiles.{FolderKnown, IsDisk, IsFolderSynced, IsFolderUnsynced, MakingKnown}
 use Rattle.duk_service.specs.NewJournal.{IsUnmade}
 use Rattle.duk_service.specs.declared.copy_journal.CopyJournalFault.{CopyJournalFault}
 use Rattle.duk_service.specs.declared.copy_journal.CopyJournalFault.TheVariants as fault
-use Rattle.duk_service.specs.inner.NewJournal.{IsNotKept}
 use Rattle.duk_store.specs.Disk.{DiskMeaning, DiskState, HasFailed}
 use Rattle.duk_store.specs.declared.fault.StoreFault.{StoreFault}
 use Rattle.duk_store.specs.declared.fault.StoreFault.TheVariants.{Device}
@@ -20,27 +21,62 @@ IsNotChecked meaning old new fault.Failed =
     (why : StoreFault) × CheckRefused meaning old new (Store why)
 IsNotChecked meaning old new _ = ⊥
 
--- a disk of this size is written with so many entries of another, and its folder is synced
-pub record IsCopyKept (folder : FolderKnown) (size kept : ℕ) (old before after : DiskState)
-    : Type 0 where
+-- a disk of this size is written with so many entries of another
+pub record IsCopyWritten (size kept : ℕ) (old before after : DiskState) : Type 0 where
   pub size_is : before.size ≡ size
   pub copied : IsCopied kept old before after
-  pub synced : IsFolderSynced folder
 
 -- why it is not
-abbrev pub CopyNotKept : FolderKnown → ℕ → DiskState → DiskState → DiskState → DiskState
-    → CopyJournalFault → Type 0
-CopyNotKept folder size old old' before after fault.Failed = HasFailed old old' Device
-CopyNotKept folder size old old' before after fault.Unmade = IsNotKept folder size before after
-CopyNotKept folder size old old' before after _ = ⊥
+abbrev pub CopyNotWritten : ℕ → DiskState → DiskState → DiskState → DiskState → CopyJournalFault
+    → Type 0
+CopyNotWritten size old old' before after fault.Failed = HasFailed old old' Device
+CopyNotWritten size old old' before after fault.Unmade =
+    (before.size ≢ size) ⊎ HasFailed before after Device
+CopyNotWritten size old old' before after _ = ⊥
 
--- a file of this size is made, with so many entries of a disk
+-- why a journal is not checked, with so many entries
+abbrev pub NewNotChecked : {J : Type 0} → JournalMeaning J → ℕ → J → J → CopyJournalFault → Type 0
+NewNotChecked meaning kept old new fault.OutOfMemory = ⊤
+NewNotChecked meaning kept old new fault.Unmade = IsOtherJournal meaning kept old new
+NewNotChecked meaning kept old new _ = ⊥
+
+-- why a journal is not checked, or its folder not synced
+abbrev pub CheckedNotKept : {J : Type 0} → JournalMeaning J → FolderKnown → ℕ → J → J
+    → CopyJournalFault → Type 0
+CheckedNotKept meaning folder kept old new fault.OutOfMemory = ⊤
+CheckedNotKept meaning folder kept old new fault.Unmade =
+    IsOtherJournal meaning kept old new ⊎ IsFolderUnsynced folder
+CheckedNotKept meaning folder kept old new _ = ⊥
+
+-- a written disk is checked, with so many entries
+pub record IsNewChecked {D : Type 0} (meaning : DiskMeaning D) (kept : ℕ) (filled : D)
+    : Type 0 where
+  pub last : DiskJournalOf D
+  pub checked : IsChecked (disk_journal_meaning meaning) (new_disk_journal filled) last kept
+
+-- a written disk is no copy
+pub record IsNewOther {D : Type 0} (meaning : DiskMeaning D) (kept : ℕ) (filled : D)
+    : Type 0 where
+  pub last : DiskJournalOf D
+  pub other : IsOtherJournal (disk_journal_meaning meaning) kept (new_disk_journal filled) last
+
+-- why a written disk is not kept
+abbrev pub NewNotKept : {D : Type 0} → DiskMeaning D → FolderKnown → ℕ → D → CopyJournalFault
+    → Type 0
+NewNotKept meaning folder kept filled fault.OutOfMemory = ⊤
+NewNotKept meaning folder kept filled fault.Unmade =
+    IsNewOther meaning kept filled ⊎ IsFolderUnsynced folder
+NewNotKept meaning folder kept filled _ = ⊥
+
+-- a file of this size is made, with so many entries of a disk, and checked
 pub record IsCopyMade {D : Type 0} (meaning : DiskMeaning D) (making : MakingKnown D)
     (size kept : ℕ) (old : DiskState) : Type 0 where
   pub made : D
-  pub last : D
+  pub filled : D
   pub is_made : IsDisk (making.disk size) made
-  pub kept_is : IsCopyKept making.folder size kept old (meaning.state_of made) (meaning.state_of last)
+  pub written : IsCopyWritten size kept old (meaning.state_of made) (meaning.state_of filled)
+  pub kept_is : IsNewChecked meaning kept filled
+  pub synced : IsFolderSynced making.folder
 
 -- one is made, and a device step of the other disk failed
 pub record IsCopyUnread {D : Type 0} (making : MakingKnown D) (size : ℕ) (old old' : DiskState)
@@ -50,8 +86,10 @@ pub record IsCopyUnread {D : Type 0} (making : MakingKnown D) (size : ℕ) (old 
   pub failed : HasFailed old old' Device
 
 -- why none is
-abbrev pub CopyNotMade : {D : Type 0} → DiskMeaning D → MakingKnown D → ℕ → DiskState → DiskState
-    → CopyJournalFault → Type 0
-CopyNotMade meaning making size old old' fault.Failed = IsCopyUnread making size old old'
-CopyNotMade meaning making size old old' fault.Unmade = IsUnmade meaning making size
-CopyNotMade meaning making size old old' _ = ⊥
+abbrev pub CopyNotMade : {D : Type 0} → DiskMeaning D → MakingKnown D → ℕ → ℕ → DiskState
+    → DiskState → CopyJournalFault → Type 0
+CopyNotMade meaning making size kept old old' fault.OutOfMemory = ⊤
+CopyNotMade meaning making size kept old old' fault.Failed = IsCopyUnread making size old old'
+CopyNotMade meaning making size kept old old' fault.Unmade =
+    IsUnmade meaning making size ⊎ IsCopyRefused meaning (making.disk size) kept old
+CopyNotMade meaning making size kept old old' _ = ⊥

@@ -1,0 +1,11 @@
+use Rattle.duk_service.proofs.CopiedJournal.{not_kept}
+use Rattle.duk_service.proofs.Results.{if_err}
+use Rattle.duk_service.proofs.copy_journal.make_new.Goals as goal
+
+pub returns-in-Ok-write_new-clause-refused : goal.returns-in-Ok-write_new-clause-refused
+returns-in-Ok-write_new-clause-refused g c =
+    let meaning = g.S.Disk.Disk.meaning in
+    if_err _ _ c.keep_new.result
+    (λ why refused. not_kept meaning (g.S.LogFiles.making c.args.files.now c.args.file.now) c.args.size c.args.kept (meaning.state_of c.args.old.now) (meaning.state_of c.write_new.new.old)
+    c.in-Ok.disk c.write_new.new.disk why c.in-Ok.ensures.made c.in-Ok-write_new.ensures.written.copied refused)
+    c.keep_new.ensures.refused
