@@ -10,6 +10,7 @@ from pathlib import Path
 
 from .support.client import payments
 from .support.journal_case import CANNOT_OPEN, JOURNAL_FAILED, JournalCase, stream_of
+from .support.journal_file import records_for
 from .support.model_journal import answers_of, judged, payments_of_all
 from .support.program import NO_LIMITS, SECONDS, Ended, Limits
 from .support.service_case import LOG_FAILED
@@ -122,7 +123,7 @@ class Deployed(ScriptCase):
             client.sendall(stream_of(requests))
             client.shutdown(socket.SHUT_WR)
             answers = client.makefile("rb").read()
-        self.assertEqual(answers, answers_of(judged(requests, [], 1500)))
+        self.assertEqual(answers, answers_of(judged(requests, [], records_for(1500))))
         self.assertEqual((end_of(script, None).faults, script.returncode), (b"", 0))
         self.assertEqual(self.state.read_bytes(), b"")
 

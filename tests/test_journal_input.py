@@ -7,7 +7,7 @@ import os
 
 from .support.client import Exchange, payments, refusal, refused_requests
 from .support.journal_case import ON_JOURNAL, JournalCase, frames_of, stream_of
-from .support.journal_file import groups_in
+from .support.journal_file import groups_in, records_for
 from .support.model_journal import MOST_FRAMES, READ, answers_of, judged, payments_of_all
 from .support.service import NARROW, PACKETS, PLAIN, How, cuts
 from .support.service_case import (
@@ -110,7 +110,7 @@ class Pieces(JournalCase):
             before = len(self.kept())
             service.ask([it.frame])
             self.assertLessEqual(len(self.kept()) - before, 1)
-        wanted = answers_of(judged(requests, [], 90))
+        wanted = answers_of(judged(requests, [], records_for(90)))
         self.assert_output(service.end(), wanted, "", "one request after another")
         self.assertEqual([len(it) for it in groups_in(self.journal.read_bytes())], [1] * 90)
 
