@@ -1,5 +1,5 @@
 -- A request or a reversal that comes again, and what is refused since its number is used.
-use Rattle.std.proofs.Common.{◌≡◌, ◌≢◌, ◌<◌, ℕ, List, [], ◌∷◌, Contains, inl, inr, refl, sym, ap, subst, ◌∙◌, arith}
+use Rattle.std.proofs.Common.{◌≡◌, ◌≢◌, ℕ, List, [], Contains, inl, inr, refl, sym, ap, subst, ◌∙◌, arith}
 use Rattle.duk_frame.specs.Answer.{IsRefusal, refusal_text}
 use Rattle.duk_frame.specs.Frame.{framed}
 use Rattle.duk_frame.specs.Request.{IsRequest}

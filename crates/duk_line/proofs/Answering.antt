@@ -1,5 +1,5 @@
 -- What a host does with a group, from what its parts do.
-use Rattle.std.proofs.Common.{◌≡◌, ◌≢◌, ◌≤◌, ◌-◌, ◌++◌, ℕ, List, [], All, Option, Some, None, IsSome, Result, Ok, Err, OnOk, OnErr, if◌then◌else◌, get_or, length, take, refl, sym, ap, subst, ◌∙◌, ◌∷◌, arith}
+use Rattle.std.proofs.Common.{◌≡◌, ◌≢◌, ◌-◌, ◌++◌, ℕ, List, [], Option, Some, None, IsSome, Result, Ok, Err, OnOk, OnErr, if◌then◌else◌, get_or, length, take, refl, sym, ap, subst, ◌∙◌, ◌∷◌, arith}
 use Rattle.duk_host.specs.Judgement.{Decision}
 use Rattle.duk_hsm.specs.Keys.{HsmKeys}
 use Rattle.duk_journal.specs.Groups.{Entries}

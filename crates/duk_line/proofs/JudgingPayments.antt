@@ -1,5 +1,5 @@
 -- A request that is judged by the index of some entries.
-use Rattle.std.proofs.Common.{◌≡◌, ◌↔◌, ◌∷◌, ◌++◌, ℕ, List, [], Bool, true, Contains, Option, None, Some, inl, inr, refl, sym, ap, subst}
+use Rattle.std.proofs.Common.{◌≡◌, ◌↔◌, ℕ, List, [], Bool, true, Contains, Option, None, Some, inl, inr, refl, sym, ap, subst}
 use Rattle.std.specs.Bool.{MatchBool}
 use Rattle.duk_frame.specs.Request.{IsRequest}
 use Rattle.duk_frame.specs.declared.code.Code.{Code}
@@ -16,7 +16,7 @@ use Rattle.duk_reversal.specs.declared.reversal.Reversal.{Reversal}
 use Rattle.duk_reversal.specs.declared.state.ReversalState.{ReversalState}
 use Rattle.duk_tree.specs.Serial.{Serial}
 use Rattle.duk_line.specs.Host.{IndexOf, IsIndexOf}
-use Rattle.duk_line.specs.Judgement.{IsPaymentKept, IsSettled, entry_of, line_basis, room_for_payments}
+use Rattle.duk_line.specs.Judgement.{IsSettled, entry_of, line_basis, room_for_payments}
 use Rattle.duk_line.specs.Latest.{payment_entry, used_by}
 use Rattle.duk_line.specs.inner.Index.{TakesNumbers}
 use Rattle.duk_line.specs.inner.Judged.{AcceptableBy, IsCodeKept, JudgesFrame}

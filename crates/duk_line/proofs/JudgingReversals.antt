@@ -1,7 +1,6 @@
 -- A reversal that is judged by the index of some entries.
-use Rattle.std.proofs.Common.{◌≡◌, ◌<◌, ◌∷◌, ℕ, List, [], Bool, true, Contains, Option, Some, None, IsSome, inl, inr, refl, sym, ap, subst, ◌∙◌, arith}
+use Rattle.std.proofs.Common.{◌≡◌, ◌<◌, ℕ, List, Bool, true, Contains, Option, Some, None, IsSome, inl, inr, refl, sym, ap, subst, ◌∙◌, arith}
 use Rattle.std.specs.Bool.{MatchBool}
-use Rattle.std.proofs.lemmas.Bool.{false≢true}
 use Rattle.duk_frame.specs.declared.code.Code.{Code}
 use Rattle.duk_host.specs.Judgement.{Decision}
 use Rattle.duk_host.specs.Used.{IsUsed}

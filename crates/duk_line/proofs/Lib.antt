@@ -21,4 +21,6 @@ pub mod AnswersOfService
 pub mod FirstRead
 pub mod PiecesRead
 pub mod Restarting
+pub mod UsableAgain
+pub mod OnDisks
 pub mod ComesUp

@@ -9,7 +9,6 @@ use Rattle.duk_journal.specs.Groups.{Entries}
 use Rattle.duk_journal.specs.Journal.{GroupAppendFailed, JournalRestarted}
 use Rattle.duk_store.specs.declared.fault.StoreFault.{StoreFault}
 use Rattle.duk_store.specs.declared.fault.StoreFault.TheVariants as store
-use Rattle.duk_line.specs.Group.{IsGroupNotKept}
 use Rattle.duk_line.specs.Host.{HostMeaning, HostOf, JudgesBy, basis_of}
 use Rattle.duk_line.specs.Judged.{AreJudged}
 use Rattle.duk_line.specs.Judgement.{LineBasis}
@@ -116,6 +115,11 @@ module _ {J I : Type 0} (meaning : HostMeaning J I) (keys : HsmKeys) (Holds : Li
         leaves = left_by_refusal before made last refused.why is_made.honest (λ entries found. sound.leaves entries (is_made.within entries found)) refused.refused;
       })
   run_of before left made last answers sound is_made (inr up) = run_up before left made last answers sound is_made up
+
+  -- what one service leaves, of a host over a journal of which this held
+  pub left_by_service : (made last : HostOf J I) (answers : List (List ℕ)) → made.keys ≡ keys → IsHonest made → LeavesAll [] (found_of made) → IsService meaning made answers last → LeavesAll answers (found_of last)
+  left_by_service made last answers keys_are honest leaves run =
+      (run_of [] (found_of made) made last answers (record { alike = laws.none; leaves = leaves }) (record { keys_are = keys_are; honest = honest; within = λ entries found. found }) run).leaves
 
   -- all of them
   runs_of : (before : List (List ℕ)) (left after : Entries → Type 0) (runs : List (List (List ℕ))) → IsSound before left → IsLifetime meaning keys left runs after → IsSound (before ++ all_answers runs) after

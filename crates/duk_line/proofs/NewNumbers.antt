@@ -1,5 +1,5 @@
 -- Frames in turn add no entry whose number was used before.
-use Rattle.std.proofs.Common.{◌≡◌, ◌≢◌, ℕ, suc, List, [], ◌∷◌, ◌++◌, All, AllPairs, Contains, get_or, inl, inr, refl, sym, ap, subst, ◌∙◌, append_assoc, arith}
+use Rattle.std.proofs.Common.{◌≡◌, ◌≢◌, ℕ, suc, List, [], ◌∷◌, ◌++◌, AllPairs, Contains, get_or, inl, inr, sym, ap, subst, ◌∙◌, append_assoc, arith}
 use Rattle.std.proofs.lemmas.List.{append-nil}
 use Rattle.std.proofs.lemmas.List.Elements.{All-append, All-cons, All-nil, Contains-append_cases, Contains-get_or}
 use Rattle.std.proofs.lemmas.List.Quantifiers.{all_pairs_push}
@@ -10,7 +10,7 @@ use Rattle.duk_reversal.specs.Numbers.{AreNumbers, Numbers, Reverses}
 use Rattle.duk_tree.specs.Path.{IsUsable}
 use Rattle.duk_tree.specs.Serial.{Serial}
 use Rattle.duk_line.specs.Judged.{AreJudged}
-use Rattle.duk_line.specs.Judgement.{IsJudged, IsTaken, LineBasis, entry_of, reversal_entry, with_entries}
+use Rattle.duk_line.specs.Judgement.{IsJudged, IsTaken, LineBasis, with_entries}
 use Rattle.duk_line.specs.Latest.{UseNewNumbers, numbers_in, used_by}
 use Rattle.duk_line.proofs.Members.{flat_in, flat_more, front_or, none_in, the_only}
 

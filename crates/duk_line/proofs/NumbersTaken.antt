@@ -1,5 +1,5 @@
 -- What an entry makes of the sets of an index.
-use Rattle.std.proofs.Common.{Bool, true, false, ◌≡◌, ◌≢◌, ◌↔◌, ◌⊎◌, ℕ, List, [], ◌∷◌, ◌++◌, Contains, flat_map, Result, Ok, Err, IfOk, OnErr, inl, inr, refl, sym, ap, subst, ◌∙◌, arith}
+use Rattle.std.proofs.Common.{Bool, true, false, ◌≡◌, ◌↔◌, ◌⊎◌, ℕ, List, [], ◌∷◌, ◌++◌, Contains, flat_map, Result, Ok, Err, IfOk, OnErr, inl, inr, refl, sym, ap, subst, ◌∙◌, arith}
 use Rattle.std.proofs.lemmas.List.Elements.{Contains-append_left, Contains-append_right}
 use Rattle.std.proofs.lemmas.Bool.Decides.{eqb_tells}
 use Rattle.std.specs.Bool.{MatchBool}
@@ -19,7 +19,7 @@ use Rattle.duk_tree.specs.Serial.{Serial}
 use Rattle.duk_line.specs.Host.{HasSets, IndexOf, IsApproved}
 use Rattle.duk_line.specs.Latest.{HasApproved, numbers_in, payment_entry, reversed_in, reversed_numbers, used_by}
 use Rattle.duk_line.specs.declared.sets.NumberSets.{NumberSets}
-use Rattle.duk_line.specs.inner.Index.{IsListed, IsNoted, IsOneMoreWhere, IsPaymentNoted, IsReversalNoted, IsWider, TakesNumbers, TakesSets, index_with}
+use Rattle.duk_line.specs.inner.Index.{IsListed, IsNoted, IsOneMoreWhere, IsReversalNoted, IsWider, TakesNumbers, TakesSets, index_with}
 use Rattle.duk_line.specs.inner.Latest.{entry_under}
 use Rattle.duk_line.proofs.Members.{end_or, front_or, flat_from, flat_in, flat_more, listed_more, none_in, the_one, the_only}
 use Rattle.duk_line.proofs.NewNumbers.{new_more}

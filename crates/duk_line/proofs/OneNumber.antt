@@ -1,7 +1,7 @@
 -- The replies among the answers to frames in turn: each is to an entry of its number, and all to one
 -- number are equal.
 use Rattle.std.proofs.Common.{◌≡◌, ◌≤◌, ◌-◌, ◌⊎◌, ℕ, List, [], ◌∷◌, ◌++◌, Contains, Option, Some, length, drop, take, inl, inr, refl, sym, ap, subst, ◌∙◌, append_assoc, arith}
-use Rattle.std.proofs.lemmas.List.{append-nil, take-append-drop}
+use Rattle.std.proofs.lemmas.List.{take-append-drop}
 use Rattle.std.proofs.lemmas.List.Elements.{Contains-append_left, Contains-append_right}
 use Rattle.duk_frame.specs.Answer.{IsAnswer, IsRefusal, IsReply}
 use Rattle.duk_frame.specs.Payment.{payment_reply, reply_mac}
@@ -28,7 +28,7 @@ use Rattle.duk_line.specs.Judgement.{IsJudged, IsReversalReplyWith, LineBasis, e
 use Rattle.duk_line.specs.Latest.{UseNewNumbers, latest_entries, most_latest, payment_entry}
 use Rattle.duk_line.specs.declared.reason.Reason.{Reason}
 use Rattle.duk_line.specs.declared.reason.Reason.TheVariants as reason
-use Rattle.duk_line.proofs.Members.{end_or, front_or, none_in, the_one}
+use Rattle.duk_line.proofs.Members.{front_or, none_in, the_one}
 use Rattle.duk_line.proofs.NewNumbers.{one_entry, reversed_is}
 
 -- ---- one reply to one entry

@@ -17,7 +17,6 @@ use Rattle.duk_store.specs.StoreState.{FindsAsBefore, PreservesNature, Stays, St
 use Rattle.duk_store.specs.declared.fault.StoreFault.{StoreFault}
 use Rattle.duk_store.specs.declared.fault.StoreFault.TheVariants as store_fault
 use Rattle.duk_tree.specs.Path.{IsUsable}
-use Rattle.duk_tree.specs.Serial.{Serial}
 use Rattle.duk_line.specs.Host.{HasSets, IndexOf}
 use Rattle.duk_line.specs.Latest.{most_latest, payment_entry}
 use Rattle.duk_line.specs.inner.Index.{IsListed}

@@ -1,6 +1,6 @@
 -- The replies of services over one journal, all together: of each kind those of one number are equal,
 -- and the journal keeps the entry of each.
-use Rattle.std.proofs.Common.{◌≡◌, inl, inr, ℕ, List, [], ◌∷◌, ◌++◌, Contains, sym, ◌∙◌, subst}
+use Rattle.std.proofs.Common.{◌≡◌, inl, inr, ℕ, List, [], ◌++◌, sym, ◌∙◌, subst}
 use Rattle.std.proofs.lemmas.List.Elements.{Contains-append_cases, Contains-append_left}
 use Rattle.duk_host.specs.Lifetime.{AcceptsAlike}
 use Rattle.duk_hsm.specs.Keys.{HsmKeys}

@@ -1,7 +1,7 @@
 -- What becomes of a number once it is reversed, and what its reversals tell.
-use Rattle.std.proofs.Common.{◌≡◌, ◌≢◌, ℕ, List, [], ◌∷◌, ◌++◌, Contains, inl, inr, refl, sym, ap, subst, ◌∙◌, append_assoc, arith}
+use Rattle.std.proofs.Common.{◌≢◌, ℕ, List, [], ◌∷◌, ◌++◌, Contains, inl, inr, refl, sym, ap, subst, ◌∙◌, append_assoc}
 use Rattle.std.proofs.lemmas.List.{append-nil}
-use Rattle.std.proofs.lemmas.List.Elements.{Contains-append_cases, Contains-append_left, Contains-append_right}
+use Rattle.std.proofs.lemmas.List.Elements.{Contains-append_cases, Contains-append_left}
 use Rattle.duk_frame.specs.declared.code.Code.TheVariants.{Approved}
 use Rattle.duk_hsm.specs.Keys.{HsmKeys}
 use Rattle.duk_journal.specs.Entry.{reversed_by}
@@ -14,7 +14,7 @@ use Rattle.duk_reversal.specs.declared.state.ReversalState.{ReversalState}
 use Rattle.duk_reversal.specs.declared.state.ReversalState.TheVariants.{NoneStands, Undone}
 use Rattle.duk_tree.specs.Serial.{Serial}
 use Rattle.duk_line.specs.Judged.{AreJudged, IsAsTold, IsReversalReplyOf, TellWhatIsKept, TellsOf}
-use Rattle.duk_line.specs.Judgement.{FindsState, IsJudged, IsTaken, LineBasis, entry_of, reversal_entry, with_entries}
+use Rattle.duk_line.specs.Judgement.{FindsState, IsJudged, IsTaken, LineBasis, reversal_entry, with_entries}
 use Rattle.duk_line.specs.Latest.{HasApproved, Stands, payment_entry, reversed_in, reversed_numbers}
 use Rattle.duk_line.proofs.Members.{end_or, flat_in, flat_more, reversed_used, the_one}
 use Rattle.duk_line.proofs.NewNumbers.{not_of_used, reversed_is}

@@ -12,7 +12,7 @@ use Rattle.duk_hsm.specs.Commands.{IsRequestMac, IsTransactionKey}
 use Rattle.duk_hsm.specs.Keys.{HsmKeys, key_set_of}
 use Rattle.duk_io.specs.FirstFault.{IsFirst}
 use Rattle.duk_journal.specs.Groups.{Entries}
-use Rattle.duk_journal.specs.declared.entry.Decided.TheVariants.{Payment, Reversal}
+use Rattle.duk_journal.specs.declared.entry.Decided.TheVariants.{Reversal}
 use Rattle.duk_journal.specs.declared.entry.Entry.{Entry}
 use Rattle.duk_reversal.specs.Authentic.{reversal_reply_under}
 use Rattle.duk_reversal.specs.Numbers.{Numbers}

@@ -1,6 +1,6 @@
 -- The numbers that the entries of a journal use, and the entries that can be answered again: this
 -- project's own.
-use Rattle.std.specs.Prelude.{◌≡◌, ◌-◌, ◌++◌, List, [], ◌∷◌, ℕ, All, AllPairs, Contains, length, drop, flat_map}
+use Rattle.std.specs.Prelude.{◌-◌, List, [], ◌∷◌, ℕ, All, AllPairs, Contains, length, drop, flat_map}
 use Rattle.duk_frame.specs.declared.code.Code.{Code}
 use Rattle.duk_frame.specs.declared.code.Code.TheVariants.{Approved}
 use Rattle.duk_journal.specs.Entry.{MayStandUnder, reversed_by}

@@ -35,8 +35,8 @@ struct Room {
 }
 
 /// Judges frames in turn, each with the index and the room as the earlier ones leave them, and adds
-/// their answers and entries to the group. A journal keeps so many entries, and has room for so many
-/// more.
+/// their answers and entries to the group. A journal keeps so many entries, and has room for so
+/// many more.
 ///
 /// Where memory is refused, the frames before are judged, and there is no reason against the next.
 /// The index is then no longer that of a list of entries.
@@ -74,8 +74,8 @@ pub(crate) fn judge_frames<const N: usize, I: Issuer>(
     Ok(())
 }
 
-/// The room that entries leave which are added to a journal: one that keeps so many, and has room for
-/// so many more.
+/// The room that entries leave which are added to a journal: one that keeps so many, and has room
+/// for so many more.
 fn room_after(kept: u64, room: u64, added: u64) -> Room
     requires { added ≤ room }
     ensures entries { result.entries ≡ room - added }
@@ -93,8 +93,8 @@ fn room_after(kept: u64, room: u64, added: u64) -> Room
     Room { entries, payments }
 }
 
-/// Judges a frame: as a reversal where it is one, and else as a request. Memory is refused only where
-/// there is no reason against it.
+/// Judges a frame: as a reversal where it is one, and else as a request. Memory is refused only
+/// where there is no reason against it.
 fn judge_frame<const N: usize, I: Issuer>(
     hsm: &Hsm<N>,
     issuer: &I,

@@ -13,6 +13,7 @@ ghost use Rattle.duk_host.specs.declared.fault.HostFault.{HostFault};
 ghost use Rattle.duk_host.specs.declared.fault.HostFault.TheVariants as fault;
 ghost use Rattle.duk_hsm.specs.Keys.{HsmKeys};
 ghost use Rattle.duk_io.specs.Sink.{IsWritten};
+ghost use Rattle.duk_journal.specs.DiskJournal.{DiskJournalOf, disk_journal_meaning, new_disk_journal};
 ghost use Rattle.duk_journal.specs.Groups.{Entries};
 ghost use Rattle.duk_journal.specs.declared.entry.Entry.{Entry};
 ghost use Rattle.duk_reversal.specs.Numbers.{Numbers};
@@ -27,7 +28,7 @@ ghost use Rattle.duk_line.specs.Host.{HostOf, host_meaning_of};
 ghost use Rattle.duk_line.specs.Judged.{AreJudged, AreRepliesOf, AreReversalRepliesOf, AreTwoGroups, IsAsTold, IsReplyOf, IsReversalReplyOf, TellWhatIsKept, TellsAlike, TellsReversal};
 ghost use Rattle.duk_line.specs.Judgement.{IsAuthenticReversal, IsJudged, IsPaymentKept, IsReversalKept, IsReversalReplyWith, LineBasis, with_entries};
 ghost use Rattle.duk_line.specs.Latest.{Stands, UseNewNumbers, latest_entries, reversed_numbers, used_by};
-ghost use Rattle.duk_line.specs.Lifetime.{AreWrittenTo, IsLifetime, IsService, all_answers};
+ghost use Rattle.duk_line.specs.Lifetime.{AreWrittenTo, IsLifetime, IsMadeOver, IsService, all_answers};
 ghost use Rattle.duk_line.specs.Restart.{HostRestartRefused, IsHostRestarted, IsUsableJournal};
 ghost use Rattle.duk_line.specs.Serve.{IsReadToEnd, Service, ServiceFailed};
 ghost use Rattle.duk_line.specs.View.{HaveOneRing, host_view};
@@ -38,7 +39,8 @@ ghost use Rattle.duk_line.specs.declared.index.Index.TheView as index_view;
 ghost use Rattle.duk_line.specs.declared.workspace.Workspace.TheInside as workspace;
 
 use duk_host::Issuer;
-use duk_journal::Journal;
+use duk_journal::{DiskJournal, Journal};
+use duk_store::Disk;
 
 /// It does not matter how frames are grouped: a group after another is one group, and one group is
 /// any first part of it and the rest, by what that left. There are as many answers as frames.
@@ -54,8 +56,8 @@ pub fn grouping()
         → AreJudged basis frames answers added → length answers ≡ length frames }
 {}
 
-/// Frames in turn add no entry whose own number was used before, by a payment, by a reversal or as a
-/// number that was reversed.
+/// Frames in turn add no entry whose own number was used before, by a payment, by a reversal or as
+/// a number that was reversed.
 pub fn new_numbers()
     ensures { (basis : LineBasis) (frames answers : List (List ℕ)) (added : Entries)
         → AreJudged basis frames answers added → UseNewNumbers basis.entries
@@ -63,8 +65,9 @@ pub fn new_numbers()
 {}
 
 /// Each reply among the answers to frames is the reply to an entry of the list that they leave, and
-/// stays one of each longer list. In a list in which each entry uses a new number, all replies to one
-/// number are equal, byte for byte: those to its payment, or those to the reversal that uses it.
+/// stays one of each longer list. In a list in which each entry uses a new number, all replies to
+/// one number are equal, byte for byte: those to its payment, or those to the reversal that uses
+/// it.
 pub fn one_reply()
     ensures kept { (basis : LineBasis) (frames answers : List (List ℕ)) (added : Entries)
         → AreJudged basis frames answers added
@@ -97,8 +100,8 @@ pub fn one_reply()
     duk_reversal::laws::authentic();
 }
 
-/// An authentic request whose payment is one of the latest entries, and not undone, is given its reply,
-/// and adds nothing.
+/// An authentic request whose payment is one of the latest entries, and not undone, is given its
+/// reply, and adds nothing.
 pub fn answered_again()
     ensures { (basis : LineBasis) (frame answer : List ℕ) (added : Entries)
         → (request : Request) (code : Code) → UseNewNumbers basis.entries
@@ -113,8 +116,8 @@ pub fn answered_again()
 }
 
 /// An authentic request of a number that an entry uses is refused as of a used number, and adds
-/// nothing, where it has another MAC than that entry, where that is not one of the latest, and where
-/// the number was reversed.
+/// nothing, where it has another MAC than that entry, where that is not one of the latest, and
+/// where the number was reversed.
 pub fn not_answered_again()
     ensures other_mac { (basis : LineBasis) (frame answer : List ℕ) (added : Entries)
         → (request : Request) (entry : Entry) → UseNewNumbers basis.entries
@@ -139,8 +142,8 @@ pub fn not_answered_again()
     duk_reversal::laws::apart_from_payments();
 }
 
-/// An authentic reversal that is one of the latest entries is given its reply, and adds nothing. Any
-/// other of a used number is refused for that.
+/// An authentic reversal that is one of the latest entries is given its reply, and adds nothing.
+/// Any other of a used number is refused for that.
 pub fn reversed_again()
     ensures again { (basis : LineBasis) (frame answer : List ℕ) (added : Entries)
         → (reversal : Reversal) (state : ReversalState) → UseNewNumbers basis.entries
@@ -160,9 +163,9 @@ pub fn reversed_again()
     duk_reversal::laws::apart_from_payments();
 }
 
-/// By one basis whose entries each use a new number, a frame has at most one answer and adds one list
-/// of entries; so do frames in turn. By the keys, the capacity, the room and the issuer a list of
-/// entries thus settles what each further frame is answered with.
+/// By one basis whose entries each use a new number, a frame has at most one answer and adds one
+/// list of entries; so do frames in turn. By the keys, the capacity, the room and the issuer a list
+/// of entries thus settles what each further frame is answered with.
 pub fn one_judgement()
     ensures frame { (basis : LineBasis) (frame answer other : List ℕ) (added further : Entries)
         → UseNewNumbers basis.entries → IsJudged basis frame answer added
@@ -181,8 +184,8 @@ pub fn one_judgement()
     duk_reversal::laws::apart_from_payments();
 }
 
-/// Once a reversal of a number is kept, no entry of that number is added, whatever frames come: so no
-/// payment of it is accepted that comes late. And no payment of it ever stands.
+/// Once a reversal of a number is kept, no entry of that number is added, whatever frames come: so
+/// no payment of it is accepted that comes late. And no payment of it ever stands.
 pub fn undone()
     ensures no_more { (basis : LineBasis) (frames answers : List (List ℕ)) (added : Entries)
         → (number : Serial) (entry : Entry) → AreJudged basis frames answers added
@@ -194,9 +197,9 @@ pub fn undone()
         → ¬ Stands (basis.entries ++ added) number }
 {}
 
-/// Each reversal tells what is kept: that a payment is undone exactly where an approved payment of the
-/// number that it reverses is kept. Frames in turn leave that so, also of the reversals before them. So
-/// where a reversal was told that none stands, no payment of the number is approved later.
+/// Each reversal tells what is kept: that a payment is undone exactly where an approved payment of
+/// the number that it reverses is kept. Frames in turn leave that so, also of the reversals before
+/// them. So where a reversal was told that none stands, no payment of the number is approved later.
 pub fn told_what_stands()
     ensures frames { (basis : LineBasis) (frames answers : List (List ℕ)) (added : Entries)
         → AreJudged basis frames answers added → TellWhatIsKept basis.entries
@@ -208,7 +211,7 @@ pub fn told_what_stands()
 
 /// Over a journal that keeps to its model, is sound, and keeps no list but of entries that each use a
 /// new number, no restart of a host is refused as damaged, and no check is. Such a
-/// journal is each one that a check has passed.
+/// journal is each one that a check has passed; and it stays one through a service, however that ends.
 pub fn comes_up<J: Journal, I: Issuer>()
     ensures host { (old new : HostOf J I) → IsUsableJournal (J.meaning.state_of old.journal)
         → ¬ HostRestartRefused J.meaning old new (fault.Store Damaged) }
@@ -217,13 +220,44 @@ pub fn comes_up<J: Journal, I: Issuer>()
     ensures checked { (old : J) (made new : HostOf J I) (found : ℕ)
         → IsChecked J.meaning old made.journal found → (J.meaning.state_of old).honest
         → ¬ HostRestartRefused J.meaning made new (fault.Store Damaged) }
-{}
+    ensures served { (made last : HostOf J I) (answers : List (List ℕ))
+        → IsUsableJournal (J.meaning.state_of made.journal)
+        → IsService (host_meaning_of J.meaning I.decides) made answers last
+        → IsUsableJournal (J.meaning.state_of last.journal) }
+{
+    new_numbers();
+}
+
+/// So it is on a disk: over the disk that a service leaves of a usable journal, wherever a device step
+/// failed, a host that is made anew goes on with the lifetime, and no restart of it is refused as
+/// damaged.
+pub fn comes_up_on_disks<D: Disk, I: Issuer>()
+    ensures goes_on { let m = host_meaning_of (disk_journal_meaning D.meaning) I.decides in
+        (made last again : HostOf (DiskJournalOf D) I) (answers : List (List ℕ))
+        → IsUsableJournal (m.journal.state_of made.journal) → IsService m made answers last
+        → again.journal ≡ new_disk_journal last.journal.disk
+        → IsMadeOver m again.keys (m.journal.state_of last.journal).found again }
+    ensures usable { let m = host_meaning_of (disk_journal_meaning D.meaning) I.decides in
+        (made last again : HostOf (DiskJournalOf D) I) (answers : List (List ℕ))
+        → IsUsableJournal (m.journal.state_of made.journal) → IsService m made answers last
+        → again.journal ≡ new_disk_journal last.journal.disk
+        → IsUsableJournal (m.journal.state_of again.journal) }
+    ensures host { let m = host_meaning_of (disk_journal_meaning D.meaning) I.decides in
+        (made last again new : HostOf (DiskJournalOf D) I) (answers : List (List ℕ))
+        → IsUsableJournal (m.journal.state_of made.journal) → IsService m made answers last
+        → again.journal ≡ new_disk_journal last.journal.disk
+        → ¬ HostRestartRefused m.journal again new (fault.Store Damaged) }
+{
+    comes_up::<DiskJournal<D>, I>();
+}
 
 /// All that services over one journal answer, one after the other, however each of them ends, and
 /// wherever a step of the journal's device fails. All accepted replies to a number that any of them
 /// gives are equal, byte for byte, and so are all replies to reversals that use one number; and the
 /// journal keeps the entry of each. Where reversals tell what was kept at first, as in a journal that is
-/// new, what each reversal was told is so of whatever the journal keeps after the last service.
+/// new, what each reversal was told is so of whatever the journal keeps after the last service. And
+/// where each entry used a new number at first, each does after the last: a further host whose journal
+/// is sound comes up.
 pub fn lifetimes<J: Journal, I: Issuer>()
     ensures alike { (keys : HsmKeys) (first last : J)
         → (services : List (List (List ℕ)))
@@ -245,7 +279,16 @@ pub fn lifetimes<J: Journal, I: Issuer>()
         (J.meaning.state_of first).found services (J.meaning.state_of last).found
         → (J.meaning.state_of last).found entries → Contains (all_answers services) answer
         → TellsReversal numbers state answer → IsAsTold entries numbers state }
+    ensures usable { let m = host_meaning_of J.meaning I.decides in
+        (keys : HsmKeys) (first last : J) (services : List (List (List ℕ))) (made : HostOf J I)
+        → FindsWithin (J.meaning.state_of first) UseNewNumbers
+        → IsLifetime m keys (J.meaning.state_of first).found services
+        (J.meaning.state_of last).found
+        → IsMadeOver m keys (J.meaning.state_of last).found made
+        → (J.meaning.state_of made.journal).sound
+        → IsUsableJournal (J.meaning.state_of made.journal) }
 {
+    new_numbers();
     one_reply();
     told_what_stands();
 }

@@ -55,8 +55,8 @@ pub(crate) fn judge_payment<const N: usize, I: Issuer>(
     }
 }
 
-/// The request that is to be accepted, or the answer that changes nothing: a refusal, or a reply that
-/// is given again.
+/// The request that is to be accepted, or the answer that changes nothing: a refusal, or a reply
+/// that is given again.
 fn settle<const N: usize>(
     hsm: &Hsm<N>,
     index: &Index,

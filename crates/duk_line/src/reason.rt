@@ -6,8 +6,8 @@ ghost use Rattle.duk_line.specs.Judgement.{reason_number, refusal_of};
 use duk_frame::{Frame, write_refusal};
 use duk_tree::Ksn;
 
-/// Why a reversal is refused, in the order in which the reasons are tested. Each has the number that
-/// a refusal of a request has for it.
+/// Why a reversal is refused, in the order in which the reasons are tested. Each has the number
+/// that a refusal of a request has for it.
 #[derive(Clone, Copy)]
 pub(crate) enum Reason {
     /// No key set for its key serial number is held.

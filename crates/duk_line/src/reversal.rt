@@ -26,8 +26,8 @@ use duk_reversal::{Reversal, ReversalNumbers, ReversalReply, ReversalState};
 use duk_tree::Ksn;
 use std::alloc::AllocError;
 
-/// Judges a reversal, where there is room for so many entries. Memory is refused only where there is
-/// no reason against it.
+/// Judges a reversal, where there is room for so many entries. Memory is refused only where there
+/// is no reason against it.
 pub(crate) fn judge_reversal<const N: usize>(
     hsm: &Hsm<N>,
     index: &mut Index,

@@ -1,7 +1,9 @@
 use Rattle.duk_line.specs.Host.{host_meaning_of}
 use Rattle.duk_line.specs.Judged.{TellWhatIsKept}
+use Rattle.duk_line.specs.Latest.{UseNewNumbers}
 use Rattle.duk_line.proofs.LifetimeOfServices.{alike_in_lifetime, kept_in_lifetime}
 use Rattle.duk_line.proofs.RepliesOfServices.{AllAlike, HasAll, ReplyLaws, has_none, replies_kept_up, tells_kept_up}
+use Rattle.duk_line.proofs.UsableAgain.{new_kept_up}
 use Rattle.duk_line.proofs.laws.lifetimes.Given.{Over}
 use Rattle.duk_line.proofs.laws.lifetimes.Goals as goal
 use Rattle.duk_line.proofs.laws.lifetimes.Goals.{After-told_what_stands}
@@ -39,3 +41,10 @@ returns-clause-told g c keys first last services entries answer numbers state be
     let tell = kept_in_lifetime host keys (λ answers entries. TellWhatIsKept entries) (λ answers. Unit {0}) (tells_kept_up keys c.told_what_stands.ensures.frames)
     (meaning.state_of first).found (meaning.state_of last).found services begins life entries found in
     c.told_what_stands.ensures.told keys entries numbers state answer tell (all.reversals answer numbers state is_in tells)
+
+pub returns-clause-usable : goal.returns-clause-usable
+returns-clause-usable g c keys first last services made begins life is_made sound =
+    let meaning = g.J.Journal.meaning in
+    let all = kept_in_lifetime (host_meaning_of meaning g.I.Issuer.decides) keys (λ answers entries. UseNewNumbers entries) (λ answers. Unit {0}) (new_kept_up keys c.new_numbers.ensures)
+    (meaning.state_of first).found (meaning.state_of last).found services begins life in
+    record { honest = is_made.honest; sound = sound; usable = λ entries found. all entries (is_made.within entries found) }
