@@ -15,8 +15,8 @@ use std::cell::Cell;
 
 /// An issuer who approves of all, and counts how often it is asked.
 #[derive(Drop)]
-struct Counting<'a> {
-    asked: &'a Cell<u32>,
+pub struct Counting<'a> {
+    pub asked: &'a Cell<u32>,
 }
 
 impl Issuer for Counting<'_> {

@@ -11,6 +11,8 @@ mod hosts;
 #[cfg(test)]
 mod issuer;
 #[cfg(test)]
+mod issuer_over_a_journal;
+#[cfg(test)]
 mod names;
 #[cfg(test)]
 mod recorded_logs;

@@ -5,17 +5,14 @@ use crate::loading::purchase;
 use duk_reversal::ReversalState;
 use duk_store::{Cell, MemCell, MemDisk, SlotCell, StoreFault};
 use duk_term::{Next, ReversalAnswer, TermFault};
-use duk_tests_support::frames::{FIRST_REPLY, REQUEST_OF_500};
+use duk_tests_support::frames::{FIRST_REPLY, FIRST_REVERSAL, REQUEST_OF_500};
 use duk_tests_support::sample::{INITIAL_BLOCK, LOADING, iksn, key, ksn};
 use duk_till::{Last, Till, TillFault, TillState};
 use duk_tree::Ksn;
 use std::alloc::Global;
 use std::test::Fail;
 
-/// The reversal of the first number under the second, and the reply that its payment is undone.
-const REVERSAL: &[u8; 32] =
-    b"\x00\x1E\x01\x04\xFF\xFF\x98\x76\x54\x32\x10\xE0\x00\x02\xFF\xFF\x98\x76\x54\x32\x10\xE0\x00\x01\x3B\x8E\xA6\x1D\x9F\x5F\x53\x2F";
-
+/// The reply to the reversal of the first number: its payment is undone.
 const REVERSAL_REPLY: &[u8; 33] =
     b"\x00\x1F\x01\x05\xFF\xFF\x98\x76\x54\x32\x10\xE0\x00\x02\xFF\xFF\x98\x76\x54\x32\x10\xE0\x00\x01\x01\x2D\xEB\xE2\x73\x52\xA6\x9B\x94";
 
@@ -87,7 +84,7 @@ fn waits_for_reversal(till: &mut Till<MemCell, MemCell>) -> bool {
 fn is_reversed(till: &mut Till<MemCell, MemCell>) -> bool {
     match till.reverse() {
         Ok(begun) => {
-            begun.frame.as_slice() == REVERSAL.as_slice()
+            begun.frame.as_slice() == FIRST_REVERSAL.as_slice()
                 && till.reversal_reply(REVERSAL_REPLY)
                     == Ok(ReversalAnswer::Done(ReversalState::Undone))
         }
