@@ -2,6 +2,7 @@ pub mod Members
 pub mod NewNumbers
 pub mod InTurn
 pub mod OneNumber
+pub mod KindsOfAnswers
 pub mod AnsweredAgain
 pub mod Undone
 pub mod OneJudgement
@@ -12,6 +13,7 @@ pub mod Judging
 pub mod JudgingPayments
 pub mod JudgingReversals
 pub mod Answering
+mod HostJudges
 pub mod Collecting
 pub mod Serving
 pub mod ReadAndServed

@@ -1,9 +1,10 @@
 //! A host over its journal.
 
-ghost use Rattle.std.specs.Prelude.{◌≡◌, ◌≤◌, None, IfErr, IfOk, IsSome, OnOk, length, map};
+ghost use Rattle.std.specs.Prelude.{◌≡◌, ◌≤◌, None, Some, IfErr, IfOk, IsSome, OnOk, length, map};
+ghost use Rattle.duk_journal.specs.Groups.{Entries};
 ghost use Rattle.duk_store.specs.StoreState.{StaysButCalm};
 ghost use Rattle.duk_line.specs.Group.{AnswersFrames, GroupRefused, most_frames};
-ghost use Rattle.duk_line.specs.Host.{host_meaning_of};
+ghost use Rattle.duk_line.specs.Host.{IndexOf, JudgesBy, host_meaning_of};
 ghost use Rattle.duk_line.specs.Restart.{HostRestartRefused, IsHostRestarted, PreservesEnds};
 ghost use Rattle.duk_line.specs.inner.Keep.{AreKept, KeepFailed, MayBeKept};
 
@@ -116,6 +117,15 @@ impl<const N: usize, J: Journal, I: Issuer> JournalHost<N, J, I> {
                 Err(HostFault::NoMemory)
             }
         }
+    }
+
+    /// A host that runs judges by entries, which its journal keeps alone. This says so, and does
+    /// nothing.
+    pub fn judges(&self)
+        ensures { (index : IndexOf) → self.now.state ≡ Some index → (entries : Entries)
+            × JudgesBy (host_meaning_of J.meaning I.decides) self.now entries }
+    {
+        let _state = &self.state;
     }
 
     /// The security module.

@@ -1,9 +1,10 @@
 //! Laws of hosts over journals, each the contract of a function that does nothing.
 
-ghost use Rattle.std.specs.Prelude.{◌≡◌, ◌≢◌, ◌++◌, ℕ, [], List, Contains, length};
+ghost use Rattle.std.specs.Prelude.{◌≡◌, ◌≢◌, ◌⊎◌, ◌++◌, ℕ, [], List, Contains, length};
 ghost use Rattle.std.specs.List.{concat};
-ghost use Rattle.duk_frame.specs.Answer.{IsRefusal};
+ghost use Rattle.duk_frame.specs.Answer.{IsAnswer, IsRefusal};
 ghost use Rattle.duk_frame.specs.Request.{IsRequest};
+ghost use Rattle.duk_frame.specs.declared.answer.AnswerFrame.{AnswerFrame};
 ghost use Rattle.duk_frame.specs.declared.code.Code.{Code};
 ghost use Rattle.duk_frame.specs.declared.request.Request.{Request};
 ghost use Rattle.duk_host.specs.Judgement.{IsAuthentic, IsReplyWith};
@@ -17,7 +18,9 @@ ghost use Rattle.duk_journal.specs.DiskJournal.{DiskJournalOf, disk_journal_mean
 ghost use Rattle.duk_journal.specs.Groups.{Entries};
 ghost use Rattle.duk_journal.specs.declared.entry.Entry.{Entry};
 ghost use Rattle.duk_reversal.specs.Numbers.{Numbers};
+ghost use Rattle.duk_reversal.specs.Reply.{IsReversalReply};
 ghost use Rattle.duk_reversal.specs.Reversal.{IsReversal};
+ghost use Rattle.duk_reversal.specs.declared.reply.ReversalReply.{ReversalReply};
 ghost use Rattle.duk_reversal.specs.declared.reversal.Reversal.{Reversal};
 ghost use Rattle.duk_reversal.specs.declared.state.ReversalState.{ReversalState};
 ghost use Rattle.duk_store.specs.StoreState.{FindsWithin};
@@ -91,6 +94,21 @@ pub fn one_reply()
         → (state : ReversalState) (one other : List ℕ)
         → UseNewNumbers entries → IsReplyOf keys entries numbers.ksn one
         → ¬ IsReversalReplyOf keys entries numbers state other }
+{
+    duk_frame::laws::one_reading();
+    duk_frame::laws::payments();
+    duk_host::laws::refusals();
+    duk_reversal::laws::one_reading();
+    duk_reversal::laws::apart_from_payments();
+    duk_reversal::laws::authentic();
+}
+
+/// A frame is answered with a refusal, with the reply to a request, or with the reply to a reversal.
+pub fn answers()
+    ensures { (basis : LineBasis) (frame answer : List ℕ) (added : Entries)
+        → IsJudged basis frame answer added
+        → ((given : AnswerFrame) × IsAnswer answer given)
+        ⊎ ((reply : ReversalReply) × IsReversalReply answer reply) }
 {
     duk_frame::laws::one_reading();
     duk_frame::laws::payments();
