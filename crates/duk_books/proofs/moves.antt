@@ -1,0 +1,7 @@
+-- What a move changes, and what holds of all that is reached.
+pub mod PlacesInLists
+pub mod IssuedKeys
+pub mod HostAnswers
+pub mod RunsGoOn
+pub mod ReachedByMoves
+pub mod StepChanges

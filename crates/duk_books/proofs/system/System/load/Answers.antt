@@ -1,0 +1,56 @@
+use Rattle.std.proofs.Common.{◌≡◌, true, false, None, refl, inl, inr, sym, subst, replicate, ◌∙◌}
+use Rattle.duk_hsm.specs.Commands.{IsIssued}
+use Rattle.duk_hsm.specs.Keys.{key_set_of}
+use Rattle.duk_tree.specs.Serial.{iksn_prefix_of}
+use Rattle.duk_books.specs.Owner.{IsElsewhere}
+use Rattle.duk_books.proofs.moves.IssuedKeys.{no_key_set}
+use Rattle.duk_books.proofs.moves.PlacesInLists.{changes_at, has_one}
+use Rattle.duk_books.proofs.system.System.load.Goals as goal
+
+not_both : false ≡ true → ⊥
+not_both same = cc
+
+pub returns-then-is_elsewhere-clause-outcome : goal.returns-then-is_elsewhere-clause-outcome
+returns-then-is_elsewhere-clause-outcome g c =
+    let tills = c.self.inside.tills in
+    rw (← c.self.view_is) (inr (inl (record {
+      there = has_one tills.items c.args.t c.in-Some.place c.len.result c.in-Some.ensures.0 c.in-Some.ensures.1 (c.len.ensures ∙ tills.ok.0);
+      elsewhere = subst (λ owners. IsElsewhere owners c.args.iksn c.args.t) c.as_slice.ensures.value (c.if-is_elsewhere.ensures.0 refl);
+      outcome_is = refl;
+      same = refl;
+    })))
+
+pub returns-in_default-issue-clause-outcome : goal.returns-in_default-issue-clause-outcome
+returns-in_default-issue-clause-outcome g c =
+    let tills = c.self.inside.tills in
+    rw (← c.self.view_is) (inr (inr (inl (record {
+      may = record {
+        there = has_one tills.items c.args.t c.in-Some.place c.len.result c.in-Some.ensures.0 c.in-Some.ensures.1 (c.len.ensures ∙ tills.ok.0);
+        not_elsewhere = λ elsewhere. not_both (c.if-is_elsewhere.ensures.1 (subst (λ owners. IsElsewhere owners c.args.iksn c.args.t) (sym c.as_slice.ensures.value) elsewhere));
+      };
+      no_key_set = subst (λ keys. key_set_of keys (iksn_prefix_of c.args.iksn) ≡ None) c.hsm.ensures (no_key_set c.hsm.result.now c.args.iksn c.in_default-issue.field-0 c.in_default-issue.ensures.refused);
+      outcome_is = refl;
+      same = rw c.reserve.ensures.items refl;
+    }))))
+
+pub returns-clause-outcome : goal.returns-clause-outcome
+returns-clause-outcome g c =
+    let tills = c.self.inside.tills in
+    let issued = subst (λ keys. IsIssued keys c.args.iksn c.self.inside.loading (replicate 6 0) c.as_slice-2.result.now) c.hsm.ensures
+    (subst (λ text. IsIssued c.hsm.result.now c.args.iksn c.self.inside.loading (replicate 6 0) text) (sym c.as_slice-2.ensures.value) c.in-Ok.ensures.issued) in
+    rw (← c.self.view_is) (inr (inr (inr (record {
+      asked = _;
+      may = record {
+        there = has_one tills.items c.args.t c.in-Some.place c.len.result c.in-Some.ensures.0 c.in-Some.ensures.1 (c.len.ensures ∙ tills.ok.0);
+        not_elsewhere = λ elsewhere. not_both (c.if-is_elsewhere.ensures.1 (subst (λ owners. IsElsewhere owners c.args.iksn c.args.t) (sym c.as_slice.ensures.value) elsewhere));
+      };
+      issued = record {
+        block = c.as_slice-2.result.now;
+        loading_is = c.tdes_key.ensures.key;
+        issued = issued;
+        asked_is = refl;
+      };
+      till = changes_at c.args.t c.in-Some.place c.len.result _ tills.items c.index_mut-till.result.now _ c.in-Some.ensures.0 c.in-Some.ensures.1 (c.len.ensures ∙ tills.ok.0) c.index_mut-till.ensures.value c.load-outcome.ensures;
+      owners = rw c.reserve.ensures.items at c.record_owner.ensures;
+      rest = refl;
+    }))))

@@ -1,0 +1,16 @@
+pub mod Books
+pub mod Owner
+pub mod Sales
+pub mod Frames
+pub mod Load
+pub mod Begin
+pub mod Reverse
+pub mod Up
+pub mod Down
+pub mod Restart
+pub mod Arm
+pub mod Step
+pub mod Run
+pub mod First
+pub mod Reached
+pub mod inner
