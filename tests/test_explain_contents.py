@@ -1,15 +1,15 @@
-"""`--explain` over what files hold: which record of a log or a ledger is damaged, that a journal is, and
+"""`--explain` over what files hold: which record of a log or a ledger is wrong, that a journal is, and
 which line of a configuration or a script is wrong."""
 from __future__ import annotations
 
 import os
 import threading
-from typing import Optional
+from typing import Optional, Sequence
 
 from .support import page_journals
 from .support.bank import BANK, BDK, CARD, FRONT
 from .support.client import payments
-from .support.dukpt import SPENT, serial_text
+from .support.dukpt import SPENT, counter_of, serial_text, usable
 from .support.everyday_rows import FIRST
 from .support.explain_case import EXPLAIN, ISSUE, SCRIPT, ExplainCase
 from .support.explained import Asked, Facts, damaged_record, explained, line_of
@@ -27,8 +27,19 @@ A_GOOD_JOURNAL = "a journal as it was kept, on a device that works"
 NUMBERS = "initial key serial numbers"
 
 
+def first_unusable(numbers: Sequence[int]) -> Optional[int]:
+    """The place of the first that numbers no transaction, or stands there before."""
+    return next((at for at, it in enumerate(numbers)
+                 if it in numbers[:at] or not usable(counter_of(it))), None)
+
+
+def first_counted(numbers: Sequence[int]) -> Optional[int]:
+    """The place of the first that has a counter."""
+    return next((at for at, it in enumerate(numbers) if counter_of(it)), None)
+
+
 class Logs(ExplainCase):
-    """Which record of a log or a ledger is damaged."""
+    """Which record of a log or a ledger is damaged, or has a number that does not belong there."""
 
     def failed(self, image: bytes, place: Optional[int], name: str) -> None:
         """That serve and issue name this record, and change nothing."""
@@ -87,22 +98,47 @@ class Logs(ExplainCase):
         self.failed(bytes(RECORD * 5000) + record(bytes(10)) + bytes(RECORD), 5000, "record 5000")
 
     def test_other_numbers(self) -> None:
-        """Records that are sound, with a number that does not belong there: none is named."""
+        """Records that are sound, with a number that does not belong there: the first is named."""
         first = int(FIRST, 16)
-        of_service = {"twice": [first + 1, first + 2, first + 1], "no counter": [first],
-                      "eleven ones": [first + 1, first + 0x7FF]}
-        of_ledger = {"a counter": [first, first + SPENT + 1], "the first": [first + 1]}
-        for words, fault, called, wanted, none, cases in (
-            (["serve", "bank.toml", "--log", "it"], "log: failed", "log", A_GOOD_LOG,
-             "wrong records, or a step that failed", of_service),
-            ([*ISSUE, "it"], "ledger: damaged", "ledger", NUMBERS, "numbers that no ledger has",
-             of_ledger),
+        of_service = {"twice": ([first + 1, first + 2, first + 1], 2), "no counter": ([first], 0),
+                      "eleven ones": ([first + 1, first + 0x7FF], 1),
+                      "after others": ([first + 3, first + 3, first, first + 3], 1),
+                      "another terminal's": ([first + 1, first + SPENT + 2, first + 1], 2)}
+        of_ledger = {"a counter": ([first, first + SPENT + 1], 1), "the first": ([first + 1], 0),
+                     "twice and a counter": ([first, first, first + 2, first + 1], 2)}
+        for words, fault, called, wanted, cases in (
+            (["serve", "bank.toml", "--log", "it"], "log: failed", "log", A_GOOD_LOG, of_service),
+            ([*ISSUE, "it"], "ledger: damaged", "ledger", NUMBERS, of_ledger),
         ):
-            for name, numbers in cases.items():
+            for name, (numbers, place) in cases.items():
                 self.write("it", log_image(bytes_of(numbers), 5))
                 ended = self.run_with([*words, EXPLAIN])
-                line = f"{fault}\n{called}: {none}; wanted: {wanted}\n".encode()
+                line = f"{fault}\n{called}: record {place}; wanted: {wanted}\n".encode()
                 self.assert_ended(ended, 1, b"", line, name)
+
+    def test_numbers_before_damage(self) -> None:
+        """A damaged record goes first, where another number stands before it too."""
+        first = int(FIRST, 16)
+        image = log_image(bytes_of([first + 1, first + 1]), 2) + record(bytes(10), rest=b"\1" * 5)
+        self.failed(image, 2, "a number twice, then a record without its zeros")
+
+    def test_random_numbers(self) -> None:
+        """The first number that a service's log, or a ledger, does not keep."""
+        first = int(FIRST, 16)
+        for _ in range(20 * self.times):
+            few = [first, first + self.chance.randrange(1, 1 << 21), first + 1, first + 2, first + 3,
+                   first + SPENT + 1]
+            numbers = [self.chance.choice(few) for _ in range(self.chance.randrange(1, 30))]
+            self.write("it", log_image(bytes_of(numbers), 30))
+            for words, fault, called, wanted, place in (
+                (["serve", "bank.toml", "--log", "it"], "log: failed", "log", A_GOOD_LOG,
+                 first_unusable(numbers)),
+                ([*ISSUE, "it"], "ledger: damaged", "ledger", NUMBERS, first_counted(numbers)),
+            ):
+                if place is None:
+                    continue
+                line = f"{fault}\n{called}: record {place}; wanted: {wanted}\n".encode()
+                self.assert_ended(self.run_with([*words, EXPLAIN]), 1, b"", line, str(numbers))
 
     def test_writes_that_fail(self) -> None:
         """The log itself is sound then."""
@@ -220,12 +256,50 @@ class Configurations(ExplainCase):
         ):
             self.wrong(config, key, line)
 
+    def stops(self, config: bytes, line: int) -> None:
+        """What is no TOML, of which this line is told."""
+        self.write("it.toml", config)
+        for words in (["run", "it.toml", SCRIPT], ["serve", "it.toml", "--log", "missing"]):
+            self.explained(words, "config: not TOML", f"CONFIG: line {line}; wanted: TOML in UTF-8")
+
     def test_not_toml(self) -> None:
-        """No line is told."""
-        for config in (b"lmk = \n", BANK + b"x\n", BANK + b"# \xff\n"):
-            self.write("it.toml", config)
-            self.explained(["run", "it.toml", SCRIPT], "config: not TOML",
-                           "CONFIG: other text; wanted: TOML in UTF-8")
+        """The line at which reading stops: of what is no UTF-8 that of the first byte that is not."""
+        for config, line in (
+            (b"lmk", 1),
+            (b"lmk = \n", 1),
+            (BANK + b"x\n", 13),
+            (BANK + b"\x00", 13),
+            (BANK + b"# \x07\n" + BANK, 13),
+            (BANK + b"[bdk]\n", 13),
+            (b"bdk = []\n" + BDK, 2),
+            (b"lmk = 1\n\nlmk = 1\n", 3),
+            (b"[[bdk]]\nprefix = 1\nprefix = 2\n", 3),
+            (BANK.replace(b"limit = 10000", b"limit = 010000"), 12),
+            (BANK.replace(b'"1234"', b'"12\n34"'), 11),
+            (b"#\r\n#\r\nx\r\n#\r\n", 3),
+            (b"lmk = [\n1,\n2 3\n]\n", 3),
+            (b"lmk = [\n1,\n2\n", 4),
+            (b"lmk = '''\n\n\n", 4),
+            (b"lmk\n# \xff\n", 2),
+            (BANK + b"# \xc3", 13),
+            (b"\n" * 100_000 + b"x", 100_001),
+        ):
+            self.stops(config, line)
+
+    def test_random_lines_of_no_toml(self) -> None:
+        """A line that is no TOML, at each place of a configuration."""
+        lines = BANK.split(b"\n")
+        for place in range(len(lines)):
+            wrong = self.chance.choice([b"x", b"x = ", b"= 1", b"x = 1 2", b"[x", b"x = 0x", b"\xe2\x82",
+                                        b'x = "', b"x = [}", b"x = 1979-13-01"])
+            self.stops(b"\n".join([*lines[:place], wrong, *lines[place:]]), place + 1)
+
+    def test_toml_by_now(self) -> None:
+        """A configuration that is TOML when it is read once more: no line is told."""
+        ended = self.run_with(["run", "/dev/stdin", SCRIPT, EXPLAIN], b"lmk = \n")
+        self.assertEqual((ended.status, ended.output), (1, b""))
+        self.assertIn(ended.faults, {f"config: not TOML\nCONFIG: {it}; wanted: TOML in UTF-8\n".encode()
+                                     for it in ("other text", "line 1")})
 
     def test_many_entries(self) -> None:
         """The last card of a thousand."""

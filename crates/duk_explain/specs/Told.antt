@@ -270,7 +270,7 @@ row told.ConfigTooLong =
     words_row (codes "config: too long") (codes "CONFIG") found.Words (codes "a longer file")
     (codes "at most 1048576 bytes") []
 row told.NotToml =
-    words_row (codes "config: not TOML") (codes "CONFIG") found.Words (codes "other text")
+    words_row (codes "config: not TOML") (codes "CONFIG") found.Line (codes "other text")
     (codes "TOML in UTF-8") []
 row told.BadLmk =
     words_row (codes "config: bad lmk") (codes "CONFIG") found.Line (codes "the line was not found")

@@ -206,7 +206,8 @@ impl Told {
             Told::LedgerDamaged => Found::Record(File::Ledger),
             Told::LogFailed => Found::Record(File::Log),
             Told::Issued => Found::After,
-            Told::BadLmk
+            Told::NotToml
+            | Told::BadLmk
             | Told::BadZone
             | Told::BadLoading
             | Told::BadTerminals

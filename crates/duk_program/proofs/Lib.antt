@@ -9,3 +9,4 @@ mod Told
 mod Words
 mod ShownLogs
 mod ToldSecrets
+mod WrongNumbers

@@ -1,18 +1,18 @@
 -- What is asked of files after a fault, and what is found (this project's own).
 use Rattle.std.specs.Prelude.{◌≡◌, ◌⊎◌, ◌<◌, ⊤, ℕ, List, Option, Some, None, [], codes, get_or, length}
 use Rattle.duk_arguments.specs.declared.request.Request.{Request}
-use Rattle.duk_explain.specs.Places.{IsLineOfFault}
 use Rattle.duk_explain.specs.Subject.{IsSubject, Subject, config, lockable, log, makeable, readable, secrets}
 use Rattle.duk_explain.specs.declared.found.Facts.{Facts}
 use Rattle.duk_explain.specs.declared.found.Reason.{Reason}
 use Rattle.duk_explain.specs.declared.found.Reason.TheVariants.{Other}
-use Rattle.duk_service.specs.Files.{FileKnown, HasBytes}
+use Rattle.duk_service.specs.Files.{FileKnown, HasBytes, IsFileRead}
 use Rattle.duk_program.specs.Secrets.{reference_in, secret_at, secret_line, secrets_of}
-use Rattle.duk_program.specs.Show.{HasNoLog}
+use Rattle.duk_program.specs.Show.{longest_log}
+use Rattle.duk_program.specs.WrongLines.{IsWrongLine}
+use Rattle.duk_program.specs.WrongNumbers.{IsWrongRecordIn}
 use Rattle.duk_program.specs.declared.secrets.SecretFault.TheVariants.{Unread}
 use Rattle.duk_program.specs.declared.secrets.Unread.TheVariants.{CannotRead}
 use Rattle.duk_service.specs.Reasons.{IsReason, ReasonKnown}
-use Rattle.duk_show.specs.declared.fault.ShowFault.TheVariants.{LogRefused}
 
 -- what files make known of each path: what it holds, why it cannot be read, why it cannot be
 -- opened to be written and locked, and why no file can be made there
@@ -59,16 +59,22 @@ IsReasonOfSecrets reading asked line (Some reason) =
     IsReasonOfSecret reading asked line reason ⊎ (reason ≡ Other)
 IsReasonOfSecrets reading asked line None = IsInputTold asked line
 
--- the record of a log that is damaged, where one is known
-abbrev pub IsRecordOf : FileKnown → Option ℕ → Type 0
-IsRecordOf held None = ⊤
-IsRecordOf held (Some place) = HasNoLog held (LogRefused place)
+-- the file holds bytes in which this is the first record of a log that is wrong
+pub record HasWrongRecord (asked : Request) (held : FileKnown) (place : ℕ) : Type 0 where
+  pub log : List ℕ
+  pub read : IsFileRead held longest_log log
+  pub wrong : IsWrongRecordIn asked log place
+
+-- the record of a log that is wrong, where one is known
+abbrev pub IsRecordOf : Request → FileKnown → Option ℕ → Type 0
+IsRecordOf asked held None = ⊤
+IsRecordOf asked held (Some place) = HasWrongRecord asked held place
 
 -- the line of this number is the one that the line of a fault is about, in the bytes of a file
 pub record HasLine (held : FileKnown) (line : List ℕ) (number : ℕ) : Type 0 where
   pub config : List ℕ
   pub config_is : HasBytes held config
-  pub is_line : IsLineOfFault config line number
+  pub is_line : IsWrongLine config line number
 
 -- the line of a configuration that the line of a fault is about, where one is known
 abbrev pub IsLineOf : FileKnown → List ℕ → Option ℕ → Type 0
@@ -87,7 +93,7 @@ AreFactsOf q asked line (Some (lockable path)) facts =
 AreFactsOf q asked line (Some (makeable path)) facts =
     IsReason (q.making path) facts.reason × (facts.place ≡ None)
 AreFactsOf q asked line (Some (log path)) facts =
-    (facts.reason ≡ None) × IsRecordOf (q.held path) facts.place
+    (facts.reason ≡ None) × IsRecordOf asked (q.held path) facts.place
 AreFactsOf q asked line (Some (config path)) facts =
     (facts.reason ≡ None) × IsLineOf (q.held path) line facts.place
 

@@ -16,5 +16,7 @@ pub mod Secrets
 pub mod ServeFiles
 pub mod Show
 pub mod Status
+pub mod WrongNumbers
+pub mod WrongLines
 pub mod Reported
 pub mod inner

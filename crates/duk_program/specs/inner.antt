@@ -2,4 +2,5 @@ pub mod Commands
 pub mod Status
 pub mod Items
 pub mod Secrets
+pub mod WrongNumbers
 pub mod Run

@@ -21,6 +21,8 @@ mod script_ending;
 mod secrets;
 mod serve_files;
 mod show;
+mod wrong_lines;
+mod wrong_numbers;
 
 pub use dispatch::{Todo, command};
 pub use duk_explain::Reason;

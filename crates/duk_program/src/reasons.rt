@@ -1,5 +1,5 @@
-//! What can be told of a file after a fault: why the system refuses it, the damaged record of a log,
-//! and the line of a configuration.
+//! What can be told of a file after a fault: why the system refuses it, the wrong record of a log, and
+//! the line of a configuration.
 
 ghost use Rattle.std.specs.Prelude.{◌≡◌, IfSome, IsTrue, Some, map};
 ghost use Rattle.duk_explain.specs.Subject.{subject_of};
@@ -12,11 +12,12 @@ use crate::references::path_in;
 use crate::request_secrets::{secret_at, secrets_of};
 use crate::secrets::{Secret, SecretFault, Unread};
 use crate::show::LONGEST_LOG;
+use crate::wrong_lines::wrong_line;
+use crate::wrong_numbers::wrong_record_in;
 use duk_arguments::Request;
 use duk_config::LONGEST_FILE;
-use duk_explain::{Blamed, Facts, Reason, blamed_file, line_of_fault};
+use duk_explain::{Blamed, Facts, Reason, blamed_file};
 use duk_service::{FileSystem, LogFiles};
-use duk_show::{ShowFault, log_lines};
 use std::alloc::Global;
 
 /// What is found of the file that the line of a fault is about.
@@ -58,7 +59,7 @@ fn facts_by<S: FileSystem + LogFiles>(
         Blamed::Readable(path) => facts.reason = files.reading_reason(path),
         Blamed::Lockable(path) => facts.reason = Some(files.opening_reason(path)),
         Blamed::Makeable(path) => facts.reason = Some(files.making_reason(path)),
-        Blamed::Log(path) => facts.place = damaged_record(alloc, files, path),
+        Blamed::Log(path) => facts.place = wrong_record(alloc, files, about, path),
         Blamed::Config(path) => facts.place = faulty_line(alloc, files, path, line),
     }
     facts
@@ -119,15 +120,17 @@ fn reference_reason<S: FileSystem>(files: &S, text: &str) -> Option<Reason>
     }
 }
 
-/// The first record of a log that is damaged, where the log can be read.
-fn damaged_record<S: FileSystem>(alloc: Global, files: &S, path: &str) -> Option<u64>
-    ensures { IsRecordOf (S.held files.now path.now) result }
+/// The first record of a log that is wrong, where the log can be read.
+fn wrong_record<S: FileSystem>(
+    alloc: Global,
+    files: &S,
+    about: &Request<'_>,
+    path: &str,
+) -> Option<u64>
+    ensures { IsRecordOf about.now (S.held files.now path.now) result }
 {
     let bytes = files.read_again(alloc, path, LONGEST_LOG)?;
-    match log_lines(alloc, bytes.as_slice()) {
-        Err(ShowFault::LogRefused { place }) => Some(place as u64),
-        _ => None,
-    }
+    wrong_record_in(alloc, about, bytes.as_slice())
 }
 
 /// The line of a configuration that the line of a fault is about, where it can be read.
@@ -135,5 +138,5 @@ fn faulty_line<S: FileSystem>(alloc: Global, files: &S, path: &str, line: &[u8])
     ensures { IsLineOf (S.held files.now path.now) line.now result }
 {
     let bytes = files.read_again(alloc, path, LONGEST_FILE)?;
-    line_of_fault(bytes.as_slice(), line)
+    wrong_line(alloc, bytes.as_slice(), line)
 }
