@@ -10,7 +10,6 @@ use Rattle.duk_journal.specs.DiskJournal.{disk_journal_state}
 use Rattle.duk_journal.specs.Entry.{kind_of}
 use Rattle.duk_journal.specs.Groups.{AreKeptFrom, Entries, HasContents, KeepsEntries}
 use Rattle.duk_journal.specs.RecordFormat.{IsOpen, after_gate, contents_of, gate_of, record_at}
-use Rattle.duk_journal.specs.declared.entry.Decided.{Decided}
 use Rattle.duk_journal.specs.declared.entry.Decided.TheVariants.{Payment, Reversal}
 use Rattle.duk_journal.specs.declared.entry.Entry.{Entry}
 use Rattle.duk_store.specs.Disk.{DiskState, LeavesReads}

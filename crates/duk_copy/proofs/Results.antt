@@ -1,13 +1,8 @@
 -- What is said of the answer of a call.
 use Rattle.std.proofs.Common.{Result, Ok, Err}
-use Rattle.std.specs.Prelude.{OnErr, OnOk}
+use Rattle.std.specs.Prelude.{OnOk}
 
 -- what is said of each answer without an error may be said otherwise
 pub on_ok : {T E : Type 0} (P Q : Type 0) (answer : Result T E) → (P → Q) → OnOk answer P → OnOk answer Q
 on_ok P Q (Ok value) says is = says is
 on_ok P Q (Err error) says is = tt
-
--- what is so may be said of each error
-pub on_err : {T E : Type 0} (P : Type 0) (answer : Result T E) → P → OnErr answer P
-on_err P (Ok value) is = tt
-on_err P (Err error) is = is

@@ -1,6 +1,6 @@
 //! A journal that keeps nothing: zeros over all of a disk.
 
-ghost use Rattle.std.specs.Prelude.{◌≡◌, ◌≤◌, [], replicate, IfErr, OnErr, OnOk};
+ghost use Rattle.std.specs.Prelude.{◌≡◌, ◌≤◌, [], replicate, IfErr, OnOk};
 ghost use Rattle.duk_store.specs.Disk.{HasFailed, PreservesDisk};
 ghost use Rattle.duk_copy.specs.Blank.{IsBlankWritten};
 ghost use Rattle.duk_copy.specs.InPart.{LeavesInPart};
@@ -24,8 +24,8 @@ pub fn write_blank<D: Disk>(disk: &mut D, zeros: &[u8]) -> Result<(), StoreFault
         (D.meaning.state_of disk.old) (D.meaning.state_of disk.new)) }
     ensures failed { IfErr result
         (HasFailed (D.meaning.state_of disk.old) (D.meaning.state_of disk.new)) }
-    ensures in_part { OnErr result
-        (LeavesInPart [] (D.meaning.state_of disk.old) (D.meaning.state_of disk.new)) }
+    ensures in_part { LeavesInPart []
+        (D.meaning.state_of disk.old) (D.meaning.state_of disk.new) }
 {
     let size = disk.size();
     if size < HEAD_LENGTH {

@@ -1,6 +1,6 @@
 //! A journal that keeps what another does.
 
-ghost use Rattle.std.specs.Prelude.{◌≡◌, ◌+◌, ◌*◌, ◌≤◌, length, replicate, IfErr, OnErr, OnOk};
+ghost use Rattle.std.specs.Prelude.{◌≡◌, ◌+◌, ◌*◌, ◌≤◌, length, replicate, IfErr, OnOk};
 ghost use Rattle.duk_store.specs.Disk.{PreservesBytes, PreservesDisk};
 ghost use Rattle.duk_journal.specs.Groups.{Entries, KeepsEntries};
 ghost use Rattle.duk_copy.specs.Copy.{CopyFailed, IsCopied};
@@ -46,9 +46,9 @@ pub fn write_copy<D: Disk, E: Disk>(
         (E.meaning.state_of new.old) (E.meaning.state_of new.new)) }
     ensures nature { PreservesDisk (D.meaning.state_of old.old) (D.meaning.state_of old.new) }
     ensures bytes { PreservesBytes (D.meaning.state_of old.old) (D.meaning.state_of old.new) }
-    ensures in_part { OnErr result ((D.meaning.state_of old.old).honest → (entries : Entries)
+    ensures in_part { (D.meaning.state_of old.old).honest → (entries : Entries)
         → KeepsEntries (D.meaning.state_of old.old).reads entries → length entries ≡ kept
-        → LeavesInPart entries (E.meaning.state_of new.old) (E.meaning.state_of new.new)) }
+        → LeavesInPart entries (E.meaning.state_of new.old) (E.meaning.state_of new.new) }
 {
     duk_journal::laws::one_list();
     duk_journal::laws::one_kind();

@@ -1,7 +1,7 @@
 use Rattle.std.proofs.Common.{◌≡◌, ◌∙◌, ◌-◌, ◌<◌, ◌≤◌, ℕ, [], ap, arith, length, replicate, sym}
 use Rattle.duk_copy.proofs.Copied.{blank_of}
 use Rattle.duk_copy.proofs.InPart.{in_part_behind, in_part_blank, in_part_small}
-use Rattle.duk_copy.proofs.Results.{on_err, on_ok}
+use Rattle.duk_copy.proofs.Results.{on_ok}
 use Rattle.duk_copy.proofs.WrittenDisks.{keeps_on}
 use Rattle.duk_copy.proofs.WrittenLists.{all_of_zeros, differs_then, rest_of_zeros, whole_by_head, zero_of_zeros}
 use Rattle.duk_copy.specs.inner.Head.{HasRestOf}
@@ -26,14 +26,13 @@ returns-then-size-lt-HEAD_LENGTH-clause-in_part g c =
     let old = g.D.Disk.meaning.state_of c.args.disk.now in
     let new = g.D.Disk.meaning.state_of c.write_synced.new.disk in
     let small : old.size < 2 = omega (arith, c.if-size-lt-HEAD_LENGTH.true, c.size-size.ensures) in
-    on_err _ c.write_synced.result
-    (in_part_small old new c.write_synced.ensures.nature small (λ h bytes left. g.D.Disk.leaves_its_size c.write_synced.new.disk h bytes left))
+    in_part_small old new c.write_synced.ensures.nature small (λ h bytes left. g.D.Disk.leaves_its_size c.write_synced.new.disk h bytes left)
 
 pub returns-in_err-write_synced-clause-in_part : goal.returns-in_err-write_synced-clause-in_part
 returns-in_err-write_synced-clause-in_part g c =
     let old = g.D.Disk.meaning.state_of c.args.disk.now in
     let new = g.D.Disk.meaning.state_of c.write_synced-2.new.disk in
-    on_err _ c.from_residual.result (in_part_behind [] c.size-size.result old new c.write_synced-2.ensures.outside)
+    in_part_behind [] c.size-size.result old new c.write_synced-2.ensures.outside
 
 pub returns-clause-blank : goal.returns-clause-blank
 returns-clause-blank g c =
@@ -68,5 +67,4 @@ returns-clause-in_part g c =
     let long : length old.reads ≡ old.size = g.D.Disk.leaves_its_size c.args.disk.now h old.reads (g.D.Disk.reads_may_stay c.args.disk.now h) in
     rest_of_zeros old.reads mid.reads old.size long room
     (behind.written.zeros h ∙ ap (λ (n : ℕ). written old.reads 2 (replicate (n - 2) 0)) size_is) in
-    on_err _ c.settle_head.result
-    (in_part_blank c.size-size.result old mid new behind.written.nature c.write_synced-2.ensures.outside behind.leaves rest c.settle_head.ensures.in_turn)
+    in_part_blank c.size-size.result old mid new behind.written.nature c.write_synced-2.ensures.outside behind.leaves rest c.settle_head.ensures.in_turn
