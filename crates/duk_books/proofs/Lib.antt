@@ -1,1 +1,2 @@
 mod moves
+mod agreement

@@ -13,4 +13,5 @@ pub mod Step
 pub mod Run
 pub mod First
 pub mod Reached
+pub mod Agree
 pub mod inner

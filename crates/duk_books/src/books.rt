@@ -1,9 +1,11 @@
 //! Tills, one host, and the merchants' book.
 
 ghost use Rattle.std.specs.Prelude.{◌≡◌, All};
+ghost use Rattle.duk_books.specs.Agree.{BooksAgree};
 ghost use Rattle.duk_books.specs.Books.{meanings_of};
 ghost use Rattle.duk_books.specs.First.{IsNewHost, IsNewTill, first_books};
 
+use crate::laws;
 use crate::owner::Owner;
 use crate::sales::Sale;
 use crate::system::System;
@@ -51,7 +53,10 @@ impl<const N: usize, C: Cell, B: Cell, J: Journal, I: Issuer> Books<N, C, B, J, 
         requires tills { All (IsNewTill (meanings_of C.meaning B.meaning J.meaning I.decides))
             tills.items }
         ensures first { result ≡ first_books host loading tills.items }
+        ensures agree { BooksAgree
+            (meanings_of C.meaning B.meaning J.meaning I.decides) result }
     {
+        laws::agreement::<C, B, J, I>();
         Books {
             system: System {
                 alloc,

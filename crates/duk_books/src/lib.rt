@@ -10,6 +10,7 @@ mod answers;
 mod books;
 mod event;
 mod frames;
+pub mod laws;
 mod outcome;
 mod owner;
 mod places;

@@ -1,6 +1,7 @@
 //! Runs of events.
 
 ghost use Rattle.std.specs.Prelude.{◌≡◌, IfOk, IfErr, OnErr};
+ghost use Rattle.duk_books.specs.Agree.{BooksAgree};
 ghost use Rattle.duk_books.specs.Books.{meanings_of};
 ghost use Rattle.duk_books.specs.Run.{IsRefusedMemory, IsRun, RunRefused};
 ghost use Rattle.duk_books.specs.Step.{Step};
@@ -8,6 +9,7 @@ ghost use Rattle.duk_books.specs.inner.Run.{IsStepInto};
 
 use crate::books::Books;
 use crate::event::{End, Event};
+use crate::laws;
 use crate::outcome::Outcome;
 use crate::places::push_within;
 use crate::system::System;
@@ -31,6 +33,10 @@ pub enum RunFault {
 }
 
 /// Lets the events happen, one after the other, and puts what comes of each at the end of `out`.
+///
+/// Whatever the events are and however the call ends, the merchants' book and that of the host agree:
+/// each payment that a till was told as approved stands at the host, with its amount; and once a till
+/// is at rest, no other payment of it does.
 pub fn run<const N: usize, C: Cell, B: Cell, J: Journal, I: Issuer>(
     books: &mut Books<N, C, B, J, I>,
     events: &[Event],
@@ -42,7 +48,10 @@ pub fn run<const N: usize, C: Cell, B: Cell, J: Journal, I: Issuer>(
     ensures refused { IfErr result (RunRefused
         (meanings_of C.meaning B.meaning J.meaning I.decides)
         books.old events.now out.old.items out.new.items books.new) }
+    ensures agree { BooksAgree
+        (meanings_of C.meaning B.meaning J.meaning I.decides) books.new }
 {
+    laws::agreement::<C, B, J, I>();
     run_system(&mut books.system, events, out)
 }
 

@@ -1,0 +1,12 @@
+-- That the merchants' book and that of the host agree.
+pub mod OwnersStay
+pub mod Facts
+pub mod Terminals
+pub mod Registers
+pub mod Tills
+pub mod QuietCalls
+pub mod TellingCalls
+pub mod Sending
+pub mod HostHolds
+pub mod BooksHold
+pub mod Agreement

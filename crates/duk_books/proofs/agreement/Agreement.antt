@@ -1,0 +1,214 @@
+-- What the merchants' book has and what stands at the host agree.
+use Rattle.std.proofs.Common.{◌≡◌, ◌≢◌, ◌⊎◌, ◌<◌, ◌++◌, ◌∷◌, [], ℕ, zero, suc, List, Option, Some, None, All, AllPairs, Contains, inl, inr, refl, sym, ap, subst, ◌∙◌, arith}
+use Rattle.std.proofs.lemmas.List.Elements.{All-contains, Contains-append_cases}
+use Rattle.duk_frame.specs.declared.code.Code.{Code}
+use Rattle.duk_frame.specs.declared.code.Code.TheVariants as code
+use Rattle.duk_journal.specs.Entry.{reversed_by}
+use Rattle.duk_journal.specs.Groups.{Entries}
+use Rattle.duk_journal.specs.declared.entry.Decided.{Decided}
+use Rattle.duk_journal.specs.declared.entry.Decided.TheVariants.{Payment as PaymentDecided, Reversal as ReversalDecided}
+use Rattle.duk_journal.specs.declared.entry.Entry.{Entry}
+use Rattle.duk_line.specs.Host.{HostOf}
+use Rattle.duk_line.specs.Latest.{UseNewNumbers, numbers_in, payment_entry, reversed_in, reversed_numbers}
+use Rattle.duk_store.specs.Cell.{Kept}
+use Rattle.duk_term.specs.Reply.{IsPending}
+use Rattle.duk_till.specs.Image.{kept_of, last_bytes}
+use Rattle.duk_till.specs.Last.{AreLastFields}
+use Rattle.duk_till.specs.History.{payment_of}
+use Rattle.duk_till.specs.Till.{IsAtRest, TillOf}
+use Rattle.duk_till.specs.declared.last.Last.{Last}
+use Rattle.duk_till.specs.declared.last.Last.TheVariants.{Open, Approved}
+use Rattle.duk_till.specs.declared.last.Payment.{Payment}
+use Rattle.duk_till.specs.declared.state.TillState.{TillState}
+use Rattle.duk_till.specs.declared.state.TillState.TheVariants.{Running, Stopped}
+use Rattle.duk_tree.specs.Serial.{Serial}
+use Rattle.duk_books.specs.Agree.{Agrees, AreEntriesOf, BooksAgree, StandingAreTold, StandsOf, StandsWith, ToldStand}
+use Rattle.duk_books.specs.Books.{BooksOf, Frame, IsAt, Meanings}
+use Rattle.duk_books.specs.First.{IsFirst, IsNewTill}
+use Rattle.duk_books.specs.Owner.{IsOwner}
+use Rattle.duk_books.specs.Reached.{Moves, Reached}
+use Rattle.duk_books.specs.Sales.{sale_of}
+use Rattle.duk_books.proofs.agreement.BooksHold.{BookLaws, BooksHold, Holds, holds_after, lists_of}
+use Rattle.duk_books.proofs.agreement.Facts.{IsAsked, IsCalledBack, IsRepliedTo, IsSold, IsUndoneBy, Lists, none_in, the_one, the_only}
+use Rattle.duk_books.proofs.agreement.HostHolds.{CameFrom, EntriesHold, HostHolds, IsPaidWith, judged_hold, reversed_of}
+use Rattle.duk_books.proofs.agreement.Registers.{RegistersHold}
+use Rattle.duk_books.proofs.agreement.Terminals.{KeptHas, StateHas}
+use Rattle.duk_books.proofs.agreement.Tills.{IsGood, TillHolds, stopped_is_not_running}
+use Rattle.duk_books.proofs.moves.ReachedByMoves.{reached_all}
+use Rattle.duk_books.proofs.moves.StepChanges.{at_contains, move_change}
+
+-- ---- entries of one number are equal
+
+abbrev AreNewInTurn : Entries → Type 0
+AreNewInTurn entries = AllPairs (λ earlier later. ¬ Contains (numbers_in earlier) later.number) entries
+
+new_later : (first : Entry) (entries : Entries) → AreNewInTurn (first ∷ entries) → AreNewInTurn entries
+new_later first entries new = λ i j d below within. new (suc i) (suc j) d (omega arith) (omega arith)
+
+not_later : (first : Entry) (entries : Entries) (entry : Entry) → AreNewInTurn (first ∷ entries) → first.number ≡ entry.number → ¬ Contains entries entry
+not_later first entries entry new same (j, within, is) =
+    new 0 (suc j) entry (omega arith) (omega (arith, within)) (0, omega arith, same ∙ ap (λ (entry : Entry). entry.number) (sym is))
+
+front_or : (first : Entry) (entries : Entries) (other : Entry) → Contains (first ∷ entries) other → (other ≡ first) ⊎ Contains entries other
+front_or first entries other contains = elim (Contains-append_cases (first ∷ []) entries other contains) [
+  | inl is ↦ inl (the_only first other is)
+  | inr rest ↦ inr rest
+]
+
+one_entry : (entries : Entries) (one other : Entry) → AreNewInTurn entries → Contains entries one → Contains entries other → one.number ≡ other.number → one ≡ other
+one_entry [] one other new in_one in_other same = absurd (none_in one in_one)
+one_entry (first ∷ entries) one other new in_one in_other same = elim (front_or first entries one in_one) [
+  | inl one_is ↦ elim (front_or first entries other in_other) [
+    | inl other_is ↦ one_is ∙ sym other_is
+    | inr later ↦ absurd (not_later first entries other new (ap (λ (entry : Entry). entry.number) (sym one_is) ∙ same) later)
+  ]
+  | inr later ↦ elim (front_or first entries other in_other) [
+    | inl other_is ↦ absurd (not_later first entries one new (ap (λ (entry : Entry). entry.number) (sym other_is) ∙ sym same) later)
+    | inr also ↦ one_entry entries one other (new_later first entries new) later also same
+  ]
+]
+
+same_decided : (amount sum : ℕ) (one other : Code) → PaymentDecided amount one ≡ PaymentDecided sum other → one ≡ other
+same_decided amount sum one other same = cc
+
+-- ---- what is reversed was called back
+
+decided_back : (requests : List Frame) (entries : Entries) (number ksn : Serial) (decided : Decided) (mac : List ℕ) → CameFrom requests entries → Contains entries (record { number = number; decided = decided; mac = mac })
+    → Contains (reversed_in number decided) ksn → IsCalledBack requests ksn
+decided_back requests entries number ksn (PaymentDecided amount code) mac came kept has = absurd (none_in ksn has)
+decided_back requests entries number ksn (ReversalDecided counter state) mac came kept has =
+    subst (λ (it : Serial). IsCalledBack requests it) (sym (the_only (reversed_by number counter) ksn has)) (came (record { number = number; decided = ReversalDecided counter state; mac = mac }) kept)
+
+called_back : (requests : List Frame) (entries : Entries) (ksn : Serial) → CameFrom requests entries → Contains (reversed_numbers entries) ksn → IsCalledBack requests ksn
+called_back requests entries ksn came has =
+    let it = reversed_of entries ksn has in
+    decided_back requests entries it.0.number ksn it.0.decided it.0.mac came it.1 it.2
+
+-- ---- the books agree
+
+module _ {C B J I : Type 0} (m : Meanings C B J I) (books : BooksOf C B J I) (begun : List Serial) (holds : BooksHold m books begun) (entries : Entries) (hold : EntriesHold books.requests books.answers entries) where
+  told_stand : (t : ℕ) → ToldStand entries books.owners books.sales t
+  told_stand t payment sold =
+      let good = holds.sold t payment.ksn payment.amount sold in
+      let paid = hold.replied payment.ksn code.Approved good.replied in
+      let asked : IsAsked books.requests payment.ksn paid.amount = hold.came (payment_entry payment.ksn paid.amount code.Approved paid.mac) paid.kept in
+      let same : paid.amount ≡ payment.amount = holds.one_amount payment.ksn paid.amount payment.amount asked good.awaited.asked in
+      record {
+        owned = good.awaited.owned;
+        stands = record {
+          mac = paid.mac;
+          kept = subst (λ amount. Contains entries (payment_entry payment.ksn amount code.Approved paid.mac)) same paid.kept;
+          not_undone = λ has. good.awaited.not_back (called_back books.requests entries payment.ksn hold.came has);
+        };
+      }
+
+  declined_stands : (payment : Payment) (why : Code) → why ≢ code.Approved → IsRepliedTo books.answers payment.ksn why → ¬ StandsWith entries payment
+  declined_stands payment why other replied stands =
+      let paid = hold.replied payment.ksn why replied in
+      let one = payment_entry payment.ksn paid.amount why paid.mac in
+      let two = payment_entry payment.ksn payment.amount code.Approved stands.mac in
+      let same : one ≡ two = one_entry entries one two hold.new_numbers.new paid.kept stands.kept refl in
+      other (same_decided paid.amount payment.amount why code.Approved (ap (λ (entry : Entry). entry.decided) same))
+
+  standing_told : (t : ℕ) (till : TillOf C B) (last : Option Last) → IsAt books.tills t till → till.state ≡ Running last → StandingAreTold entries books.owners books.sales t last
+  standing_told t till last at runs payment is =
+      let asked : IsAsked books.requests payment.ksn payment.amount = hold.came (payment_entry payment.ksn payment.amount code.Approved is.stands.mac) is.stands.kept in
+      elim ((holds.tills t till at).known payment.ksn payment.amount asked is.owned) [
+        | inl settled ↦ elim settled [
+          | inl sold ↦ inl sold
+          | inr known ↦ elim known [
+            | inl declined ↦ absurd (declined_stands payment declined.0 declined.1 declined.2 is.stands)
+            | inr undone ↦ absurd (is.stands.not_undone (hold.undone payment.ksn undone))
+          ]
+        ]
+        | inr doubt ↦ inr (doubt.runs last runs)
+      ]
+
+  agrees : (t : ℕ) (till : TillOf C B) → IsAt books.tills t till → IsAtRest till.state → Agrees entries books.owners books.sales t
+  agrees t till at rest = record {
+    told_stand = told_stand t;
+    standing_told = λ payment is. elim (standing_told t till rest.last at rest.runs payment is) [
+      | inl sold ↦ sold
+      | inr in_doubt ↦ absurd (rest.closed payment.ksn payment.amount in_doubt)
+    ];
+  }
+
+entries_hold : {C B J I : Type 0} (m : Meanings C B J I) (books : BooksOf C B J I) (begun : List Serial) (entries : Entries) → BooksHold m books begun → AreEntriesOf m books entries → EntriesHold books.requests books.answers entries
+entries_hold m books begun entries holds (inl judges) = judged_hold m.host books.requests books.answers books.host entries holds.host judges
+entries_hold m books begun entries holds (inr found) = holds.host.entries entries found
+
+books_agree : {C B J I : Type 0} (m : Meanings C B J I) (books : BooksOf C B J I) → Holds m books → BooksAgree m books
+books_agree m books (begun, holds) = record {
+  told = λ t entries are. told_stand m books begun holds entries (entries_hold m books begun entries holds are) t;
+  runs = λ t till last entries at runs are. standing_told m books begun holds entries (entries_hold m books begun entries holds are) t till last at runs;
+  at_rest = λ t till entries at rest are. agrees m books begun holds entries (entries_hold m books begun entries holds are) t till at rest;
+}
+
+-- ---- at first
+
+module _ {C B J I : Type 0} (m : Meanings C B J I) (books : BooksOf C B J I) (is : IsFirst m books) where
+  nothing_asked : (ksn : Serial) (amount : ℕ) → ¬ IsAsked books.requests ksn amount
+  nothing_asked ksn amount asked = none_in asked.frame (subst (λ list. Contains list asked.frame) is.no_requests asked.sent)
+
+  nothing_back : (ksn : Serial) → ¬ IsCalledBack books.requests ksn
+  nothing_back ksn back = none_in back.frame (subst (λ list. Contains list back.frame) is.no_requests back.sent)
+
+  nothing_sold : (t : ℕ) (ksn : Serial) (amount : ℕ) → ¬ IsSold (lists_of books []) t ksn amount
+  nothing_sold t ksn amount sold = none_in (sale_of t (payment_of ksn amount)) (subst (λ list. Contains list (sale_of t (payment_of ksn amount))) is.no_sales sold)
+
+  kept_nothing : (last : Last) → Some (last_bytes last) ≡ None → ⊥
+  kept_nothing last same = absurd (cc)
+
+  new_till : (t : ℕ) (till : TillOf C B) → IsNewTill m till → TillHolds m (lists_of books []) t till
+  new_till t till made = record {
+    terminal = record {
+      honest = made.cell.honest;
+      state = subst (StateHas (RegistersHold (lists_of books []) t)) (sym made.terminal_stopped) tt;
+      kept = λ kept found. subst (KeptHas (RegistersHold (lists_of books []) t)) (sym ((made.cell.finds kept).0 found)) (λ ksn has. absurd (none_in ksn has));
+    };
+    book = record {
+      honest = made.book.honest;
+      runs = λ last runs. absurd (stopped_is_not_running till.state last made.stopped runs);
+      only = λ last runs. absurd (stopped_is_not_running till.state last made.stopped runs);
+      found = λ last fields found. absurd (kept_nothing last ((made.book.finds (Some (last_bytes last))).0 found));
+    };
+    waits = λ ksn amount pending waits_on. absurd (stopped_is_not_running till.state (Some (Open ksn amount)) made.stopped waits_on);
+    entered = λ ksn amount approved. absurd (stopped_is_not_running till.state (Some (Approved ksn amount)) made.stopped approved);
+    known = λ ksn amount asked owned. absurd (nothing_asked ksn amount asked);
+  }
+
+  new_at : (tills : List (TillOf C B)) → All (IsNewTill m) tills → (t : ℕ) (till : TillOf C B) → IsAt tills t till → IsNewTill m till
+  new_at tills made t till at = All-contains (IsNewTill m) tills till made (at_contains tills t till at)
+
+  no_entries : EntriesHold books.requests books.answers []
+  no_entries = record {
+    new_numbers = record { usable = λ i d within. absurd (omega (arith, within)); stand = λ i d within. absurd (omega (arith, within)); new = λ i j d below within. absurd (omega (arith, within)) };
+    came = λ entry is_in. absurd (none_in entry is_in);
+    replied = λ ksn code replied. absurd (none_in replied.frame (subst (λ list. Contains list replied.frame) is.no_answers replied.sent));
+    undone = λ ksn undone. absurd (none_in undone.frame (subst (λ list. Contains list undone.frame) is.no_answers undone.sent));
+  }
+
+  first_holds : Holds m books
+  first_holds = (
+    [],
+    record {
+      one_owner = λ iksn t owns. absurd (none_in _ (subst (λ list. Contains list (record { iksn = iksn; t = t })) is.no_owners owns));
+      begun_owned = λ ksn has. absurd (none_in ksn has);
+      asked = λ ksn amount asked. absurd (nothing_asked ksn amount asked);
+      one_amount = λ ksn one other asked. absurd (nothing_asked ksn one asked);
+      called_back = λ ksn back. absurd (nothing_back ksn back);
+      sold = λ t ksn amount sold. absurd (nothing_sold t ksn amount sold);
+      tills = λ t till at. new_till t till (new_at books.tills is.tills t till at);
+      host = record {
+        honest = is.host.journal.honest;
+        entries = λ entries found. subst (λ (it : Entries). EntriesHold books.requests books.answers it) (sym ((is.host.journal.finds entries).0 found)) no_entries;
+        runs = inl is.host.stopped;
+      };
+    },
+  )
+
+-- what is reached holds
+pub reached_agrees : {C B J I : Type 0} (m : Meanings C B J I) (laws : BookLaws m) (books : BooksOf C B J I) → Reached m books → BooksAgree m books
+reached_agrees {C} {B} {J} {I} m laws books reached =
+    books_agree m books (reached_all m (λ (it : BooksOf C B J I). Holds m it) (first_holds m)
+    (λ old new was moves. holds_after m laws old was.0 was.1 new (move_change m old new moves)) books reached)

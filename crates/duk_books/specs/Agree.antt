@@ -1,0 +1,66 @@
+-- That the merchants' book and the host's agree: this project's own.
+use Rattle.std.specs.Prelude.{◌≡◌, ◌≢◌, ◌⊎◌, ℕ, List, Option, Some, AllPairs, Contains}
+use Rattle.duk_frame.specs.declared.code.Code.TheVariants.{Approved}
+use Rattle.duk_journal.specs.Groups.{Entries}
+use Rattle.duk_line.specs.Host.{JudgesBy}
+use Rattle.duk_line.specs.Latest.{payment_entry, reversed_numbers}
+use Rattle.duk_till.specs.Till.{IsAtRest, TillOf}
+use Rattle.duk_till.specs.declared.last.Last.{Last}
+use Rattle.duk_till.specs.declared.last.Last.TheVariants.{Open}
+use Rattle.duk_till.specs.declared.last.Payment.{Payment}
+use Rattle.duk_till.specs.declared.state.TillState.TheVariants.{Running}
+use Rattle.duk_books.specs.Books.{BooksOf, IsAt, Meanings}
+use Rattle.duk_books.specs.Owner.{IsOwner}
+use Rattle.duk_books.specs.Sales.{sale_of}
+use Rattle.duk_books.specs.declared.owner.Owner.{Owner}
+use Rattle.duk_books.specs.declared.sales.Sale.{Sale}
+
+-- a payment stands at the host with its amount: it is kept as approved, and no reversal of it is
+pub record StandsWith (entries : Entries) (payment : Payment) : Type 0 where
+  pub mac : List ℕ
+  pub kept : Contains entries (payment_entry payment.ksn payment.amount Approved mac)
+  pub not_undone : ¬ Contains (reversed_numbers entries) payment.ksn
+
+-- a payment of a till stands: it does at the host, and the till owns its initial key serial number
+pub record StandsOf (entries : Entries) (owners : List Owner) (t : ℕ) (payment : Payment)
+    : Type 0 where
+  pub owned : IsOwner owners payment.ksn.iksn t
+  pub stands : StandsWith entries payment
+
+-- each payment that a till was told as approved stands, with its amount
+abbrev pub ToldStand : Entries → List Owner → List Sale → ℕ → Type 0
+ToldStand entries owners sales t =
+    (payment : Payment) → Contains sales (sale_of t payment) → StandsOf entries owners t payment
+
+-- each payment of a till that stands was told to it as approved, with its amount; or it is the open
+-- one, whose outcome the till does not know
+abbrev pub StandingAreTold : Entries → List Owner → List Sale → ℕ → Option Last → Type 0
+StandingAreTold entries owners sales t last =
+    (payment : Payment) → StandsOf entries owners t payment
+    → Contains sales (sale_of t payment) ⊎ (last ≡ Some (Open payment.ksn payment.amount))
+
+-- the payments of a till that stand are exactly those that it was told as approved
+pub record Agrees (entries : Entries) (owners : List Owner) (sales : List Sale) (t : ℕ)
+    : Type 0 where
+  pub told_stand : ToldStand entries owners sales t
+  pub standing_told : (payment : Payment) → StandsOf entries owners t payment
+      → Contains sales (sale_of t payment)
+
+-- the entries of the host: those by which it judges, while it runs, and each list that a restart of
+-- its journal may find
+abbrev pub AreEntriesOf : {C B J I : Type 0} → Meanings C B J I → BooksOf C B J I → Entries → Type 0
+AreEntriesOf m books entries =
+    JudgesBy m.host books.host entries ⊎ (m.host.journal.state_of books.host.journal).found entries
+
+-- of each till: what it was told as approved stands; while it runs, no other payment of it does, but
+-- perhaps the one that is open; and at rest the payments that stand are exactly those
+pub record BooksAgree {C B J I : Type 0} (m : Meanings C B J I) (books : BooksOf C B J I)
+    : Type 0 where
+  pub told : (t : ℕ) (entries : Entries) → AreEntriesOf m books entries
+      → ToldStand entries books.owners books.sales t
+  pub runs : (t : ℕ) (till : TillOf C B) (last : Option Last) (entries : Entries)
+      → IsAt books.tills t till → till.state ≡ Running last → AreEntriesOf m books entries
+      → StandingAreTold entries books.owners books.sales t last
+  pub at_rest : (t : ℕ) (till : TillOf C B) (entries : Entries) → IsAt books.tills t till
+      → IsAtRest till.state → AreEntriesOf m books entries
+      → Agrees entries books.owners books.sales t
