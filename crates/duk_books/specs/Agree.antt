@@ -4,6 +4,7 @@ use Rattle.duk_frame.specs.declared.code.Code.TheVariants.{Approved}
 use Rattle.duk_journal.specs.Groups.{Entries}
 use Rattle.duk_line.specs.Host.{JudgesBy}
 use Rattle.duk_line.specs.Latest.{payment_entry, reversed_numbers}
+use Rattle.duk_store.specs.Cell.{Kept}
 use Rattle.duk_till.specs.Till.{IsAtRest, TillOf}
 use Rattle.duk_till.specs.declared.last.Last.{Last}
 use Rattle.duk_till.specs.declared.last.Last.TheVariants.{Open}
@@ -52,10 +53,24 @@ abbrev pub AreEntriesOf : {C B J I : Type 0} → Meanings C B J I → BooksOf C 
 AreEntriesOf m books entries =
     JudgesBy m.host books.host entries ⊎ (m.host.journal.state_of books.host.journal).found entries
 
--- of each till: what it was told as approved stands; while it runs, no other payment of it does, but
--- perhaps the one that is open; and at rest the payments that stand are exactly those
+-- two sales are of different numbers
+abbrev pub AreOfDifferentNumbers : Sale → Sale → Type 0
+AreOfDifferentNumbers one other = one.payment.ksn ≢ other.payment.ksn
+
+-- a payment of a till stands that was not told to it as approved
+pub record IsInDoubt
+    (entries : Entries) (owners : List Owner) (sales : List Sale) (t : ℕ) (payment : Payment)
+    : Type 0 where
+  pub stands : StandsOf entries owners t payment
+  pub not_told : ¬ Contains sales (sale_of t payment)
+
+-- each number stands once in the merchants' book. Of each till: what it was told as approved stands;
+-- while it runs, no other payment of it does, but perhaps the one that is open; at rest the payments
+-- that stand are exactly those; and running or stopped, with a book in which a restart may find
+-- something, no two are in doubt
 pub record BooksAgree {C B J I : Type 0} (m : Meanings C B J I) (books : BooksOf C B J I)
     : Type 0 where
+  pub once : AllPairs AreOfDifferentNumbers books.sales
   pub told : (t : ℕ) (entries : Entries) → AreEntriesOf m books entries
       → ToldStand entries books.owners books.sales t
   pub runs : (t : ℕ) (till : TillOf C B) (last : Option Last) (entries : Entries)
@@ -64,3 +79,7 @@ pub record BooksAgree {C B J I : Type 0} (m : Meanings C B J I) (books : BooksOf
   pub at_rest : (t : ℕ) (till : TillOf C B) (entries : Entries) → IsAt books.tills t till
       → IsAtRest till.state → AreEntriesOf m books entries
       → Agrees entries books.owners books.sales t
+  pub one_in_doubt : (t : ℕ) (till : TillOf C B) (entries : Entries) (kept : Kept) (one other : Payment)
+      → IsAt books.tills t till → (m.book.state_of till.book).found kept → AreEntriesOf m books entries
+      → IsInDoubt entries books.owners books.sales t one
+      → IsInDoubt entries books.owners books.sales t other → one ≡ other

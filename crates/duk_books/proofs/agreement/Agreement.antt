@@ -13,16 +13,16 @@ use Rattle.duk_line.specs.Latest.{UseNewNumbers, numbers_in, payment_entry, reve
 use Rattle.duk_store.specs.Cell.{Kept}
 use Rattle.duk_term.specs.Reply.{IsPending}
 use Rattle.duk_till.specs.Image.{kept_of, last_bytes}
-use Rattle.duk_till.specs.Last.{AreLastFields}
-use Rattle.duk_till.specs.History.{payment_of}
+use Rattle.duk_till.specs.Last.{AreLastFields, number_of}
+use Rattle.duk_till.specs.History.{IsOf, payment_of}
 use Rattle.duk_till.specs.Till.{IsAtRest, TillOf}
 use Rattle.duk_till.specs.declared.last.Last.{Last}
-use Rattle.duk_till.specs.declared.last.Last.TheVariants.{Open, Approved}
+use Rattle.duk_till.specs.declared.last.Last.TheVariants.{Open, Approved, Declined, Undone}
 use Rattle.duk_till.specs.declared.last.Payment.{Payment}
 use Rattle.duk_till.specs.declared.state.TillState.{TillState}
 use Rattle.duk_till.specs.declared.state.TillState.TheVariants.{Running, Stopped}
 use Rattle.duk_tree.specs.Serial.{Serial}
-use Rattle.duk_books.specs.Agree.{Agrees, AreEntriesOf, BooksAgree, StandingAreTold, StandsOf, StandsWith, ToldStand}
+use Rattle.duk_books.specs.Agree.{Agrees, AreEntriesOf, BooksAgree, AreOfDifferentNumbers, IsInDoubt, StandingAreTold, StandsOf, StandsWith, ToldStand}
 use Rattle.duk_books.specs.Books.{BooksOf, Frame, IsAt, Meanings}
 use Rattle.duk_books.specs.First.{IsFirst, IsNewTill}
 use Rattle.duk_books.specs.Owner.{IsOwner}
@@ -33,7 +33,7 @@ use Rattle.duk_books.proofs.agreement.Facts.{IsAsked, IsCalledBack, IsRepliedTo,
 use Rattle.duk_books.proofs.agreement.HostHolds.{CameFrom, EntriesHold, HostHolds, IsPaidWith, judged_hold, reversed_of}
 use Rattle.duk_books.proofs.agreement.Registers.{RegistersHold}
 use Rattle.duk_books.proofs.agreement.Terminals.{KeptHas, StateHas}
-use Rattle.duk_books.proofs.agreement.Tills.{IsGood, TillHolds, stopped_is_not_running}
+use Rattle.duk_books.proofs.agreement.Tills.{IsGood, IsInDoubt as IsDoubted, IsKeptOf, OneReading, TillHolds, one_last, stopped_is_not_running}
 use Rattle.duk_books.proofs.moves.ReachedByMoves.{reached_all}
 use Rattle.duk_books.proofs.moves.StepChanges.{at_contains, move_change}
 
@@ -67,6 +67,13 @@ one_entry (first ∷ entries) one other new in_one in_other same = elim (front_o
     | inr also ↦ one_entry entries one other (new_later first entries new) later also same
   ]
 ]
+
+-- a last purchase has the number of the payment that it is of
+number_is : (payment : Payment) (last : Last) → IsOf payment last → payment.ksn ≡ number_of last
+number_is payment (Open ksn amount) is = ap (λ (it : Payment). it.ksn) is
+number_is payment (Approved ksn amount) is = ap (λ (it : Payment). it.ksn) is
+number_is payment (Declined ksn why) is = is
+number_is payment (Undone ksn) is = is
 
 same_decided : (amount sum : ℕ) (one other : Code) → PaymentDecided amount one ≡ PaymentDecided sum other → one ≡ other
 same_decided amount sum one other same = cc
@@ -110,8 +117,10 @@ module _ {C B J I : Type 0} (m : Meanings C B J I) (books : BooksOf C B J I) (be
       let same : one ≡ two = one_entry entries one two hold.new_numbers.new paid.kept stands.kept refl in
       other (same_decided paid.amount payment.amount why code.Approved (ap (λ (entry : Entry). entry.decided) same))
 
-  standing_told : (t : ℕ) (till : TillOf C B) (last : Option Last) → IsAt books.tills t till → till.state ≡ Running last → StandingAreTold entries books.owners books.sales t last
-  standing_told t till last at runs payment is =
+  -- a payment that stands was told, or is in doubt
+  told_or_doubted : (t : ℕ) (till : TillOf C B) (payment : Payment) → IsAt books.tills t till → StandsOf entries books.owners t payment
+      → Contains books.sales (sale_of t payment) ⊎ IsDoubted m.book payment.ksn payment.amount till
+  told_or_doubted t till payment at is =
       let asked : IsAsked books.requests payment.ksn payment.amount = hold.came (payment_entry payment.ksn payment.amount code.Approved is.stands.mac) is.stands.kept in
       elim ((holds.tills t till at).known payment.ksn payment.amount asked is.owned) [
         | inl settled ↦ elim settled [
@@ -121,8 +130,35 @@ module _ {C B J I : Type 0} (m : Meanings C B J I) (books : BooksOf C B J I) (be
             | inr undone ↦ absurd (is.stands.not_undone (hold.undone payment.ksn undone))
           ]
         ]
-        | inr doubt ↦ inr (doubt.runs last runs)
+        | inr doubt ↦ inr doubt
       ]
+
+  standing_told : (t : ℕ) (till : TillOf C B) (last : Option Last) → IsAt books.tills t till → till.state ≡ Running last → StandingAreTold entries books.owners books.sales t last
+  standing_told t till last at runs payment is = elim (told_or_doubted t till payment at is) [
+    | inl sold ↦ inl sold
+    | inr doubt ↦ inr (doubt.runs last runs)
+  ]
+
+  -- what a book may keep of two payments is of one number
+  one_number : OneReading → (kept : Kept) (one other : Payment) → IsKeptOf one.ksn one.amount kept → IsKeptOf other.ksn other.amount kept → one.ksn ≡ other.ksn
+  one_number reading kept one other is also =
+      let same = one_last reading is.last also.last is.fields also.fields (sym is.kept_is ∙ also.kept_is) in
+      number_is one is.last is.is_of ∙ ap number_of same ∙ sym (number_is other also.last also.is_of)
+
+  doubted : (t : ℕ) (till : TillOf C B) (payment : Payment) → IsAt books.tills t till → IsInDoubt entries books.owners books.sales t payment → IsDoubted m.book payment.ksn payment.amount till
+  doubted t till payment at is = elim (told_or_doubted t till payment at is.stands) [
+    | inl sold ↦ absurd (is.not_told sold)
+    | inr doubt ↦ doubt
+  ]
+
+  one_in_doubt : OneReading → (t : ℕ) (till : TillOf C B) (kept : Kept) (one other : Payment) → IsAt books.tills t till → (m.book.state_of till.book).found kept
+      → IsInDoubt entries books.owners books.sales t one → IsInDoubt entries books.owners books.sales t other → one ≡ other
+  one_in_doubt reading t till kept one other at found is also =
+      let number = one_number reading kept one other ((doubted t till one at is).found kept found) ((doubted t till other at also).found kept found) in
+      let asked : IsAsked books.requests one.ksn one.amount = hold.came (payment_entry one.ksn one.amount code.Approved is.stands.stands.mac) is.stands.stands.kept in
+      let asked_too : IsAsked books.requests other.ksn other.amount = hold.came (payment_entry other.ksn other.amount code.Approved also.stands.stands.mac) also.stands.stands.kept in
+      let amount : one.amount ≡ other.amount = holds.one_amount other.ksn one.amount other.amount (subst (λ (it : Serial). IsAsked books.requests it one.amount) number asked) asked_too in
+      ap (λ (it : Serial). payment_of it one.amount) number ∙ ap (λ sum. payment_of other.ksn sum) amount
 
   agrees : (t : ℕ) (till : TillOf C B) → IsAt books.tills t till → IsAtRest till.state → Agrees entries books.owners books.sales t
   agrees t till at rest = record {
@@ -137,8 +173,10 @@ entries_hold : {C B J I : Type 0} (m : Meanings C B J I) (books : BooksOf C B J 
 entries_hold m books begun entries holds (inl judges) = judged_hold m.host books.requests books.answers books.host entries holds.host judges
 entries_hold m books begun entries holds (inr found) = holds.host.entries entries found
 
-books_agree : {C B J I : Type 0} (m : Meanings C B J I) (books : BooksOf C B J I) → Holds m books → BooksAgree m books
-books_agree m books (begun, holds) = record {
+books_agree : {C B J I : Type 0} (m : Meanings C B J I) (books : BooksOf C B J I) → OneReading → Holds m books → BooksAgree m books
+books_agree m books reading (begun, holds) = record {
+  once = holds.once;
+  one_in_doubt = λ t till entries kept one other at found are. one_in_doubt m books begun holds entries (entries_hold m books begun entries holds are) reading t till kept one other at found;
   told = λ t entries are. told_stand m books begun holds entries (entries_hold m books begun entries holds are) t;
   runs = λ t till last entries at runs are. standing_told m books begun holds entries (entries_hold m books begun entries holds are) t till last at runs;
   at_rest = λ t till entries at rest are. agrees m books begun holds entries (entries_hold m books begun entries holds are) t till at rest;
@@ -192,6 +230,7 @@ module _ {C B J I : Type 0} (m : Meanings C B J I) (books : BooksOf C B J I) (is
   first_holds = (
     [],
     record {
+      once = subst (AllPairs AreOfDifferentNumbers) (sym is.no_sales) (λ i j d below within. absurd (omega (arith, within)));
       one_owner = λ iksn t owns. absurd (none_in _ (subst (λ list. Contains list (record { iksn = iksn; t = t })) is.no_owners owns));
       begun_owned = λ ksn has. absurd (none_in ksn has);
       asked = λ ksn amount asked. absurd (nothing_asked ksn amount asked);
@@ -210,5 +249,5 @@ module _ {C B J I : Type 0} (m : Meanings C B J I) (books : BooksOf C B J I) (is
 -- what is reached holds
 pub reached_agrees : {C B J I : Type 0} (m : Meanings C B J I) (laws : BookLaws m) (books : BooksOf C B J I) → Reached m books → BooksAgree m books
 reached_agrees {C} {B} {J} {I} m laws books reached =
-    books_agree m books (reached_all m (λ (it : BooksOf C B J I). Holds m it) (first_holds m)
+    books_agree m books laws.calls.reading (reached_all m (λ (it : BooksOf C B J I). Holds m it) (first_holds m)
     (λ old new was moves. holds_after m laws old was.0 was.1 new (move_change m old new moves)) books reached)

@@ -1,6 +1,7 @@
 -- What holds of all that is reached, and how each move leaves it so.
-use Rattle.std.proofs.Common.{◌≡◌, ◌≢◌, ◌⊎◌, ◌<◌, ◌+◌, ◌++◌, ◌∷◌, [], ℕ, zero, suc, List, Option, Some, None, Ok, Err, All, Contains, inl, inr, refl, sym, ap, subst, ◌∙◌, arith}
-use Rattle.std.proofs.lemmas.List.Elements.{All-contains, Contains-append_cases, Contains-append_left, Contains-push, Contains-push_cases}
+use Rattle.std.proofs.Common.{◌≡◌, ◌≢◌, ◌⊎◌, ◌<◌, ◌+◌, ◌++◌, ◌∷◌, [], ℕ, zero, suc, List, Option, Some, None, Ok, Err, All, AllPairs, Contains, get_or, inl, inr, refl, sym, ap, subst, ◌∙◌, arith}
+use Rattle.std.proofs.lemmas.List.Elements.{Contains-append_cases, Contains-append_left, Contains-get_or, Contains-push, Contains-push_cases}
+use Rattle.std.proofs.lemmas.List.Quantifiers.{all_pairs_push}
 use Rattle.std.specs.List.{slice_get, slice_set}
 use Rattle.duk_frame.specs.Payment.{request_of}
 use Rattle.duk_frame.specs.Request.{IsRequest}
@@ -30,6 +31,7 @@ use Rattle.duk_till.specs.declared.last.Payment.{Payment}
 use Rattle.duk_till.specs.declared.state.TillState.{TillState}
 use Rattle.duk_till.specs.declared.state.TillState.TheVariants.{Stopped, Running}
 use Rattle.duk_tree.specs.Serial.{Serial}
+use Rattle.duk_books.specs.Agree.{AreOfDifferentNumbers}
 use Rattle.duk_books.specs.Books.{BooksOf, ChangesOnly, Frame, IsAt, Meanings}
 use Rattle.duk_books.specs.Load.{ChangesOwners, IsGiven, TakesLoad}
 use Rattle.duk_books.specs.Owner.{BecomesOwner, IsOwner}
@@ -60,6 +62,7 @@ pub record BooksHold {C B J I : Type 0} (m : Meanings C B J I) (books : BooksOf 
   pub one_amount : (ksn : Serial) (one other : ℕ) → IsAsked books.requests ksn one → IsAsked books.requests ksn other → one ≡ other
   pub called_back : (ksn : Serial) → IsCalledBack books.requests ksn → Contains begun ksn
   pub sold : (t : ℕ) (ksn : Serial) (amount : ℕ) → IsSold (lists_of books begun) t ksn amount → IsGood (lists_of books begun) t ksn amount
+  pub once : AllPairs AreOfDifferentNumbers books.sales
   pub tills : (t : ℕ) (till : TillOf C B) → IsAt books.tills t till → TillHolds m (lists_of books begun) t till
   pub host : HostHolds m.host books.requests books.answers books.host
 
@@ -146,6 +149,7 @@ module _ {C B J I : Type 0} (m : Meanings C B J I) (laws : BookLaws m) (old : Bo
 
   with_tills : (t : ℕ) (P : TillOf C B → TillOf C B → Type 0) (new : BooksOf C B J I) → (change : ChangesOnly t P old.tills new.tills) → TillHolds m Before t change.after → BooksHold m (record old { tills = new.tills }) begun
   with_tills t P new change now = record {
+    once = holds.once;
     one_owner = holds.one_owner;
     begun_owned = holds.begun_owned;
     asked = holds.asked;
@@ -195,6 +199,7 @@ module _ {C B J I : Type 0} (m : Meanings C B J I) (laws : BookLaws m) (old : Bo
       let owned : IsOwner old.owners is.ksn.iksn t = subst (λ (it : Serial). IsOwner old.owners it.iksn t) (sym is.terminal.ksn_is) set.owned in (
         begun ++ is.ksn ∷ [],
         record {
+          once = holds.once;
           one_owner = holds.one_owner;
           begun_owned = begun_owned_too t is.ksn owned;
           asked = λ other amount asked. Contains-append_left begun (is.ksn ∷ []) other (holds.asked other amount asked);
@@ -270,6 +275,7 @@ module _ {C B J I : Type 0} (m : Meanings C B J I) (laws : BookLaws m) (old : Bo
       let before = till_beside m t Before after is.till.before (grow t) (holds.tills t is.till.before (before_at t _ old.tills new.tills is.till)) in (
         begun,
         record {
+          once = holds.once;
           one_owner = one_owner_after outcome old.owners iksn t new.owners is.owners holds.one_owner;
           begun_owned = λ ksn has. let was = holds.begun_owned ksn has in (was.0, owner_stays outcome old.owners iksn t new.owners ksn.iksn was.0 is.owners was.1);
           asked = holds.asked;
@@ -341,6 +347,7 @@ module _ {C B J I : Type 0} (m : Meanings C B J I) (laws : BookLaws m) (old : Bo
     sent_holds : (tills : List (TillOf C B)) → ((u : ℕ) (till : TillOf C B) → IsAt tills u till → TillHolds m (with_request Before ksn frame) u till)
         → BooksHold m (record old { tills = tills; requests = old.requests ++ frame ∷ [] }) (begun ++ ksn ∷ [])
     sent_holds tills hold = record {
+      once = holds.once;
       one_owner = holds.one_owner;
       begun_owned = begun_owned_too t ksn owned;
       asked = asked_sent;
@@ -412,6 +419,7 @@ module _ {C B J I : Type 0} (m : Meanings C B J I) (laws : BookLaws m) (old : Bo
     reversed_holds : (tills : List (TillOf C B)) → ((u : ℕ) (till : TillOf C B) → IsAt tills u till → TillHolds m (with_reversal Before frame) u till)
         → BooksHold m (record old { tills = tills; requests = old.requests ++ frame ∷ [] }) begun
     reversed_holds tills hold = record {
+      once = holds.once;
       one_owner = holds.one_owner;
       begun_owned = holds.begun_owned;
       asked = λ other amount asked. holds.asked other amount (not_asked laws.frames old.requests frame sent other amount is_reversal asked);
@@ -490,6 +498,25 @@ module _ {C B J I : Type 0} (m : Meanings C B J I) (laws : BookLaws m) (old : Bo
   good_told : (sales : List Sale) (u : ℕ) (ksn : Serial) (amount : ℕ) → IsGood Before u ksn amount → IsGood (with_sales Before sales) u ksn amount
   good_told sales u ksn amount is = record { awaited = record { asked = is.awaited.asked; not_back = is.awaited.not_back; owned = is.awaited.owned }; replied = is.replied }
 
+  -- a sale under the number of another one is that one
+  same_sale : (t : ℕ) (payment : Payment) (sale : Sale) → Contains old.sales sale → IsAsked old.requests payment.ksn payment.amount → IsOwner old.owners payment.ksn.iksn t → sale.payment.ksn ≡ payment.ksn
+      → sale ≡ sale_of t payment
+  same_sale t payment sale has asked owned same =
+      let good = holds.sold sale.t sale.payment.ksn sale.payment.amount has in
+      let amounts : sale.payment.amount ≡ payment.amount = holds.one_amount payment.ksn sale.payment.amount payment.amount (subst (λ (it : Serial). IsAsked old.requests it sale.payment.amount) same good.awaited.asked) asked in
+      let till : sale.t ≡ t = one_till old.owners payment.ksn.iksn t sale.t owned (subst (λ (it : Serial). IsOwner old.owners it.iksn sale.t) same good.awaited.owned) in
+      ap (λ u. sale_of u sale.payment) till ∙ ap (λ (it : Serial). sale_of t (payment_of it sale.payment.amount)) same ∙ ap (λ amount. sale_of t (payment_of payment.ksn amount)) amounts
+
+  -- each number stands once in the merchants' book
+  once_told : (t : ℕ) (sales : List Sale) (approved : Option Payment) → TakesSale old.sales t approved sales → ((payment : Payment) → approved ≡ Some payment → IsAsked old.requests payment.ksn payment.amount)
+      → ((payment : Payment) → approved ≡ Some payment → IsOwner old.owners payment.ksn.iksn t) → AllPairs AreOfDifferentNumbers sales
+  once_told t sales None takes asked owned = subst (AllPairs AreOfDifferentNumbers) (sym takes) holds.once
+  once_told t sales (Some payment) (inl there) asked owned = subst (AllPairs AreOfDifferentNumbers) (sym there.1) holds.once
+  once_told t sales (Some payment) (inr joins) asked owned =
+      subst (AllPairs AreOfDifferentNumbers) (sym joins.1) (all_pairs_push AreOfDifferentNumbers old.sales (sale_of t payment) holds.once
+      (λ k d within same. joins.0 (subst (λ (it : Sale). Contains old.sales it)
+      (same_sale t payment (get_or old.sales k d) (Contains-get_or old.sales k d within) (asked payment refl) (owned payment refl) same) (Contains-get_or old.sales k d within))))
+
   tell_holds : (t : ℕ) (call : Call) (new : BooksOf C B J I) → IsTelling old.answers call → (change : CallsOnly m t call old.tills new.tills) → TakesSale old.sales t (approved_in change.after.state) new.sales
       → Holds m (record old { tills = new.tills; sales = new.sales })
   tell_holds t call new telling change takes =
@@ -498,6 +525,7 @@ module _ {C B J I : Type 0} (m : Meanings C B J I) (laws : BookLaws m) (old : Bo
       tells laws.calls m t Before new.sales call change.before change.after telling (holds.tills t change.before (before_at t _ old.tills new.tills change)) takes change.changed in (
         begun,
         record {
+          once = once_told t new.sales (approved_in change.after.state) takes (λ payment approved. (now.book.runs (Some (Approved payment.ksn payment.amount)) (approved_of change.after.state payment approved)).1.awaited.asked) (λ payment approved. (now.book.runs (Some (Approved payment.ksn payment.amount)) (approved_of change.after.state payment approved)).1.awaited.owned);
           one_owner = holds.one_owner;
           begun_owned = holds.begun_owned;
           asked = holds.asked;
@@ -536,6 +564,7 @@ module _ {C B J I : Type 0} (m : Meanings C B J I) (laws : BookLaws m) (old : Bo
       let after : Lists = record Before { answers = old.answers ++ answer ∷ [] } in (
         begun,
         record {
+          once = holds.once;
           one_owner = holds.one_owner;
           begun_owned = holds.begun_owned;
           asked = holds.asked;
@@ -551,6 +580,7 @@ module _ {C B J I : Type 0} (m : Meanings C B J I) (laws : BookLaws m) (old : Bo
   with_host new now = (
     begun,
     record {
+      once = holds.once;
       one_owner = holds.one_owner;
       begun_owned = holds.begun_owned;
       asked = holds.asked;
