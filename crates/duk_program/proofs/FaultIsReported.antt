@@ -45,7 +45,7 @@ use Rattle.duk_service.specs.declared.copy_journal.CopyJournalFault.TheVariants 
 use Rattle.duk_service.specs.declared.file_system.FileFault.{FileFault}
 use Rattle.duk_service.specs.declared.file_system.FileFault.TheVariants as file
 use Rattle.duk_program.specs.declared.issue_files.IssueArguments.{IssueArguments}
-use Rattle.duk_service.specs.declared.new_journal.JournalFault.TheVariants.{OutOfMemory, Unmade}
+use Rattle.duk_service.specs.declared.new_journal.NewJournalFault.TheVariants.{OutOfMemory, Unmade}
 use Rattle.duk_program.specs.declared.secrets.SecretFault.{SecretFault}
 use Rattle.duk_show.specs.Fault.{show_line}
 use Rattle.duk_store.specs.Log.{LogMeaning}

@@ -19,7 +19,7 @@ use Rattle.duk_program.specs.Secrets.{secret_line}
 use Rattle.duk_service.specs.Serve.{serve_line}
 use Rattle.duk_service.specs.ServeJournal.{journal_line}
 use Rattle.duk_service.specs.declared.file_system.FileFault.{FileFault}
-use Rattle.duk_service.specs.declared.new_journal.JournalFault.{JournalFault}
+use Rattle.duk_service.specs.declared.new_journal.NewJournalFault.{NewJournalFault}
 use Rattle.duk_program.specs.declared.secrets.SecretFault.{SecretFault}
 use Rattle.duk_script.specs.FaultLine.{fault_line}
 
@@ -35,7 +35,7 @@ IsOtherFaultLine line =
     ((why : ShowFault) × (line ≡ show_line why))
     ⊎ (((why : IssueFault) × (line ≡ issue_line why))
     ⊎ ((line ≡ unread_line) ⊎ ((line ≡ refused_line)
-    ⊎ (IsJournalFaultLine line ⊎ ((why : JournalFault) × (line ≡ new_journal_line why))))))
+    ⊎ (IsJournalFaultLine line ⊎ ((why : NewJournalFault) × (line ≡ new_journal_line why))))))
 
 -- the line of a fault: of a command over keys and PINs, of a configuration's file, of a
 -- configuration and a script, of serving, of a log's file, of a secret that is not read, or another

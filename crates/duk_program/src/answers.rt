@@ -20,7 +20,6 @@ use duk_batch::do_batch;
 use duk_commands::Fault;
 use duk_io::{Sink, Source};
 use duk_service::{FileSystem, LogFiles, hand_on};
-use duk_store::Disk;
 use std::alloc::Global;
 
 /// Does the command of a request, and gives the status: 0, or 1 with a line on `fault`, or where an
@@ -33,8 +32,6 @@ pub(crate) fn answer<S: FileSystem + LogFiles, R: Source, W: Sink, F: Sink>(
     output: &mut W,
     fault: &mut F,
 ) -> u8
-where
-    S::Disk: Disk,
     requires { IsOverSecrets request }
     ensures status { (result ≡ 0) ⊎ (result ≡ 1) }
     ensures done { result ≡ 0 → IsAnswered S.Disk.meaning (scene (S.held files.now)
@@ -59,8 +56,6 @@ pub(crate) fn answer_explained<S: FileSystem + LogFiles, R: Source, W: Sink, F: 
     output: &mut W,
     fault: &mut F,
 ) -> u8
-where
-    S::Disk: Disk,
     requires { IsOverSecrets request }
     ensures status { (result ≡ 0) ⊎ (result ≡ 1) }
     ensures done { result ≡ 0 → IsAnswered S.Disk.meaning (scene (S.held files.now)
@@ -87,8 +82,6 @@ fn answer_alone<S: FileSystem + LogFiles, W: Sink, F: Sink>(
     output: &mut W,
     fault: &mut F,
 ) -> u8
-where
-    S::Disk: Disk,
     requires { IsOverSecrets request }
     ensures status { (result ≡ 0) ⊎ (result ≡ 1) }
     ensures done { result ≡ 0 → IsDoneAlone S.Disk.meaning (S.held files.now) (S.disks files.now)

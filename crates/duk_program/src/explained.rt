@@ -25,7 +25,6 @@ use duk_io::{Sink, Source, write_text};
 use duk_service::copy_journal::copy_journal;
 use duk_service::new_journal::new_journal;
 use duk_service::{EndingFault, FileSystem, LogFiles};
-use duk_store::Disk;
 use std::alloc::Global;
 
 /// Does what the arguments ask, the first of which is the program's name, and gives the status, as
@@ -38,8 +37,6 @@ pub(crate) fn run_explained<S: FileSystem + LogFiles, R: Source, W: Sink, F: Sin
     output: &mut W,
     fault: &mut F,
 ) -> u8
-where
-    S::Disk: Disk,
     ensures status { IsStatus result }
     ensures no_fault { result ≡ 0 → IsUntouched (F.known fault.old) (F.known fault.new) }
     ensures refused { result ≡ 2
@@ -68,8 +65,6 @@ fn do_explained<S: FileSystem + LogFiles, R: Source, W: Sink, F: Sink>(
     output: &mut W,
     fault: &mut F,
 ) -> u8
-where
-    S::Disk: Disk,
     ensures status { (result ≡ 0) ⊎ (result ≡ 1) }
     ensures no_fault { result ≡ 0 → IsUntouched (F.known fault.old) (F.known fault.new) }
     ensures done { result ≡ 0 → IsHeardDone S.Disk.meaning (scene (S.held files.now)
@@ -114,8 +109,6 @@ fn do_meant_explained<S: FileSystem + LogFiles, R: Source, W: Sink, F: Sink>(
     output: &mut W,
     fault: &mut F,
 ) -> u8
-where
-    S::Disk: Disk,
     requires { IsOverSecrets request }
     ensures status { (result ≡ 0) ⊎ (result ≡ 1) }
     ensures no_fault { result ≡ 0 → IsUntouched (F.known fault.old) (F.known fault.new) }

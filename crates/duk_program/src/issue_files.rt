@@ -11,7 +11,7 @@ ghost use Rattle.duk_program.specs.IssueFiles.{HasIssuedFiles, HasNotIssuedFiles
 use duk_io::Sink;
 use duk_issue::{IssueFault, Order, PADDING_LENGTH, issue, report};
 use duk_service::{EndingFault, FileFault, FileSystem, LogFiles, hand_on, report_after};
-use duk_store::{Disk, DiskLog, UsedLog};
+use duk_store::{DiskLog, UsedLog};
 use std::alloc::Global;
 
 /// The system's random device.
@@ -56,8 +56,6 @@ pub(crate) fn issue_files<S: FileSystem + LogFiles, W: Sink, F: Sink>(
     output: &mut W,
     fault: &mut F,
 ) -> u8
-where
-    S::Disk: Disk,
     ensures status { (result ≡ 0) ⊎ (result ≡ 1) }
     ensures done { result ≡ 0 → HasIssuedFiles S.Disk.meaning (issue_files_known (S.held files.now)
         (S.disks files.now ledger.now)) arguments.now (streams (W.known output.old) (W.known output.new)

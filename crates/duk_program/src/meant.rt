@@ -15,7 +15,6 @@ use crate::secrets::SecretFault;
 use duk_arguments::{Keys, Request};
 use duk_io::{Sink, Source};
 use duk_service::{EndingFault, FileSystem, LogFiles};
-use duk_store::Disk;
 use std::alloc::Global;
 
 /// Does the command of a request over what its secrets stand for, and gives the status: 0, or 1
@@ -31,8 +30,6 @@ pub(crate) fn do_over_secrets<S: FileSystem + LogFiles, R: Source, W: Sink, F: S
     output: &mut W,
     fault: &mut F,
 ) -> u8
-where
-    S::Disk: Disk,
     requires { IsOverSecrets request }
     ensures status { (result ≡ 0) ⊎ (result ≡ 1) }
     ensures done { result ≡ 0 → HasMeantDone S.Disk.meaning (scene (S.held files.now)
@@ -58,8 +55,6 @@ fn do_meant<S: FileSystem + LogFiles, R: Source, W: Sink, F: Sink>(
     output: &mut W,
     fault: &mut F,
 ) -> Result<u8, SecretFault>
-where
-    S::Disk: Disk,
     requires { IsOverSecrets request }
     ensures status { IfOk result (λ status. (status ≡ 0) ⊎ (status ≡ 1)) }
     ensures done { IfOk result (λ status. status ≡ 0 → HasMeantDone S.Disk.meaning (scene

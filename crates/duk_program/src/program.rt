@@ -23,7 +23,6 @@ use duk_io::{Sink, Source};
 use duk_service::copy_journal::copy_journal;
 use duk_service::new_journal::new_journal;
 use duk_service::{FileSystem, LogFiles};
-use duk_store::Disk;
 use std::alloc::Global;
 
 /// Does what the arguments ask, the first of which is the program's name, and gives the status: 0
@@ -39,8 +38,6 @@ pub fn run_arguments<S: FileSystem + LogFiles, R: Source, W: Sink, F: Sink>(
     output: &mut W,
     fault: &mut F,
 ) -> u8
-where
-    S::Disk: Disk,
     ensures status { IsStatus result }
     ensures no_fault { result ≡ 0 → IsUntouched (F.known fault.old) (F.known fault.new) }
     ensures fault { result ≡ 1 → IsLineReported (F.known fault.old) (F.known fault.new) }
@@ -81,8 +78,6 @@ pub fn run_program<S: FileSystem + LogFiles, R: Source, W: Sink, F: Sink>(
     output: &mut W,
     fault: &mut F,
 ) -> u8
-where
-    S::Disk: Disk,
     ensures status { IsStatus result }
     ensures no_fault { result ≡ 0 → IsUntouched (F.known fault.old) (F.known fault.new) }
     ensures fault { result ≡ 1 → is_marked (texts_of arguments.old.items) ≡ false

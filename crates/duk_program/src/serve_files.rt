@@ -9,7 +9,6 @@ use crate::configuration::read_configuration;
 use duk_arguments::Kept;
 use duk_io::{Sink, Source};
 use duk_service::{FileSystem, LogFiles, serve_in_memory, serve_on_file, serve_on_journal};
-use duk_store::Disk;
 use std::alloc::Global;
 
 /// Serves the frames of `input` under the configuration of one file, over a log or a journal in
@@ -28,8 +27,6 @@ pub(crate) fn serve_files<S: FileSystem + LogFiles, R: Source, W: Sink, F: Sink>
     output: &mut W,
     fault: &mut F,
 ) -> u8
-where
-    S::Disk: Disk,
     ensures status { (result ≡ 0) ⊎ (result ≡ 1) }
     ensures done { result ≡ 0 → HasServedFiles S.Disk.meaning (file_service (S.held files.now
         config.now) (kept_known (S.disks files.now) kept.entry) (serving_of

@@ -1,48 +1,49 @@
 -- What is known of a journal that is checked, and then copied.
 use Rattle.std.proofs.Common.{◌≡◌, ◌∙◌, ap, ℕ, List, inl, inr, length, refl, subst, sym, true}
+use Rattle.std.specs.Prelude.{None}
 use Rattle.duk_copy.specs.Copy.{IsCopied, copied_bytes}
 use Rattle.duk_journal.specs.DiskJournal.{DiskJournalOf, MayFindEntries, disk_journal_meaning, is_journal_running, new_disk_journal}
 use Rattle.duk_journal.specs.Groups.{Entries, KeepsEntries}
 use Rattle.duk_journal.specs.Journal.{JournalMeaning}
-use Rattle.duk_journal.specs.RecordFormat.{IsJournalSize}
 use Rattle.duk_line.specs.Check.{IsChecked}
-use Rattle.duk_service.specs.CopyJournal.{HasCopiedJournal, HasKept, IsCopyJournalRefused, IsCopyRefused, IsOldChecked, IsOtherJournal, Keeps}
+use Rattle.duk_service.specs.CopyJournal.{HasCopiedJournal, HasKept, IsCopyJournalRefused, IsNoneOrCopy, IsOldChecked, IsOtherJournal, Keeps}
 use Rattle.duk_service.specs.LogFiles.{DiskKnown, FolderKnown, IsDisk, MakingKnown}
+use Rattle.duk_service.specs.NewJournal.{IsUnmade}
+use Rattle.duk_service.proofs.LeftDisks.{left_read_over}
 use Rattle.duk_service.specs.declared.copy_journal.CopyJournalFault.{CopyJournalFault}
 use Rattle.duk_service.specs.declared.copy_journal.CopyJournalFault.TheVariants as fault
-use Rattle.duk_service.specs.inner.CopyJournal.{CheckedNotKept, CopyNotMade, CopyNotWritten, IsCopyMade, IsNotChecked, NewNotChecked, NewNotKept}
+use Rattle.duk_service.specs.inner.CopyJournal.{CheckedNotKept, CopyNotMade, CopyNotWritten, IsCopyMade, IsNoneOrKept, IsNotChecked, NewNotChecked, NewNotKept}
 use Rattle.duk_store.specs.Disk.{DiskMeaning, DiskState, HasFailed, LeavesReads, PreservesBytes, PreservesDisk}
 use Rattle.duk_store.specs.declared.fault.StoreFault.TheVariants.{Device}
 
 -- why a made disk is not written, or what was copied not read
 pub not_made : {D : Type 0} (meaning : DiskMeaning D) (making : MakingKnown D) (size kept : ℕ) (old old' : DiskState) (made last : D) (why : CopyJournalFault)
     → IsDisk (making.disk size) made → CopyNotWritten size old old' (meaning.state_of made) (meaning.state_of last) why
+    → IsNoneOrKept kept old (meaning.state_of made) (meaning.state_of last)
     → CopyNotMade meaning making size kept old old' why
-not_made meaning making size kept old old' made last fault.Failed is_made failed = record { made = made; is_made = is_made; failed = failed }
-not_made meaning making size kept old old' made last fault.Unmade is_made failed =
-    inl (inr (inl (record { made = made; last = last; is_made = is_made; failed = failed })))
-not_made meaning making size kept old old' made last fault.OutOfMemory is_made failed = absurd failed
-not_made meaning making size kept old old' made last fault.Unopened is_made failed = absurd failed
+not_made meaning making size kept old old' made last fault.Failed is_made failed left =
+    record { made = made; last = last; is_made = is_made; failed = failed; left_is = left }
+not_made meaning making size kept old old' made last fault.Unmade is_made (inl other) left =
+    inl (inr (record { made = made; last = last; is_made = is_made; failed = inl other; left_is = left }))
+not_made meaning making size kept old old' made last fault.Unmade is_made (inr failed) left =
+    inl (inr (record { made = made; last = last; is_made = is_made; failed = inr (inl failed); left_is = left }))
+not_made meaning making size kept old old' made last fault.OutOfMemory is_made failed left = absurd failed
+not_made meaning making size kept old old' made last fault.Unopened is_made failed left = absurd failed
 
 -- why a written disk is not kept
 pub not_kept : {D : Type 0} (meaning : DiskMeaning D) (making : MakingKnown D) (size kept : ℕ) (old old' : DiskState) (made filled : D) (why : CopyJournalFault)
     → IsDisk (making.disk size) made → IsCopied kept old (meaning.state_of made) (meaning.state_of filled)
     → NewNotKept meaning making.folder kept filled why → CopyNotMade meaning making size kept old old' why
-not_kept meaning making size kept old old' made filled fault.OutOfMemory is_made written refused = tt
-not_kept meaning making size kept old old' made filled fault.Unmade is_made written (inl other) =
-    inr (record { made = made; filled = filled; last = other.last; is_made = is_made; written = written; other = other.other })
-not_kept meaning making size kept old old' made filled fault.Unmade is_made written (inr unsynced) = inl (inr (inr unsynced))
-not_kept meaning making size kept old old' made filled fault.Failed is_made written refused = absurd refused
-not_kept meaning making size kept old old' made filled fault.Unopened is_made written refused = absurd refused
-
--- why a disk is not kept over which a journal is not
-pub disk_not_kept : {D : Type 0} (meaning : DiskMeaning D) (folder : FolderKnown) (kept : ℕ) (filled : D) (last : DiskJournalOf D) (why : CopyJournalFault)
-    → CheckedNotKept (disk_journal_meaning meaning) folder kept (new_disk_journal filled) last why → NewNotKept meaning folder kept filled why
-disk_not_kept meaning folder kept filled last fault.OutOfMemory refused = tt
-disk_not_kept meaning folder kept filled last fault.Unmade (inl other) = inl (record { last = last; other = other })
-disk_not_kept meaning folder kept filled last fault.Unmade (inr unsynced) = inr unsynced
-disk_not_kept meaning folder kept filled last fault.Failed refused = absurd refused
-disk_not_kept meaning folder kept filled last fault.Unopened refused = absurd refused
+not_kept meaning making size kept old old' made filled fault.OutOfMemory is_made written refused =
+    record { made = made; filled = filled; last = refused.last.disk; is_made = is_made; written = written; left_is = left_read_over kept old (meaning.state_of made) (meaning.state_of filled) (meaning.state_of refused.last.disk) None refused.last.kept written refused.read_over }
+not_kept meaning making size kept old old' made filled fault.Unmade is_made written refused =
+    let left = left_read_over kept old (meaning.state_of made) (meaning.state_of filled) (meaning.state_of refused.last.disk) None refused.last.kept written refused.read_over in
+    elim refused.cause [
+      | inl other ↦ inr (record { made = made; filled = filled; last = refused.last; is_made = is_made; written = written; other = other; left_is = left })
+      | inr unsynced ↦ inl (inr (record { made = made; last = refused.last.disk; is_made = is_made; failed = inr (inr unsynced); left_is = left }))
+    ]
+not_kept meaning making size kept old old' made filled fault.Failed is_made written refused = absurd refused.cause
+not_kept meaning making size kept old old' made filled fault.Unopened is_made written refused = absurd refused.cause
 
 -- why a journal is not kept that is not checked
 pub checked_not_kept : {J : Type 0} (meaning : JournalMeaning J) (folder : FolderKnown) (kept : ℕ) (old new : J) (why : CopyJournalFault)
@@ -153,21 +154,57 @@ module _ {D : Type 0} (meaning : DiskMeaning D) (known : DiskKnown D) (making : 
     not_calm = λ calm. failed.not_calm (subst (λ (d : D). (meaning.state_of d).calm) (sym disk_is) (checked.journal.settles.nature.calm calm));
   }
 
+  -- what is left of a disk that was made, by what was read
+  left_copy : (nature : PreservesDisk (meaning.state_of disk) (meaning.state_of last)) (bytes : PreservesBytes (meaning.state_of disk) (meaning.state_of last))
+      → (is_journal_running journal.kept ≡ true → (meaning.state_of disk).honest → LeavesReads (meaning.state_of disk))
+      → (made left : DiskState) → IsNoneOrKept found (meaning.state_of disk) made left
+      → IsNoneOrCopy meaning known (old_checked nature bytes) made left
+  unfolding old_checked
+  left_copy nature bytes one made left is = λ honest. is (disk_honest honest) checked.entries (reads_keep one honest) checked.counted
+
+  -- a file is made in part
+  part_copied : (nature : PreservesDisk (meaning.state_of disk) (meaning.state_of last)) (bytes : PreservesBytes (meaning.state_of disk) (meaning.state_of last))
+      → (is_journal_running journal.kept ≡ true → (meaning.state_of disk).honest → LeavesReads (meaning.state_of disk))
+      → (size : ℕ) → IsUnmade meaning making size (IsNoneOrKept found (meaning.state_of disk))
+      → IsUnmade meaning making size (IsNoneOrCopy meaning known (old_checked nature bytes))
+  part_copied nature bytes one size (inl none) = inl none
+  part_copied nature bytes one size (inr part) = inr (record {
+    made = part.made;
+    last = part.last;
+    is_made = part.is_made;
+    failed = part.failed;
+    left_is = left_copy nature bytes one (meaning.state_of part.made) (meaning.state_of part.last) part.left_is;
+  })
+
   pub not_copied : (why : CopyJournalFault) → PreservesBytes (meaning.state_of disk) (meaning.state_of last)
       → PreservesDisk (meaning.state_of disk) (meaning.state_of last)
+      → (is_journal_running journal.kept ≡ true → (meaning.state_of disk).honest → LeavesReads (meaning.state_of disk))
       → CopyNotMade meaning making (meaning.state_of opened).size found (meaning.state_of disk) (meaning.state_of last) why
       → IsCopyJournalRefused meaning known making why
   unfolding old_checked
-  not_copied fault.OutOfMemory bytes nature refused = (opened, is_opened)
-  not_copied fault.Unopened bytes nature refused = absurd refused
-  not_copied fault.Failed bytes nature refused = inr (record {
+  not_copied fault.OutOfMemory bytes nature one refused = inr (record {
+    old = old_checked nature bytes;
+    unchecked = record {
+      made = refused.made;
+      filled = refused.filled;
+      last = refused.last;
+      is_made = refused.is_made;
+      written = copied_since nature bytes refused.made refused.filled refused.written;
+      left_is = left_copy nature bytes one (meaning.state_of refused.made) (meaning.state_of refused.last) refused.left_is;
+    };
+  })
+  not_copied fault.Unopened bytes nature one refused = absurd refused
+  not_copied fault.Failed bytes nature one refused = inr (record {
     old = old_checked nature bytes;
     made = refused.made;
+    last = refused.last;
     is_made = refused.is_made;
     failed = failed_since refused.failed;
+    left_is = left_copy nature bytes one (meaning.state_of refused.made) (meaning.state_of refused.last) refused.left_is;
   })
-  not_copied fault.Unmade bytes nature (inl unmade) = record { old = old_checked nature bytes; unmade = inl unmade }
-  not_copied fault.Unmade bytes nature (inr refused) = record {
+  not_copied fault.Unmade bytes nature one (inl unmade) =
+      record { old = old_checked nature bytes; unmade = inl (part_copied nature bytes one (meaning.state_of opened).size unmade) }
+  not_copied fault.Unmade bytes nature one (inr refused) = record {
     old = old_checked nature bytes;
     unmade = inr (record {
       made = refused.made;
@@ -176,6 +213,7 @@ module _ {D : Type 0} (meaning : DiskMeaning D) (known : DiskKnown D) (making : 
       is_made = refused.is_made;
       written = copied_since nature bytes refused.made refused.filled refused.written;
       other = subst (λ (kept : ℕ). IsOtherJournal (disk_journal_meaning meaning) kept (new_disk_journal refused.filled) refused.last) (sym checked.counted) refused.other;
+      left_is = left_copy nature bytes one (meaning.state_of refused.made) (meaning.state_of refused.last.disk) refused.left_is;
     });
   }
 
@@ -183,7 +221,7 @@ module _ {D : Type 0} (meaning : DiskMeaning D) (known : DiskKnown D) (making : 
 pub not_checked : {D : Type 0} (meaning : DiskMeaning D) (known : DiskKnown D) (making : MakingKnown D) (opened : D) (journal : DiskJournalOf D) (why : CopyJournalFault)
     → IsDisk known opened → IsNotChecked (disk_journal_meaning meaning) (new_disk_journal opened) journal why
     → IsCopyJournalRefused meaning known making why
-not_checked meaning known making opened journal fault.OutOfMemory is_opened refused = (opened, is_opened)
+not_checked meaning known making opened journal fault.OutOfMemory is_opened refused = inl (opened, is_opened)
 not_checked meaning known making opened journal fault.Failed is_opened refused =
     inl (record { opened = opened; last = journal; why = refused.0; is_opened = is_opened; refused = refused.1 })
 not_checked meaning known making opened journal fault.Unopened is_opened refused = absurd refused

@@ -1,2 +1,3 @@
 mod CopiedJournal
+mod LeftDisks
 mod Results

@@ -10,12 +10,12 @@ use Rattle.duk_journal.specs.Journal.{JournalMeaning}
 use Rattle.duk_line.specs.Check.{CheckRefused, IsChecked}
 use Rattle.duk_line.specs.Latest.{UseNewNumbers}
 use Rattle.duk_service.specs.LogFiles.{DiskKnown, IsDisk, IsFolderSynced, IsNoDisk, MakingKnown}
-use Rattle.duk_service.specs.NewJournal.{IsUnmade, new_journal_line}
+use Rattle.duk_service.specs.NewJournal.{IsNoneOrWhole, IsUnmade, new_journal_line}
 use Rattle.duk_service.specs.ServeJournal.{journal_line}
 use Rattle.duk_service.specs.ServeJournalFiles.{unopened_journal_line}
 use Rattle.duk_service.specs.declared.copy_journal.CopyJournalFault.{CopyJournalFault}
 use Rattle.duk_service.specs.declared.copy_journal.CopyJournalFault.TheVariants as fault
-use Rattle.duk_service.specs.declared.new_journal.JournalFault.TheVariants.{OutOfMemory, Unmade}
+use Rattle.duk_service.specs.declared.new_journal.NewJournalFault.TheVariants.{OutOfMemory, Unmade}
 use Rattle.duk_store.specs.Disk.{DiskMeaning, DiskState, HasFailed}
 use Rattle.duk_store.specs.StoreState.{FindsOnly}
 use Rattle.duk_store.specs.declared.fault.StoreFault.{StoreFault}
@@ -73,13 +73,21 @@ pub record IsOldRefused {D : Type 0} (meaning : DiskMeaning D) (known : DiskKnow
   pub is_opened : IsDisk known opened
   pub refused : CheckRefused (disk_journal_meaning meaning) (new_disk_journal opened) last (Store why)
 
+-- whenever the disk that was made is stopped, it is no journal, or keeps what an honest OLD keeps
+abbrev pub IsNoneOrCopy : {D : Type 0} (meaning : DiskMeaning D) (known : DiskKnown D)
+    → IsOldChecked meaning known → DiskState → DiskState → Type 0
+IsNoneOrCopy meaning known old made last =
+    (meaning.state_of old.opened).honest → IsNoneOrWhole old.entries made last
+
 -- OLD is checked, a file of its size is made, and then a device step of OLD failed
 pub record IsOldUnread {D : Type 0} (meaning : DiskMeaning D) (known : DiskKnown D)
     (making : MakingKnown D) : Type 0 where
   pub old : IsOldChecked meaning known
   pub made : D
+  pub last : D
   pub is_made : IsDisk (making.disk (meaning.state_of old.opened).size) made
   pub failed : HasFailed (meaning.state_of old.opened) (meaning.state_of old.last) Device
+  pub left_is : IsNoneOrCopy meaning known old (meaning.state_of made) (meaning.state_of last)
 
 -- why a journal that is written with so many entries is no copy: its check is refused, or finds
 -- another number
@@ -88,29 +96,50 @@ IsOtherJournal meaning kept old new =
     ((why : StoreFault) × CheckRefused meaning old new (Store why))
     ⊎ ((found : ℕ) × IsChecked meaning old new found × (found ≢ kept))
 
--- a disk is made, so many entries of OLD are written over it and synced, and it is no copy
+-- a disk is made, so many entries of OLD are written over it and synced, and memory for the check of
+-- it is refused
+pub record IsFilledUnchecked {D : Type 0} (meaning : DiskMeaning D) (known : DiskKnown D) (kept : ℕ)
+    (old : DiskState) (left : DiskState → DiskState → Type 0) : Type 0 where
+  pub made : D
+  pub filled : D
+  pub last : D
+  pub is_made : IsDisk known made
+  pub written : IsCopied kept old (meaning.state_of made) (meaning.state_of filled)
+  pub left_is : left (meaning.state_of made) (meaning.state_of last)
+
+-- or it is checked, and is no copy
 pub record IsCopyRefused {D : Type 0} (meaning : DiskMeaning D) (known : DiskKnown D) (kept : ℕ)
-    (old : DiskState) : Type 0 where
+    (old : DiskState) (left : DiskState → DiskState → Type 0) : Type 0 where
   pub made : D
   pub filled : D
   pub last : DiskJournalOf D
   pub is_made : IsDisk known made
   pub written : IsCopied kept old (meaning.state_of made) (meaning.state_of filled)
   pub other : IsOtherJournal (disk_journal_meaning meaning) kept (new_disk_journal filled) last
+  pub left_is : left (meaning.state_of made) (meaning.state_of last.disk)
 
--- OLD is checked, and no file of its size is made, or not whole, or what is written is no copy, or
--- its folder cannot be synced
+-- OLD is checked, and no file of its size is made, or not whole, or what is written is no copy
 pub record IsCopyUnmade {D : Type 0} (meaning : DiskMeaning D) (known : DiskKnown D)
     (making : MakingKnown D) : Type 0 where
   pub old : IsOldChecked meaning known
   pub unmade : IsUnmade meaning making (meaning.state_of old.opened).size
+      (IsNoneOrCopy meaning known old)
       ⊎ IsCopyRefused meaning (making.disk (meaning.state_of old.opened).size)
-      (length old.entries) (meaning.state_of old.last)
+      (length old.entries) (meaning.state_of old.last) (IsNoneOrCopy meaning known old)
 
--- why no journal is copied; memory may be refused at any time once OLD is opened
+-- OLD is checked, and its copy is written, and not checked
+pub record IsCopyUnchecked {D : Type 0} (meaning : DiskMeaning D) (known : DiskKnown D)
+    (making : MakingKnown D) : Type 0 where
+  pub old : IsOldChecked meaning known
+  pub unchecked : IsFilledUnchecked meaning (making.disk (meaning.state_of old.opened).size)
+      (length old.entries) (meaning.state_of old.last) (IsNoneOrCopy meaning known old)
+
+-- why no journal is copied; memory may be refused once OLD is opened, before the file is made or
+-- once it is written
 abbrev pub IsCopyJournalRefused : {D : Type 0} → DiskMeaning D → DiskKnown D → MakingKnown D
     → CopyJournalFault → Type 0
-IsCopyJournalRefused {D} meaning known making fault.OutOfMemory = (opened : D) × IsDisk known opened
+IsCopyJournalRefused {D} meaning known making fault.OutOfMemory =
+    ((opened : D) × IsDisk known opened) ⊎ IsCopyUnchecked meaning known making
 IsCopyJournalRefused meaning known making fault.Unopened = IsNoDisk known
 IsCopyJournalRefused meaning known making fault.Failed =
     IsOldRefused meaning known ⊎ IsOldUnread meaning known making

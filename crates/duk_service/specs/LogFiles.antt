@@ -1,5 +1,8 @@
 -- What contracts know of the files of logs (this project's own).
 use Rattle.std.specs.Prelude.{◌≡◌, ⊤, ℕ, Bool, true, false, Option, Some, None}
+use Rattle.duk_copy.specs.InPart.{IsUnfinished}
+use Rattle.duk_journal.specs.RecordFormat.{IsJournalSize}
+use Rattle.duk_store.specs.Disk.{DiskState, LeavesReads}
 
 -- what files make known of a path: nothing, that no disk can be opened, or which one is
 abbrev pub DiskKnown : Type 0 → Type 0
@@ -39,3 +42,8 @@ pub record MakingKnown (D : Type 0) : Type 0 where
 
 abbrev pub unknown_making : {D : Type 0} → MakingKnown D
 unknown_making = record { disk = λ size. None; folder = None }
+
+-- a disk as it is made for a journal: it begins as that of no journal, and a stop leaves that
+abbrev pub BeginsUnfinished : DiskState → Type 0
+BeginsUnfinished disk =
+    disk.honest → IsJournalSize disk.size → LeavesReads disk × IsUnfinished disk.reads

@@ -5,8 +5,8 @@ ghost use Rattle.duk_io.specs.Sink.{IsUntouched};
 ghost use Rattle.duk_journal.specs.DiskJournal.{disk_journal_meaning};
 ghost use Rattle.duk_line.specs.Check.{IsChecked};
 ghost use Rattle.duk_service.specs.CopyJournal.{HasCopiedJournal, HasNotCopiedJournal, IsCopyJournalRefused, copy_journal_line};
-ghost use Rattle.duk_service.specs.LogFiles.{IsFolderSynced};
-ghost use Rattle.duk_service.specs.inner.CopyJournal.{CheckedNotKept, CopyNotMade, CopyNotWritten, IsCopyMade, IsCopyWritten, IsNewChecked, IsNotChecked, NewNotChecked, NewNotKept};
+ghost use Rattle.duk_service.specs.LogFiles.{BeginsUnfinished, IsFolderSynced};
+ghost use Rattle.duk_service.specs.inner.CopyJournal.{CheckedNotKept, CopyNotMade, CopyNotWritten, IsCopyMade, IsCopyWritten, IsNewChecked, IsNoneOrKept, IsNotChecked, IsReadOver, NewNotChecked, NewNotKept};
 ghost use Rattle.duk_store.specs.Disk.{PreservesBytes, PreservesDisk};
 
 use crate::ending::EndingFault;
@@ -85,8 +85,6 @@ pub fn copy_journal<S: LogFiles, F: Sink>(
     new: &str,
     fault: &mut F,
 ) -> u8
-where
-    S::Disk: Disk,
     ensures status { (result ≡ 0) ⊎ (result ≡ 1) }
     ensures done { result ≡ 0 → HasCopiedJournal S.Disk.meaning (S.disks files.now old.now)
         (S.making files.now new.now) }
@@ -108,8 +106,6 @@ fn make_copy<S: LogFiles>(
     old: &str,
     new: &str,
 ) -> Result<(), CopyJournalFault>
-where
-    S::Disk: Disk,
     ensures made { OnOk result (HasCopiedJournal S.Disk.meaning (S.disks files.now old.now)
         (S.making files.now new.now)) }
     ensures refused { IfErr result (IsCopyJournalRefused S.Disk.meaning
@@ -167,8 +163,6 @@ fn make_new<S: LogFiles>(
     old: &mut S::Disk,
     pieces: &mut Pieces,
 ) -> Result<(), CopyJournalFault>
-where
-    S::Disk: Disk,
     requires zeros { pieces.old.zeros.items ≡ replicate 65536 0 }
     requires piece { length pieces.old.piece.items ≡ 65536 }
     requires inside { 32 * kept ≤ (S.Disk.meaning.state_of old.old).size }
@@ -207,6 +201,7 @@ fn write_new<D: Disk>(
     requires piece { length pieces.old.piece.items ≡ 65536 }
     requires inside { 32 * kept ≤ (D.meaning.state_of old.old).size }
     requires room { 32 * kept ≤ size }
+    requires unfinished { BeginsUnfinished (D.meaning.state_of disk.old) }
     ensures written { OnOk result (IsCopyWritten size kept (D.meaning.state_of old.old)
         (D.meaning.state_of disk.old) (D.meaning.state_of disk.new)) }
     ensures refused { IfErr result (CopyNotWritten size
@@ -214,7 +209,10 @@ fn write_new<D: Disk>(
         (D.meaning.state_of disk.old) (D.meaning.state_of disk.new)) }
     ensures nature { PreservesDisk (D.meaning.state_of old.old) (D.meaning.state_of old.new) }
     ensures bytes { PreservesBytes (D.meaning.state_of old.old) (D.meaning.state_of old.new) }
+    ensures left { IsNoneOrKept kept (D.meaning.state_of old.old)
+        (D.meaning.state_of disk.old) (D.meaning.state_of disk.new) }
 {
+    duk_copy::laws::unfinished();
     if disk.size() != size {
         return Err(CopyJournalFault::Unmade);
     }
@@ -240,8 +238,6 @@ fn keep_new<S: LogFiles>(
     kept: u64,
     disk: S::Disk,
 ) -> Result<(), CopyJournalFault>
-where
-    S::Disk: Disk,
     ensures checked { OnOk result (IsNewChecked S.Disk.meaning kept disk) }
     ensures synced { OnOk result (IsFolderSynced (S.making files.now file.now).folder) }
     ensures refused { IfErr result
@@ -275,13 +271,13 @@ fn keep_checked<S: LogFiles>(
     kept: u64,
     journal: &mut DiskJournal<S::Disk>,
 ) -> Result<(), CopyJournalFault>
-where
-    S::Disk: Disk,
     ensures checked { OnOk result (IsChecked (disk_journal_meaning S.Disk.meaning)
         journal.old journal.new kept) }
     ensures synced { OnOk result (IsFolderSynced (S.making files.now file.now).folder) }
     ensures refused { IfErr result (CheckedNotKept (disk_journal_meaning S.Disk.meaning)
         (S.making files.now file.now).folder kept journal.old journal.new) }
+    ensures read_over { IsReadOver ((disk_journal_meaning S.Disk.meaning).state_of journal.old)
+        ((disk_journal_meaning S.Disk.meaning).state_of journal.new) }
 {
     match check_new(alloc, kept, journal) {
         Ok(()) => {}
@@ -297,6 +293,8 @@ where
 fn check_new<J: Journal>(alloc: Global, kept: u64, journal: &mut J) -> Result<(), CopyJournalFault>
     ensures checked { OnOk result (IsChecked J.meaning journal.old journal.new kept) }
     ensures refused { IfErr result (NewNotChecked J.meaning kept journal.old journal.new) }
+    ensures read_over { IsReadOver (J.meaning.state_of journal.old)
+        (J.meaning.state_of journal.new) }
 {
     match check_journal(alloc, journal) {
         Ok(found) => {

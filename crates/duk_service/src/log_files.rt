@@ -1,20 +1,16 @@
 //! Opens the file of a log as a disk, and makes such a file, through a trait by which a contract can
 //! say which disk it is.
-//!
-//! `LogFiles` asks of its disks only that they are small, and who opens one asks that it is a
-//! `Disk`: with `Disk` as the bound of the associated type the checker refuses an impl whose disk
-//! is a generic type.
 
 ghost use Rattle.std.proofs.Common.{rules};
 ghost use Rattle.std.specs.Prelude.{ℕ, List, None, Some, IfOk, OnErr, OnOk};
 ghost use Rattle.duk_service.specs.HostSize.{IsSmall};
-ghost use Rattle.duk_service.specs.LogFiles.{DiskKnown, IsDisk, IsFolderSynced, IsFolderUnsynced, IsNoDisk, MakingKnown, unknown_making};
+ghost use Rattle.duk_service.specs.LogFiles.{BeginsUnfinished, DiskKnown, IsDisk, IsFolderSynced, IsFolderUnsynced, IsNoDisk, MakingKnown, unknown_making};
 ghost use Rattle.duk_service.specs.Reasons.{IsReason, ReasonKnown};
 
 use crate::file_system::{is_regular, reason_of};
 use crate::new_files::{make_file, making_reason, open_file, remove_file, sync_folder_of};
 use duk_explain::Reason;
-use duk_store::{FileDisk, StoreFault};
+use duk_store::{Disk, FileDisk, StoreFault};
 use std::fs::{File, OpenOptions, TryLockError};
 use std::rt::Files;
 
@@ -25,7 +21,7 @@ use std::rt::Files;
 /// such, and make nothing known: no contract says what a real file holds.
 pub trait LogFiles {
     /// The disks over these files.
-    type Disk: Drop;
+    type Disk: Disk;
 
     /// What there is under a path, where the files make it known: a disk, or none that can be
     /// opened.
@@ -57,12 +53,14 @@ pub trait LogFiles {
     /// Why the system refuses to make a file under a path, where the files make it known.
     ghost unmade: { Self → List ℕ → ReasonKnown };
 
-    /// The disk over a new file of so many bytes under a path, locked. What they are is not known
-    /// until they are written.
+    /// The disk over a new file of so many bytes under a path, locked. It begins as that of no
+    /// journal, however soon its writer is stopped.
     ///
     /// Refused with `Device` where no file can be made. One that is there is never opened.
     fn make_disk(&self, path: &str, size: u64) -> Result<Self::Disk, StoreFault>
         ensures made { IfOk result (IsDisk ((making self.now path.now).disk size)) }
+        ensures unfinished { IfOk result
+            (λ disk. BeginsUnfinished (Self.Disk.meaning.state_of disk)) }
         ensures refused { OnErr result (IsNoDisk ((making self.now path.now).disk size)) };
 
     /// Syncs the folder of a path, so that a file which was made there is found after a stop.

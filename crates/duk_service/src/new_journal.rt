@@ -1,10 +1,10 @@
 //! The command `new-journal`.
 
-ghost use Rattle.std.specs.Prelude.{◌≡◌, ◌*◌, ◌⊎◌, ℕ, IfErr, IfOk, IfSome, IfNone, OnErr, OnOk, replicate};
+ghost use Rattle.std.specs.Prelude.{◌≡◌, ◌*◌, ◌⊎◌, ℕ, [], IfErr, IfOk, IfSome, IfNone, OnErr, OnOk, replicate};
 ghost use Rattle.duk_io.specs.Sink.{IsUntouched};
 ghost use Rattle.duk_journal.specs.RecordFormat.{IsJournalSize};
-ghost use Rattle.duk_service.specs.LogFiles.{IsDisk};
-ghost use Rattle.duk_service.specs.NewJournal.{HasMadeJournal, HasNotMadeJournal, IsBlankMade, IsNewJournalRefused, IsRecordCount, IsUnmade, new_journal_line};
+ghost use Rattle.duk_service.specs.LogFiles.{BeginsUnfinished, IsDisk};
+ghost use Rattle.duk_service.specs.NewJournal.{HasMadeJournal, HasNotMadeJournal, IsBlankMade, IsNewJournalRefused, IsNoneOrWhole, IsRecordCount, IsUnmade, new_journal_line};
 ghost use Rattle.duk_service.specs.inner.NewJournal.{IsKeptBlank, IsNotKept};
 
 use crate::ending::EndingFault;
@@ -21,7 +21,7 @@ const MOST_RECORDS: u32 = 1_000_000_000;
 
 /// Why no journal is made.
 #[derive(Clone, Copy)]
-pub enum JournalFault {
+pub enum NewJournalFault {
     /// RECORDS is no number of records of which a journal may be made.
     RecordsRefused,
     /// The file cannot be made, written or synced, or its folder cannot be synced.
@@ -30,18 +30,18 @@ pub enum JournalFault {
     OutOfMemory,
 }
 
-impl From<AllocError> for JournalFault {
-    ghost use Rattle.duk_service.specs.declared.new_journal.JournalFault.TheVariants.{OutOfMemory};
+impl From<AllocError> for NewJournalFault {
+    ghost use Rattle.duk_service.specs.declared.new_journal.NewJournalFault.TheVariants.{OutOfMemory};
 
     ghost from_gives = { λ _ fault. fault ≡ OutOfMemory };
 
-    fn from(_refused: AllocError) -> JournalFault {
-        JournalFault::OutOfMemory
+    fn from(_refused: AllocError) -> NewJournalFault {
+        NewJournalFault::OutOfMemory
     }
 }
 
 /// A fault of the commands that make journals.
-impl EndingFault for JournalFault {
+impl EndingFault for NewJournalFault {
     ghost line = { new_journal_line };
 
     fn report<F: Sink>(&self, fault: &mut F) -> u8 {
@@ -51,13 +51,13 @@ impl EndingFault for JournalFault {
 }
 
 /// The line of a fault, LF at its end.
-fn line_of(why: JournalFault) -> &'static str
+fn line_of(why: NewJournalFault) -> &'static str
     ensures { result.now ≡ new_journal_line why }
 {
     match why {
-        JournalFault::RecordsRefused => "records refused\n",
-        JournalFault::Unmade => "journal: cannot make\n",
-        JournalFault::OutOfMemory => "out of memory\n",
+        NewJournalFault::RecordsRefused => "records refused\n",
+        NewJournalFault::Unmade => "journal: cannot make\n",
+        NewJournalFault::OutOfMemory => "out of memory\n",
     }
 }
 
@@ -73,8 +73,6 @@ pub fn new_journal<S: LogFiles, F: Sink>(
     records: &str,
     fault: &mut F,
 ) -> u8
-where
-    S::Disk: Disk,
     ensures status { (result ≡ 0) ⊎ (result ≡ 1) }
     ensures done { result ≡ 0
         → HasMadeJournal S.Disk.meaning (S.making files.now file.now) records.now }
@@ -97,21 +95,19 @@ fn make_journal<S: LogFiles>(
     files: &S,
     file: &str,
     records: &str,
-) -> Result<(), JournalFault>
-where
-    S::Disk: Disk,
+) -> Result<(), NewJournalFault>
     ensures made { OnOk result
         (HasMadeJournal S.Disk.meaning (S.making files.now file.now) records.now) }
     ensures refused { IfErr result
         (IsNewJournalRefused S.Disk.meaning (S.making files.now file.now) records.now) }
 {
     let Some(records) = read_records(records) else {
-        return Err(JournalFault::RecordsRefused);
+        return Err(NewJournalFault::RecordsRefused);
     };
     let zeros = vec![in alloc; 0; PIECE_LENGTH]?;
     match make_blank(files, file, size_of(records), zeros.as_slice()) {
         Ok(()) => Ok(()),
-        Err(_) => Err(JournalFault::Unmade),
+        Err(_) => Err(NewJournalFault::Unmade),
     }
 }
 
@@ -137,12 +133,11 @@ pub(crate) fn size_of(records: u32) -> u64
 /// Makes a file of so many zeros, all written and synced, and syncs its folder. Where it cannot be
 /// kept it is removed again, if it can be.
 fn make_blank<S: LogFiles>(files: &S, file: &str, size: u64, zeros: &[u8]) -> Result<(), StoreFault>
-where
-    S::Disk: Disk,
     requires zeros { zeros.now ≡ replicate 65536 0 }
     requires size { IsJournalSize size }
     ensures made { OnOk result (IsBlankMade S.Disk.meaning (S.making files.now file.now) size) }
-    ensures refused { OnErr result (IsUnmade S.Disk.meaning (S.making files.now file.now) size) }
+    ensures refused { OnErr result
+        (IsUnmade S.Disk.meaning (S.making files.now file.now) size (IsNoneOrWhole [])) }
 {
     let mut disk = files.make_disk(file, size)?;
     match keep_blank(files, file, size, zeros, &mut disk) {
@@ -162,15 +157,17 @@ fn keep_blank<S: LogFiles>(
     zeros: &[u8],
     disk: &mut S::Disk,
 ) -> Result<(), StoreFault>
-where
-    S::Disk: Disk,
     requires zeros { zeros.now ≡ replicate 65536 0 }
     requires size { IsJournalSize size }
+    requires unfinished { BeginsUnfinished (S.Disk.meaning.state_of disk.old) }
     ensures kept { OnOk result (IsKeptBlank (S.making files.now file.now).folder size
         (S.Disk.meaning.state_of disk.old) (S.Disk.meaning.state_of disk.new)) }
     ensures refused { OnErr result (IsNotKept (S.making files.now file.now).folder size
         (S.Disk.meaning.state_of disk.old) (S.Disk.meaning.state_of disk.new)) }
+    ensures left { IsNoneOrWhole []
+        (S.Disk.meaning.state_of disk.old) (S.Disk.meaning.state_of disk.new) }
 {
+    duk_copy::laws::unfinished();
     if disk.size() != size {
         return Err(StoreFault::Device);
     }

@@ -52,8 +52,6 @@ pub fn serve_on_file<S: LogFiles, R: Source, W: Sink, F: Sink>(
     output: &mut W,
     fault: &mut F,
 ) -> u8
-where
-    S::Disk: Disk,
     ensures status { (result ≡ 0) ⊎ (result ≡ 1) }
     ensures done { result ≡ 0 → IsServedOnDisk S.Disk.meaning (S.disks files.now path.now)
         config.now (serving_of R.known R.reads W.known input.old input.new output.old output.new) }

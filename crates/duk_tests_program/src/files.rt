@@ -9,7 +9,7 @@ ghost use Rattle.duk_explain.specs.declared.found.Reason.TheVariants.{There};
 
 use crate::commands::arguments_of;
 use duk_program::{FileFault, FileSystem, LogFiles, Reason, run_arguments};
-use duk_store::{Disk, MemDisk, StoreFault};
+use duk_store::{MemDisk, StoreFault};
 use duk_tests_support::files::BANK;
 use duk_tests_support::frames::{FIRST_REPLY, FIRST_REQUEST};
 use std::alloc::Global;
@@ -108,7 +108,7 @@ impl LogFiles for EveryFile {
 }
 
 /// Files that all state the same configuration, for a line of which memory is refused, and that may
-/// be opened as disks in memory, of zeros.
+/// be opened as disks in memory, of zeros. None can be made.
 #[derive(Drop)]
 struct Banks {
     alloc: Global,
@@ -168,8 +168,8 @@ impl LogFiles for Banks {
         Reason::Other
     }
 
-    fn make_disk(&self, _path: &str, size: u64) -> Result<MemDisk, StoreFault> {
-        MemDisk::new(self.alloc, size as usize)
+    fn make_disk(&self, _path: &str, _size: u64) -> Result<MemDisk, StoreFault> {
+        Err(StoreFault::Device)
     }
 
     fn sync_folder(&self, _path: &str) -> Result<(), StoreFault> {
@@ -189,10 +189,7 @@ fn of_command<S: FileSystem + LogFiles>(
     alloc: Global,
     files: &S,
     command: &[&str],
-) -> Option<(u8, Vec<u8>, Vec<u8>)>
-where
-    S::Disk: Disk,
-{
+) -> Option<(u8, Vec<u8>, Vec<u8>)> {
     let arguments = arguments_of(alloc, command).ok()?;
     let (mut output, mut fault) = (Vec::new(alloc), Vec::new(alloc));
     let mut input = FIRST_REQUEST.as_slice();
@@ -233,10 +230,7 @@ fn files_that_are_known(rt: HostRuntime) {
 }
 
 /// Whether a service over such files answers the first request.
-fn serves<S: FileSystem + LogFiles>(alloc: Global, files: &S, command: &[&str]) -> Option<bool>
-where
-    S::Disk: Disk,
-{
+fn serves<S: FileSystem + LogFiles>(alloc: Global, files: &S, command: &[&str]) -> Option<bool> {
     let (status, output, fault) = of_command(alloc, files, command)?;
     Some(status == 0 && output.as_slice() == FIRST_REPLY.as_slice() && fault.is_empty())
 }

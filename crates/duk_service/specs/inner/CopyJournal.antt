@@ -1,16 +1,18 @@
 -- What only private functions and proofs say beside `CopyJournal.antt`: this project's own.
-use Rattle.std.specs.Prelude.{◌≢◌, ◌≡◌, ◌⊎◌, ⊤, ℕ}
+use Rattle.std.specs.Prelude.{◌≢◌, ◌≡◌, ◌⊎◌, ⊤, ℕ, length}
 use Rattle.duk_copy.specs.Copy.{IsCopied}
 use Rattle.duk_host.specs.declared.fault.HostFault.TheVariants.{Store}
 use Rattle.duk_journal.specs.DiskJournal.{DiskJournalOf, disk_journal_meaning, new_disk_journal}
+use Rattle.duk_journal.specs.Groups.{Entries, KeepsEntries}
 use Rattle.duk_journal.specs.Journal.{JournalMeaning}
 use Rattle.duk_line.specs.Check.{CheckRefused, IsChecked}
-use Rattle.duk_service.specs.CopyJournal.{IsCopyRefused, IsOtherJournal}
+use Rattle.duk_service.specs.CopyJournal.{IsCopyRefused, IsFilledUnchecked, IsOtherJournal}
 use Rattle.duk_service.specs.LogFiles.{FolderKnown, IsDisk, IsFolderSynced, IsFolderUnsynced, MakingKnown}
-use Rattle.duk_service.specs.NewJournal.{IsUnmade}
+use Rattle.duk_service.specs.NewJournal.{IsNoneOrWhole, IsUnmade}
 use Rattle.duk_service.specs.declared.copy_journal.CopyJournalFault.{CopyJournalFault}
 use Rattle.duk_service.specs.declared.copy_journal.CopyJournalFault.TheVariants as fault
 use Rattle.duk_store.specs.Disk.{DiskMeaning, DiskState, HasFailed}
+use Rattle.duk_store.specs.StoreState.{FindsWithin, StoreState}
 use Rattle.duk_store.specs.declared.fault.StoreFault.{StoreFault}
 use Rattle.duk_store.specs.declared.fault.StoreFault.TheVariants.{Device}
 
@@ -34,6 +36,17 @@ CopyNotWritten size old old' before after fault.Unmade =
     (before.size ≢ size) ⊎ HasFailed before after Device
 CopyNotWritten size old old' before after _ = ⊥
 
+-- whenever a disk that was made is stopped, it is no journal, or keeps what another keeps, so many
+abbrev pub IsNoneOrKept : ℕ → DiskState → DiskState → DiskState → Type 0
+IsNoneOrKept kept old made last =
+    old.honest → (entries : Entries) → KeepsEntries old.reads entries → length entries ≡ kept
+    → IsNoneOrWhole entries made last
+
+-- a journal is restarted and read, as far as that comes: it finds what it could find, and stays sound
+pub record IsReadOver (old new : StoreState Entries) : Type 0 where
+  pub sound : old.honest → old.sound → new.sound
+  pub within : old.honest → FindsWithin new old.found
+
 -- why a journal is not checked, with so many entries
 abbrev pub NewNotChecked : {J : Type 0} → JournalMeaning J → ℕ → J → J → CopyJournalFault → Type 0
 NewNotChecked meaning kept old new fault.OutOfMemory = ⊤
@@ -54,19 +67,14 @@ pub record IsNewChecked {D : Type 0} (meaning : DiskMeaning D) (kept : ℕ) (fil
   pub last : DiskJournalOf D
   pub checked : IsChecked (disk_journal_meaning meaning) (new_disk_journal filled) last kept
 
--- a written disk is no copy
-pub record IsNewOther {D : Type 0} (meaning : DiskMeaning D) (kept : ℕ) (filled : D)
-    : Type 0 where
+-- why a written disk is not kept, over which a journal was read
+pub record NewNotKept {D : Type 0} (meaning : DiskMeaning D) (folder : FolderKnown) (kept : ℕ)
+    (filled : D) (why : CopyJournalFault) : Type 0 where
   pub last : DiskJournalOf D
-  pub other : IsOtherJournal (disk_journal_meaning meaning) kept (new_disk_journal filled) last
-
--- why a written disk is not kept
-abbrev pub NewNotKept : {D : Type 0} → DiskMeaning D → FolderKnown → ℕ → D → CopyJournalFault
-    → Type 0
-NewNotKept meaning folder kept filled fault.OutOfMemory = ⊤
-NewNotKept meaning folder kept filled fault.Unmade =
-    IsNewOther meaning kept filled ⊎ IsFolderUnsynced folder
-NewNotKept meaning folder kept filled _ = ⊥
+  pub read_over : IsReadOver ((disk_journal_meaning meaning).state_of (new_disk_journal filled))
+      ((disk_journal_meaning meaning).state_of last)
+  pub cause : CheckedNotKept (disk_journal_meaning meaning) folder kept (new_disk_journal filled)
+      last why
 
 -- a file of this size is made, with so many entries of a disk, and checked
 pub record IsCopyMade {D : Type 0} (meaning : DiskMeaning D) (making : MakingKnown D)
@@ -79,17 +87,22 @@ pub record IsCopyMade {D : Type 0} (meaning : DiskMeaning D) (making : MakingKno
   pub synced : IsFolderSynced making.folder
 
 -- one is made, and a device step of the other disk failed
-pub record IsCopyUnread {D : Type 0} (making : MakingKnown D) (size : ℕ) (old old' : DiskState)
-    : Type 0 where
+pub record IsCopyUnread {D : Type 0} (meaning : DiskMeaning D) (making : MakingKnown D)
+    (size kept : ℕ) (old old' : DiskState) : Type 0 where
   pub made : D
+  pub last : D
   pub is_made : IsDisk (making.disk size) made
   pub failed : HasFailed old old' Device
+  pub left_is : IsNoneOrKept kept old (meaning.state_of made) (meaning.state_of last)
 
 -- why none is
 abbrev pub CopyNotMade : {D : Type 0} → DiskMeaning D → MakingKnown D → ℕ → ℕ → DiskState
     → DiskState → CopyJournalFault → Type 0
-CopyNotMade meaning making size kept old old' fault.OutOfMemory = ⊤
-CopyNotMade meaning making size kept old old' fault.Failed = IsCopyUnread making size old old'
+CopyNotMade meaning making size kept old old' fault.OutOfMemory =
+    IsFilledUnchecked meaning (making.disk size) kept old (IsNoneOrKept kept old)
+CopyNotMade meaning making size kept old old' fault.Failed =
+    IsCopyUnread meaning making size kept old old'
 CopyNotMade meaning making size kept old old' fault.Unmade =
-    IsUnmade meaning making size ⊎ IsCopyRefused meaning (making.disk size) kept old
+    IsUnmade meaning making size (IsNoneOrKept kept old)
+    ⊎ IsCopyRefused meaning (making.disk size) kept old (IsNoneOrKept kept old)
 CopyNotMade meaning making size kept old old' _ = ⊥

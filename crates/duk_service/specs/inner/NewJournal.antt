@@ -16,4 +16,4 @@ pub record IsKeptBlank (folder : FolderKnown) (size : ℕ) (old new : DiskState)
 -- why it is not
 abbrev pub IsNotKept : FolderKnown → ℕ → DiskState → DiskState → Type 0
 IsNotKept folder size old new =
-    ((old.size ≢ size) ⊎ HasFailed old new Device) ⊎ IsFolderUnsynced folder
+    (old.size ≢ size) ⊎ HasFailed old new Device ⊎ IsFolderUnsynced folder

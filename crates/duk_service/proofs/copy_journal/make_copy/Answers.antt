@@ -34,6 +34,6 @@ returns-clause-refused g c =
     let checked = subst (λ journal. IsChecked (disk_journal_meaning meaning) journal c.check.new.journal c.in-Ok-check.kept) c.in-Ok-new.ensures.journal c.in-Ok-check.ensures.checked in
     if_err _ _ c.make_new.result
     (λ why refused. not_copied meaning known making c.in-Ok.disk c.check.new.journal disk c.make_new.new.old c.in-Ok-check.kept c.in-Ok.ensures.opened checked c.into_disk-disk.ensures.disk
-    why c.make_new.ensures.bytes c.make_new.ensures.nature
+    why c.make_new.ensures.bytes c.make_new.ensures.nature c.into_disk-disk.ensures.one
     (subst (λ size. CopyNotMade meaning making size c.in-Ok-check.kept (meaning.state_of disk) (meaning.state_of c.make_new.new.old) why) c.size-size.ensures refused))
     c.make_new.ensures.refused
