@@ -29,14 +29,14 @@ An answer is written for each frame, in their order. FILE is zeros at first, 16 
 that it has room for. It is opened and never made. Without it the used numbers are lost at the end:
 that is for trials.
 
-FILE of --journal has 32 bytes for each payment, zeros at first. Frames that come together are
-answered together, and a request among the latest 1048576 that were accepted gets its reply again,
+FILE of --journal has 32 bytes for each payment, and `new-journal` makes it. Frames that come together
+are answered together, and a request among the latest 1048576 that were accepted gets its reply again,
 also after a restart. --log and --journal exclude each other.
 
 Example:
   $ dd if=/dev/zero of=used.log bs=16 count=1000 conv=excl,fsync status=none
   $ dukpt serve examples/bank.toml --log used.log <requests >answers
-  $ dd if=/dev/zero of=payments.journal bs=32 count=1000 conv=excl,fsync status=none
+  $ dukpt new-journal payments.journal 1000
   $ dukpt serve examples/bank.toml --journal payments.journal <requests >answers
 
 Faults, on standard error with status 1, the first alone; --explain says more:
