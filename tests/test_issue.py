@@ -56,7 +56,7 @@ KINDS_OF_RUNS = ("issued", "nothing", "there", "ledger: full", "arguments refuse
                    for why in ("cannot read", "too long", "not UTF-8")))
 KILLS = 100
 # So many losses of power each of some tests has, and within so many a file system that lies is found.
-CUTS, MOST_CUTS = 400, 5000
+CUTS, MOST_CUTS = 400, 25_000
 # The numbers that are issued where the power is lost, and the calls on the ledger for each.
 FEW, CALLS = 8, 4
 PLACES = tuple(Place)
