@@ -1,5 +1,5 @@
 -- What tills, host and network may come to: this project's own.
-use Rattle.std.specs.Prelude.{◌≡◌, ◌⊎◌, ℕ, zero, suc, List}
+use Rattle.std.specs.Prelude.{◌⊎◌, ℕ, zero, suc}
 use Rattle.duk_books.specs.Books.{BooksOf, Meanings}
 use Rattle.duk_books.specs.First.{IsFirst}
 use Rattle.duk_books.specs.Restart.{IsHostLeft}

@@ -1,5 +1,5 @@
 -- What the merchants' book has and what stands at the host agree.
-use Rattle.std.proofs.Common.{◌≡◌, ◌≢◌, ◌⊎◌, ◌<◌, ◌++◌, ◌∷◌, [], ℕ, zero, suc, List, Option, Some, None, All, AllPairs, Contains, inl, inr, refl, sym, ap, subst, ◌∙◌, arith}
+use Rattle.std.proofs.Common.{◌≡◌, ◌≢◌, ◌⊎◌, ◌∷◌, [], ℕ, suc, List, Option, Some, None, All, AllPairs, Contains, inl, inr, refl, sym, ap, subst, ◌∙◌, arith}
 use Rattle.std.proofs.lemmas.List.Elements.{All-contains, Contains-append_cases}
 use Rattle.duk_frame.specs.declared.code.Code.{Code}
 use Rattle.duk_frame.specs.declared.code.Code.TheVariants as code
@@ -8,32 +8,28 @@ use Rattle.duk_journal.specs.Groups.{Entries}
 use Rattle.duk_journal.specs.declared.entry.Decided.{Decided}
 use Rattle.duk_journal.specs.declared.entry.Decided.TheVariants.{Payment as PaymentDecided, Reversal as ReversalDecided}
 use Rattle.duk_journal.specs.declared.entry.Entry.{Entry}
-use Rattle.duk_line.specs.Host.{HostOf}
-use Rattle.duk_line.specs.Latest.{UseNewNumbers, numbers_in, payment_entry, reversed_in, reversed_numbers}
+use Rattle.duk_line.specs.Latest.{numbers_in, payment_entry, reversed_in, reversed_numbers}
 use Rattle.duk_store.specs.Cell.{Kept}
-use Rattle.duk_term.specs.Reply.{IsPending}
-use Rattle.duk_till.specs.Image.{kept_of, last_bytes}
-use Rattle.duk_till.specs.Last.{AreLastFields, number_of}
+use Rattle.duk_till.specs.Image.{last_bytes}
+use Rattle.duk_till.specs.Last.{number_of}
 use Rattle.duk_till.specs.History.{IsOf, payment_of}
 use Rattle.duk_till.specs.Till.{IsAtRest, TillOf}
 use Rattle.duk_till.specs.declared.last.Last.{Last}
 use Rattle.duk_till.specs.declared.last.Last.TheVariants.{Open, Approved, Declined, Undone}
 use Rattle.duk_till.specs.declared.last.Payment.{Payment}
-use Rattle.duk_till.specs.declared.state.TillState.{TillState}
-use Rattle.duk_till.specs.declared.state.TillState.TheVariants.{Running, Stopped}
+use Rattle.duk_till.specs.declared.state.TillState.TheVariants.{Running}
 use Rattle.duk_tree.specs.Serial.{Serial}
 use Rattle.duk_books.specs.Agree.{Agrees, AreEntriesOf, BooksAgree, AreOfDifferentNumbers, IsInDoubt, StandingAreTold, StandsOf, StandsWith, ToldStand}
 use Rattle.duk_books.specs.Books.{BooksOf, Frame, IsAt, Meanings}
 use Rattle.duk_books.specs.First.{IsFirst, IsNewTill}
-use Rattle.duk_books.specs.Owner.{IsOwner}
-use Rattle.duk_books.specs.Reached.{Moves, Reached}
+use Rattle.duk_books.specs.Reached.{Reached}
 use Rattle.duk_books.specs.Sales.{sale_of}
 use Rattle.duk_books.proofs.agreement.BooksHold.{BookLaws, BooksHold, Holds, holds_after, lists_of}
-use Rattle.duk_books.proofs.agreement.Facts.{IsAsked, IsCalledBack, IsRepliedTo, IsSold, IsUndoneBy, Lists, none_in, the_one, the_only}
-use Rattle.duk_books.proofs.agreement.HostHolds.{CameFrom, EntriesHold, HostHolds, IsPaidWith, judged_hold, reversed_of}
+use Rattle.duk_books.proofs.agreement.Facts.{IsAsked, IsCalledBack, IsRepliedTo, IsSold, none_in, the_only}
+use Rattle.duk_books.proofs.agreement.HostHolds.{CameFrom, EntriesHold, judged_hold, reversed_of}
 use Rattle.duk_books.proofs.agreement.Registers.{RegistersHold}
 use Rattle.duk_books.proofs.agreement.Terminals.{KeptHas, StateHas}
-use Rattle.duk_books.proofs.agreement.Tills.{IsGood, IsInDoubt as IsDoubted, IsKeptOf, OneReading, TillHolds, one_last, stopped_is_not_running}
+use Rattle.duk_books.proofs.agreement.Tills.{IsInDoubt as IsDoubted, IsKeptOf, OneReading, TillHolds, one_last, stopped_is_not_running}
 use Rattle.duk_books.proofs.moves.ReachedByMoves.{reached_all}
 use Rattle.duk_books.proofs.moves.StepChanges.{at_contains, move_change}
 

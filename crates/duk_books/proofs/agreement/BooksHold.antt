@@ -1,28 +1,26 @@
 -- What holds of all that is reached, and how each move leaves it so.
-use Rattle.std.proofs.Common.{◌≡◌, ◌≢◌, ◌⊎◌, ◌<◌, ◌+◌, ◌++◌, ◌∷◌, [], ℕ, zero, suc, List, Option, Some, None, Ok, Err, All, AllPairs, Contains, get_or, inl, inr, refl, sym, ap, subst, ◌∙◌, arith}
+use Rattle.std.proofs.Common.{◌≡◌, ◌≢◌, ◌⊎◌, ◌+◌, ◌++◌, ◌∷◌, [], ℕ, zero, suc, List, Option, Some, None, Ok, Err, AllPairs, Contains, get_or, inl, inr, refl, sym, ap, subst, ◌∙◌, arith}
 use Rattle.std.proofs.lemmas.List.Elements.{Contains-append_cases, Contains-append_left, Contains-get_or, Contains-push, Contains-push_cases}
 use Rattle.std.proofs.lemmas.List.Quantifiers.{all_pairs_push}
 use Rattle.std.specs.List.{slice_get, slice_set}
 use Rattle.duk_frame.specs.Payment.{request_of}
 use Rattle.duk_frame.specs.Request.{IsRequest}
 use Rattle.duk_frame.specs.declared.request.Request.{Request}
-use Rattle.duk_line.specs.Group.{AnswersFrames, GroupRefused}
+use Rattle.duk_line.specs.Group.{AnswersFrames}
 use Rattle.duk_reversal.specs.Authentic.{reversal_of}
 use Rattle.duk_reversal.specs.Reversal.{IsReversal}
 use Rattle.duk_reversal.specs.declared.reversal.Reversal as reversal_frame
-use Rattle.duk_store.specs.Cell.{CellMeaning}
 use Rattle.duk_term.specs.Begin.{IsBegun}
 use Rattle.duk_term.specs.Load.{Loading}
 use Rattle.duk_term.specs.Reversal.{IsReversalBegun, numbers_of}
 use Rattle.duk_term.specs.Terminal.{TerminalOf, serial_of}
 use Rattle.duk_term.specs.declared.answer.Begun.{Begun}
-use Rattle.duk_term.specs.declared.fault.TermFault.TheVariants as term_fault
 use Rattle.duk_term.specs.declared.purchase.Purchase.{Purchase}
 use Rattle.duk_store.specs.declared.fault.StoreFault.{StoreFault}
 use Rattle.duk_term.specs.declared.state.State.TheVariants as term_state
 use Rattle.duk_till.specs.Begin.{NumberIsLost, TillBeginRefused}
 use Rattle.duk_till.specs.History.{payment_of}
-use Rattle.duk_till.specs.Lifetime.{ArmBook, ArmTerminal, Begin, Call, IsCalled, Load, Reverse}
+use Rattle.duk_till.specs.Lifetime.{ArmBook, ArmTerminal, Begin, Call, Reverse}
 use Rattle.duk_till.specs.Till.{TillOf, approved_in}
 use Rattle.duk_till.specs.declared.fault.TillFault.{TillFault}
 use Rattle.duk_till.specs.declared.fault.TillFault.TheVariants as fault
@@ -40,7 +38,7 @@ use Rattle.duk_books.specs.declared.outcome.Outcome.{Outcome}
 use Rattle.duk_books.specs.declared.outcome.Outcome.TheVariants as came
 use Rattle.duk_books.specs.declared.owner.Owner.{Owner}
 use Rattle.duk_books.specs.declared.sales.Sale.{Sale}
-use Rattle.duk_books.proofs.agreement.Facts.{FrameLaws, GrowBeside, IsAsked, IsCalledBack, IsSold, Lists, asked_before, asked_or_added, called_back_before, called_back_or_added, not_asked, not_called_back, replied_before, the_only, undone_before}
+use Rattle.duk_books.proofs.agreement.Facts.{FrameLaws, GrowBeside, IsAsked, IsCalledBack, IsSold, Lists, asked_before, asked_or_added, called_back_or_added, not_asked, not_called_back, replied_before, the_only, undone_before}
 use Rattle.duk_books.proofs.agreement.HostHolds.{HostHolds, HostLaws, answered_holds, more_requests, refused_holds, touched_holds}
 use Rattle.duk_books.proofs.agreement.OwnersStay.{HaveOneOwner, one_owner_after, owner_stays, owns_loaded}
 use Rattle.duk_books.proofs.agreement.QuietCalls.{CallLaws, ListsHold, begin_refused_so, book_armed, is_fresh, load_refused, lost, reverse_refused, terminal_armed, till_loaded, with_begun}
@@ -48,8 +46,8 @@ use Rattle.duk_books.proofs.agreement.Registers.{RegistersHold, SetHolds}
 use Rattle.duk_books.proofs.agreement.Sending.{reverses, sends, with_request, with_reversal}
 use Rattle.duk_books.proofs.agreement.TellingCalls.{sales_stay, tells, with_sales}
 use Rattle.duk_books.proofs.agreement.Terminals.{StateHas}
-use Rattle.duk_books.proofs.agreement.Tills.{Fits, IsGood, TillHolds, good_beside, till_beside}
-use Rattle.duk_books.proofs.moves.StepChanges.{CallsOnly, Change, IsQuiet, IsTelling, TouchesHost, answered, host, load, nothing, quiet, reverse, send, tell, unanswered}
+use Rattle.duk_books.proofs.agreement.Tills.{IsGood, TillHolds, good_beside, till_beside}
+use Rattle.duk_books.proofs.moves.StepChanges.{CallsOnly, Change, IsQuiet, IsTelling, answered, host, load, nothing, quiet, reverse, send, tell, unanswered}
 
 -- all that was begun, with what was sent, answered, owned and sold
 abbrev pub lists_of : {C B J I : Type 0} → BooksOf C B J I → List Serial → Lists

@@ -1,5 +1,5 @@
 -- What the frames on the network say, and whom they are of.
-use Rattle.std.proofs.Common.{◌≡◌, ◌⊎◌, ◌<◌, ◌++◌, ◌∷◌, [], ℕ, zero, suc, List, Option, Some, None, Contains, inl, inr, refl, sym, ap, subst, ◌∙◌, arith}
+use Rattle.std.proofs.Common.{◌≡◌, ◌⊎◌, ◌++◌, ◌∷◌, [], ℕ, zero, suc, List, Contains, inl, inr, refl, sym, ap, subst, ◌∙◌, arith}
 use Rattle.std.proofs.lemmas.List.Elements.{Contains-append_cases, Contains-append_left, Contains-append_right}
 use Rattle.duk_frame.specs.Answer.{IsAnswer, IsReply}
 use Rattle.duk_frame.specs.Request.{IsRequest}
@@ -11,7 +11,6 @@ use Rattle.duk_reversal.specs.Reversal.{IsReversal}
 use Rattle.duk_reversal.specs.declared.reply.ReversalReply as reply_frame
 use Rattle.duk_reversal.specs.declared.reversal.Reversal as reversal_frame
 use Rattle.duk_till.specs.History.{payment_of}
-use Rattle.duk_till.specs.declared.last.Payment.{Payment}
 use Rattle.duk_tree.specs.Serial.{Serial}
 use Rattle.duk_books.specs.Books.{Frame}
 use Rattle.duk_books.specs.Owner.{IsOwner}

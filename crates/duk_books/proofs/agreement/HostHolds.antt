@@ -1,5 +1,5 @@
 -- What holds of each list of entries that the host's journal may find.
-use Rattle.std.proofs.Common.{◌≡◌, ◌≢◌, ◌⊎◌, ◌<◌, ◌++◌, ◌∷◌, [], ℕ, zero, suc, List, Option, Some, None, Contains, flat_map, length, take, inl, inr, refl, sym, ap, subst, ◌∙◌, arith}
+use Rattle.std.proofs.Common.{◌≡◌, ◌⊎◌, ◌++◌, ◌∷◌, [], ℕ, zero, suc, List, None, Contains, flat_map, length, take, inl, inr, refl, sym, ap, subst, ◌∙◌}
 use Rattle.std.proofs.lemmas.List.Elements.{Contains-append_cases, Contains-append_left, Contains-append_right}
 use Rattle.duk_frame.specs.Answer.{IsAnswer, IsReply}
 use Rattle.duk_frame.specs.Payment.{payment_reply, reply_mac}
@@ -13,7 +13,7 @@ use Rattle.duk_host.specs.declared.fault.HostFault.TheVariants as host_fault
 use Rattle.duk_hsm.specs.Keys.{HsmKeys}
 use Rattle.duk_journal.specs.Entry.{reversed_by}
 use Rattle.duk_journal.specs.Groups.{Entries}
-use Rattle.duk_journal.specs.Journal.{GroupAppendFailed, JournalMeaning, JournalRestarted}
+use Rattle.duk_journal.specs.Journal.{GroupAppendFailed, JournalRestarted}
 use Rattle.duk_journal.specs.declared.entry.Decided.{Decided}
 use Rattle.duk_journal.specs.declared.entry.Decided.TheVariants.{Payment, Reversal}
 use Rattle.duk_journal.specs.declared.entry.Entry.{Entry}

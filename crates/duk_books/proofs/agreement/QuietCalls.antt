@@ -1,11 +1,10 @@
 -- What holds of a till still holds after a call that tells nothing.
-use Rattle.std.proofs.Common.{◌≡◌, ◌≢◌, ◌⊎◌, ◌<◌, ◌^◌, inl, inr, ℕ, List, [], ◌∷◌, ◌++◌, Option, Some, None, Ok, Err, IfSome, Contains, ap, arith, refl, subst, sym, ◌∙◌}
-use Rattle.std.proofs.lemmas.List.Elements.{Contains-append_cases, Contains-append_left, Contains-append_right, Contains-push}
+use Rattle.std.proofs.Common.{◌≡◌, ◌≢◌, ◌⊎◌, inl, inr, ℕ, List, [], ◌∷◌, ◌++◌, Option, Some, None, IfSome, Contains, ap, refl, subst, sym, ◌∙◌}
+use Rattle.std.proofs.lemmas.List.Elements.{Contains-append_cases, Contains-append_left, Contains-push}
 use Rattle.duk_regs.specs.Registers.{RegisterSet}
 use Rattle.duk_store.specs.Cell.{CellMeaning, Kept}
-use Rattle.duk_store.specs.StoreState.{StaysButCalm}
 use Rattle.duk_term.specs.Begin.{BeginRefused, IsBegunUnder, TakesNumber}
-use Rattle.duk_term.specs.Load.{IsFirstSet, IsTerminalLoaded, LoadRefused, Loading, MayTake}
+use Rattle.duk_term.specs.Load.{LoadRefused, Loading}
 use Rattle.duk_term.specs.Reply.{IsPending}
 use Rattle.duk_term.specs.Reversal.{ReversalRefused}
 use Rattle.duk_term.specs.Terminal.{TerminalOf, serial_of}
@@ -30,10 +29,10 @@ use Rattle.duk_till.specs.declared.state.TillState.TheVariants.{Stopped, Running
 use Rattle.duk_tree.specs.Serial.{IsSerial, Serial}
 use Rattle.duk_books.specs.Books.{Meanings}
 use Rattle.duk_books.specs.Owner.{IsOwner}
-use Rattle.duk_books.proofs.agreement.Facts.{IsAsked, IsCalledBack, IsSold, Lists, the_only, the_one}
+use Rattle.duk_books.proofs.agreement.Facts.{IsAsked, IsCalledBack, IsSold, Lists, the_only}
 use Rattle.duk_books.proofs.agreement.Registers.{IsBehind, NumberLaws, RegistersHold, SetHolds, holds_left, holds_loaded, is_new, taken_behind}
-use Rattle.duk_books.proofs.agreement.Terminals.{RegisterLaws, StateHas, TerminalHas, armed, begin_refused, begun, load_stopped, loaded, restart_refused, restarted, reversal_refused, unchanged}
-use Rattle.duk_books.proofs.agreement.Tills.{BookHolds, Fits, IsAwaited, IsGood, IsInDoubt, IsSettled, OneReading, TillHolds, book_lost, book_stays, doubt_stays, same_last, stopped_is_not_running}
+use Rattle.duk_books.proofs.agreement.Terminals.{RegisterLaws, StateHas, TerminalHas, armed, begin_refused, begun, load_stopped, loaded, reversal_refused, unchanged}
+use Rattle.duk_books.proofs.agreement.Tills.{BookHolds, Fits, IsAwaited, IsGood, IsInDoubt, OneReading, TillHolds, book_lost, book_stays, doubt_stays, same_last, stopped_is_not_running}
 
 -- what is known of registers, numbers and bodies
 pub record CallLaws : Type 0 where

@@ -1,11 +1,10 @@
 -- What holds of a till still holds after it sent a request or a reversal.
-use Rattle.std.proofs.Common.{◌≡◌, ◌≢◌, ◌⊎◌, ◌<◌, inl, inr, ℕ, List, [], ◌∷◌, ◌++◌, Option, Some, None, IfSome, Contains, ap, arith, refl, subst, sym, ◌∙◌}
-use Rattle.std.proofs.lemmas.List.Elements.{Contains-append_left, Contains-push}
+use Rattle.std.proofs.Common.{◌≡◌, ◌≢◌, inl, inr, ℕ, [], ◌∷◌, ◌++◌, Some, ap, arith, refl, subst, sym, ◌∙◌}
+use Rattle.std.proofs.lemmas.List.Elements.{Contains-push}
 use Rattle.duk_frame.specs.Request.{IsRequest}
 use Rattle.duk_frame.specs.declared.request.Request.{Request}
 use Rattle.duk_reversal.specs.Reversal.{IsReversal}
 use Rattle.duk_reversal.specs.declared.reversal.Reversal as reversal_frame
-use Rattle.duk_store.specs.Cell.{Kept}
 use Rattle.duk_term.specs.Reply.{IsPending}
 use Rattle.duk_term.specs.Terminal.{serial_of}
 use Rattle.duk_term.specs.declared.purchase.Purchase.{Purchase}
@@ -13,23 +12,20 @@ use Rattle.duk_term.specs.declared.state.Pending.{Pending}
 use Rattle.duk_term.specs.declared.state.State.{State}
 use Rattle.duk_term.specs.declared.state.State.TheVariants as term_state
 use Rattle.duk_till.specs.Begin.{IsTillBegun, opened}
-use Rattle.duk_till.specs.History.{payment_of}
-use Rattle.duk_till.specs.Image.{kept_of, last_bytes}
 use Rattle.duk_till.specs.Reversal.{IsTillReversing}
 use Rattle.duk_till.specs.Till.{TillOf}
-use Rattle.duk_till.specs.declared.last.Last.{Last}
-use Rattle.duk_till.specs.declared.last.Last.TheVariants.{Open, Approved, Declined, Undone}
+use Rattle.duk_till.specs.declared.last.Last.TheVariants.{Open, Approved}
 use Rattle.duk_till.specs.declared.state.TillState.{TillState}
-use Rattle.duk_till.specs.declared.state.TillState.TheVariants.{Stopped, Running}
+use Rattle.duk_till.specs.declared.state.TillState.TheVariants.{Running}
 use Rattle.duk_tree.specs.Serial.{Serial}
 use Rattle.duk_books.specs.Books.{Frame, Meanings}
 use Rattle.duk_books.specs.Owner.{IsOwner}
-use Rattle.duk_books.proofs.agreement.Facts.{FrameLaws, IsAsked, IsCalledBack, IsSold, Lists, asked_or_added, called_back_or_added, is_asked_now, not_asked, not_called_back}
+use Rattle.duk_books.proofs.agreement.Facts.{FrameLaws, IsAsked, Lists, asked_or_added, is_asked_now, not_asked, not_called_back}
 use Rattle.duk_books.proofs.agreement.QuietCalls.{CallLaws, ListsHold, begun_fields, is_fresh, not_in_doubt_at_rest, takes_begun}
 use Rattle.duk_books.proofs.agreement.Registers.{RegistersHold, SetHolds, holds_left}
 use Rattle.duk_books.proofs.agreement.TellingCalls.{same_open}
 use Rattle.duk_books.proofs.agreement.Terminals.{StateHas, begun, reversing}
-use Rattle.duk_books.proofs.agreement.Tills.{Fits, IsAwaited, IsInDoubt, IsSettled, TillHolds, book_has, book_put, same_last}
+use Rattle.duk_books.proofs.agreement.Tills.{IsAwaited, IsInDoubt, TillHolds, book_has, book_put, same_last}
 
 -- the lists once a request was sent, or a reversal
 abbrev pub with_request : Lists → Serial → Frame → Lists

@@ -1,5 +1,5 @@
 -- What holds of a till still holds after a call that may tell something.
-use Rattle.std.proofs.Common.{◌≡◌, ◌≢◌, ◌⊎◌, ◌<◌, ◌^◌, inl, inr, ℕ, List, [], ◌∷◌, ◌++◌, Option, Some, None, Ok, Err, Result, IfSome, Contains, ap, arith, refl, subst, sym, ◌∙◌}
+use Rattle.std.proofs.Common.{◌≡◌, ◌≢◌, ◌⊎◌, ◌<◌, ◌^◌, inl, inr, ℕ, List, [], ◌∷◌, Option, Some, None, Ok, Err, IfSome, Contains, ap, arith, refl, subst, sym, ◌∙◌}
 use Rattle.std.proofs.lemmas.List.Elements.{Contains-append_left, Contains-push}
 use Rattle.duk_frame.specs.declared.code.Code.{Code}
 use Rattle.duk_frame.specs.declared.code.Code.TheVariants as code
@@ -8,13 +8,11 @@ use Rattle.duk_reversal.specs.Reply.{IsReversalReply}
 use Rattle.duk_reversal.specs.declared.state.ReversalState.{ReversalState}
 use Rattle.duk_store.specs.Cell.{CellMeaning, IsPut, Kept, PutFailed}
 use Rattle.duk_store.specs.declared.fault.StoreFault.{StoreFault}
-use Rattle.duk_store.specs.Restart.{Restarted, RestartFailed}
 use Rattle.duk_term.specs.Reply.{IsPending}
 use Rattle.duk_term.specs.Restart.{IsTerminalRestarted, Opens}
 use Rattle.duk_regs.specs.Registers.{RegisterSet}
 use Rattle.duk_term.specs.Terminal.{TerminalOf, next_of, serial_of}
 use Rattle.duk_term.specs.declared.answer.Answer.TheVariants as answer
-use Rattle.duk_term.specs.declared.answer.Next.{Next}
 use Rattle.duk_term.specs.declared.answer.Next.TheVariants as next
 use Rattle.duk_term.specs.declared.answer.ReversalAnswer.TheVariants as reversal
 use Rattle.duk_term.specs.declared.state.Pending.{Pending}
@@ -26,7 +24,7 @@ use Rattle.duk_till.specs.Last.{AreLastFields, outcome_of}
 use Rattle.duk_till.specs.Lifetime.{Call, IsCalled, Reply, Restart, ReversalReply as ReversalReplyCall}
 use Rattle.duk_term.specs.Reversal.{ReportsReversal}
 use Rattle.duk_till.specs.Reply.{IsOutcomeKept, IsOutcomeLost, IsReplyTo, TillReplyRefused}
-use Rattle.duk_till.specs.Restart.{BookRestartFailed, FoundLast, FoundNoLast, IsClosedUnsent, IsFoundAsKept, IsNotClosed, IsTillRestarted, IsUnsent, TillRestartRefused}
+use Rattle.duk_till.specs.Restart.{FoundLast, IsTillRestarted, IsUnsent, TillRestartRefused}
 use Rattle.duk_till.specs.Reversal.{IsUndoneKept, IsUndoneLost, TillReversalReplyRefused}
 use Rattle.duk_till.specs.Till.{TillOf, approved_in}
 use Rattle.duk_till.specs.declared.fault.TillFault.{TillFault}
@@ -45,7 +43,7 @@ use Rattle.duk_books.proofs.agreement.Facts.{IsRepliedTo, IsSold, IsUndoneBy, Li
 use Rattle.duk_books.proofs.agreement.QuietCalls.{CallLaws, loaded_pends_nothing}
 use Rattle.duk_books.proofs.agreement.Registers.{RegistersHold, SetHolds, is_new}
 use Rattle.duk_books.proofs.agreement.Terminals.{StateHas, TerminalHas, completes, restart_refused, restarted, terminal_as}
-use Rattle.duk_books.proofs.agreement.Tills.{BookHolds, Fits, IsAwaited, IsGood, IsInDoubt, IsKeptOf, IsSettled, TillHolds, book_has, book_lost, book_put, book_stays, doubt_lost, doubt_stays, found_fits, one_last, same_last, stopped_is_not_running}
+use Rattle.duk_books.proofs.agreement.Tills.{Fits, IsAwaited, IsInDoubt, IsKeptOf, IsSettled, TillHolds, book_has, book_lost, book_put, book_stays, doubt_lost, doubt_stays, found_fits, one_last, same_last, stopped_is_not_running}
 use Rattle.duk_books.proofs.moves.StepChanges.{IsTelling}
 
 -- ---- sales

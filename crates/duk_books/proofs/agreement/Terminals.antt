@@ -1,5 +1,5 @@
 -- What holds of the registers of a till's terminal, and of each image that its cell may find.
-use Rattle.std.proofs.Common.{◌≡◌, ◌≢◌, ◌⊎◌, ◌<◌, ◌^◌, inl, inr, ℕ, List, [], ◌∷◌, ◌++◌, Option, Some, None, Ok, Err, Contains, ap, arith, refl, subst, sym, ◌∙◌}
+use Rattle.std.proofs.Common.{◌≡◌, ◌⊎◌, inl, inr, ℕ, List, Option, Some, None, refl, subst, sym}
 use Rattle.duk_regs.specs.Registers.{AreFutureKeysOf, HaveSixteenBytes, IsRegisterSet, RegisterSet}
 use Rattle.duk_store.specs.Cell.{CellMeaning, IsPut, Kept, PutFailed}
 use Rattle.duk_store.specs.StoreState.{StaysButCalm}
@@ -8,11 +8,11 @@ use Rattle.duk_store.specs.declared.fault.StoreFault.TheVariants as store_fault
 use Rattle.duk_tdes.specs.Key.{IsKey}
 use Rattle.duk_term.specs.Begin.{BeginRefused, BeginStopped, IsBegunUnder, TakesNumber}
 use Rattle.duk_term.specs.Body.{IsFoundAgain, body_bytes, set_of_body}
-use Rattle.duk_term.specs.Load.{IsFirstSet, IsTerminalLoaded, LoadRefused, LoadStopped, Loading, MayTake}
+use Rattle.duk_term.specs.Load.{IsFirstSet, IsTerminalLoaded, LoadStopped, Loading, MayTake}
 use Rattle.duk_term.specs.Reply.{completed}
 use Rattle.duk_term.specs.Restart.{IsTerminalRestarted, Opens, TerminalRestartRefused, TerminalRestartStopped}
 use Rattle.duk_term.specs.Reversal.{IsReversalBegun, ReversalRefused}
-use Rattle.duk_term.specs.Terminal.{TerminalOf, serial_of}
+use Rattle.duk_term.specs.Terminal.{TerminalOf}
 use Rattle.duk_term.specs.declared.fault.TermFault.{TermFault}
 use Rattle.duk_term.specs.declared.fault.TermFault.TheVariants as term_fault
 use Rattle.duk_term.specs.declared.purchase.Purchase.{Purchase}

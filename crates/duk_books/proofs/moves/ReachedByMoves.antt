@@ -1,15 +1,13 @@
 -- What holds of all that is reached, and of every run from it.
-use Rattle.std.proofs.Common.{◌≡◌, ◌⊎◌, ◌++◌, ◌∷◌, [], zero, suc, ℕ, List, Result, Ok, Err, IfOk, IfErr, take, inl, inr, refl, sym, subst}
+use Rattle.std.proofs.Common.{◌∷◌, [], zero, suc, ℕ, List, Result, Ok, Err, IfOk, IfErr, take, inl, inr, refl, sym, subst}
 use Rattle.std.specs.Prelude.{All}
 use Rattle.duk_line.specs.Host.{HostOf}
 use Rattle.duk_till.specs.Till.{TillOf}
 use Rattle.duk_books.specs.Books.{BooksOf, Meanings}
 use Rattle.duk_books.specs.First.{IsFirst, IsNewHost, IsNewTill, first_books}
-use Rattle.duk_books.specs.Reached.{IsLeft, Moves, Reached}
-use Rattle.duk_books.specs.Restart.{IsHostLeft}
+use Rattle.duk_books.specs.Reached.{Moves, Reached}
 use Rattle.duk_books.specs.Run.{IsRefusedMemory, IsRun, Run, RunRefused}
 use Rattle.duk_books.specs.Step.{Step}
-use Rattle.duk_books.specs.Up.{IsHostOutOfMemory}
 use Rattle.duk_books.specs.declared.event.Event.{Event}
 use Rattle.duk_books.specs.declared.event.Event.TheVariants as event
 use Rattle.duk_books.specs.declared.outcome.Outcome.{Outcome}

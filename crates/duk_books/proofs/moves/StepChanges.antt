@@ -1,7 +1,6 @@
 -- What a move changes.
-use Rattle.std.proofs.Common.{◌≡◌, ◌⊎◌, ◌++◌, ◌∷◌, ℕ, zero, suc, List, [], Some, Contains, Result, Ok, Err, inl, inr, refl, sym, ap, subst, ◌∙◌, arith}
+use Rattle.std.proofs.Common.{◌≡◌, ◌++◌, ◌∷◌, ℕ, List, [], Contains, Ok, Err, inl, inr, refl, arith}
 use Rattle.std.proofs.lemmas.Option.{get_or_from_slice_get, slice_get_within}
-use Rattle.std.specs.List.{slice_get, slice_set}
 use Rattle.duk_host.specs.declared.fault.HostFault.{HostFault}
 use Rattle.duk_host.specs.declared.fault.HostFault.TheVariants as host_fault
 use Rattle.duk_line.specs.Group.{AnswersFrames, GroupRefused}
@@ -14,11 +13,11 @@ use Rattle.duk_term.specs.declared.answer.Answer.TheVariants as answer
 use Rattle.duk_term.specs.declared.answer.Begun.{Begun}
 use Rattle.duk_term.specs.declared.answer.ReversalAnswer.TheVariants as reversal
 use Rattle.duk_term.specs.declared.purchase.Purchase.{Purchase}
-use Rattle.duk_till.specs.Lifetime.{ArmBook, ArmTerminal, Begin, Call, IsCalled, Load, Reply, Restart, Reverse, ReversalReply as ReversalReplyCall}
+use Rattle.duk_till.specs.Lifetime.{ArmBook, ArmTerminal, Begin, Call, IsCalled, Reply, Restart, Reverse, ReversalReply as ReversalReplyCall}
 use Rattle.duk_till.specs.Till.{TillOf, approved_in}
 use Rattle.duk_books.specs.Arm.{ArmsHost, ArmsJournal, ArmsTill, ArmsTillBook, ArmsTerminalCell}
 use Rattle.duk_books.specs.Begin.{Begins}
-use Rattle.duk_books.specs.Books.{BooksOf, ChangesOnly, ChangesTill, Frame, IsAt, Meanings}
+use Rattle.duk_books.specs.Books.{BooksOf, ChangesOnly, Frame, IsAt, Meanings}
 use Rattle.duk_books.specs.Down.{TakesAnswer, TakesReply, TakesReversalReply}
 use Rattle.duk_books.specs.Load.{IsGiven}
 use Rattle.duk_books.specs.Reached.{Moves}
@@ -26,7 +25,7 @@ use Rattle.duk_books.specs.Restart.{RestartsHost, TakesRestart}
 use Rattle.duk_books.specs.Reverse.{Reverses}
 use Rattle.duk_books.specs.Sales.{TakesSale}
 use Rattle.duk_books.specs.Step.{Step}
-use Rattle.duk_books.specs.Up.{IsAnswered, ReachesHost, SaysAnswer}
+use Rattle.duk_books.specs.Up.{ReachesHost}
 use Rattle.duk_books.specs.declared.event.End.{End}
 use Rattle.duk_books.specs.declared.event.End.TheVariants as end
 use Rattle.duk_books.specs.declared.event.Event.{Event}

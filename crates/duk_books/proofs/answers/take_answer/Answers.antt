@@ -3,7 +3,6 @@ use Rattle.duk_frame.specs.Answer.{IsRefusal, IsReply}
 use Rattle.duk_term.specs.declared.answer.Answer.TheVariants.{Done, Refused}
 use Rattle.duk_term.specs.declared.fault.TermFault.TheVariants.{NotPending}
 use Rattle.duk_till.specs.Reply.{TellsOutcome, TillReplyRefused}
-use Rattle.duk_till.specs.Till.{TillOf}
 use Rattle.duk_till.specs.declared.fault.TillFault.TheVariants.{Terminal}
 use Rattle.duk_books.specs.Down.{TakesReversalReply}
 use Rattle.duk_books.proofs.answers.take_answer.Goals as goal

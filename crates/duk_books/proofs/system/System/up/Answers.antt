@@ -1,5 +1,4 @@
 use Rattle.std.proofs.Common.{◌∷◌, [], inr, refl, subst, ◌∙◌}
-use Rattle.duk_host.specs.declared.fault.HostFault.TheVariants.{NoMemory}
 use Rattle.duk_line.specs.Group.{GroupRefused}
 use Rattle.duk_line.specs.Host.{host_meaning_of}
 use Rattle.duk_books.proofs.moves.HostAnswers.{answered_reaches, if_ok, on_err}

@@ -1,4 +1,4 @@
-use Rattle.std.proofs.Common.{◌≡◌, [], sym, ap, ◌∙◌}
+use Rattle.std.proofs.Common.{sym, ap, ◌∙◌}
 use Rattle.duk_books.specs.Books.{Frame}
 use Rattle.duk_books.proofs.moves.HostAnswers.{first_frame, first_within}
 use Rattle.duk_books.proofs.system.host_events.first_answer.Goals as goal
