@@ -9,4 +9,6 @@ pub mod TellingCalls
 pub mod Sending
 pub mod HostHolds
 pub mod BooksHold
+pub mod SentFramesHold
+pub mod EachMoveHolds
 pub mod Agreement

@@ -24,7 +24,8 @@ use Rattle.duk_books.specs.Books.{BooksOf, Frame, IsAt, Meanings}
 use Rattle.duk_books.specs.First.{IsFirst, IsNewTill}
 use Rattle.duk_books.specs.Reached.{Reached}
 use Rattle.duk_books.specs.Sales.{sale_of}
-use Rattle.duk_books.proofs.agreement.BooksHold.{BookLaws, BooksHold, Holds, holds_after, lists_of}
+use Rattle.duk_books.proofs.agreement.BooksHold.{BookLaws, BooksHold, Holds, lists_of}
+use Rattle.duk_books.proofs.agreement.EachMoveHolds.{holds_after}
 use Rattle.duk_books.proofs.agreement.Facts.{IsAsked, IsCalledBack, IsRepliedTo, IsSold, none_in, the_only}
 use Rattle.duk_books.proofs.agreement.HostHolds.{CameFrom, EntriesHold, judged_hold, reversed_of}
 use Rattle.duk_books.proofs.agreement.Registers.{RegistersHold}
