@@ -1,13 +1,15 @@
 //! The laws of tills and a host, each the contract of a function that does nothing: what holds of all
 //! that was new once and then moved on by events alone.
 
+ghost use Rattle.duk_journal.specs.DiskJournal.{DiskJournalOf, disk_journal_meaning};
+ghost use Rattle.duk_store.specs.SlotCell.{SlotCellOf, slot_cell_meaning};
 ghost use Rattle.duk_books.specs.Agree.{BooksAgree};
 ghost use Rattle.duk_books.specs.Books.{BooksOf, meanings_of};
 ghost use Rattle.duk_books.specs.Reached.{Reached};
 
 use duk_host::Issuer;
-use duk_journal::Journal;
-use duk_store::Cell;
+use duk_journal::{DiskJournal, Journal};
+use duk_store::{Cell, Disk, SlotCell};
 
 /// The merchants' book and that of the host agree, whatever the events are. Each payment that a till
 /// was told as approved stands at the host, with its amount. Of a till that runs, no other payment
@@ -29,4 +31,14 @@ pub fn agreement<C: Cell, B: Cell, J: Journal, I: Issuer>()
     duk_reversal::laws::apart_from_payments();
     duk_line::laws::new_numbers();
     duk_line::laws::one_reply();
+}
+
+/// So it is where all stand on disks: of each till both cells, and of the host its journal.
+pub fn agreement_on_disks<D: Disk, E: Disk, F: Disk, I: Issuer>()
+    ensures { let m = meanings_of (slot_cell_meaning D.meaning) (slot_cell_meaning E.meaning)
+        (disk_journal_meaning F.meaning) I.decides in
+        (books : BooksOf (SlotCellOf D) (SlotCellOf E) (DiskJournalOf F) I)
+        → Reached m books → BooksAgree m books }
+{
+    agreement::<SlotCell<D>, SlotCell<E>, DiskJournal<F>, I>();
 }
