@@ -2,13 +2,16 @@
 import * as calls from "./calls.js";
 import { withCounter } from "./counters.js";
 import { Fault, STATUS } from "./faults.js";
-import { KINDS, damageOfFrame, partsOfFrame } from "./frame_parts.js";
+import { KINDS, damageOfFrame, partsOfFrame, serialIn } from "./frame_parts.js";
 import { element, follow, made, read, renew, setFault, tableOf } from "./fields.js";
 import { ascii, bytesOf, doubleKey, hex } from "./hexadecimal.js";
 
 // The bytes of the longest frame, and how many frames are shown.
 const MOST_BYTES = 64;
 const MOST_FRAMES = 100;
+// The bytes of a MAC, the last ones of a frame; it is over all of the contents before them.
+const MAC = 8;
+const CONTENTS = 2;
 
 const keyIfAny = (text) => (text.trim() === "" ? null : doubleKey(text));
 
@@ -39,25 +42,39 @@ function check(name, job) {
   }
 }
 
+/** Throws BadMac where a reversal, or its reply, has another MAC: no call of the module reads one. */
+function checkReversal(macKey, frame) {
+  const end = frame.length - MAC;
+  const own = calls.retailMac(macKey, frame.slice(CONTENTS, end));
+  if (hex(own) !== hex(frame.slice(end))) throw new Fault(STATUS.BAD_MAC);
+}
+
 function checksOf(frame, kind, ksn, given) {
   if (kind === "refusal") return [];
   if (!given) return [made("p", "No key is given: the MAC is not checked.", { class: "note" })];
   const key = transactionKeyBy(given, ksn);
   const right = (job) => () => { job(); return "MAC: right under the key of this number."; };
   if (kind === "reply") return [check("mac", right(() => calls.checkReply(key, ksn, frame)))];
+  const macKeyOf = { reversal: calls.requestKey, "reversal-reply": calls.responseKey }[kind];
+  if (macKeyOf) return [check("mac", right(() => checkReversal(macKeyOf(key), frame)))];
   return [
     check("mac", right(() => calls.checkRequest(key, frame))),
     check("pin", () => `PIN: ${ascii(calls.requestPin(key, frame))}`),
   ];
 }
 
-const TITLES = { request: "Request", reply: "Accepted reply", refusal: "Refusal" };
+const TITLES = {
+  request: "Request", reply: "Accepted reply", refusal: "Refusal", reversal: "Reversal",
+  "reversal-reply": "Reply to a reversal",
+};
+// The calls of the module that read a frame. It has none for reversals and their replies.
+const READERS = {
+  request: calls.readRequest, reply: calls.readReply, refusal: calls.readRefusal,
+};
 
-/** The key serial number of a frame, as the module reads it. */
-function numberIn(frame, kind) {
-  if (kind === "request") return calls.readRequest(frame).ksn;
-  return (kind === "reply" ? calls.readReply(frame) : calls.readRefusal(frame)).ksn;
-}
+/** The key serial number of a frame, as the module reads it, where it does. */
+const numberIn = (frame, kind) =>
+  READERS[kind] ? READERS[kind](frame).ksn : serialIn(frame);
 
 /** Why no transaction has this number; nothing where one may. */
 export function usableNote(ksn) {

@@ -7,7 +7,9 @@ from .support import many
 from .support.call_cases import Chance
 from .support.dukpt import (
     COUNTER_BITS, Registers, counter_of, held, iksn_of, registers_at, serial_text)
-from .support.frames import CODES, REASONS, bytes_of, write_refusal, write_reply, write_request
+from .support.frames import (
+    CODES, REASONS, STATES, bytes_of, reverses, write_refusal, write_reply, write_request,
+    write_reversal, write_reversal_reply)
 from .support.images import image_of
 from .support.log_file import log_image, record
 from .support.page_case import PageCase
@@ -35,6 +37,7 @@ return arguments[0].map((text) => {
 });""" % FRAMES
 KEYS = [bytes.fromhex(key) for _, key in vectors("dukpt.txt")]
 SERIALS = [int(number, 16) for number, _ in vectors("dukpt.txt")]
+STATE_WORDS = {0: "state 00: none stands", 1: "state 01: undone"}
 
 
 def places(at: int, length: int) -> str:
@@ -48,8 +51,12 @@ def parts_of(frame: bytes, at: int) -> list[list[str]]:
         lengths += [("count", 1), ("pan", frame[14]), ("amount", 4), ("block", 8), ("mac", 8)]
     elif frame[3] == 2:
         lengths += [("code", 2), ("mac", 8)]
-    else:
+    elif frame[3] == 3:
         lengths += [("reason", 1)]
+    elif frame[3] == 4:
+        lengths += [("reversed", 10), ("mac", 8)]
+    else:
+        lengths += [("reversed", 10), ("state", 1), ("mac", 8)]
     parts, here = [], 0
     for name, length in lengths:
         parts.append([name, places(at + here, length), upper(frame[here : here + length])])
@@ -127,31 +134,117 @@ class TestFrames(FrameCase):
             meanings = {name: meaning for name, _, _, meaning in found[0]["rows"]}
             self.assertIn(f"amount {amounts[at]},", meanings["amount"])
 
+    def test_reversals_by_hand(self) -> None:
+        """A reversal and its reply, byte by byte: parts, meanings and checks."""
+        number, other = "FFFF9876543210E00002", "FFFF9876543210E00001"
+        front = f"001E0104{number}{other}", f"001F0105{number}{other}01"
+        reversal = write_reversal(KEYS[1], SERIALS[1], SERIALS[0])
+        reply = write_reversal_reply(KEYS[1], SERIALS[1], SERIALS[0], 1)
+        self.assertEqual((upper(reversal[:-8]), upper(reply[:-8])), front)
+        self.set(frame_key=BASE, frame_key_kind="bdk")
+        found, words, *_ = self.read([upper(reversal + reply)])[0]
+        self.assertEqual((words, [it["kind"] for it in found]), ("", ["reversal", "reversal-reply"]))
+        meanings = [[meaning for *_, meaning in it["rows"]] for it in found]
+        numbers = ["key serial number", "key serial number that is reversed"]
+        self.assertEqual(meanings[0], ["30 bytes of contents", "version 1, kind 4: reversal", *numbers,
+                                       "retail MAC under the request key"])
+        self.assertEqual(meanings[1], [
+            "31 bytes of contents", "version 1, kind 5: reversal-reply", *numbers, "state 01: undone",
+            "retail MAC under the response key"])
+        right = {"mac": ["good", "MAC: right under the key of this number."]}
+        self.assertEqual([it["checks"] for it in found], [right, right])
+        self.assert_quiet()
+
+    def test_random_reversals(self) -> None:
+        """Reversals and their replies at random, under each kind of key; with a MAC that is not
+        theirs, and that of the other one, too."""
+        chance, count = Chance(self.chance), CASES * self.times
+        keys, serials = chance.keys(count), chance.usables(count)
+        initials = many.initial_keys(keys, list(map(iksn_of, serials)))
+        own = many.transaction_keys(initials, serials)
+        given = {"bdk": keys, "initial": initials, "transaction": own}
+        for at, serial in enumerate(serials):
+            kind, state = self.chance.choice(list(given)), self.chance.choice(STATES)
+            self.set(frame_key_kind=kind, frame_key=upper(given[kind][at]))
+            other = next(it for it in self.others(chance, serial) if reverses(serial, it))
+            reversal = write_reversal(own[at], serial, other)
+            reply = write_reversal_reply(own[at], serial, other, state)
+            shown = [self.chance.choice((it, it, spoil_mac(it), it[:-8] + mac))
+                     for it, mac in ((reversal, reply[-8:]), (reply, reversal[-8:]))]
+            found, words, *_ = self.read([b"".join(shown).hex(" ")])[0]
+            self.assertEqual(words, "")
+            self.assertEqual([it["checks"]["mac"][0] for it in found],
+                             ["good" if it == right else "bad"
+                              for it, right in zip(shown, (reversal, reply))])
+            self.assertEqual([[row[:3] for row in it["rows"]] for it in found],
+                             [parts_of(shown[0], 0), parts_of(shown[1], len(reversal))])
+            meanings = {name: meaning for name, _, _, meaning in found[1]["rows"]}
+            self.assertEqual(meanings["state"], STATE_WORDS[state])
+
+    def test_each_reversed(self) -> None:
+        """Of two numbers at random, which differ in one bit mostly, a frame is a reversal or is not,
+        and then the second number is wrong. The first may be that of no transaction."""
+        chance, count, right = Chance(self.chance), 5 * CASES * self.times, 0
+        pairs = [(serial, self.chance.choice(list(self.others(chance, serial))))
+                 for serial in chance.serials(count)]
+        self.set(frame_key="")
+        frames = [self.chance.choice((write_reversal(KEYS[0], *it),
+                                      write_reversal_reply(KEYS[0], *it, 1))) for it in pairs]
+        for pair, (found, words, *place) in zip(pairs, self.read(list(map(upper, frames)))):
+            if reverses(*pair):
+                right += 1
+                self.assertEqual((words, len(found)), ("", 1))
+            else:
+                self.assertEqual((place, found), (["14", "23"], []), f"{pair}: {words}")
+                self.assertIn("Bytes 14 to 23: the second number is not reversed: ", words)
+        self.assertTrue(0 < right < count)
+
+    def others(self, chance: Chance, serial: int) -> Sequence[int]:
+        """Numbers that it may reverse, or not."""
+        return (iksn_of(serial) + chance.counter(), serial ^ 1 << self.chance.randrange(80), serial,
+                serial ^ 1 << self.chance.randrange(COUNTER_BITS), chance.serials(1)[0],
+                iksn_of(serial), iksn_of(serial) + 3 ^ counter_of(serial) & 1)
+
     def test_other_keys(self) -> None:
         """Under another number's key the MACs are bad; without a key nothing is checked."""
         request = write_request(KEYS[0], SERIALS[0], "4012345678909", "1234", 1)
         reply = write_reply(KEYS[0], SERIALS[0], "00")
+        reversal = write_reversal(KEYS[0], SERIALS[0], SERIALS[1])
+        undone = write_reversal_reply(KEYS[0], SERIALS[0], SERIALS[1], 0)
+        frames = request + reply + reversal + undone
         self.set(frame_key_kind="transaction", frame_key=upper(KEYS[1]))
-        found = self.read([upper(request + reply)])[0][0]
-        self.assertEqual([it["checks"]["mac"][0] for it in found], ["bad", "bad"])
+        found = self.read([upper(frames)])[0][0]
+        self.assertEqual([it["checks"]["mac"][0] for it in found], ["bad"] * 4)
         self.assertEqual(found[0]["checks"]["pin"][0], "bad")
         self.set(frame_key="")
-        found = self.read([upper(reply + request)])[0][0]
-        self.assertEqual([it["checks"] for it in found], [{}, {}])
+        found = self.read([upper(frames)])[0][0]
+        self.assertEqual([it["checks"] for it in found], [{}] * 4)
 
     def test_damage(self) -> None:
         """Damage is named by its first byte, and what stands before it is still read."""
         request = write_request(KEYS[0], SERIALS[0], "4012345678909", "1234", 1)
         reply, refusal = write_reply(KEYS[0], SERIALS[0], "00"), write_refusal(SERIALS[0], 5)
+        reversal = write_reversal(KEYS[1], SERIALS[1], SERIALS[0])
+        undone = write_reversal_reply(KEYS[1], SERIALS[1], SERIALS[0], 1)
         for front, frames in ((b"", 0), (reply + refusal, 2)):
             at = len(front)
             for place, value, first, last in (
-                    (2, 2, 2, 2), (3, 4, 3, 3), (3, 0, 3, 3), (0, 1, 0, 1), (1, 0x3F, 0, 1),
+                    (2, 2, 2, 2), (3, 6, 3, 3), (3, 0, 3, 3), (3, 4, 0, 1), (3, 5, 0, 1),
+                    (0, 1, 0, 1), (1, 0x3F, 0, 1),
                     (14, 11, 14, 14), (14, 20, 14, 14), (20, 0x3A, 20, 20), (27, 0x2F, 27, 27)):
                 data = front + changed(request, place, value)
                 self.assert_damaged(data, at + first, at + last, frames)
             self.assert_damaged(front + changed(reply, 15, 0x31), at + 14, at + 15, frames)
             self.assert_damaged(front + changed(refusal, 14, 7), at + 14, at + 14, frames)
+            for it in (reversal, undone):
+                for place, value in ((23, 2), (23, 0), (14, 0), (21, 0x1F)):
+                    self.assert_damaged(front + changed(it, place, value), at + 14, at + 23, frames)
+                self.assert_damaged(front + changed(changed(it, 24, 2), 23, 0), at + 14, at + 23,
+                                    frames)
+                self.assert_damaged(front + changed(it, 3, 9 - it[3]), at, at + 1, frames)
+                self.assert_damaged(front + it[:-1], at, at + 1, frames)
+            for state in (2, 0x30, 0x31, 0x80, 0xFF):
+                self.assert_damaged(front + changed(undone, 24, state), at + 24, at + 24, frames)
             self.assert_damaged(front + request[:-1], at, at + 1, frames)
             self.assert_damaged(front + b"\x00", at, at, frames)
         found, words, *_ = self.read([upper(request) + "0"])[0]

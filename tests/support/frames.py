@@ -5,12 +5,14 @@ from dataclasses import dataclass
 from typing import Optional, Union
 
 from .des import triple_encrypted
-from .dukpt import pin_key, request_key, response_key
+from .dukpt import counter_of, iksn_of, pin_key, request_key, response_key, usable
 from .macs import retail_mac
 from .pin_blocks import PAN_LENGTHS, pin_block
 
 CODES = ("00", "14", "30", "51", "55")
 REASONS = range(1, 7)
+# What a reversal found: none stands, or a payment stood and is undone.
+STATES = (0, 1)
 LONGEST_BODY = 62
 # Where the bytes are no request, a refusal has this for its number.
 NO_NUMBER = 0
@@ -68,6 +70,21 @@ def write_reply(key: bytes, serial: int, code: str) -> bytes:
 
 def write_refusal(serial: int, reason: int) -> bytes:
     return framed(b"\x01\x03" + bytes_of(serial) + bytes([reason]))
+
+
+def write_reversal(key: bytes, serial: int, reversed_: int) -> bytes:
+    text = b"\x01\x04" + bytes_of(serial) + bytes_of(reversed_)
+    return framed(text + retail_mac(request_key(key), text))
+
+
+def write_reversal_reply(key: bytes, serial: int, reversed_: int, state: int) -> bytes:
+    text = b"\x01\x05" + bytes_of(serial) + bytes_of(reversed_) + bytes([state])
+    return framed(text + retail_mac(response_key(key), text))
+
+
+def reverses(serial: int, other: int) -> bool:
+    """Whether a reversal under the first number may reverse the second."""
+    return iksn_of(serial) == iksn_of(other) and serial != other and usable(counter_of(other))
 
 
 def body_of_kind(frame: bytes, kind: int) -> Optional[bytes]:
