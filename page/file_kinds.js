@@ -4,7 +4,7 @@
 const FITS = {
   image: (it) => it[0] === 2 || it.length === 350 || it.length === 431,
   log: (it) => it[0] === 1 && it.slice(11, 16).every((byte) => byte === 0),
-  journal: (it) => it[0] === 1 && it[1] === 1,
+  journal: (it) => it[0] === 1 && (it[1] === 1 || it[1] === 2),
 };
 
 /** What the bytes are taken for, and a sentence where they may be something else. */

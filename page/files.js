@@ -1,5 +1,5 @@
 // The panel "Frames and files", its files: the image of a terminal, a log of used numbers, or a
-// journal of payments.
+// journal of payments and reversals.
 import * as calls from "./calls.js";
 import { SPENT, withCounter } from "./counters.js";
 import { STATUS } from "./faults.js";

@@ -1,13 +1,14 @@
-// The panel "Frames and files", its journals: payments in words, and what they come to.
+// The panel "Frames and files", its journals: payments and reversals in words, and what they come to.
 import { withCounter } from "./counters.js";
 import { made, tableOf } from "./fields.js";
-import { CODES } from "./frame_parts.js";
 import { hex } from "./hexadecimal.js";
-import { NUMBER, RECORD, amountOf, isApproved, paymentsIn } from "./journal_parts.js";
-import { earlierOf, numbersAt, repeatsIn } from "./numbers.js";
+import { NUMBER, RECORD, entriesIn, figureOf, isApproved, isReversal } from "./journal_parts.js";
+import { earlierOf, exact, firstsOf, numbersAt, repeatsIn } from "./numbers.js";
 
-const PAYMENT = ["record", "number", "amount", "code", "MAC of the request", "group", "note"];
-const TOTAL = ["initial key serial number", "payments", "approved", "sum of the approved amounts"];
+const ENTRY = ["record", "number", "amount", "code or state", "MAC of the frame", "group", "note"];
+const TOTAL = [
+  "initial key serial number", "payments", "approved", "undone of these", "sum of what stands",
+];
 
 /** A row of cells, by the names of their classes. */
 function rowOf(attributes, cells) {
@@ -16,54 +17,81 @@ function rowOf(attributes, cells) {
   return row;
 }
 
-function paymentRow({ record, first, last, number, amount, code, mac }, earlier) {
+function entryRow({ record, first, last, number, amount, reversed, outcome, mac }, notes) {
   const group = first === last ? "alone" : `records ${first} to ${last}`;
   return rowOf({ "data-record": record }, {
-    record, number: hex(number), amount, code: `${code} ${CODES[code]}`, mac: hex(mac), group,
-    earlier: earlier === undefined ? "" : `also in record ${earlier}`,
+    record, number: hex(number), amount: reversed ? `reversal of ${hex(reversed)}` : amount,
+    code: outcome, mac: hex(mac), group, notes: notes.filter(Boolean).join("; "),
   });
 }
 
-/** Of each initial key serial number: how many payments, how many are approved, and their sum. */
-function totalsOf(journal, { firsts, owners }) {
-  const totals = firsts.map((first) => ({ first, payments: 0, approved: 0, sum: 0n }));
+/** The numbers that are reversed, by the records of the reversals. */
+function reversedIn(journal, owners) {
+  const reversed = new Map();
+  for (const [record, owner] of owners.entries()) {
+    if (isReversal(journal, record)) reversed.set(record, exact(owner, figureOf(journal, record)));
+  }
+  return reversed;
+}
+
+/**
+ * Of each initial key serial number: how many payments, how many of them are approved, how many of
+ * these are undone, and the sum of all others that are approved: of what stands.
+ */
+function totalsOf(journal, { firsts, owners }, undoing) {
+  const totals = firsts.map((first) => ({ first, payments: 0, approved: 0, undone: 0, sum: 0n }));
   for (const [record, owner] of owners.entries()) {
     const total = totals[owner];
-    total.payments += 1;
-    if (isApproved(journal, record)) {
-      total.approved += 1;
-      total.sum += BigInt(amountOf(journal, record));
-    }
+    if (!isReversal(journal, record)) total.payments += 1;
+    if (!isApproved(journal, record)) continue;
+    total.approved += 1;
+    if (undoing(record) === undefined) total.sum += BigInt(figureOf(journal, record));
+    else total.undone += 1;
   }
   return totals;
 }
 
-function totalRow(journal, { first, payments, approved, sum }) {
+function totalRow(journal, { first, payments, approved, undone, sum }) {
   const at = RECORD * first + NUMBER;
   const iksn = hex(withCounter(journal.slice(at, at + 10), 0));
-  return rowOf({ "data-iksn": iksn }, { number: iksn, payments, approved, sum });
+  return rowOf({ "data-iksn": iksn }, { number: iksn, payments, approved, undone, sum });
 }
 
-/** What is shown of a right journal: at most so many payments, and as many sums. */
+/** How many payments and reversals, in words. */
+function counted(payments, reversals) {
+  return reversals ? `${payments} payments and ${reversals} reversals` : `${payments} payments`;
+}
+
+/** What is shown of a right journal: at most so many entries, and as many sums. */
 export function journalParts(journal, most) {
-  const { payments, groups, count } = paymentsIn(journal, most);
+  const { entries, groups, count } = entriesIn(journal, most);
   const records = journal.length / RECORD;
   const { numbers, ...owned } = numbersAt(journal, { count, length: RECORD, place: NUMBER });
-  const totals = totalsOf(journal, owned);
+  const reversed = reversedIn(journal, owned.owners);
+  const reversals = firstsOf(reversed);
+  const undoing = (record) =>
+    isApproved(journal, record) ? reversals.get(numbers[record]) : undefined;
+  const totals = totalsOf(journal, owned, undoing);
   const sum = totals.reduce((whole, it) => whole + it.sum, 0n);
+  const undone = totals.reduce((whole, it) => whole + it.undone, 0);
   const words = [
-    `Journal of ${records} records: ${count} payments in ${groups} groups, room for `
-      + `${records - count} more.`,
-    `Sum of the approved amounts: ${sum}, in the smallest unit of the currency.`,
+    `Journal of ${records} records: ${counted(count - reversed.size, reversed.size)} in ${groups} `
+      + `groups, room for ${records - count} more.`,
+    `Sum of what stands, approved and not undone: ${sum}, in the smallest unit of the currency.`,
   ];
-  const repeated = repeatsIn(numbers);
+  if (undone) words.push(`Undone payments: ${undone}.`);
+  const repeated = repeatsIn(numbers, reversed);
   if (repeated) words.push(`Repeated numbers: ${repeated}.`);
-  if (count > most) words.push(`The first ${most} payments are shown.`);
+  if (count > most) words.push(`The first ${most} records are shown.`);
   if (totals.length > most) words.push(`The sums of the first ${most} terminals are shown.`);
   if (count === 0) return [made("p", words.join(" "))];
-  const earlier = earlierOf(numbers, most);
-  const rows = payments.map((it) => paymentRow(it, earlier.get(it.record)));
+  const earlier = earlierOf(numbers, most, reversed);
+  const notesOf = ({ record }) => [
+    undoing(record) === undefined ? "" : `undone by record ${undoing(record)}`,
+    earlier.has(record) ? `also in record ${earlier.get(record)}` : "",
+  ];
+  const rows = entries.map((it) => entryRow(it, notesOf(it)));
   const sums = totals.slice(0, most).map((it) => totalRow(journal, it));
   return [made("p", words.join(" ")), tableOf(TOTAL, (it) => it.append(...sums)),
-    tableOf(PAYMENT, (it) => it.append(...rows))];
+    tableOf(ENTRY, (it) => it.append(...rows))];
 }

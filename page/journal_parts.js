@@ -1,51 +1,71 @@
-// Journals of payments: the first byte that breaks a rule, and the payments (docs/FORMATS.md, "Disk
-// of a journal"). A check answers with words, the first and the last byte, or with nothing.
-import { counterOf, isUsable } from "./counters.js";
-import { CODES } from "./frame_parts.js";
+// Journals: the first byte that breaks a rule, and the entries, which are payments and reversals
+// (docs/FORMATS.md, "Disk of a journal"). A check answers with words, the first and the last byte, or
+// with nothing.
+import { SPENT, counterOf, isUsable, withCounter } from "./counters.js";
+import { CODES, STATES } from "./frame_parts.js";
 
 export const RECORD = 32;
 const OPEN = 1;
 const PAYMENT = 1;
+const REVERSAL = 2;
 const MOST_FOLLOWERS = 4095;
 // Where the fields of a record begin.
 const KIND = 1;
 const FOLLOWERS = 2;
 export const NUMBER = 4;
-const AMOUNT = 14;
-const CODE = 18;
+// The amount of a payment, or the counter that is reversed; the code of a payment, or a state.
+const FIGURE = 14;
+const OUTCOME = 18;
 const MAC = 19;
 const ZEROS = 27;
-const KNOWN_CODES = new Set(Object.keys(CODES).map(Number));
+// The codes and the states by their bytes, in words.
+const CODE_TEXTS = Object.fromEntries(
+  Object.entries(CODES).map(([code, words]) => [Number(code), `${code} ${words}`]));
+// A state is kept as no code is: 128 is added.
+const STATE_TEXTS = { 128: `00 ${STATES[0]}`, 129: `01 ${STATES[1]}` };
+// Of each kind of record what it has, and which outcomes.
+const KINDS = {
+  [PAYMENT]: { name: "a payment", outcome: "code", texts: CODE_TEXTS, all: "0, 14, 30, 51 or 55" },
+  [REVERSAL]: { name: "a reversal", outcome: "state", texts: STATE_TEXTS, all: "129 or 128" },
+};
 
 const followersAt = (journal, at) => journal[at + FOLLOWERS] << 8 | journal[at + FOLLOWERS + 1];
 
-/** The amount of a payment, and whether it is approved. */
-export const amountOf = (journal, record) =>
-  new DataView(journal.buffer).getUint32(RECORD * record + AMOUNT);
-export const isApproved = (journal, record) => journal[RECORD * record + CODE] === 0;
+export const isReversal = (journal, record) => journal[RECORD * record + KIND] === REVERSAL;
 
-/** The fields of a payment; its code has two digits, as in frames. */
+/** The amount of a payment, or the counter of the number that a reversal reverses. */
+export const figureOf = (journal, record) =>
+  new DataView(journal.buffer).getUint32(RECORD * record + FIGURE);
+
+/** Whether an entry is a payment that was approved. */
+export const isApproved = (journal, record) =>
+  !isReversal(journal, record) && journal[RECORD * record + OUTCOME] === 0;
+
+/** The fields of an entry: a payment has an amount, and a reversal the number that it reverses. */
 function fieldsOf(journal, record) {
   const at = RECORD * record;
-  const code = String(journal[at + CODE]).padStart(2, "0");
-  const number = journal.slice(at + NUMBER, at + AMOUNT);
-  return { number, amount: amountOf(journal, record), code, mac: journal.slice(at + MAC, at + ZEROS) };
+  const number = journal.slice(at + NUMBER, at + FIGURE);
+  const figure = figureOf(journal, record);
+  const own = isReversal(journal, record)
+    ? { reversed: withCounter(number, figure) } : { amount: figure };
+  const outcome = KINDS[journal[at + KIND]].texts[journal[at + OUTCOME]];
+  return { number, ...own, outcome, mac: journal.slice(at + MAC, at + ZEROS) };
 }
 
-/** Of a right journal the first payments, at most so many, and how many payments and groups. */
-export function paymentsIn(journal, most) {
-  const payments = [];
+/** Of a right journal the first entries, at most so many, and how many entries and groups. */
+export function entriesIn(journal, most) {
+  const entries = [];
   let groups = 0;
   let first = 0;
   while (journal[RECORD * first] === OPEN) {
     const last = first + followersAt(journal, RECORD * first);
     for (let record = first; record <= last && record < most; record += 1) {
-      payments.push({ record, first, last, ...fieldsOf(journal, record) });
+      entries.push({ record, first, last, ...fieldsOf(journal, record) });
     }
     first = last + 1;
     groups += 1;
   }
-  return { payments, groups, count: first };
+  return { entries, groups, count: first };
 }
 
 /** What is wrong with a journal. */
@@ -93,26 +113,39 @@ function wrongFollower(followers) {
   return `stands inside a group, and says that ${followers} records follow, and not 0`;
 }
 
-/** What is wrong behind the gate of a payment's record; `wrong` says what is with its followers. */
+/** What is wrong behind the gate of an entry's record; `wrong` says what is with its followers. */
 function damageOfRecord(journal, at, wrong) {
   const found = (words, first, last = first) =>
     [`record ${at / RECORD} ${words}`, at + first, at + last];
-  if (journal[at + KIND] !== PAYMENT) {
-    return found(`has kind ${journal[at + KIND]}, and not 1, a payment`, KIND);
+  const kind = KINDS[journal[at + KIND]];
+  if (!kind) {
+    return found(`has kind ${journal[at + KIND]}, and not 1, a payment, or 2, a reversal`, KIND);
   }
   const words = wrong();
   if (words) return found(words, FOLLOWERS, FOLLOWERS + 1);
   if (!isUsable(counterOf(journal, at + NUMBER))) {
     const why = "its counter is zero or has more than ten one bits";
-    return found(`has the number of no transaction: ${why}`, AMOUNT - 3, AMOUNT - 1);
+    return found(`has the number of no transaction: ${why}`, FIGURE - 3, FIGURE - 1);
   }
-  if (!KNOWN_CODES.has(journal[at + CODE])) {
-    return found(`has code ${journal[at + CODE]}, and not 0, 14, 30, 51 or 55`, CODE);
+  const wrongNumber = isReversal(journal, at / RECORD) && whyNotReversed(journal, at);
+  if (wrongNumber) {
+    return found(`reverses a number that it may not: ${wrongNumber}`, FIGURE, OUTCOME - 1);
+  }
+  if (!kind.texts[journal[at + OUTCOME]]) {
+    return found(`has ${kind.outcome} ${journal[at + OUTCOME]}, and not ${kind.all}`, OUTCOME);
   }
   for (let place = ZEROS; place < RECORD; place += 1) {
-    if (journal[at + place]) return found("has a payment, and lacks its zeros", place);
+    if (journal[at + place]) return found(`has ${kind.name}, and lacks its zeros`, place);
   }
   return undefined;
+}
+
+/** Why the number that a reversal reverses, by its record, is none that it may; or nothing. */
+function whyNotReversed(journal, at) {
+  const counter = figureOf(journal, at / RECORD);
+  if (counter >= SPENT) return "its counter has more than 21 bits";
+  if (!isUsable(counter)) return "its counter is zero or has more than ten one bits";
+  return counter === counterOf(journal, at + NUMBER) ? "it is its own" : undefined;
 }
 
 /** What is wrong behind the last group. */

@@ -24,24 +24,55 @@ export function numbersAt(bytes, { count, length, place }) {
       known.set(iksn, owner);
     }
     owners[record] = owner;
-    numbers[record] = owner * SPENT + counterOf(bytes, at);
+    numbers[record] = exact(owner, counterOf(bytes, at));
   }
   return { firsts, owners, numbers };
 }
 
-/** How many of the numbers stand before in their list. */
-export function repeatsIn(numbers) {
-  const sorted = numbers.slice().sort();
-  return sorted.reduce((sum, it, at) => sum + (it === sorted[at - 1] ? 1 : 0), 0);
+/** The number of an owner with this counter as one that is exact. */
+export const exact = (owner, counter) => owner * SPENT + counter;
+
+// Records that reverse no number: a log has no others.
+const NONE = new Map();
+
+/** Of numbers, each with the record that reverses it, the first record of each. */
+export function firstsOf(reversed) {
+  const first = new Map();
+  for (const [record, number] of reversed) if (!first.has(number)) first.set(number, record);
+  return first;
 }
 
-/** Of the first numbers, at most so many, each that stands before: its record, and the first one. */
-export function earlierOf(numbers, most) {
+/**
+ * How many of the numbers were used before: they stand in an earlier record, or one reverses them.
+ * `reversed` has the numbers that are reversed, by the records that do.
+ */
+export function repeatsIn(numbers, reversed = NONE) {
+  const sorted = numbers.slice().sort();
+  const twice = sorted.reduce((sum, it, at) => sum + (it === sorted[at - 1] ? 1 : 0), 0);
+  return twice + usedAfterReversal(numbers, reversed);
+}
+
+/** How many of the numbers were reversed before they stand in a record for the first time. */
+function usedAfterReversal(numbers, reversed) {
+  if (reversed.size === 0) return 0;
+  const reversals = firstsOf(reversed);
+  let count = 0;
+  for (const [record, number] of numbers.entries()) {
+    if (reversals.get(number) < record) count += 1;
+    reversals.delete(number);
+  }
+  return count;
+}
+
+/** Of the first numbers, at most so many, each that was used before: its record, and the first one. */
+export function earlierOf(numbers, most, reversed = NONE) {
   const first = new Map();
   const earlier = new Map();
   for (const [record, number] of numbers.subarray(0, most).entries()) {
     if (first.has(number)) earlier.set(record, first.get(number));
     else first.set(number, record);
+    const other = reversed.get(record);
+    if (other !== undefined && !first.has(other)) first.set(other, record);
   }
   return earlier;
 }

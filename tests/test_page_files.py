@@ -12,8 +12,8 @@ from .support.dukpt import serial_text, usable
 from .support.log_file import log_image
 from .support.page_file_case import LOOK, MOST_ROWS, FileCase, seen
 from .support.page_journals import (
-    BY_HAND, BY_HAND_ROWS, BY_HAND_SUMS, CODES, OPEN, RECORD, Payment, Place, Row, journal_of, put,
-    rows_of)
+    BY_HAND, BY_HAND_ROWS, BY_HAND_SUMS, CODES, OPEN, RECORD, REVERSAL, REVERSED_BY_HAND, UNDONE,
+    Row, Payment, Place, Reversal, journal_of, put, rows_of)
 from .support.page_values import BASE, upper
 from .test_page_manners import FAINT, LEAST_CONTRAST, SCHEMES, WIDTHS
 
@@ -95,9 +95,12 @@ class TestKinds(FileCase):
     def test_guesses(self) -> None:
         log = log_image([self.serial_bytes(0xFF) for _ in range(3)], 6)
         both = log_image([self.serial_bytes(OPEN)], 4)
+        reversed_ = log_image([self.serial_bytes(REVERSAL)], 4)
         no_log = log[:13] + b"\x01" + log[14:]
         journal = journal_of(self.journals.groups(3), 2)
+        undone = journal_of([[self.journals.reversal([1])], *self.journals.groups(2)], 2)
         for data, kind, is_sure in ((log, "log", True), (both, "log", False),
+                                    (reversed_, "log", False), (undone, "journal", True),
                                     (bytes(64), "log", False), (bytes(48), "log", False),
                                     (no_log, "", False), (journal, "journal", True),
                                     (journal + b"\x00", "", True), (b"\x02" + bytes(63), "", True)):
@@ -139,10 +142,10 @@ class TestKinds(FileCase):
 
 class TestLooks(FileCase):
     def test_files(self) -> None:
-        """A log and a journal, right and damaged, and a file that is doubted: readable in both
+        """A log and journals, right and damaged, and a file that is doubted: readable in both
         schemes, and on narrow screens no wider than these."""
         right = bytes.fromhex(BY_HAND)
-        files = (right, put(right, 1, 18, b"\x01")[0], bytes(64),
+        files = (right, bytes.fromhex(REVERSED_BY_HAND), put(right, 1, 18, b"\x01")[0], bytes(64),
                  log_image([serial.to_bytes(10, "big") for serial in (1, 2, 1, 0)], 5))
         for scheme in SCHEMES:
             self.browser.prefer(prefers_color_scheme=scheme)
@@ -159,18 +162,19 @@ class TestLooks(FileCase):
 
 @dataclass(frozen=True)
 class Million:
-    """A journal of a million payments: the first rows, and of each of its terminals in their order
-    the initial key serial number, how many payments, how many approved, and their sum."""
+    """A journal of a million payments, the first of which is undone by the last record: the first
+    rows, and of each of its terminals in their order the initial key serial number, how many payments,
+    how many approved, how many of these undone, and the sum of the others."""
 
     data: bytes
-    rows: list[Row]
+    rows: list[list[str]]
     groups: int
     sums: list[list[int]]
 
 
 def a_million(chance: random.Random) -> Million:
-    """A million payments of 1,500 terminals, some in groups."""
-    sums = [[chance.getrandbits(59) << 21, 0, 0, 0] for _ in range(1500)]
+    """A million payments of 1,500 terminals, some in groups, and one reversal."""
+    sums = [[chance.getrandbits(59) << 21, 0, 0, 0, 0] for _ in range(1500)]
     counters = [it for it in range(1, 4096) if usable(it)]
     pack = struct.Struct(">BBHQHIB8s5x").pack
     amounts, codes = chance.choices(range(1 << 32), k=997), list(CODES)
@@ -186,12 +190,17 @@ def a_million(chance: random.Random) -> Million:
             serial, mac = total[0] + counters[at // 1500], at.to_bytes(8, "big")
             total[1] += 1
             total[2] += code == 0
-            total[3] += amount if code == 0 else 0
+            total[4] += amount if code == 0 else 0
             pieces.append(pack(at == first, 1, last - first if at == first else 0, serial >> 16,
                                serial & 0xFFFF, amount, code, mac))
             if at < MOST_ROWS:
                 rows.append((first, last, Payment(serial, amount, code, mac)))
-    return Million(b"".join(pieces) + bytes(5 * RECORD), rows, groups, sums)
+    undoing = Reversal(sums[0][0] + counters[-1], sums[0][0] + counters[0], UNDONE, bytes(8))
+    pieces.append(undoing.record(OPEN))
+    sums[0][3:] = [1, sums[0][4] - amounts[0]]
+    shown = rows_of(rows)
+    shown[0][-1] = "undone by record 1000000"
+    return Million(b"".join(pieces) + bytes(5 * RECORD), shown, groups + 1, sums)
 
 
 class TestLarge(FileCase):
@@ -210,15 +219,16 @@ class TestLarge(FileCase):
         spent = self.browser.thread_milliseconds() - began
         self.tells(f"a million payments are read and shown in {spent:.0f} ms of processor time")
         found = self.look()
-        self.assertEqual(found.rows, rows_of(made.rows))
+        self.assertEqual(found.rows, made.rows)
         self.assertEqual(found.sums, [[serial_text(iksn), *map(str, totals)]
                                       for iksn, *totals in made.sums[:MOST_ROWS]])
         whole = sum(it[-1] for it in made.sums)
         self.assertEqual(found.words, (
-            f"Journal of 1000005 records: 1000000 payments in {made.groups} groups, "
-            "room for 5 more."
-            f" Sum of the approved amounts: {whole}, in the smallest unit of the currency."
-            f" The first {MOST_ROWS} payments are shown."
+            "Journal of 1000006 records: 1000000 payments and 1 reversals in"
+            f" {made.groups} groups, room for 5 more."
+            f" Sum of what stands, approved and not undone: {whole}, in the smallest unit of the"
+            " currency. Undone payments: 1."
+            f" The first {MOST_ROWS} records are shown."
             f" The sums of the first {MOST_ROWS} terminals are shown."))
         self.browser.run("document.querySelector('#file-found table').dataset.old = 'yes';")
         self.type("frame-key", BASE[:-1])

@@ -14,6 +14,7 @@ from . import test_page_manners, test_page_panels, test_page_policy, test_page_r
 from . import test_page_speed
 from .support.case import Case
 from .support.page_case import PageCase
+from .support.page_file_case import FileCase
 
 # A text of the page's, and what stands in its place.
 Change = tuple[str, str]
@@ -59,17 +60,73 @@ PLANTS = (
     Plant("the payments of a terminal and the approved ones are swapped",
           [("iksn, payments, approved,", "iksn, payments: approved, approved: payments,")],
           test_page_journals.TestJournals, "test_random"),
-    Plant("a sum has the refused amounts too", [("if (isApproved(journal, record)) {", "{")],
+    Plant("a sum has the refused amounts too",
+          [("    if (!isApproved(journal, record)) continue;\n", "")],
           test_page_journals.TestJournals, "test_random"),
-    Plant("the amount of a payment is read from its other end",
-          [("getUint32(RECORD * record + AMOUNT)", "getUint32(RECORD * record + AMOUNT, true)")],
+    Plant("a sum has the amounts that are undone too",
+          [("else total.undone += 1;",
+            "else { total.undone += 1; total.sum += BigInt(figureOf(journal, record)); }")],
+          test_page_journals.TestJournals, "test_reversals_by_hand"),
+    Plant("a reversal is counted as a payment",
+          [("if (!isReversal(journal, record)) total.payments += 1;", "total.payments += 1;")],
+          test_page_journals.TestJournals, "test_random"),
+    Plant("a reversal of none is an approved payment",
+          [("  !isReversal(journal, record) && journal[RECORD * record + OUTCOME]",
+            "  journal[RECORD * record + OUTCOME]")],
+          test_page_journals.TestJournals, "test_reversals_by_hand"),
+    Plant("the last reversal of a number is named, and not the first",
+          [("if (!first.has(number)) first.set(number, record);", "first.set(number, record);")],
+          test_page_journals.TestJournals, "test_reversals_by_hand"),
+    Plant("a declined payment is undone",
+          [("isApproved(journal, record) ? reversals.get(numbers[record]) : undefined",
+            "reversals.get(numbers[record])")],
+          test_page_journals.TestJournals, "test_reversals_by_hand"),
+    Plant("a reversed number is not counted as used",
+          [("if (reversals.get(number) < record) count += 1;", "")],
+          test_page_journals.TestJournals, "test_random"),
+    Plant("a payment that is reversed behind it repeats its number",
+          [("if (reversals.get(number) < record) count += 1;",
+            "if (reversals.has(number)) count += 1;")],
+          test_page_journals.TestJournals, "test_random"),
+    Plant("a reversed number is not said to be used",
+          [("if (other !== undefined && !first.has(other)) first.set(other, record);", "")],
+          test_page_journals.TestJournals, "test_reversals_by_hand"),
+    Plant("a record may reverse its own number",
+          [('counter === counterOf(journal, at + NUMBER) ? "it is its own" : undefined', "undefined")],
+          test_page_journals.TestDamage, "test_each"),
+    Plant("a record may reverse the number of no transaction",
+          [('if (!isUsable(counter)) return "its counter', 'if (!counter) return "its counter')],
+          test_page_journals.TestDamage, "test_each"),
+    Plant("a state is read as a code",
+          [('outcome: "state", texts: STATE_TEXTS', 'outcome: "state", texts: CODE_TEXTS')],
+          test_page_journals.TestDamage, "test_each_byte"),
+    Plant("a journal that begins with a reversal is none",
+          [("(it[1] === 1 || it[1] === 2)", "it[1] === 1")],
+          test_page_journals.TestJournals, "test_reversals_by_hand"),
+    Plant("a frame may reverse a number of another terminal",
+          [("if (hex(withCounter(own, 0)) !== hex(withCounter(other, 0))) {", "if (!own) {")],
+          test_page_frames.TestFrames, "test_each_reversed"),
+    Plant("a frame may reverse its own number",
+          [('if (counterOf(own) === counterOf(other)) return "it is the first one";', "")],
+          test_page_frames.TestFrames, "test_each_reversed"),
+    Plant("a reversal has the MAC of a reply",
+          [("{ reversal: calls.requestKey,", "{ reversal: calls.responseKey,")],
+          test_page_frames.TestFrames, "test_reversals_by_hand"),
+    Plant("the MAC of a reversal's reply is not compared",
+          [("throw new Fault(STATUS.BAD_MAC);", ";")],
+          test_page_frames.TestFrames, "test_random_reversals"),
+    Plant("the states are swapped",
+          [('{ 0: "none stands", 1: "undone" }', '{ 1: "none stands", 0: "undone" }')],
+          test_page_frames.TestFrames, "test_random_reversals"),
+    Plant("the figure of a record is read from its other end",
+          [("getUint32(RECORD * record + FIGURE)", "getUint32(RECORD * record + FIGURE, true)")],
           test_page_journals.TestJournals, "test_random"),
     Plant("the followers of a group are read from their other end",
           [("journal[at + FOLLOWERS] << 8 | journal[at + FOLLOWERS + 1]",
             "journal[at + FOLLOWERS + 1] << 8 | journal[at + FOLLOWERS]")],
           test_page_journals.TestJournals, "test_by_hand"),
     Plant("a payment stands one record too low",
-          [("payments.push({ record,", "payments.push({ record: record + 1,")],
+          [("entries.push({ record,", "entries.push({ record: record + 1,")],
           test_page_journals.TestJournals, "test_random"),
     Plant("damage of a record is named one byte too low",
           [("at + first, at + last]", "at + first + 1, at + last + 1]")],
@@ -81,7 +138,8 @@ PLANTS = (
           test_page_journals.TestDamage, "test_each"),
     Plant("a closed record ends no groups", [("return damageBehind(journal, at);", "")],
           test_page_journals.TestDamage, "test_each"),
-    Plant("a repeated number is not said", [(": `also in record ${earlier}`", ': ""')],
+    Plant("a repeated number is not said",
+          [("earlier.has(record) ? `also in record ${earlier.get(record)}` : ", "")],
           test_page_journals.TestJournals, "test_random"),
     Plant("the payments of a file stay behind the damage of another one",
           [("  found.replaceChildren();\n  delete found.dataset.kind;\n", "")],
@@ -92,7 +150,7 @@ PLANTS = (
     Plant("a file that is read late takes the place of another one",
           [("if (own !== asked) return;", "")], test_page_files.TestStale, "test_overtaken"),
     Plant("a log and a journal are not told apart",
-          [("it[0] === 1 && it[1] === 1", "it[0] === 1 && it[2] === 1")],
+          [("it[0] === 1 && (it[1] === 1 ||", "it[0] === 1 && (it[2] === 1 ||")],
           test_page_files.TestKinds, "test_guesses"),
     Plant("a step of the slider takes 20 ms more",
           [("      moved(Number(slider.value));", BUSY + "      moved(Number(slider.value));")],
@@ -120,15 +178,21 @@ PLANTS = (
 class TestPlanted(Case):
     weight = 10
 
-    def test_each(self) -> None:
+    def test_files(self) -> None:
+        self.try_each([it for it in PLANTS if issubclass(it.case, FileCase)])
+
+    def test_panels(self) -> None:
+        self.try_each([it for it in PLANTS if not issubclass(it.case, FileCase)])
+
+    def try_each(self, plants: Sequence[Plant]) -> None:
         page = PageCase.path.read_text(encoding="utf-8")
         home = self.folder()
-        for plant in PLANTS:
+        for plant in plants:
             with self.subTest(plant.what):
                 copy = home / "dukpt.html"
                 copy.write_text(self.planted(page, plant), encoding="utf-8")
                 self.check_found(plant, copy)
-        self.tells(f"{len(PLANTS)} faults")
+        self.tells(f"{len(plants)} faults")
 
     def planted(self, page: str, plant: Plant) -> str:
         """The page with a fault, and with a policy that knows its bytes."""

@@ -6,7 +6,7 @@ from __future__ import annotations
 
 import random
 from dataclasses import dataclass
-from typing import Any, Callable, Optional, Sequence, Union
+from typing import Any, Callable, Iterator, Optional, Sequence, Union
 
 from .dukpt import counter_of, iksn_of, serial_text, usable
 
@@ -17,8 +17,9 @@ OPEN = 1
 PAYMENT, REVERSAL = 1, 2
 PAYMENTS_ALONE = (PAYMENT,)
 BOTH_KINDS = (PAYMENT, REVERSAL)
-# The states that a reversal is told, and what is added to them in a record.
+# The states that a reversal is told, and what is shown of each; and what is added to them in a record.
 NONE_STANDS, UNDONE = 0, 1
+SHOWN_STATES = {NONE_STANDS: "00 none stands", UNDONE: "01 undone"}
 OF_A_STATE = 128
 CODES = {0: "approved", 14: "no such card", 30: "PIN block unreadable",
          51: "over the card's limit", 55: "wrong PIN"}
@@ -39,8 +40,40 @@ BY_HAND_ROWS = [
     ["2", "0123456789ABCDE00001", "4294967295", "00 approved", "1112131415161718",
      "records 1 to 2", ""],
 ]
-BY_HAND_SUMS = [["FFFF9876543210E00000", "2", "1", "1"],
-                ["0123456789ABCDE00000", "1", "1", "4294967295"]]
+BY_HAND_SUMS = [["FFFF9876543210E00000", "2", "1", "0", "1"],
+                ["0123456789ABCDE00000", "1", "1", "0", "4294967295"]]
+# One that begins with a reversal of a number that never came. A payment of 700 is undone, twice; one
+# of 20 stands; a declined one is reversed. The last one, of 3, has the number that was reversed first.
+REVERSED_BY_HAND = """
+01 02 0000 FFFF9876543210E00001 00000008 80 A1A2A3A4A5A6A7A8 0000000000
+01 01 0001 FFFF9876543210E00002 000002BC 00 0102030405060708 0000000000
+02 01 0000 FFFF9876543210E00004 00000014 00 1112131415161718 0000000000
+01 02 0000 FFFF9876543210E00005 00000002 81 2122232425262728 0000000000
+01 01 0002 0123456789ABCDE00001 00000005 33 3132333435363738 0000000000
+00 02 0000 FFFF9876543210E00006 00000002 81 4142434445464748 0000000000
+FF 02 0000 0123456789ABCDE00002 00000001 80 5152535455565758 0000000000
+01 01 0000 FFFF9876543210E00008 00000003 00 6162636465666768 0000000000
+00 02 0007 0000000000000000FFFF FFFFFFFF FF FFFFFFFFFFFFFFFF FFFFFFFFFF
+"""
+REVERSED_BY_HAND_ROWS = [
+    ["0", "FFFF9876543210E00001", "reversal of FFFF9876543210E00008", "00 none stands",
+     "A1A2A3A4A5A6A7A8", "alone", ""],
+    ["1", "FFFF9876543210E00002", "700", "00 approved", "0102030405060708", "records 1 to 2",
+     "undone by record 3"],
+    ["2", "FFFF9876543210E00004", "20", "00 approved", "1112131415161718", "records 1 to 2", ""],
+    ["3", "FFFF9876543210E00005", "reversal of FFFF9876543210E00002", "01 undone",
+     "2122232425262728", "alone", ""],
+    ["4", "0123456789ABCDE00001", "5", "51 over the card's limit", "3132333435363738",
+     "records 4 to 6", ""],
+    ["5", "FFFF9876543210E00006", "reversal of FFFF9876543210E00002", "01 undone",
+     "4142434445464748", "records 4 to 6", ""],
+    ["6", "0123456789ABCDE00002", "reversal of 0123456789ABCDE00001", "00 none stands",
+     "5152535455565758", "records 4 to 6", ""],
+    ["7", "FFFF9876543210E00008", "3", "00 approved", "6162636465666768", "alone",
+     "undone by record 0; also in record 0"],
+]
+REVERSED_BY_HAND_SUMS = [["FFFF9876543210E00000", "3", "3", "2", "20"],
+                         ["0123456789ABCDE00000", "1", "0", "0", "0"]]
 
 
 @dataclass(frozen=True)
@@ -161,45 +194,80 @@ def wrong_bytes(
 
 @dataclass(frozen=True)
 class Total:
-    """What the payments of an initial key serial number come to."""
+    """What the payments of an initial key serial number come to: how many, how many of these were
+    approved, how many of those are undone, and the amount of the others that were approved."""
 
     payments: int = 0
     approved: int = 0
+    undone: int = 0
     amount: int = 0
 
 
-def totals_of(payments: Sequence[Payment]) -> dict[int, Total]:
-    """The totals by initial key serial number, in the order of the first payments."""
-    found: dict[int, Total] = {}
-    for it in payments:
-        old = found.get(iksn_of(it.serial), Total())
-        is_approved = it.code == 0
-        found[iksn_of(it.serial)] = Total(
-            old.payments + 1, old.approved + is_approved, old.amount + is_approved * it.amount)
-    return found
+def totals_of(entries: Group) -> dict[int, Total]:
+    """The totals by initial key serial number, in the order of the first entries."""
+    reversed_ = {it.reversed for it in entries if isinstance(it, Reversal)}
+    return {iksn: total_of([it for it in entries if iksn_of(it.serial) == iksn], reversed_)
+            for iksn in dict.fromkeys(iksn_of(it.serial) for it in entries)}
+
+
+def total_of(entries: Group, reversed_: set[int]) -> Total:
+    payments = [it for it in entries if isinstance(it, Payment)]
+    approved = [it for it in payments if it.code == 0]
+    standing = [it for it in approved if it.serial not in reversed_]
+    return Total(len(payments), len(approved), len(approved) - len(standing),
+                 sum(it.amount for it in standing))
 
 
 # What the page shows of them
 
 
 def rows_of(rows: Sequence[Row]) -> list[list[str]]:
-    """The rows that payments have."""
-    shown, first_records = [], {}
+    """The rows that entries have."""
+    entries = [it for _, _, it in rows]
+    earlier, undone = dict(repeats_in(entries)), dict(undone_in(entries))
+    shown = []
     for record, (first, last, it) in enumerate(rows):
-        earlier = first_records.setdefault(it.serial, record)
+        notes = [f"undone by record {undone[record]}"] if record in undone else []
+        notes += [f"also in record {earlier[record]}"] if record in earlier else []
         shown.append([
-            str(record), serial_text(it.serial), str(it.amount), f"{it.code:02} {CODES[it.code]}",
-            it.mac.hex().upper(), "alone" if first == last else f"records {first} to {last}",
-            "" if earlier == record else f"also in record {earlier}"])
+            str(record), serial_text(it.serial), *decided(it), it.mac.hex().upper(),
+            "alone" if first == last else f"records {first} to {last}", "; ".join(notes)])
     return shown
 
 
+def decided(entry: Entry) -> tuple[str, str]:
+    """What was asked for, and what came of it."""
+    if isinstance(entry, Reversal):
+        return f"reversal of {serial_text(entry.reversed)}", SHOWN_STATES[entry.state]
+    return str(entry.amount), f"{entry.code:02} {CODES[entry.code]}"
+
+
+def repeats_in(entries: Group) -> Iterator[tuple[int, int]]:
+    """Of each entry whose number was used before its record, and the first one that used it. An
+    entry uses its own number, and a reversal the one that it reverses."""
+    first: dict[int, int] = {}
+    for record, it in enumerate(entries):
+        if it.serial in first:
+            yield record, first[it.serial]
+        for number in (it.serial, it.reversed) if isinstance(it, Reversal) else (it.serial,):
+            first.setdefault(number, record)
+
+
+def undone_in(entries: Group) -> Iterator[tuple[int, int]]:
+    """Of each approved payment that is reversed its record, and the first one that reverses it."""
+    reversals = {it.reversed: record for record, it in reversed(list(enumerate(entries)))
+                 if isinstance(it, Reversal)}
+    for record, it in enumerate(entries):
+        if isinstance(it, Payment) and it.code == 0 and it.serial in reversals:
+            yield record, reversals[it.serial]
+
+
 def sums_of(rows: Sequence[Row]) -> list[list[str]]:
-    return [[serial_text(iksn), str(it.payments), str(it.approved), str(it.amount)]
+    return [[serial_text(iksn), *map(str, (it.payments, it.approved, it.undone, it.amount))]
             for iksn, it in totals_of([it for _, _, it in rows]).items()]
 
 
-def rows_in(groups: Sequence[Sequence[Payment]]) -> list[Row]:
+def rows_in(groups: Sequence[Group]) -> list[Row]:
     """The rows of groups, as they were given and not as they were written."""
     rows: list[Row] = []
     for group in groups:
@@ -263,6 +331,7 @@ class Journals:
         return groups
 
     def journal(self, count: int) -> tuple[list[list[Payment]], bytes]:
+        """One of payments alone."""
         groups = self.groups(count)
         return groups, journal_of(groups, self.chance.randrange(6), self.chance)
 
@@ -289,32 +358,60 @@ def put(data: bytes, record: int, at: int, value: bytes) -> tuple[bytes, Place]:
     return data[:first] + value + data[first + len(value) :], Place(first, first + len(value) - 1)
 
 
-def any_payment(journals: Journals, groups: Sequence[Group]) -> int:
+def any_entry(journals: Journals, groups: Sequence[Group]) -> int:
     return journals.chance.randrange(starts_of(groups)[-1])
 
 
+def any_of(kind: type, journals: Journals, groups: Sequence[Group]) -> int:
+    entries = [it for group in groups for it in group]
+    return journals.chance.choice([at for at, it in enumerate(entries) if isinstance(it, kind)])
+
+
 def unknown_kind(journals: Journals, groups: Sequence[Group], data: bytes) -> tuple[bytes, Place]:
-    kind = journals.chance.choice((0, 2, journals.chance.randint(2, 255)))
-    return put(data, any_payment(journals, groups), 1, bytes([kind]))
+    kind = journals.chance.choice((0, 3, journals.chance.randint(3, 255)))
+    return put(data, any_entry(journals, groups), 1, bytes([kind]))
 
 
 def no_code(journals: Journals, groups: Sequence[Group], data: bytes) -> tuple[bytes, Place]:
     code = journals.chance.choice([it for it in range(256) if it not in CODES])
-    return put(data, any_payment(journals, groups), 18, bytes([code]))
+    return put(data, any_of(Payment, journals, groups), 18, bytes([code]))
+
+
+def no_state(journals: Journals, groups: Sequence[Group], data: bytes) -> tuple[bytes, Place]:
+    state = journals.chance.choice([it for it in range(256) if it not in STATES])
+    return put(data, any_of(Reversal, journals, groups), 18, bytes([state]))
+
+
+def unusable_reversed(journals: Journals, groups: Sequence[Group], data: bytes
+                      ) -> tuple[bytes, Place]:
+    """No number has the counter that is reversed: it is zero, has many one bits, or is too long."""
+    ones = journals.chance.choice((0, 11, 21))
+    counter = sum(1 << it for it in journals.chance.sample(range(21), ones))
+    long = (1 << 21, 1 << 24 | 1, journals.chance.randrange(1 << 21, 1 << 32))
+    value = journals.chance.choice((counter, journals.chance.choice(long)))
+    return put(data, any_of(Reversal, journals, groups), 14, value.to_bytes(4, "big"))
+
+
+def own_reversed(journals: Journals, groups: Sequence[Group], data: bytes
+                 ) -> tuple[bytes, Place]:
+    """A reversal is of its own number."""
+    record = any_of(Reversal, journals, groups)
+    own = counter_of(int.from_bytes(data[RECORD * record + 4 : RECORD * record + 14], "big"))
+    return put(data, record, 14, own.to_bytes(4, "big"))
 
 
 def unusable_counter(journals: Journals, groups: Sequence[Group], data: bytes
                      ) -> tuple[bytes, Place]:
     ones = journals.chance.choice((0, 11, 21))
     counter = sum(1 << it for it in journals.chance.sample(range(21), ones))
-    record = any_payment(journals, groups)
+    record = any_entry(journals, groups)
     front = data[RECORD * record + 11] & 0xE0
     return put(data, record, 11, (front << 16 | counter).to_bytes(3, "big"))
 
 
 def no_zeros(journals: Journals, groups: Sequence[Group], data: bytes) -> tuple[bytes, Place]:
     at, value = journals.chance.randrange(27, RECORD), journals.chance.randint(1, 255)
-    return put(data, any_payment(journals, groups), at, bytes([value]))
+    return put(data, any_entry(journals, groups), at, bytes([value]))
 
 
 def open_inside(journals: Journals, groups: Sequence[Group], data: bytes) -> tuple[bytes, Place]:
@@ -365,6 +462,8 @@ def broken_size(journals: Journals, groups: Sequence[Group], data: bytes) -> tup
 DAMAGES: tuple[Damage, ...] = (
     unknown_kind, no_code, unusable_counter, no_zeros, open_inside, open_behind,
     following_follower, too_many, past_the_end, broken_size)
+# Those of a journal that has a reversal.
+REVERSAL_DAMAGES: tuple[Damage, ...] = (no_state, unusable_reversed, own_reversed)
 
 
 def scratched(journals: Journals, data: bytes) -> bytes:
