@@ -1,9 +1,10 @@
 // The panel "Frames and files", its journals: payments and reversals in words, and what they come to.
-import { withCounter } from "./counters.js";
 import { made, tableOf } from "./fields.js";
 import { hex } from "./hexadecimal.js";
-import { NUMBER, RECORD, entriesIn, figureOf, isApproved, isReversal } from "./journal_parts.js";
-import { earlierOf, exact, firstsOf, numbersAt, repeatsIn } from "./numbers.js";
+import {
+  RECORD, entriesIn, figureOf, iksnOf, isApproved, isReversal, numbersIn,
+} from "./journal_parts.js";
+import { firstsOf } from "./numbers.js";
 
 const ENTRY = ["record", "number", "amount", "code or state", "MAC of the frame", "group", "note"];
 const TOTAL = [
@@ -17,21 +18,13 @@ function rowOf(attributes, cells) {
   return row;
 }
 
-function entryRow({ record, first, last, number, amount, reversed, outcome, mac }, notes) {
+function entryRow({ record, first, last, number, amount, reversed, outcome, mac }, undoing) {
   const group = first === last ? "alone" : `records ${first} to ${last}`;
   return rowOf({ "data-record": record }, {
     record, number: hex(number), amount: reversed ? `reversal of ${hex(reversed)}` : amount,
-    code: outcome, mac: hex(mac), group, notes: notes.filter(Boolean).join("; "),
+    code: outcome, mac: hex(mac), group,
+    notes: undoing === undefined ? "" : `undone by record ${undoing}`,
   });
-}
-
-/** The numbers that are reversed, by the records of the reversals. */
-function reversedIn(journal, owners) {
-  const reversed = new Map();
-  for (const [record, owner] of owners.entries()) {
-    if (isReversal(journal, record)) reversed.set(record, exact(owner, figureOf(journal, record)));
-  }
-  return reversed;
 }
 
 /**
@@ -52,8 +45,7 @@ function totalsOf(journal, { firsts, owners }, undoing) {
 }
 
 function totalRow(journal, { first, payments, approved, undone, sum }) {
-  const at = RECORD * first + NUMBER;
-  const iksn = hex(withCounter(journal.slice(at, at + 10), 0));
+  const iksn = hex(iksnOf(journal, first));
   return rowOf({ "data-iksn": iksn }, { number: iksn, payments, approved, undone, sum });
 }
 
@@ -66,8 +58,7 @@ function counted(payments, reversals) {
 export function journalParts(journal, most) {
   const { entries, groups, count } = entriesIn(journal, most);
   const records = journal.length / RECORD;
-  const { numbers, ...owned } = numbersAt(journal, { count, length: RECORD, place: NUMBER });
-  const reversed = reversedIn(journal, owned.owners);
+  const { numbers, reversed, ...owned } = numbersIn(journal, count);
   const reversals = firstsOf(reversed);
   const undoing = (record) =>
     isApproved(journal, record) ? reversals.get(numbers[record]) : undefined;
@@ -80,17 +71,10 @@ export function journalParts(journal, most) {
     `Sum of what stands, approved and not undone: ${sum}, in the smallest unit of the currency.`,
   ];
   if (undone) words.push(`Undone payments: ${undone}.`);
-  const repeated = repeatsIn(numbers, reversed);
-  if (repeated) words.push(`Repeated numbers: ${repeated}.`);
   if (count > most) words.push(`The first ${most} records are shown.`);
   if (totals.length > most) words.push(`The sums of the first ${most} terminals are shown.`);
   if (count === 0) return [made("p", words.join(" "))];
-  const earlier = earlierOf(numbers, most, reversed);
-  const notesOf = ({ record }) => [
-    undoing(record) === undefined ? "" : `undone by record ${undoing(record)}`,
-    earlier.has(record) ? `also in record ${earlier.get(record)}` : "",
-  ];
-  const rows = entries.map((it) => entryRow(it, notesOf(it)));
+  const rows = entries.map((it) => entryRow(it, undoing(it.record)));
   const sums = totals.slice(0, most).map((it) => totalRow(journal, it));
   return [made("p", words.join(" ")), tableOf(TOTAL, (it) => it.append(...sums)),
     tableOf(ENTRY, (it) => it.append(...rows))];

@@ -32,9 +32,6 @@ export function numbersAt(bytes, { count, length, place }) {
 /** The number of an owner with this counter as one that is exact. */
 export const exact = (owner, counter) => owner * SPENT + counter;
 
-// Records that reverse no number: a log has no others.
-const NONE = new Map();
-
 /** Of numbers, each with the record that reverses it, the first record of each. */
 export function firstsOf(reversed) {
   const first = new Map();
@@ -42,37 +39,40 @@ export function firstsOf(reversed) {
   return first;
 }
 
-/**
- * How many of the numbers were used before: they stand in an earlier record, or one reverses them.
- * `reversed` has the numbers that are reversed, by the records that do.
- */
-export function repeatsIn(numbers, reversed = NONE) {
+/** The numbers that stand before in their list, each as often as it does. */
+function repeated(numbers) {
   const sorted = numbers.slice().sort();
-  const twice = sorted.reduce((sum, it, at) => sum + (it === sorted[at - 1] ? 1 : 0), 0);
-  return twice + usedAfterReversal(numbers, reversed);
+  return sorted.filter((it, at) => it === sorted[at - 1]);
 }
 
-/** How many of the numbers were reversed before they stand in a record for the first time. */
-function usedAfterReversal(numbers, reversed) {
-  if (reversed.size === 0) return 0;
-  const reversals = firstsOf(reversed);
-  let count = 0;
-  for (const [record, number] of numbers.entries()) {
-    if (reversals.get(number) < record) count += 1;
-    reversals.delete(number);
-  }
-  return count;
-}
+/** How many of the numbers stand before in their list. */
+export const repeatsIn = (numbers) => repeated(numbers).length;
 
-/** Of the first numbers, at most so many, each that was used before: its record, and the first one. */
-export function earlierOf(numbers, most, reversed = NONE) {
+/** Of the first numbers, at most so many, each that stands before: its record, and the first one. */
+export function earlierOf(numbers, most) {
   const first = new Map();
   const earlier = new Map();
   for (const [record, number] of numbers.subarray(0, most).entries()) {
     if (first.has(number)) earlier.set(record, first.get(number));
     else first.set(number, record);
-    const other = reversed.get(record);
-    if (other !== undefined && !first.has(other)) first.set(other, record);
   }
   return earlier;
+}
+
+/**
+ * The first record whose number was used before, and the first one that used it; or nothing.
+ * `reversed` has the numbers that are reversed, by the records that do: these use them too.
+ */
+export function firstRepeat(numbers, reversed) {
+  // A number that stands once, and that no record reverses, is none.
+  const others = new Set([...repeated(numbers), ...reversed.values()]);
+  if (others.size === 0) return undefined;
+  const used = new Map();
+  for (const [record, number] of numbers.entries()) {
+    if (used.has(number)) return [record, used.get(number)];
+    if (others.has(number)) used.set(number, record);
+    const other = reversed.get(record);
+    if (other !== undefined && !used.has(other)) used.set(other, record);
+  }
+  return undefined;
 }

@@ -12,7 +12,7 @@ from .support.journal_file import DamagedJournal, entries_in, payments_in
 from .support.model_journal import payments_of_all
 from .support.page_journals import (
     BY_HAND, DAMAGES, NONE_STANDS, RECORD, UNDONE, Entry, Journals, Payment, Reversal, journal_of,
-    read_journal, scratched)
+    read_entries, scratched)
 from .support.program import NO_LIMITS, Ended, Limits
 from .support.quick import QuickRuns
 from .support.small_files import PAGE, SmallFiles
@@ -192,7 +192,7 @@ class Refused(CopyCase):
                 groups = [[self.journals.payment(0)], [self.journals.payment(1 << 21)],
                           [self.journals.payment(2 << 21), self.journals.payment(3 << 21)]]
                 image, place = damage(self.journals, groups, journal_of(groups, 3, self.chance))
-                self.assertEqual(read_journal(image), place)
+                self.assertEqual(read_entries(image), place)
                 self.journal.write_bytes(image)
                 self.refuse(JOURNAL_FAILED, damage.__name__)
 

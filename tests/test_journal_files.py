@@ -12,7 +12,8 @@ from .support.journal_case import (
 from .support.journal_file import payments_in, records_for
 from .support.model_journal import payments_of_all
 from .support.page_journals import (
-    BY_HAND, DAMAGES, RECORD, Journals, Payment, Place, journal_of, put, read_journal, scratched)
+    BY_HAND, DAMAGES, RECORD, Journals, Payment, Place, journal_of, put, read_entries,
+    read_journal, scratched)
 from .support.program import SECONDS, Ended
 from .support.quick import QuickRuns
 from .support.service_case import answers_to
@@ -94,7 +95,7 @@ class Damaged(JournalCase):
             for _ in range(6 * self.times):
                 groups = [*self.distinct(5), [self.journals.payment(0), self.journals.payment(1 << 21)]]
                 image, place = damage(self.journals, groups, journal_of(groups, 3, self.chance))
-                self.assertEqual(read_journal(image), place)
+                self.assertEqual(read_entries(image), place)
                 self.refuse(image, damage.__name__)
 
     def distinct(self, count: int) -> list[list[Payment]]:

@@ -13,7 +13,7 @@ from .support.log_file import log_image
 from .support.page_file_case import LOOK, MOST_ROWS, FileCase, seen
 from .support.page_journals import (
     BY_HAND, BY_HAND_ROWS, BY_HAND_SUMS, CODES, OPEN, RECORD, REVERSAL, REVERSED_BY_HAND, UNDONE,
-    Row, Payment, Place, Reversal, journal_of, put, rows_of)
+    Payment, Place, Reversal, Row, journal_of, put, rows_of, without_repeats)
 from .support.page_values import BASE, upper
 from .test_page_manners import FAINT, LEAST_CONTRAST, SCHEMES, WIDTHS
 
@@ -95,12 +95,15 @@ class TestKinds(FileCase):
     def test_guesses(self) -> None:
         log = log_image([self.serial_bytes(0xFF) for _ in range(3)], 6)
         both = log_image([self.serial_bytes(OPEN)], 4)
+        unfinished = b"\x01\x00" + bytes(62)
         reversed_ = log_image([self.serial_bytes(REVERSAL)], 4)
         no_log = log[:13] + b"\x01" + log[14:]
-        journal = journal_of(self.journals.groups(3), 2)
-        undone = journal_of([[self.journals.reversal([1])], *self.journals.groups(2)], 2)
+        journal = journal_of(without_repeats(self.journals.groups(3)), 2)
+        undone = journal_of([[self.journals.reversal([1])],
+                             *without_repeats(self.journals.groups(2))], 2)
         for data, kind, is_sure in ((log, "log", True), (both, "log", False),
                                     (reversed_, "log", False), (undone, "journal", True),
+                                    (unfinished, "log", False),
                                     (bytes(64), "log", False), (bytes(48), "log", False),
                                     (no_log, "", False), (journal, "journal", True),
                                     (journal + b"\x00", "", True), (b"\x02" + bytes(63), "", True)):

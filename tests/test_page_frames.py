@@ -149,8 +149,8 @@ class TestFrames(FrameCase):
         self.assertEqual(meanings[0], ["30 bytes of contents", "version 1, kind 4: reversal", *numbers,
                                        "retail MAC under the request key"])
         self.assertEqual(meanings[1], [
-            "31 bytes of contents", "version 1, kind 5: reversal-reply", *numbers, "state 01: undone",
-            "retail MAC under the response key"])
+            "31 bytes of contents", "version 1, kind 5: reversal-reply", *numbers,
+            "state 01: undone", "retail MAC under the response key"])
         right = {"mac": ["good", "MAC: right under the key of this number."]}
         self.assertEqual([it["checks"] for it in found], [right, right])
         self.assert_quiet()
@@ -180,6 +180,18 @@ class TestFrames(FrameCase):
                              [parts_of(shown[0], 0), parts_of(shown[1], len(reversal))])
             meanings = {name: meaning for name, _, _, meaning in found[1]["rows"]}
             self.assertEqual(meanings["state"], STATE_WORDS[state])
+
+    def test_each_bit_of_a_mac(self) -> None:
+        """With any bit of its MAC changed, or with another state, a reversal or its reply is not
+        authentic."""
+        reversal = write_reversal(KEYS[1], SERIALS[1], SERIALS[0])
+        reply = write_reversal_reply(KEYS[1], SERIALS[1], SERIALS[0], 1)
+        frames = [it[:-8] + (int.from_bytes(it[-8:], "big") ^ 1 << bit).to_bytes(8, "big")
+                  for it in (reversal, reply) for bit in range(64)] + [changed(reply, 24, 0)]
+        self.set(frame_key=BASE, frame_key_kind="bdk")
+        for frame, (found, words, *_) in zip(frames, self.read(list(map(upper, frames)))):
+            results = [it["checks"]["mac"][0] for it in found]
+            self.assertEqual((words, results), ("", ["bad"]), upper(frame))
 
     def test_each_reversed(self) -> None:
         """Of two numbers at random, which differ in one bit mostly, a frame is a reversal or is not,

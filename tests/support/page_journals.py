@@ -17,13 +17,14 @@ OPEN = 1
 PAYMENT, REVERSAL = 1, 2
 PAYMENTS_ALONE = (PAYMENT,)
 BOTH_KINDS = (PAYMENT, REVERSAL)
-# The states that a reversal is told, and what is shown of each; and what is added to them in a record.
+# The states that a reversal is told, and what is added to them in a record.
 NONE_STANDS, UNDONE = 0, 1
-SHOWN_STATES = {NONE_STANDS: "00 none stands", UNDONE: "01 undone"}
 OF_A_STATE = 128
 CODES = {0: "approved", 14: "no such card", 30: "PIN block unreadable",
          51: "over the card's limit", 55: "wrong PIN"}
 STATES = (OF_A_STATE + NONE_STANDS, OF_A_STATE + UNDONE)
+# What is shown of a state.
+STATE_WORDS = {NONE_STANDS: "00 none stands", UNDONE: "01 undone"}
 
 
 # A journal by hand: one payment; then a group of two, whose second gate is closed, though not zero.
@@ -43,7 +44,7 @@ BY_HAND_ROWS = [
 BY_HAND_SUMS = [["FFFF9876543210E00000", "2", "1", "0", "1"],
                 ["0123456789ABCDE00000", "1", "1", "0", "4294967295"]]
 # One that begins with a reversal of a number that never came. A payment of 700 is undone, twice; one
-# of 20 stands; a declined one is reversed. The last one, of 3, has the number that was reversed first.
+# of 20 stands; a declined one is reversed.
 REVERSED_BY_HAND = """
 01 02 0000 FFFF9876543210E00001 00000008 80 A1A2A3A4A5A6A7A8 0000000000
 01 01 0001 FFFF9876543210E00002 000002BC 00 0102030405060708 0000000000
@@ -52,7 +53,6 @@ REVERSED_BY_HAND = """
 01 01 0002 0123456789ABCDE00001 00000005 33 3132333435363738 0000000000
 00 02 0000 FFFF9876543210E00006 00000002 81 4142434445464748 0000000000
 FF 02 0000 0123456789ABCDE00002 00000001 80 5152535455565758 0000000000
-01 01 0000 FFFF9876543210E00008 00000003 00 6162636465666768 0000000000
 00 02 0007 0000000000000000FFFF FFFFFFFF FF FFFFFFFFFFFFFFFF FFFFFFFFFF
 """
 REVERSED_BY_HAND_ROWS = [
@@ -69,10 +69,8 @@ REVERSED_BY_HAND_ROWS = [
      "4142434445464748", "records 4 to 6", ""],
     ["6", "0123456789ABCDE00002", "reversal of 0123456789ABCDE00001", "00 none stands",
      "5152535455565758", "records 4 to 6", ""],
-    ["7", "FFFF9876543210E00008", "3", "00 approved", "6162636465666768", "alone",
-     "undone by record 0; also in record 0"],
 ]
-REVERSED_BY_HAND_SUMS = [["FFFF9876543210E00000", "3", "3", "2", "20"],
+REVERSED_BY_HAND_SUMS = [["FFFF9876543210E00000", "2", "2", "1", "20"],
                          ["0123456789ABCDE00000", "1", "0", "0", "0"]]
 
 
@@ -142,26 +140,45 @@ Row = tuple[int, int, Any]
 def read_journal(data: bytes, kinds: Sequence[int] = PAYMENTS_ALONE) -> Union[list[Row], Place]:
     """The entries of a journal, or the first place where it breaks a rule. It may have records of
     these kinds."""
-    if not data or len(data) % RECORD:
-        return Place(len(data) - len(data) % RECORD, max(len(data) - 1, 0))
-    records = [data[at : at + RECORD] for at in range(0, len(data), RECORD)]
-    rows: list[Row] = []
-    end = 0
-    while end < len(records) and records[end][0] == OPEN:
-        first, last = end, end + int.from_bytes(records[end][2:4], "big")
-        for at in range(first, min(last + 1, len(records))):
-            wrong = wrong_bytes(records[at], at > first, len(records) - at, kinds)
-            if wrong:
-                return Place(RECORD * at + wrong[0], RECORD * at + wrong[-1])
-            rows.append((first, last, entry_in(records[at])))
-        end = last + 1
-    later = [at for at in range(end, len(records)) if records[at][0] == OPEN]
-    return Place(RECORD * later[0], RECORD * later[0]) if later else rows
+    rows, place = read_rows(data, kinds)
+    return rows if place is None else place
 
 
 def read_entries(data: bytes) -> Union[list[Row], Place]:
     """The payments and reversals of a journal, or the first place where it breaks a rule."""
     return read_journal(data, BOTH_KINDS)
+
+
+def read_shown(data: bytes) -> Union[list[Row], Place]:
+    """The entries of a journal over which a host comes up; or else the first place where it breaks a
+    rule, or has a number that was used before."""
+    rows, place = read_rows(data, BOTH_KINDS)
+    for record, _ in repeats_in([it for _, _, it in rows]):
+        return Place(RECORD * record + 4, RECORD * record + 13)
+    return rows if place is None else place
+
+
+def read_rows(data: bytes, kinds: Sequence[int]) -> tuple[list[Row], Optional[Place]]:
+    """The entries in front, and the first place where a rule is broken behind them, if one is. What
+    is missing or cut off stands behind the whole records."""
+    records = [data[at : at + RECORD] for at in range(0, len(data) - RECORD + 1, RECORD)]
+    cut = Place(RECORD * len(records), max(RECORD * len(records), len(data) - 1))
+    rows: list[Row] = []
+    end = 0
+    while end < len(records) and records[end][0] == OPEN:
+        first, last = end, end + int.from_bytes(records[end][2:4], "big")
+        for at in range(first, last + 1):
+            if at == len(records):
+                return rows, cut
+            wrong = wrong_bytes(records[at], at > first, kinds)
+            if wrong:
+                return rows, Place(RECORD * at + wrong[0], RECORD * at + wrong[-1])
+            rows.append((first, last, entry_in(records[at])))
+        end = last + 1
+    later = [at for at in range(end, len(records)) if records[at][0] == OPEN]
+    if later:
+        return rows, Place(RECORD * later[0], RECORD * later[0])
+    return rows, cut if not data or len(data) % RECORD else None
 
 
 def entry_in(record: bytes) -> Entry:
@@ -171,12 +188,10 @@ def entry_in(record: bytes) -> Entry:
     return Payment(serial, number, record[18], record[19:27])
 
 
-def wrong_bytes(
-    record: bytes, is_follower: bool, left: int, kinds: Sequence[int]
-) -> Sequence[int]:
-    """Which bytes of an entry's record break a rule first; so many records are left from it on."""
+def wrong_bytes(record: bytes, is_follower: bool, kinds: Sequence[int]) -> Sequence[int]:
+    """Which bytes of an entry's record break a rule first."""
     followers, serial = int.from_bytes(record[2:4], "big"), int.from_bytes(record[4:14], "big")
-    counts = (0,) if is_follower else range(min(MOST_FOLLOWERS + 1, left))
+    counts = (0,) if is_follower else range(MOST_FOLLOWERS + 1)
     reversed_counter = int.from_bytes(record[14:18], "big")
     is_reversal = record[1] == REVERSAL
     rules = (
@@ -223,22 +238,17 @@ def total_of(entries: Group, reversed_: set[int]) -> Total:
 
 def rows_of(rows: Sequence[Row]) -> list[list[str]]:
     """The rows that entries have."""
-    entries = [it for _, _, it in rows]
-    earlier, undone = dict(repeats_in(entries)), dict(undone_in(entries))
-    shown = []
-    for record, (first, last, it) in enumerate(rows):
-        notes = [f"undone by record {undone[record]}"] if record in undone else []
-        notes += [f"also in record {earlier[record]}"] if record in earlier else []
-        shown.append([
-            str(record), serial_text(it.serial), *decided(it), it.mac.hex().upper(),
-            "alone" if first == last else f"records {first} to {last}", "; ".join(notes)])
-    return shown
+    undone = dict(undone_in([it for _, _, it in rows]))
+    return [[str(record), serial_text(it.serial), *decided(it), it.mac.hex().upper(),
+             "alone" if first == last else f"records {first} to {last}",
+             f"undone by record {undone[record]}" if record in undone else ""]
+            for record, (first, last, it) in enumerate(rows)]
 
 
 def decided(entry: Entry) -> tuple[str, str]:
     """What was asked for, and what came of it."""
     if isinstance(entry, Reversal):
-        return f"reversal of {serial_text(entry.reversed)}", SHOWN_STATES[entry.state]
+        return f"reversal of {serial_text(entry.reversed)}", STATE_WORDS[entry.state]
     return str(entry.amount), f"{entry.code:02} {CODES[entry.code]}"
 
 
@@ -251,6 +261,14 @@ def repeats_in(entries: Group) -> Iterator[tuple[int, int]]:
             yield record, first[it.serial]
         for number in (it.serial, it.reversed) if isinstance(it, Reversal) else (it.serial,):
             first.setdefault(number, record)
+
+
+def without_repeats(groups: Sequence[Group]) -> list[list[Entry]]:
+    """The groups without the entries whose numbers were used before them, as a host makes them."""
+    again = {record for record, _ in repeats_in([it for group in groups for it in group])}
+    kept = [[it for record, it in enumerate(group, start) if record not in again]
+            for start, group in zip(starts_of(groups), groups)]
+    return [group for group in kept if group]
 
 
 def undone_in(entries: Group) -> Iterator[tuple[int, int]]:
@@ -367,6 +385,22 @@ def any_of(kind: type, journals: Journals, groups: Sequence[Group]) -> int:
     return journals.chance.choice([at for at, it in enumerate(entries) if isinstance(it, kind)])
 
 
+def no_reversal(journals: Journals, groups: Sequence[Group], data: bytes) -> tuple[bytes, Place]:
+    """A payment has the kind of a reversal: its amount is the counter that is reversed, or its code
+    is no state."""
+    record = any_of(Payment, journals, groups)
+    data, _ = put(data, record, 1, bytes([REVERSAL]))
+    wrong = wrong_bytes(data[RECORD * record : RECORD * (record + 1)], record not in starts_of(groups),
+                        BOTH_KINDS)
+    return data, Place(RECORD * record + wrong[0], RECORD * record + wrong[-1])
+
+
+def no_payment(journals: Journals, groups: Sequence[Group], data: bytes) -> tuple[bytes, Place]:
+    """A reversal has the kind of a payment: its state is no code."""
+    record = any_of(Reversal, journals, groups)
+    return put(data, record, 1, bytes([PAYMENT]))[0], Place(RECORD * record + 18, RECORD * record + 18)
+
+
 def unknown_kind(journals: Journals, groups: Sequence[Group], data: bytes) -> tuple[bytes, Place]:
     kind = journals.chance.choice((0, 3, journals.chance.randint(3, 255)))
     return put(data, any_entry(journals, groups), 1, bytes([kind]))
@@ -446,11 +480,27 @@ def too_many(journals: Journals, groups: Sequence[Group], data: bytes) -> tuple[
 
 
 def past_the_end(journals: Journals, groups: Sequence[Group], data: bytes) -> tuple[bytes, Place]:
-    record = journals.chance.choice(starts_of(groups)[:-1])
-    least = len(data) // RECORD - record
-    followers = journals.chance.choice(
-        (least, MOST_FOLLOWERS, journals.chance.randint(least, MOST_FOLLOWERS)))
-    return put(data, record, 2, followers.to_bytes(2, "big"))
+    """The file ends inside the last group, sometimes inside a record; or more follow there."""
+    first, end = starts_of(groups)[-2:]
+    if end - first > 1 and journals.chance.random() < 0.5:
+        end = journals.chance.randint(first + 1, end - 1)
+    else:
+        least = end - first
+        followers = journals.chance.choice(
+            (least, MOST_FOLLOWERS, journals.chance.randint(least, MOST_FOLLOWERS)))
+        data = put(data, first, 2, followers.to_bytes(2, "big"))[0]
+    size = RECORD * end + journals.chance.choice((0, 0, 1, 2, RECORD - 1))
+    return data[:size].ljust(size, b"\x00"), Place(RECORD * end, max(RECORD * end, size - 1))
+
+
+def used_again(journals: Journals, groups: Sequence[Group], data: bytes) -> tuple[bytes, Place]:
+    """The number of an entry, or one that it reverses, stands in a group behind the groups."""
+    entries, end = [it for group in groups for it in group], starts_of(groups)[-1]
+    used = [it.serial for it in entries]
+    used += [it.reversed for it in entries if isinstance(it, Reversal)]
+    again = Payment(journals.chance.choice(used), 1, 0, bytes(8)).record(OPEN)
+    rest = data[RECORD * (end + 1) :]
+    return data[: RECORD * end] + again + rest, Place(RECORD * end + 4, RECORD * end + 13)
 
 
 def broken_size(journals: Journals, groups: Sequence[Group], data: bytes) -> tuple[bytes, Place]:
@@ -460,10 +510,10 @@ def broken_size(journals: Journals, groups: Sequence[Group], data: bytes) -> tup
 
 
 DAMAGES: tuple[Damage, ...] = (
-    unknown_kind, no_code, unusable_counter, no_zeros, open_inside, open_behind,
+    unknown_kind, no_reversal, no_code, unusable_counter, no_zeros, open_inside, open_behind,
     following_follower, too_many, past_the_end, broken_size)
 # Those of a journal that has a reversal.
-REVERSAL_DAMAGES: tuple[Damage, ...] = (no_state, unusable_reversed, own_reversed)
+REVERSAL_DAMAGES: tuple[Damage, ...] = (no_payment, no_state, unusable_reversed, own_reversed)
 
 
 def scratched(journals: Journals, data: bytes) -> bytes:
