@@ -5,6 +5,8 @@ import { ascii, hex } from "./hexadecimal.js";
 export const KINDS = {
   1: "request", 2: "reply", 3: "refusal", 4: "reversal", 5: "reversal-reply",
 };
+/** A kind in words. */
+const nameOf = (kind) => (kind === "reversal-reply" ? "reversal's reply" : kind);
 export const CODES = {
   "00": "approved", 14: "no such card", 30: "PIN block unreadable", 51: "over the card's limit",
   55: "wrong PIN",
@@ -35,7 +37,7 @@ export function partsOfFrame(frame) {
   const contents = numberIn(frame.slice(0, 2));
   const parts = [
     ["length", 0, 2, () => `${contents} bytes of contents`],
-    ["kind", 2, 2, () => `version 1, kind ${frame[3]}: ${kind}`],
+    ["kind", 2, 2, () => `version 1, kind ${frame[3]}: ${nameOf(kind)}`],
     ["ksn", NUMBER, 10, () => "key serial number"],
   ];
   if (kind === "request") parts.push(...requestParts(frame[14]));
@@ -82,7 +84,7 @@ export function damageOfFrame(frame) {
   if (!kind) return [`the kind is ${frame[3]}, and not 1 to 5`, 3, 3];
   if (kind === "request") return damageOfRequest(frame, contents);
   const wanted = SIZES[kind];
-  if (contents !== wanted) return [`the contents of a ${kind} have ${wanted} bytes`, ...LENGTH];
+  if (contents !== wanted) return [`the contents of a ${nameOf(kind)} have ${wanted} bytes`, ...LENGTH];
   if (kind === "reply" && !CODES[ascii(frame.slice(14, 16))]) {
     return ["a code is 00, 14, 30, 51 or 55", 14, 15];
   }

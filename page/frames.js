@@ -65,7 +65,7 @@ function checksOf(frame, kind, ksn, given) {
 
 const TITLES = {
   request: "Request", reply: "Accepted reply", refusal: "Refusal", reversal: "Reversal",
-  "reversal-reply": "Reply to a reversal",
+  "reversal-reply": "Reversal's reply",
 };
 // The calls of the module that read a frame. It has none for reversals and their replies.
 const READERS = {

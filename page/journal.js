@@ -6,7 +6,7 @@ import {
 } from "./journal_parts.js";
 import { firstsOf } from "./numbers.js";
 
-const ENTRY = ["record", "number", "amount", "code or state", "MAC of the frame", "group", "note"];
+const ENTRY = ["record", "number", "amount", "code or state", "MAC of the request", "group", "note"];
 const TOTAL = [
   "initial key serial number", "payments", "approved", "undone of these", "sum of what stands",
 ];

@@ -149,7 +149,7 @@ class TestFrames(FrameCase):
         self.assertEqual(meanings[0], ["30 bytes of contents", "version 1, kind 4: reversal", *numbers,
                                        "retail MAC under the request key"])
         self.assertEqual(meanings[1], [
-            "31 bytes of contents", "version 1, kind 5: reversal-reply", *numbers,
+            "31 bytes of contents", "version 1, kind 5: reversal's reply", *numbers,
             "state 01: undone", "retail MAC under the response key"])
         right = {"mac": ["good", "MAC: right under the key of this number."]}
         self.assertEqual([it["checks"] for it in found], [right, right])
