@@ -230,8 +230,11 @@ class TestDamage(JournalCase):
     def test_scratched(self) -> None:
         """Bytes that are changed anywhere: the same entries, or the same place, as the reader of the
         tests finds."""
-        files = [scratched(self.journals, self.journals.entry_journal(self.chance.randint(1, 8))[1])
+        drawn = [self.journals.entry_groups(self.chance.randint(1, 8))
                  for _ in range(6 * COUNT * self.times)]
+        groups = [it if self.chance.random() < 0.3 else without_repeats(it) for it in drawn]
+        files = [scratched(self.journals, journal_of(it, self.chance.randrange(6), self.chance))
+                 for it in groups]
         right = sum(self.assert_read(found, data)
                     for data, found in zip(files, self.drop(*files, kind="journal")))
         self.tells(f"{right} right, {len(files) - right} damaged")
