@@ -18,7 +18,8 @@ from .support.everyday import NUMBERS, nth_counter
 from .support.everyday_cases import Case
 from .support.everyday_rows import FIRST, INITIAL, KEY_BLOCK, REPLY, REQUEST
 from .support.frames import (
-    CODES, NO_NUMBER, REASONS, write_refusal, write_reply, write_request)
+    CODES, NO_NUMBER, REASONS, STATES, write_refusal, write_reply, write_request, write_reversal,
+    write_reversal_reply)
 from .support.images import IMAGE_1, IMAGE_2, RECORD, image_of, log_disk
 from .support.key_blocks import header
 from .support.leaks import leaks
@@ -33,10 +34,14 @@ CASES = 10_000
 # The characters of one byte that an item of a batch may have.
 ONE_BYTE = [byte for byte in range(0x01, 0x80) if byte not in b"\r\n"]
 PLACES = re.compile(rb"(\w+) refused at (\d+): (\w+)\n")
-FRAME_FAULTS = {"Hex", "Length", "Version", "Kind", "Size", "PanLength", "PanDigit", "Code", "Reason"}
+FRAME_FAULTS = {"Hex", "Length", "Version", "Kind", "Size", "PanLength", "PanDigit", "Code", "Reason",
+                "Reversed", "State"}
 BLOCK_FAULTS = {"Length", "Version", "HeaderField", "OptionalBlock", "Hex"}
 IMAGE_FAULTS = {"Hex", "Version", "Length", "Iksn", "Counter", "Registers", "Past"}
 REFUSAL = "000D0103FFFF9876543210E0000105"
+# Of payment 1, under number 2.
+REVERSAL = "001E0104FFFF9876543210E00002FFFF9876543210E000013B8EA61D9F5F532F"
+UNDONE = "001F0105FFFF9876543210E00002FFFF9876543210E00001012DEBE27352A69B94"
 # A block with two optional blocks, and letters of two bytes in one of them.
 OPTIONAL = KEY_BLOCK[:12] + "0200" + "KS04" + "ab0C\u00e9\u00e9\u00e9\u00e9" + KEY_BLOCK[16:]
 OPTIONAL = "B0096" + OPTIONAL[5:]
@@ -63,13 +68,26 @@ FRAMES = (
     (REFUSAL[:-1] + "3", "frame refusal\nksn FFFF9876543210E00001\nreason 3 bad counter\n"),
     (REFUSAL[:-1] + "4", "frame refusal\nksn FFFF9876543210E00001\nreason 4 bad MAC\n"),
     (REFUSAL[:-1] + "6", "frame refusal\nksn FFFF9876543210E00001\nreason 6 log full\n"),
+    (REVERSAL, "frame reversal\nksn FFFF9876543210E00002\nreversed FFFF9876543210E00001\n"
+               "mac 3B8EA61D9F5F532F\n"),
+    # The number that is used may be any.
+    (REVERSAL.replace("E00002", "FFFFFF"), "frame reversal\nksn FFFF9876543210FFFFFF\n"
+                                           "reversed FFFF9876543210E00001\nmac 3B8EA61D9F5F532F\n"),
+    (UNDONE, "frame reversal-reply\nksn FFFF9876543210E00002\nreversed FFFF9876543210E00001\n"
+             "state 01 undone\nmac 2DEBE27352A69B94\n"),
+    (UNDONE[:48] + "00" + UNDONE[50:],
+     "frame reversal-reply\nksn FFFF9876543210E00002\nreversed FFFF9876543210E00001\n"
+     "state 00 none stands\nmac 2DEBE27352A69B94\n"),
 )
+# Numbers that no reversal under number 2 reverses.
+NOT_REVERSED = ("FFFF9876543210E00002", "FFFF9876543210E00000", "FFFF9876543210FFFFFF",
+                "FFFF9876543210C00001", "FFFE9876543210E00001")
 FRAME_REFUSALS = (
     ("0", 1, "Hex"), ("x", 0, "Hex"), (REFUSAL[:-1], 29, "Hex"), (REFUSAL + "g", 30, "Hex"),
     (" " + REFUSAL, 0, "Hex"), ("000D\u00e9", 4, "Hex"), ("", 0, "Length"), ("00", 0, "Length"),
     (REFUSAL[:-2], 0, "Length"), (REFUSAL + "00", 0, "Length"), ("01" + REFUSAL[2:], 0, "Length"),
     ("000D0203" + REFUSAL[8:], 2, "Version"), ("000D0003" + REFUSAL[8:], 2, "Version"),
-    ("000D0104" + REFUSAL[8:], 3, "Kind"), ("000D0100" + REFUSAL[8:], 3, "Kind"),
+    ("000D0106" + REFUSAL[8:], 3, "Kind"), ("000D0100" + REFUSAL[8:], 3, "Kind"),
     ("000D0101" + REFUSAL[8:], 0, "Size"), ("000D0102" + REFUSAL[8:], 0, "Size"),
     ("000E" + REFUSAL[4:] + "00", 0, "Size"), ("00020103", 0, "Size"), ("00020101", 0, "Size"),
     (REQUEST[:28] + "0C" + REQUEST[30:], 14, "PanLength"),
@@ -78,6 +96,11 @@ FRAME_REFUSALS = (
     (REQUEST[:54] + "2F" + REQUEST[56:], 15, "PanDigit"),
     (REPLY.replace("3030", "3031"), 14, "Code"), (REPLY.replace("3030", "0000"), 14, "Code"),
     (REFUSAL[:-2] + "00", 14, "Reason"), (REFUSAL[:-2] + "07", 14, "Reason"),
+    ("000D0104" + REFUSAL[8:], 0, "Size"), ("000D0105" + REFUSAL[8:], 0, "Size"),
+    (REVERSAL[:6] + "05" + REVERSAL[8:], 0, "Size"), (UNDONE[:6] + "04" + UNDONE[8:], 0, "Size"),
+    *((frame[:28] + number + frame[48:], 14, "Reversed")
+      for frame in (REVERSAL, UNDONE, UNDONE[:48] + "02" + UNDONE[50:]) for number in NOT_REVERSED),
+    (UNDONE[:48] + "02" + UNDONE[50:], 24, "State"), (UNDONE[:48] + "FF" + UNDONE[50:], 24, "State"),
 )
 BLOCKS = (
     (KEY_BLOCK,
@@ -348,16 +371,25 @@ class Damaged:
     def iksn(self) -> int:
         return self.chance.randrange(1 << 59) * SPENT
 
+    def numbers(self) -> tuple[int, int]:
+        """Those of a reversal, and now and then two of which the first may not reverse the second."""
+        serial = self.serial()
+        other = self.chance.choice((self.serial(), serial, serial ^ 1 << self.chance.randrange(21)))
+        first = serial - serial % SPENT + nth_counter(self.chance.randrange(NUMBERS))
+        return serial, other if self.one_in(8) else first
+
     def frame(self) -> str:
         chance, key, serial = self.chance, self.chance.randbytes(16), self.serial()
         frame = chance.choice((
             lambda: write_request(key, serial, digits(chance, 12, 19), digits(chance, 4, 12),
                                   chance.randrange(1 << 32)),
             lambda: write_reply(key, serial, chance.choice(CODES)),
+            lambda: write_reversal(key, *self.numbers()),
+            lambda: write_reversal_reply(key, *self.numbers(), chance.choice(STATES)),
             lambda: write_refusal(chance.choice((serial, NO_NUMBER)), chance.choice(REASONS))))()
         if self.one_in(2):
-            # At version, kind, number of digits, code or reason, or at digits.
-            changed = self.changed(frame[2:], 0, 1, 12, 12, 12, 13, 14)
+            # At version, kind, number of digits, code or reason, digits or a state.
+            changed = self.changed(frame[2:], 0, 1, 12, 12, 12, 13, 14, 22)
             # With the length of what it is now, or that of before.
             frame = (len(changed).to_bytes(2, "big") if self.one_in(2) else frame[:2]) + changed
         return self.written(frame)

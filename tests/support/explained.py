@@ -340,9 +340,10 @@ def is_head(line: bytes, key: bytes, brackets: int) -> bool:
 SHOWN = {
     "frame": {
         "Hex": PAIRS, "Length": "the length of the frame in its first two bytes", "Version": "01",
-        "Kind": "01 to 03", "Size": "the size of its kind",
+        "Kind": "01 to 05", "Size": "the size of its kind",
         "PanLength": "0C to 13, and 35 less than the frame has bytes",
         "PanDigit": "decimal digits", "Code": "00, 14, 30, 51 or 55", "Reason": "01 to 06",
+        "Reversed": "another usable number of the same IKSN", "State": "00 or 01",
     },
     "block": {
         "Length": "80 to 512 characters in eights, and their number at 1",

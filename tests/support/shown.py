@@ -8,6 +8,7 @@ from typing import Callable, NoReturn
 from .commands import Refused, shown
 from .dukpt import (
     COUNTER_BITS, MOST_PAST, NO_KEY, SPENT, counter_of, held, iksn_of, serial_text, usable)
+from .frames import reverses
 from .images import IMAGE_1, IMAGE_2, RECORD
 from .key_blocks import HEXADECIMAL, LENGTHS, PRINTED
 from .pin_blocks import PAN_LENGTHS
@@ -15,6 +16,7 @@ from .program import Ended
 
 CODES = {"00": "approved", "14": "no such card", "30": "PIN block unreadable",
          "51": "over the card's limit", "55": "wrong PIN"}
+STATES = ("00 none stands", "01 undone")
 REASONS = ("malformed", "unknown key set", "bad counter", "bad MAC", "used", "log full")
 
 # The tables of ANSI X9.143, in words of this project.
@@ -79,9 +81,9 @@ def frame_lines(text: str) -> list[str]:
         stop("frame", 0, "Length")
     if data[2:3] != b"\x01":
         stop("frame", 2, "Version")
-    if data[3:4] not in (b"\x01", b"\x02", b"\x03"):
+    if not 1 <= int.from_bytes(data[3:4], "big") <= len(OF_KINDS):
         stop("frame", 3, "Kind")
-    return (request_lines, reply_lines, refusal_lines)[data[3] - 1](data)
+    return OF_KINDS[data[3] - 1](data)
 
 
 def request_lines(data: bytes) -> list[str]:
@@ -114,6 +116,32 @@ def refusal_lines(data: bytes) -> list[str]:
     if not 1 <= data[14] <= len(REASONS):
         stop("frame", 14, "Reason")
     return ["frame refusal", f"ksn {shown(data[4:14])}", f"reason {data[14]} {REASONS[data[14] - 1]}"]
+
+
+def reversal_lines(data: bytes) -> list[str]:
+    if len(data) != 32:
+        stop("frame", 0, "Size")
+    return ["frame reversal", *numbers_lines(data), f"mac {shown(data[24:])}"]
+
+
+def reversal_reply_lines(data: bytes) -> list[str]:
+    if len(data) != 33:
+        stop("frame", 0, "Size")
+    numbers, state = numbers_lines(data), data[24]
+    if state >= len(STATES):
+        stop("frame", 24, "State")
+    return ["frame reversal-reply", *numbers, f"state {STATES[state]}", f"mac {shown(data[25:])}"]
+
+
+def numbers_lines(data: bytes) -> list[str]:
+    """The number of a reversal and the one that it reverses."""
+    serial, other = data[4:14], data[14:24]
+    if not reverses(int.from_bytes(serial, "big"), int.from_bytes(other, "big")):
+        stop("frame", 14, "Reversed")
+    return [f"ksn {shown(serial)}", f"reversed {shown(other)}"]
+
+
+OF_KINDS = (request_lines, reply_lines, refusal_lines, reversal_lines, reversal_reply_lines)
 
 
 # Key blocks
@@ -233,7 +261,8 @@ def log_lines(data: bytes) -> list[str]:
 
 ENTRY_BYTES = 32
 MOST_FOLLOWERS = 4095
-STATES = {129: "01 undone", 128: "00 none stands"}
+# Behind a reversal, where a payment has its code, stands this more than the state.
+OF_A_STATE = 128
 
 
 def journal_lines(data: bytes) -> list[str]:
@@ -270,7 +299,8 @@ def is_decided(record: bytes) -> bool:
     the counter of another number."""
     counter, own = int.from_bytes(record[14:18], "big"), int.from_bytes(record[4:14], "big")
     if record[1] == 2:
-        return record[18] in STATES and usable(counter) and counter != counter_of(own)
+        return (record[18] - OF_A_STATE in range(len(STATES)) and usable(counter)
+                and counter != counter_of(own))
     return record[1] == 1 and f"{record[18]:02}" in CODES
 
 
@@ -283,7 +313,7 @@ def entry_line(place: int, first: int, record: bytes) -> str:
     front, mac = f"{place} group {first} ksn {shown(record[4:14])}", shown(record[19:27])
     if record[1] == 2:
         return (f"reversal {front} of {serial_text(reversed_by(record))} mac {mac}"
-                f" state {STATES[record[18]]}")
+                f" state {STATES[record[18] - OF_A_STATE]}")
     code = f"{record[18]:02}"
     return (f"payment {front} amount {int.from_bytes(record[14:18], 'big')} mac {mac}"
             f" code {code} {CODES[code]}")

@@ -7,7 +7,7 @@ use Rattle.duk_explain.specs.declared.told.Told.TheVariants as told
 -- a place in the list at which a line stands
 pub record StandsAt (line : Told) : Type 0 where
   pub place : ℕ
-  pub within : place < 100
+  pub within : place < 102
   pub is : get_or ALL place line ≡ line
 
 pub stands : (line : Told) → StandsAt line
@@ -111,3 +111,5 @@ stands told.JournalFailed = record { place = 96; within = omega arith; is = refl
 stands told.JournalDamaged = record { place = 97; within = omega arith; is = refl }
 stands told.JournalUnread = record { place = 98; within = omega arith; is = refl }
 stands told.JournalTooLong = record { place = 99; within = omega arith; is = refl }
+stands told.FrameReversed = record { place = 100; within = omega arith; is = refl }
+stands told.FrameState = record { place = 101; within = omega arith; is = refl }

@@ -182,7 +182,7 @@ row told.FrameLength =
     shown_row (codes "frame") (codes "Length") found.Stopped []
     (codes "the length of the frame in its first two bytes")
 row told.FrameVersion = shown_row (codes "frame") (codes "Version") found.Stopped [] (codes "01")
-row told.FrameKind = shown_row (codes "frame") (codes "Kind") found.Stopped [] (codes "01 to 03")
+row told.FrameKind = shown_row (codes "frame") (codes "Kind") found.Stopped [] (codes "01 to 05")
 row told.FrameSize =
     shown_row (codes "frame") (codes "Size") found.Stopped [] (codes "the size of its kind")
 row told.FramePanLength =
@@ -193,6 +193,11 @@ row told.FrameCode =
     shown_row (codes "frame") (codes "Code") found.Stopped [] (codes "00, 14, 30, 51 or 55")
 row told.FrameReason =
     shown_row (codes "frame") (codes "Reason") found.Stopped [] (codes "01 to 06")
+row told.FrameReversed =
+    shown_row (codes "frame") (codes "Reversed") found.Stopped []
+    (codes "another usable number of the same IKSN")
+row told.FrameState =
+    shown_row (codes "frame") (codes "State") found.Stopped [] (codes "00 or 01")
 row told.BlockLength =
     shown_row (codes "block") (codes "Length") found.Stopped []
     (codes "80 to 512 characters in eights, and their number at 1")

@@ -93,6 +93,8 @@ impl Told {
             | Told::FramePanDigit
             | Told::FrameCode
             | Told::FrameReason
+            | Told::FrameReversed
+            | Told::FrameState
             | Told::BlockLength
             | Told::BlockVersion
             | Told::BlockHeaderField
@@ -104,8 +106,8 @@ impl Told {
             | Told::ImageIksn
             | Told::ImageCounter
             | Told::ImageRegisters
-            | Told::ImagePast
-            | Told::LogDamaged
+            | Told::ImagePast => "WHAT",
+            Told::LogDamaged
             | Told::LogUnread
             | Told::LogTooLong
             | Told::JournalDamaged
@@ -183,6 +185,8 @@ impl Told {
             | Told::FramePanDigit
             | Told::FrameCode
             | Told::FrameReason
+            | Told::FrameReversed
+            | Told::FrameState
             | Told::BlockLength
             | Told::BlockVersion
             | Told::BlockHeaderField
@@ -299,12 +303,14 @@ impl Told {
             Told::Payload => "a key of 16 or 24 bytes",
             Told::FrameLength => "the length of the frame in its first two bytes",
             Told::FrameVersion => "01",
-            Told::FrameKind => "01 to 03",
+            Told::FrameKind => "01 to 05",
             Told::FrameSize => "the size of its kind",
             Told::FramePanLength => "0C to 13, and 35 less than the frame has bytes",
             Told::FramePanDigit => "decimal digits",
             Told::FrameCode => "00, 14, 30, 51 or 55",
             Told::FrameReason => "01 to 06",
+            Told::FrameReversed => "another usable number of the same IKSN",
+            Told::FrameState => "00 or 01",
             Told::BlockLength => "80 to 512 characters in eights, and their number at 1",
             Told::BlockVersion => "B",
             Told::BlockHeaderField => "printable fields, and two decimal digits at 12",

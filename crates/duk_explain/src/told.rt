@@ -87,6 +87,10 @@ pub(crate) enum Told {
     FrameCode,
     /// `frame refused at P: Reason`
     FrameReason,
+    /// `frame refused at P: Reversed`
+    FrameReversed,
+    /// `frame refused at P: State`
+    FrameState,
     /// `block refused at P: Length`
     BlockLength,
     /// `block refused at P: Version`
@@ -206,7 +210,7 @@ pub(crate) enum Told {
 }
 
 /// How many lines there are.
-pub(crate) const COUNT: usize = 100;
+pub(crate) const COUNT: usize = 102;
 
 /// All of them.
 pub(crate) static ALL: [Told; COUNT] = [
@@ -310,4 +314,6 @@ pub(crate) static ALL: [Told; COUNT] = [
     Told::JournalDamaged,
     Told::JournalUnread,
     Told::JournalTooLong,
+    Told::FrameReversed,
+    Told::FrameState,
 ];

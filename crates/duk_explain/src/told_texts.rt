@@ -66,7 +66,9 @@ impl Told {
             | Told::FramePanLength
             | Told::FramePanDigit
             | Told::FrameCode
-            | Told::FrameReason => "frame refused at ",
+            | Told::FrameReason
+            | Told::FrameReversed
+            | Told::FrameState => "frame refused at ",
             Told::BlockLength
             | Told::BlockVersion
             | Told::BlockHeaderField
@@ -138,6 +140,8 @@ impl Told {
             Told::FramePanDigit => ": PanDigit",
             Told::FrameCode => ": Code",
             Told::FrameReason => ": Reason",
+            Told::FrameReversed => ": Reversed",
+            Told::FrameState => ": State",
             Told::BlockHeaderField => ": HeaderField",
             Told::BlockOptionalBlock => ": OptionalBlock",
             Told::ImageIksn => ": Iksn",
@@ -167,6 +171,8 @@ impl Told {
             | Told::FramePanDigit
             | Told::FrameCode
             | Told::FrameReason
+            | Told::FrameReversed
+            | Told::FrameState
             | Told::BlockLength
             | Told::BlockVersion
             | Told::BlockHeaderField
@@ -178,8 +184,8 @@ impl Told {
             | Told::ImageIksn
             | Told::ImageCounter
             | Told::ImageRegisters
-            | Told::ImagePast
-            | Told::LogDamaged
+            | Told::ImagePast => Middle::Place,
+            Told::LogDamaged
             | Told::JournalDamaged
             | Told::BadBdkEntry
             | Told::BadCardEntry

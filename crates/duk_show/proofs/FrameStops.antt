@@ -5,7 +5,7 @@ use Rattle.duk_block.specs.Hexadecimal.{IsHexadecimal}
 use Rattle.duk_show.specs.Frame.{IsBytesShown, IsFrameFault, IsFrameText, StopsFrame}
 use Rattle.duk_show.specs.FrameFault.{frame_place}
 use Rattle.duk_show.specs.declared.frame_fault.FrameFault.{FrameFault}
-use Rattle.duk_show.specs.declared.frame_fault.FrameFault.TheVariants.{Hex, Length, Version, Kind, Size, PanLength, PanDigit, Code, Reason}
+use Rattle.duk_show.specs.declared.frame_fault.FrameFault.TheVariants.{Hex, Length, Version, Kind, Size, PanLength, PanDigit, Code, Reason, Reversed, State}
 
 -- at the first wrong field of the bytes
 pub stops_at : (frame bytes : List ℕ) (place : ℕ) (why : FrameFault) → why ≢ Hex → IsHexadecimal frame bytes → IsFrameFault bytes why
@@ -19,6 +19,8 @@ stops_at frame bytes place PanLength other read wrong at = record { bytes = byte
 stops_at frame bytes place PanDigit other read wrong at = record { bytes = bytes; read = read; wrong = wrong; place_is = at }
 stops_at frame bytes place Code other read wrong at = record { bytes = bytes; read = read; wrong = wrong; place_is = at }
 stops_at frame bytes place Reason other read wrong at = record { bytes = bytes; read = read; wrong = wrong; place_is = at }
+stops_at frame bytes place Reversed other read wrong at = record { bytes = bytes; read = read; wrong = wrong; place_is = at }
+stops_at frame bytes place State other read wrong at = record { bytes = bytes; read = read; wrong = wrong; place_is = at }
 
 -- and then there is no frame
 pub no_frame : (frame bytes : List ℕ) → IsHexadecimal frame bytes → ((text : List ℕ) → ¬ IsBytesShown bytes text)

@@ -14,6 +14,8 @@ frame_fault_name fault.PanLength = codes "PanLength"
 frame_fault_name fault.PanDigit = codes "PanDigit"
 frame_fault_name fault.Code = codes "Code"
 frame_fault_name fault.Reason = codes "Reason"
+frame_fault_name fault.Reversed = codes "Reversed"
+frame_fault_name fault.State = codes "State"
 
 -- the byte at which the field of a fault begins; a text that is no hexadecimal has no bytes
 abbrev pub frame_place : FrameFault → ℕ
@@ -26,3 +28,5 @@ frame_place fault.PanLength = 14
 frame_place fault.PanDigit = 15
 frame_place fault.Code = 14
 frame_place fault.Reason = 14
+frame_place fault.Reversed = 14
+frame_place fault.State = 24

@@ -11,11 +11,9 @@ use Rattle.duk_journal.specs.RecordFormat.{IsJournalSize, IsOpen, gate_of, recor
 use Rattle.duk_journal.specs.declared.entry.Decided.{Decided}
 use Rattle.duk_journal.specs.declared.entry.Decided.TheVariants.{Payment, Reversal}
 use Rattle.duk_journal.specs.declared.entry.Entry.{Entry}
-use Rattle.duk_reversal.specs.declared.state.ReversalState.{ReversalState}
-use Rattle.duk_reversal.specs.declared.state.ReversalState.TheVariants.{NoneStands, Undone}
 use Rattle.duk_store.specs.Log.{Numbers}
 use Rattle.duk_tree.specs.Serial.{Serial, iksn_bytes, serial_bytes}
-use Rattle.duk_show.specs.Frame.{code_words}
+use Rattle.duk_show.specs.Frame.{code_words, state_words}
 use Rattle.duk_show.specs.Log.{last_after}
 use Rattle.duk_show.specs.Standing.{UseNewNumbers, is_payment, is_undone, standing_amount, used_by}
 use Rattle.duk_show.specs.declared.fault.ShowFault.{ShowFault}
@@ -33,11 +31,6 @@ pub record IsJournal (bytes : List ℕ) (entries : Entries) : Type 0 where
   pub usable : UseNewNumbers entries
 
 -- ---- the lines
-
--- what a reversal found: its byte, and words
-abbrev pub state_words : ReversalState → List ℕ
-state_words Undone = codes "01 undone"
-state_words NoneStands = codes "00 none stands"
 
 -- where a record stands, and its key serial number: its place, and where its group begins
 abbrev pub record_words : ℕ → ℕ → Serial → List ℕ

@@ -8,7 +8,12 @@ ghost use Rattle.duk_frame.specs.Code.{code_text};
 ghost use Rattle.duk_frame.specs.Request.{AreRequestFields, IsRequest};
 ghost use Rattle.duk_frame.specs.declared.answer.AnswerFrame.{AnswerFrame as AnswerValue};
 ghost use Rattle.duk_frame.specs.declared.request.Request.{Request as RequestValue};
-ghost use Rattle.duk_show.specs.Frame.{IsBytesShown, IsFrameFault, IsFrameRefused, IsFrameText, MeetsFrame, answer_lines, code_words, reason_words, request_lines};
+ghost use Rattle.duk_reversal.specs.Numbers.{Reverses};
+ghost use Rattle.duk_reversal.specs.Reply.{AreReversalReplyFields, IsReversalReply};
+ghost use Rattle.duk_reversal.specs.Reversal.{AreReversalFields, IsReversal};
+ghost use Rattle.duk_reversal.specs.declared.reply.ReversalReply.{ReversalReply as ReversalReplyValue};
+ghost use Rattle.duk_reversal.specs.declared.reversal.Reversal.{Reversal as ReversalValue};
+ghost use Rattle.duk_show.specs.Frame.{IsBytesShown, IsFrameFault, IsFrameRefused, IsFrameText, MeetsFrame, answer_lines, code_words, number_at, reason_words, request_lines, reversal_lines, reversal_reply_lines, state_words};
 
 use crate::decimal::{push_decimal, push_number_line};
 use crate::fault::ShowFault;
@@ -17,6 +22,11 @@ use crate::hexadecimal::{HexFault, decode};
 use byteorder::{BigEndian, ByteOrder};
 use duk_commands::{LINES_ROOM, Lines, push_end, push_line, push_text, push_text_line};
 use duk_frame::{AnswerFrame, Code, Request, read_answer, read_request};
+use duk_reversal::{
+    Reversal, ReversalNumbers, ReversalReply, ReversalState, read_reversal, read_reversal_reply,
+};
+use duk_tdes::array_of;
+use duk_tree::Ksn;
 use std::alloc::Global;
 
 /// The lines of a frame in hexadecimal: its kind, and each of its fields.
@@ -55,8 +65,14 @@ fn lines_of_bytes(bytes: &[u8]) -> Result<Lines, FrameFault>
     if let Some(request) = read_request(bytes) {
         return Ok(lines_of_request(&request));
     }
-    match read_answer(bytes) {
-        Some(answer) => Ok(lines_of_answer(&answer)),
+    if let Some(answer) = read_answer(bytes) {
+        return Ok(lines_of_answer(&answer));
+    }
+    if let Some(reversal) = read_reversal(bytes) {
+        return Ok(lines_of_reversal(&reversal));
+    }
+    match read_reversal_reply(bytes) {
+        Some(reply) => Ok(lines_of_reversal_reply(&reply)),
         None => Err(first_wrong(bytes)),
     }
 }
@@ -65,6 +81,8 @@ fn lines_of_bytes(bytes: &[u8]) -> Result<Lines, FrameFault>
 fn first_wrong(bytes: &[u8]) -> FrameFault
     requires no_request { (request : RequestValue) → ¬ IsRequest bytes.now request }
     requires no_answer { (answer : AnswerValue) → ¬ IsAnswer bytes.now answer }
+    requires no_reversal { (reversal : ReversalValue) → ¬ IsReversal bytes.now reversal }
+    requires no_reply { (reply : ReversalReplyValue) → ¬ IsReversalReply bytes.now reply }
     ensures wrong { IsFrameFault bytes.now result }
     ensures not_hex { result ≢ FrameFault.Hex }
 {
@@ -72,7 +90,7 @@ fn first_wrong(bytes: &[u8]) -> FrameFault
         FrameFault::Length
     } else if bytes.get(2) != Some(&1) {
         FrameFault::Version
-    } else if bytes.len() < 4 || !(1..=3).contains(&bytes[3]) {
+    } else if bytes.len() < 4 || !(1..=5).contains(&bytes[3]) {
         FrameFault::Kind
     } else if !has_size_of_kind(bytes) {
         FrameFault::Size
@@ -99,6 +117,8 @@ fn has_size_of_kind(bytes: &[u8]) -> bool
         1 => (47..=54).contains(&bytes.len()),
         2 => bytes.len() == 24,
         3 => bytes.len() == 15,
+        4 => bytes.len() == 32,
+        5 => bytes.len() == 33,
         _ => false,
     }
 }
@@ -107,6 +127,8 @@ fn has_size_of_kind(bytes: &[u8]) -> bool
 fn wrong_field(bytes: &[u8]) -> FrameFault
     requires no_request { (request : RequestValue) → ¬ IsRequest bytes.now request }
     requires no_answer { (answer : AnswerValue) → ¬ IsAnswer bytes.now answer }
+    requires no_reversal { (reversal : ReversalValue) → ¬ IsReversal bytes.now reversal }
+    requires no_reply { (reply : ReversalReplyValue) → ¬ IsReversalReply bytes.now reply }
     requires length { MeetsFrame bytes.now FrameFault.Length }
     requires version { MeetsFrame bytes.now FrameFault.Version }
     requires kind { MeetsFrame bytes.now FrameFault.Kind }
@@ -118,8 +140,21 @@ fn wrong_field(bytes: &[u8]) -> FrameFault
         1 if usize::from(bytes[14]) + 35 != bytes.len() => FrameFault::PanLength,
         1 => FrameFault::PanDigit,
         2 => FrameFault::Code,
-        _ => FrameFault::Reason,
+        3 => FrameFault::Reason,
+        5 if has_its_numbers(bytes) => FrameFault::State,
+        _ => FrameFault::Reversed,
     }
+}
+
+/// Whether the first number of a reversal's reply may reverse the second.
+fn has_its_numbers(bytes: &[u8]) -> bool
+    requires { 24 ≤ length bytes.now }
+    ensures { MatchBool result (Reverses (number_at 4 bytes.now) (number_at 14 bytes.now))
+        (¬ Reverses (number_at 4 bytes.now) (number_at 14 bytes.now)) }
+{
+    let ksn = Ksn::from_bytes(array_of(&bytes[4..14]));
+    let reversed = Ksn::from_bytes(array_of(&bytes[14..24]));
+    ReversalNumbers::new(ksn, reversed).is_some()
 }
 
 /// The lines of a request.
@@ -156,6 +191,37 @@ fn lines_of_answer(answer: &AnswerFrame) -> Lines
             push_reason(&mut lines, *reason);
         }
     }
+    lines
+}
+
+/// The lines of a reversal.
+fn lines_of_reversal(reversal: &Reversal) -> Lines
+    requires { AreReversalFields reversal.now }
+    ensures { result.items ≡ reversal_lines reversal.now }
+{
+    let mut lines = Lines::new();
+    push_text_line(&mut lines, b"frame", b"reversal");
+    push_line(&mut lines, b"ksn", &reversal.numbers.ksn().bytes());
+    push_line(
+        &mut lines,
+        b"reversed",
+        &reversal.numbers.reversed().bytes(),
+    );
+    push_line(&mut lines, b"mac", &reversal.mac);
+    lines
+}
+
+/// The lines of a reversal's reply.
+fn lines_of_reversal_reply(reply: &ReversalReply) -> Lines
+    requires { AreReversalReplyFields reply.now }
+    ensures { result.items ≡ reversal_reply_lines reply.now }
+{
+    let mut lines = Lines::new();
+    push_text_line(&mut lines, b"frame", b"reversal-reply");
+    push_line(&mut lines, b"ksn", &reply.numbers.ksn().bytes());
+    push_line(&mut lines, b"reversed", &reply.numbers.reversed().bytes());
+    push_text_line(&mut lines, b"state", words_of_state(reply.state).as_bytes());
+    push_line(&mut lines, b"mac", &reply.mac);
     lines
 }
 
@@ -212,5 +278,16 @@ fn words_of_reason(reason: u8) -> &'static str
         4 => "bad MAC",
         5 => "used",
         _ => "log full",
+    }
+}
+
+/// A state's byte, and what it says in words.
+pub(crate) fn words_of_state(state: ReversalState) -> &'static str
+    ensures words { result.now ≡ state_words state }
+    ensures short { length result.now ≤ 14 }
+{
+    match state {
+        ReversalState::Undone => "01 undone",
+        ReversalState::NoneStands => "00 none stands",
     }
 }

@@ -12,7 +12,7 @@ pub enum FrameFault {
     Length,
     /// The version is not 1.
     Version,
-    /// The kind is none of 1, 2 and 3.
+    /// The kind is none of 1 to 5.
     Kind,
     /// The length is none that a frame of its kind has.
     Size,
@@ -24,6 +24,10 @@ pub enum FrameFault {
     Code,
     /// The reason is none.
     Reason,
+    /// The number that is reversed is none that a reversal under the other number may reverse.
+    Reversed,
+    /// The state is none.
+    State,
 }
 
 impl FrameFault {
@@ -42,6 +46,8 @@ impl FrameFault {
             FrameFault::PanDigit => "PanDigit",
             FrameFault::Code => "Code",
             FrameFault::Reason => "Reason",
+            FrameFault::Reversed => "Reversed",
+            FrameFault::State => "State",
         }
     }
 
@@ -53,8 +59,10 @@ impl FrameFault {
             FrameFault::Hex | FrameFault::Length | FrameFault::Size => 0,
             FrameFault::Version => 2,
             FrameFault::Kind => 3,
-            FrameFault::PanLength | FrameFault::Code | FrameFault::Reason => 14,
+            FrameFault::PanLength | FrameFault::Code | FrameFault::Reason | FrameFault::Reversed =>
+                14,
             FrameFault::PanDigit => 15,
+            FrameFault::State => 24,
         }
     }
 }

@@ -8,8 +8,8 @@ ghost use Rattle.duk_journal.specs.Entry.{MayStandUnder};
 ghost use Rattle.duk_journal.specs.RecordFormat.{IsOpen};
 ghost use Rattle.duk_tree.specs.Path.{IsUsable};
 ghost use Rattle.duk_tree.specs.Serial.{serial_bytes};
-ghost use Rattle.duk_show.specs.Frame.{code_words};
-ghost use Rattle.duk_show.specs.Journal.{IsJournal, IsJournalRefused, IsJournalText, count_lines, entry_line, entry_lines, payer_lines, record_words, reversals_line, state_words, undone_words};
+ghost use Rattle.duk_show.specs.Frame.{code_words, state_words};
+ghost use Rattle.duk_show.specs.Journal.{IsJournal, IsJournalRefused, IsJournalText, count_lines, entry_line, entry_lines, payer_lines, record_words, reversals_line, undone_words};
 ghost use Rattle.duk_show.specs.Standing.{is_payment};
 ghost use Rattle.duk_show.specs.declared.fault.ShowFault.TheVariants.{OutOfMemory};
 ghost use Rattle.duk_show.specs.inner.Journal.{AreClosedBetween, AreGroups, AreUsedBy, IsLeftAfter, IsNewEntry, IsNextIn, IsNoneNext, IsNotNew, IsOpenAt, IsRecordNotTaken, IsRecordTaken};
@@ -17,7 +17,7 @@ ghost use Rattle.duk_show.specs.inner.JournalTallies.{payer_line};
 
 use crate::decimal::{push_amount, push_decimal, push_number_line};
 use crate::fault::ShowFault;
-use crate::frame::words_of_code;
+use crate::frame::{words_of_code, words_of_state};
 use crate::journal_tallies::{Payer, payers_of};
 use crate::standing::{payments_in, reversed_by_all, take_reversed};
 use duk_commands::{LINES_ROOM, Lines, push_end, push_text};
@@ -334,17 +334,6 @@ fn push_reversal(line: &mut Lines, reversed: Ksn, mac: [u8; 8], state: ReversalS
     append_hex(line, &mac);
     push_text(line, b" state ");
     push_text(line, words_of_state(state).as_bytes());
-}
-
-/// What a reversal found, in words.
-fn words_of_state(state: ReversalState) -> &'static str
-    ensures words { result.now ≡ state_words state }
-    ensures short { length result.now ≤ 14 }
-{
-    match state {
-        ReversalState::Undone => "01 undone",
-        ReversalState::NoneStands => "00 none stands",
-    }
 }
 
 /// Appends the lines of the terminals of these entries.

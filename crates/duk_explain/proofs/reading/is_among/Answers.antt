@@ -1,4 +1,4 @@
-use Rattle.std.proofs.Common.{◌≡◌, ◌∙◌, ◌<◌, [], ap, arith, bytes_eq, get_or, rules, sym, true}
+use Rattle.std.proofs.Common.{◌∙◌, [], ap, arith, bytes_eq, sym}
 use Rattle.duk_explain.proofs.FirstWrong.{any_at, any_nowhere}
 use Rattle.duk_explain.proofs.reading.is_among.Goals as goal
 
