@@ -4,3 +4,4 @@ mod FaultOrder
 mod StepsOnTheWay
 mod RequestOrder
 mod ReplyOrder
+mod OneFrame

@@ -17,13 +17,22 @@ use Rattle.duk_frame.specs.Payment.{payment_reply, payment_request}
 use Rattle.duk_frame.specs.Request.{IsRequest}
 use Rattle.duk_frame.specs.declared.answer.AnswerFrame.{AnswerFrame}
 use Rattle.duk_frame.specs.declared.answer.AnswerFrame.TheVariants as answer
-use Rattle.duk_frame.specs.declared.request.Request.{Request}
+use Rattle.duk_reversal.specs.Authentic.{reversal_reply_under}
+use Rattle.duk_reversal.specs.Reply.{IsReversalReply}
+use Rattle.duk_reversal.specs.Reversal.{IsReversal}
+use Rattle.duk_reversal.specs.declared.reply.ReversalReply.{ReversalReply}
+use Rattle.duk_reversal.specs.declared.state.ReversalState.{ReversalState}
+use Rattle.duk_reversal.specs.declared.state.ReversalState.TheVariants.{Undone, NoneStands}
 use Rattle.duk_io.specs.FirstFault.{IsFirst}
 use Rattle.duk_pin.specs.Pan.{HasPanLength, IsPan}
 use Rattle.duk_pin.specs.Pin.{HasPinLength, IsPin}
 use Rattle.duk_pin.specs.declared.fault.PinFault.TheVariants.{PinLength, PinDigit, PanLength, PanDigit}
 use Rattle.duk_tools.specs.Start.{IsStart, MeetsStart}
-use Rattle.duk_tree.specs.Derivation.{transaction_key_of}
+use Rattle.duk_tools.specs.declared.asked.Asked.{Asked}
+use Rattle.duk_tools.specs.declared.asked.Asked.TheVariants as asked
+use Rattle.duk_tools.specs.declared.told.Told.{Told}
+use Rattle.duk_tools.specs.declared.told.Told.TheVariants as told
+use Rattle.duk_tree.specs.Derivation.{response_key_of, transaction_key_of}
 use Rattle.duk_tree.specs.Path.{IsUsable}
 use Rattle.duk_tree.specs.Serial.{Serial, serial_bytes}
 
@@ -99,80 +108,123 @@ pub record ReplyArguments : Type 0 where
 abbrev pub reply_arguments : KeyArgument → List ℕ → List ℕ → ReplyArguments
 reply_arguments given request answer = record { given = given; request = request; answer = answer }
 
--- a text is the frame of this request in hexadecimal, of a number of a transaction
-pub record WritesRequest (text : List ℕ) (request : Request) : Type 0 where
+-- the bytes are this frame of a terminal: the request of a payment, or a reversal
+abbrev pub IsAsked : List ℕ → Asked → Type 0
+IsAsked bytes (asked.Payment request) = IsRequest bytes request
+IsAsked bytes (asked.Reversal reversal) = IsReversal bytes reversal
+
+-- the number that it uses
+abbrev pub number_of : Asked → Serial
+number_of (asked.Payment request) = request.ksn
+number_of (asked.Reversal reversal) = reversal.numbers.ksn
+
+-- the bytes are this frame of the host: what answers a payment, or a reversal's reply
+abbrev pub IsTold : List ℕ → Told → Type 0
+IsTold bytes (told.Answer answer) = IsAnswer bytes answer
+IsTold bytes (told.Undoing reply) = IsReversalReply bytes reply
+
+-- a text is this frame of a terminal in hexadecimal, of a number of a transaction
+pub record WritesAsked (text : List ℕ) (asked : Asked) : Type 0 where
   pub bytes : List ℕ
   pub read : IsHexadecimal text bytes
-  pub is_request : IsRequest bytes request
-  pub usable : IsUsable request.ksn.counter
+  pub is_asked : IsAsked bytes asked
+  pub usable : IsUsable (number_of asked).counter
 
--- a text is the frame of this answer in hexadecimal
-pub record WritesAnswer (text : List ℕ) (bytes : List ℕ) (answer : AnswerFrame) : Type 0 where
+-- a text is this frame of the host in hexadecimal
+pub record WritesTold (text : List ℕ) (bytes : List ℕ) (told : Told) : Type 0 where
   pub read : IsHexadecimal text bytes
-  pub is_answer : IsAnswer bytes answer
+  pub is_told : IsTold bytes told
 
--- the transaction key of a request, from the key that is given
-pub record IsRequestKey (given : KeyArgument) (request : Request) (key : List ℕ) : Type 0 where
+-- the transaction key of a number, from the key that is given
+pub record IsNumberKey (given : KeyArgument) (serial : Serial) (key : List ℕ) : Type 0 where
   pub base : List ℕ
   pub key_read : key_in given ≡ Some base
-  pub key_is : key ≡ transaction_key_of (initial_from given base request.ksn.iksn)
-      request.ksn.iksn request.ksn.counter
+  pub key_is : key ≡ transaction_key_of (initial_from given base serial.iksn)
+      serial.iksn serial.counter
 
--- the number that a refusal names where the bytes were no request: zeros
+-- the number that a refusal names where the bytes were neither: zeros
 abbrev pub no_number : List ℕ
 no_number = replicate 10 0
 
--- an answer of a request's own number; a refusal may name none
-abbrev pub IsOfNumber : Serial → AnswerFrame → Type 0
-IsOfNumber ksn (answer.Reply other code mac) = serial_bytes other ≡ serial_bytes ksn
-IsOfNumber ksn (answer.Refusal other reason) =
-    (serial_bytes other ≡ serial_bytes ksn) ⊎ (serial_bytes other ≡ no_number)
+-- an accepted reply answers the payment of its number, and no reversal; a refusal answers what uses
+-- its number, or anything where it names none
+abbrev pub Answers : AnswerFrame → Asked → Type 0
+Answers (answer.Reply other code mac) (asked.Payment request) =
+    serial_bytes other ≡ serial_bytes request.ksn
+Answers (answer.Reply other code mac) (asked.Reversal reversal) = ⊥
+Answers (answer.Refusal other reason) frame =
+    (serial_bytes other ≡ serial_bytes (number_of frame)) ⊎ (serial_bytes other ≡ no_number)
 
--- an accepted reply has its MAC under the transaction key; a refusal has none
-abbrev pub HasItsMac : List ℕ → List ℕ → AnswerFrame → Type 0
-HasItsMac key bytes (answer.Reply ksn code mac) = bytes ≡ payment_reply key ksn code
-HasItsMac key bytes (answer.Refusal ksn reason) = ⊤
+-- a reversal's reply answers the reversal with its two numbers, and no payment
+abbrev pub Undoes : ReversalReply → Asked → Type 0
+Undoes reply (asked.Payment request) = ⊥
+Undoes reply (asked.Reversal reversal) =
+    (serial_bytes reply.numbers.ksn ≡ serial_bytes reversal.numbers.ksn)
+    × (serial_bytes reply.numbers.reversed ≡ serial_bytes reversal.numbers.reversed)
 
--- the line of an answer
+-- what is told is told of what was asked
+abbrev pub IsToldOf : Asked → Told → Type 0
+IsToldOf frame (told.Answer answer) = Answers answer frame
+IsToldOf frame (told.Undoing reply) = Undoes reply frame
+
+-- a reply has its MAC under the transaction key; a refusal has none
+abbrev pub HasItsMac : List ℕ → List ℕ → Told → Type 0
+HasItsMac key bytes (told.Answer (answer.Reply ksn code mac)) = bytes ≡ payment_reply key ksn code
+HasItsMac key bytes (told.Answer (answer.Refusal ksn reason)) = ⊤
+HasItsMac key bytes (told.Undoing reply) =
+    bytes ≡ reversal_reply_under (response_key_of key) reply.numbers reply.state
+
+-- the line of what answers a payment
 abbrev pub answer_line : AnswerFrame → List ℕ
 answer_line (answer.Reply ksn code mac) =
     text_line (codes "accepted") (encode_upper (serial_bytes ksn) ++ codes " " ++ code_text code)
 answer_line (answer.Refusal ksn reason) =
     text_line (codes "refused") (encode_upper (serial_bytes ksn) ++ codes " " ++ decimal reason)
 
--- the arguments give a request, its transaction key, and an answer to it
-pub record AreReplyArguments (arguments : ReplyArguments) (answer : AnswerFrame) : Type 0 where
-  pub request : Request
+-- what a reversal found of the number that it reverses
+abbrev pub state_name : ReversalState → List ℕ
+state_name Undone = codes "undone"
+state_name NoneStands = codes "none stands"
+
+-- the line of what is told: of a reversal's reply it has the number that is reversed
+abbrev pub told_line : Told → List ℕ
+told_line (told.Answer answer) = answer_line answer
+told_line (told.Undoing reply) =
+    named_line (state_name reply.state) (serial_bytes reply.numbers.reversed)
+
+-- the arguments give a frame of a terminal, its transaction key, and what was told of it
+pub record AreReplyArguments (arguments : ReplyArguments) (told : Told) : Type 0 where
+  pub asked : Asked
   pub key : List ℕ
   pub bytes : List ℕ
-  pub key_is : IsRequestKey arguments.given request key
-  pub request_read : WritesRequest arguments.request request
-  pub answer_read : WritesAnswer arguments.answer bytes answer
-  pub of_number : IsOfNumber request.ksn answer
-  pub has_its_mac : HasItsMac key bytes answer
+  pub key_is : IsNumberKey arguments.given (number_of asked) key
+  pub asked_read : WritesAsked arguments.request asked
+  pub told_read : WritesTold arguments.answer bytes told
+  pub told_of : IsToldOf asked told
+  pub has_its_mac : HasItsMac key bytes told
 
 -- the text of the line that the arguments ask for
 pub record IsReplyText (arguments : ReplyArguments) (text : List ℕ) : Type 0 where
-  pub answer : AnswerFrame
-  pub read : AreReplyArguments arguments answer
-  pub text_is : text ≡ answer_line answer
+  pub told : Told
+  pub read : AreReplyArguments arguments told
+  pub text_is : text ≡ told_line told
 
--- a request and an answer of its number are given
+-- a frame of a terminal and what was told of it are given
 pub record AreOfOneNumber (arguments : ReplyArguments) : Type 0 where
-  pub request : Request
+  pub asked : Asked
   pub bytes : List ℕ
-  pub answer : AnswerFrame
-  pub request_read : WritesRequest arguments.request request
-  pub answer_read : WritesAnswer arguments.answer bytes answer
-  pub of_number : IsOfNumber request.ksn answer
+  pub told : Told
+  pub asked_read : WritesAsked arguments.request asked
+  pub told_read : WritesTold arguments.answer bytes told
+  pub told_of : IsToldOf asked told
 
 -- what the arguments must meet, or else are refused with this fault
 abbrev pub MeetsReply : ReplyArguments → Fault → Type 0
-MeetsReply arguments RequestRefused = (request : Request) × WritesRequest arguments.request request
+MeetsReply arguments RequestRefused = (asked : Asked) × WritesAsked arguments.request asked
 MeetsReply arguments AnswerRefused =
-    (bytes : List ℕ) × (answer : AnswerFrame) × WritesAnswer arguments.answer bytes answer
+    (bytes : List ℕ) × (told : Told) × WritesTold arguments.answer bytes told
 MeetsReply arguments NotMine = AreOfOneNumber arguments
-MeetsReply arguments BadMac = (answer : AnswerFrame) × AreReplyArguments arguments answer
+MeetsReply arguments BadMac = (told : Told) × AreReplyArguments arguments told
 MeetsReply arguments fault = MeetsKey arguments.given fault
 
 -- why they are refused: the first of the faults, in their order, whose condition they do not meet;

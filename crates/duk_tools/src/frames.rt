@@ -1,30 +1,31 @@
 //! The commands over frames: `request` and `reply`.
 
-ghost use Rattle.std.specs.Prelude.{◌≡◌, ◌⊎◌, ◌<◌, ◌≤◌, ◌+◌, ◌++◌, IfErr, IfOk, MatchBool, codes, decimal};
+ghost use Rattle.std.specs.Prelude.{◌≡◌, ◌⊎◌, ◌<◌, ◌≤◌, ◌+◌, ◌++◌, ℕ, List, IfErr, IfOk, codes, decimal, length};
 ghost use Rattle.arrayvec.specs.ArrayVec.{array_vec_len};
 ghost use Rattle.hex.specs.Hex.{encode_upper};
 ghost use Rattle.duk_commands.specs.Lines.{named_line, text_line};
 ghost use Rattle.duk_commands.specs.declared.fault.Fault.TheVariants.{OutOfMemory, RequestRefused};
-ghost use Rattle.duk_frame.specs.Answer.{AreAnswerFields, IsAnswer};
+ghost use Rattle.duk_frame.specs.Answer.{AreAnswerFields};
 ghost use Rattle.duk_frame.specs.Code.{code_text};
 ghost use Rattle.duk_frame.specs.Payment.{payment_request};
-ghost use Rattle.duk_frame.specs.declared.request.Request.{Request as RequestValue};
-ghost use Rattle.duk_tools.specs.Frames.{HasItsMac, IsOfNumber, IsReplyRefused, IsReplyText, IsRequestRefused, IsRequestText, WritesRequest, answer_line, reply_arguments, request_arguments};
-ghost use Rattle.duk_tools.specs.inner.Frames.{IsAnswerLine, IsAnswerRefused};
+ghost use Rattle.duk_tools.specs.Frames.{IsAsked, IsReplyRefused, IsReplyText, IsRequestRefused, IsRequestText, IsTold, WritesAsked, answer_line, reply_arguments, request_arguments, state_name, told_line};
+ghost use Rattle.duk_tools.specs.inner.Frames.{IsToldLine, IsToldRefused};
 ghost use Rattle.duk_tree.specs.Derivation.{transaction_key_of};
 ghost use Rattle.duk_tree.specs.Serial.{serial_bytes};
 
+use crate::asked::{Asked, read_asked};
 use crate::hexadecimal::decode;
 use crate::small_number::push_small;
 use crate::start::{Start, read_start};
+use crate::told::{Told, has_its_mac, is_told_of, read_told};
 use duk_commands::{
     Fault, KeyArgument, LINES_ROOM, Lines, push_end, push_line, push_text, read_decimal,
 };
-use duk_frame::{AnswerFrame, Code, is_payment_reply, payment_request, read_answer, read_request};
+use duk_frame::{AnswerFrame, Code, payment_request};
 use duk_io::append_hex;
 use duk_pin::{Pan, Pin};
-use duk_tdes::Key;
-use duk_tree::{Ksn, response_key, usable};
+use duk_reversal::{ReversalReply, ReversalState};
+use duk_tree::{Ksn, usable};
 use std::alloc::Global;
 
 /// The greatest amount: four bytes.
@@ -66,13 +67,14 @@ fn line_of_request(start: &Start, pan: &Pan, pin: &Pin, amount: u32) -> Lines
     lines
 }
 
-/// The line of an answer to a request, both as frames in hexadecimal: an accepted reply whose MAC
-/// is that of its text under the request's transaction key, or a refusal, which has no MAC.
+/// The line of what was told of a terminal's frame, both as frames in hexadecimal: of a payment's
+/// request an accepted reply, of a reversal its reply, each with the MAC of its text under the
+/// transaction key of the terminal's frame; or a refusal, which has no MAC.
 ///
 /// The faults, in this order: `BDK refused`, or `initial refused` of an initial key; `request
-/// refused` (no request's frame, or of a counter that numbers no transaction); `answer refused` (no
-/// answer's frame); `NotMine`, where it answers another number; `BadMac`. Memory for the frames may
-/// be refused.
+/// refused` (no request's frame and no reversal's, or of a counter that numbers no transaction);
+/// `answer refused` (no answer's frame and no reversal's reply); `NotMine`, where it answers another
+/// number, or another kind of frame; `BadMac`. Memory for the frames may be refused.
 pub fn reply_lines(
     alloc: Global,
     given: KeyArgument<'_>,
@@ -84,77 +86,83 @@ pub fn reply_lines(
     ensures refused { IfErr result (IsReplyRefused
         (reply_arguments given.entry request.now answer.now)) }
 {
-    duk_frame::laws::one_reading();
+    one_reading();
     let key = given.read()?;
-    let number = request_in(alloc, request)?;
+    let asked = asked_in(alloc, request)?;
     let answer = decode(alloc, answer, Fault::AnswerRefused)?;
-    let initial = given.initial_key(&key, number.iksn());
-    let start = Start {
-        initial,
-        ksn: number,
-    };
-    line_of_answer(&start, answer.as_slice())
+    let ksn = asked.ksn();
+    let initial = given.initial_key(&key, ksn.iksn());
+    let start = Start { initial, ksn };
+    line_of_told(&start, &asked, answer.as_slice())
 }
 
-/// The line of an answer's frame to the request of a number.
-fn line_of_answer(start: &Start, bytes: &[u8]) -> Result<Lines, Fault>
-    ensures line { IfOk result (λ lines. IsAnswerLine start.now bytes.now lines.items) }
-    ensures refused { IfErr result (IsAnswerRefused start.now bytes.now) }
+/// Bytes are one frame of a terminal at most, and one of the host.
+fn one_reading()
+    ensures asked { (bytes : List ℕ) (one other : Asked) → IsAsked bytes one → IsAsked bytes other
+        → one ≡ other }
+    ensures told { (bytes : List ℕ) (one other : Told) → IsTold bytes one → IsTold bytes other
+        → one ≡ other }
 {
-    let answer = read_answer(bytes).ok_or(Fault::AnswerRefused)?;
-    if !is_of_number(start.ksn, &answer) {
+    duk_frame::laws::one_reading();
+    duk_reversal::laws::one_reading();
+    duk_reversal::laws::apart_from_payments();
+}
+
+/// The line of a frame of the host to what was asked under a number.
+fn line_of_told(start: &Start, asked: &Asked, bytes: &[u8]) -> Result<Lines, Fault>
+    ensures line { IfOk result (λ lines. IsToldLine start.now asked.now bytes.now lines.items) }
+    ensures refused { IfErr result (IsToldRefused start.now asked.now bytes.now) }
+{
+    match read_told(bytes) {
+        Some(told) => line_of_read(start, asked, bytes, &told),
+        None => Err(Fault::AnswerRefused),
+    }
+}
+
+/// The line of what was told, as it was read.
+fn line_of_read(start: &Start, asked: &Asked, bytes: &[u8], told: &Told) -> Result<Lines, Fault>
+    requires { IsTold bytes.now told.now }
+    ensures line { IfOk result (λ lines. IsToldLine start.now asked.now bytes.now lines.items) }
+    ensures refused { IfErr result (IsToldRefused start.now asked.now bytes.now) }
+{
+    if !is_told_of(asked, told) {
         return Err(Fault::NotMine);
     }
-    if has_its_mac(&start.key(), bytes, &answer) {
-        Ok(line_of(&answer))
+    if has_its_mac(&start.key(), bytes, told) {
+        Ok(line_of(told))
     } else {
         Err(Fault::BadMac)
     }
 }
 
-/// The key serial number of a request, as a frame in hexadecimal. Refused with `RequestRefused`, or
+/// The frame of a terminal that a text writes in hexadecimal. Refused with `RequestRefused`, or
 /// where memory is refused with `OutOfMemory`.
-fn request_in(alloc: Global, text: &str) -> Result<Ksn, Fault>
-    ensures read { IfOk result (λ ksn. (request : RequestValue) × WritesRequest text.now request
-        × (request.ksn ≡ ksn)) }
+fn asked_in(alloc: Global, text: &str) -> Result<Asked, Fault>
+    ensures read { IfOk result (WritesAsked text.now) }
     ensures refused { IfErr result (λ why. (why ≡ OutOfMemory) ⊎ ((why ≡ RequestRefused)
-        × ((request : RequestValue) → ¬ WritesRequest text.now request))) }
+        × ((asked : Asked) → ¬ WritesAsked text.now asked))) }
 {
-    duk_frame::laws::one_reading();
     let bytes = decode(alloc, text, Fault::RequestRefused)?;
-    let request = read_request(bytes.as_slice()).ok_or(Fault::RequestRefused)?;
-    if !usable(request.ksn.counter()) {
+    let asked = read_asked(bytes.as_slice()).ok_or(Fault::RequestRefused)?;
+    if !usable(asked.ksn().counter()) {
         return Err(Fault::RequestRefused);
     }
-    Ok(request.ksn)
+    Ok(asked)
 }
 
-/// Whether an answer is of this number; a refusal may name none.
-fn is_of_number(ksn: Ksn, answer: &AnswerFrame) -> bool
-    ensures { MatchBool result (IsOfNumber ksn answer.now) (¬ IsOfNumber ksn answer.now) }
+/// The line of what was told.
+fn line_of(told: &Told) -> Lines
+    requires { (bytes : List ℕ) × IsTold bytes told.now }
+    ensures { result.items ≡ told_line told.now }
 {
-    match answer {
-        AnswerFrame::Reply { ksn: other, .. } => other.bytes() == ksn.bytes(),
-        AnswerFrame::Refusal { ksn: other, .. } => {
-            other.bytes() == ksn.bytes() || other.bytes() == [0; 10]
-        }
+    match told {
+        Told::Answer(answer) => line_of_answer(answer),
+        Told::Undoing(reply) => line_of_undoing(reply),
     }
 }
 
-/// Whether an accepted reply has its MAC under the transaction key; a refusal has none.
-fn has_its_mac(key: &Key<16>, bytes: &[u8], answer: &AnswerFrame) -> bool
-    requires { IsAnswer bytes.now answer.now }
-    ensures { MatchBool result (HasItsMac key.now bytes.now answer.now)
-        (¬ HasItsMac key.now bytes.now answer.now) }
-{
-    match answer {
-        AnswerFrame::Reply { mac, .. } => is_payment_reply(&response_key(key), bytes, *mac),
-        AnswerFrame::Refusal { .. } => true,
-    }
-}
-
-/// The line of an answer.
-fn line_of(answer: &AnswerFrame) -> Lines
+/// The line of what answers a payment.
+fn line_of_answer(answer: &AnswerFrame) -> Lines
     requires { AreAnswerFields answer.now }
     ensures { result.items ≡ answer_line answer.now }
 {
@@ -164,6 +172,28 @@ fn line_of(answer: &AnswerFrame) -> Lines
         AnswerFrame::Refusal { ksn, reason } => push_refused(&mut lines, *ksn, *reason),
     }
     lines
+}
+
+/// The line of a reversal's reply.
+fn line_of_undoing(reply: &ReversalReply) -> Lines
+    ensures { result.items
+        ≡ named_line (state_name reply.now.state) (serial_bytes reply.now.numbers.reversed) }
+{
+    let mut lines = Lines::new();
+    let number = reply.numbers.reversed().bytes();
+    push_line(&mut lines, name_of(reply.state).as_bytes(), &number);
+    lines
+}
+
+/// What a reversal found, in words.
+fn name_of(state: ReversalState) -> &'static str
+    ensures name { result.now ≡ state_name state }
+    ensures short { length result.now ≤ 11 }
+{
+    match state {
+        ReversalState::Undone => "undone",
+        ReversalState::NoneStands => "none stands",
+    }
 }
 
 /// Appends the line of an accepted reply.

@@ -2,6 +2,7 @@
 //! its arguments, or the fault for which it refuses them.
 #![tactic(auto)]
 
+mod asked;
 mod check_values;
 mod frames;
 mod hexadecimal;
@@ -12,6 +13,7 @@ mod registers;
 mod small_number;
 mod start;
 mod steps;
+mod told;
 
 pub use check_values::{MOST_KEYS, values_lines};
 pub use frames::{reply_lines, request_lines};

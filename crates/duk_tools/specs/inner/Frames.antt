@@ -2,40 +2,40 @@
 use Rattle.std.specs.Prelude.{◌≡◌, ℕ, List}
 use Rattle.duk_commands.specs.declared.fault.Fault.{Fault}
 use Rattle.duk_commands.specs.declared.fault.Fault.TheVariants.{AnswerRefused, BadMac, NotMine}
-use Rattle.duk_frame.specs.Answer.{IsAnswer}
-use Rattle.duk_frame.specs.declared.answer.AnswerFrame.{AnswerFrame}
-use Rattle.duk_tools.specs.Frames.{HasItsMac, IsOfNumber, answer_line}
+use Rattle.duk_tools.specs.Frames.{HasItsMac, IsTold, IsToldOf, told_line}
+use Rattle.duk_tools.specs.declared.asked.Asked.{Asked}
 use Rattle.duk_tools.specs.declared.start.Start.{Start}
+use Rattle.duk_tools.specs.declared.told.Told.{Told}
 use Rattle.duk_tree.specs.Derivation.{transaction_key_of}
 
 -- the transaction key of a number
 abbrev pub key_of : Start → List ℕ
 key_of start = transaction_key_of start.initial start.ksn.iksn start.ksn.counter
 
--- the bytes are an answer to this number, and this is its line
-pub record IsAnswerLine (start : Start) (bytes text : List ℕ) : Type 0 where
-  pub answer : AnswerFrame
-  pub is_answer : IsAnswer bytes answer
-  pub of_number : IsOfNumber start.ksn answer
-  pub has_its_mac : HasItsMac (key_of start) bytes answer
-  pub text_is : text ≡ answer_line answer
+-- the bytes tell of what was asked, and this is their line
+pub record IsToldLine (start : Start) (asked : Asked) (bytes text : List ℕ) : Type 0 where
+  pub told : Told
+  pub is_told : IsTold bytes told
+  pub told_of : IsToldOf asked told
+  pub has_its_mac : HasItsMac (key_of start) bytes told
+  pub text_is : text ≡ told_line told
 
--- the bytes are an answer to another number
-pub record IsOther (start : Start) (bytes : List ℕ) : Type 0 where
-  pub answer : AnswerFrame
-  pub is_answer : IsAnswer bytes answer
-  pub of_other : ¬ IsOfNumber start.ksn answer
+-- the bytes tell of something else
+pub record IsOther (asked : Asked) (bytes : List ℕ) : Type 0 where
+  pub told : Told
+  pub is_told : IsTold bytes told
+  pub of_other : ¬ IsToldOf asked told
 
--- the bytes are an answer to this number with another MAC
-pub record IsForged (start : Start) (bytes : List ℕ) : Type 0 where
-  pub answer : AnswerFrame
-  pub is_answer : IsAnswer bytes answer
-  pub of_number : IsOfNumber start.ksn answer
-  pub other_mac : ¬ HasItsMac (key_of start) bytes answer
+-- the bytes tell of what was asked, with another MAC
+pub record IsForged (start : Start) (asked : Asked) (bytes : List ℕ) : Type 0 where
+  pub told : Told
+  pub is_told : IsTold bytes told
+  pub told_of : IsToldOf asked told
+  pub other_mac : ¬ HasItsMac (key_of start) bytes told
 
 -- why the bytes are refused: the first of these
-abbrev pub IsAnswerRefused : Start → List ℕ → Fault → Type 0
-IsAnswerRefused start bytes AnswerRefused = (answer : AnswerFrame) → ¬ IsAnswer bytes answer
-IsAnswerRefused start bytes NotMine = IsOther start bytes
-IsAnswerRefused start bytes BadMac = IsForged start bytes
-IsAnswerRefused start bytes fault = ⊥
+abbrev pub IsToldRefused : Start → Asked → List ℕ → Fault → Type 0
+IsToldRefused start asked bytes AnswerRefused = (told : Told) → ¬ IsTold bytes told
+IsToldRefused start asked bytes NotMine = IsOther asked bytes
+IsToldRefused start asked bytes BadMac = IsForged start asked bytes
+IsToldRefused start asked bytes fault = ⊥
