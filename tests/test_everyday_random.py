@@ -92,6 +92,10 @@ class TestEveryday(ProgramCase):
         self.play("request", *BASE_FAULTS, *NUMBER_FAULTS, *PAN_FAULTS, "PinLength",
                   "PinDigit", "amount refused", "PIN: cannot read")
 
+    def test_reversal(self) -> None:
+        self.play("reversal", *BASE_FAULTS, *NUMBER_FAULTS, "number refused", "OtherIksn",
+                  "SameNumber", "NotUsable", "BDK: cannot read")
+
     def test_reply(self) -> None:
         self.play("reply", *BASE_FAULTS, "request refused", "answer refused", "NotMine",
                   "BadMac")

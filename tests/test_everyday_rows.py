@@ -4,7 +4,7 @@ from __future__ import annotations
 
 from .support.case import ProgramCase
 from .support.everyday_rows import BASE, INITIAL, rows
-from .support.everyday_words import COMMANDS, MOST_KEYS, expected
+from .support.everyday_words import COMMANDS, MOST_KEYS, NO_REVERSAL, expected
 from .support.leaks import SEARCHES_REFUSED_ARGUMENTS
 from .support.program import spoken
 
@@ -38,7 +38,7 @@ class Rows(ProgramCase):
             about = COMMANDS[name]
             words = [name, *about.values]
             self.refused(ONE_LINE, name)
-            self.refused(ONE_LINE, *words[:-1])
+            self.refused(expected(words[:-1]).faults, *words[:-1])
             self.refused(b"error: unexpected argument '--skip' found\n", *words, "--skip", "1")
             if not about.is_many:
                 self.refused(b"error: unexpected argument 'more' found\n", *words, "more")
@@ -47,6 +47,9 @@ class Rows(ProgramCase):
                              % flag.encode(), *words, f"--{flag}", f"--{flag}")
                 self.refused(b"error: unexpected value 'x' for '--%b' found; no more were expected\n"
                              % flag.encode(), *words, f"--{flag}=x")
+        for words in ((BASE, SERIAL), (BASE, SERIAL, "1", "--reverse", SERIAL),
+                      (BASE, SERIAL, "1", "1", "1", f"--reverse={SERIAL}")):
+            self.refused(f"error: {NO_REVERSAL}\n".encode(), "request", *words)
         for words in (("walk", "--trace"), ("initial", "--initial"), ("pin", "--show"),
                       ("wrap", "--hex")):
             option = words[1].encode()

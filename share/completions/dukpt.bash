@@ -16,7 +16,7 @@ declare -gA _dukpt_arguments=(
     [wrap]="KBPK FIELDS KEY PAD --explain -h --help"
     [unwrap]="KBPK BLOCK --explain -h --help"
     [show]="KIND WHAT --show --explain -h --help"
-    [request]="BDK KSN PAN PIN AMOUNT --initial --explain -h --help"
+    [request]="BDK KSN PAN PIN AMOUNT --reverse=NUMBER --initial --explain -h --help"
     [reply]="BDK REQUEST ANSWER --initial --explain -h --help"
     [run]="CONFIG SCRIPT --explain -h --help"
     [serve]="CONFIG --log=FILE --journal=FILE --explain -h --help"

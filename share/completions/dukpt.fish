@@ -97,13 +97,14 @@ complete -c dukpt -n '__fish_seen_subcommand_from show' -l show -d 'Print the ke
 complete -c dukpt -n '__fish_seen_subcommand_from show' -l explain -d 'Say more of a fault'
 complete -c dukpt -n '__fish_seen_subcommand_from show' -s h -l help -d 'Print help'
 
-complete -c dukpt -n __fish_use_subcommand -a request -d 'BDK KSN PAN PIN AMOUNT: print the frame of a request'
+complete -c dukpt -n __fish_use_subcommand -a request -d 'BDK KSN PAN PIN AMOUNT: print the frame of a request or a reversal'
 complete -c dukpt -n '__fish_seen_subcommand_from request' -a '(__dukpt_secret)'
+complete -c dukpt -n '__fish_seen_subcommand_from request' -l reverse -x -d 'NUMBER: reverse this number'
 complete -c dukpt -n '__fish_seen_subcommand_from request' -l initial -d 'Take BDK as the initial key'
 complete -c dukpt -n '__fish_seen_subcommand_from request' -l explain -d 'Say more of a fault'
 complete -c dukpt -n '__fish_seen_subcommand_from request' -s h -l help -d 'Print help'
 
-complete -c dukpt -n __fish_use_subcommand -a reply -d 'BDK REQUEST ANSWER: check an answer to a request'
+complete -c dukpt -n __fish_use_subcommand -a reply -d 'BDK REQUEST ANSWER: check an answer to a request or a reversal'
 complete -c dukpt -n '__fish_seen_subcommand_from reply' -a '(__dukpt_secret)'
 complete -c dukpt -n '__fish_seen_subcommand_from reply' -l initial -d 'Take BDK as the initial key'
 complete -c dukpt -n '__fish_seen_subcommand_from reply' -l explain -d 'Say more of a fault'

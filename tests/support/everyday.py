@@ -9,14 +9,16 @@ from __future__ import annotations
 import re
 from functools import reduce
 from math import comb
-from typing import Optional, Sequence
+from typing import Optional, Sequence, Union
 
 from .commands import DOUBLE, DOUBLE_OR_TRIPLE, SERIAL, Refused, count_in, hexadecimal, shown
 from .des import decrypt_block, encrypt_block
 from .dukpt import (
     COUNTER_BITS, counter_of, held, initial_key, iksn_of, key_of, pin_key, request_key, response_key,
     serial_text, usable)
-from .frames import NO_NUMBER, Refusal, read_answer, read_request, write_request
+from .frames import (
+    NO_NUMBER, Refusal, Reply, Request, Reversal, ReversalReply, read_answer, read_request,
+    read_reversal, read_reversal_reply, write_request, write_reversal)
 from .macs import cmac, retail_mac
 from .pin_blocks import PAN_LENGTHS, PIN_LENGTHS, pin_block, pin_in
 
@@ -209,14 +211,29 @@ def translate_lines(word: str, pan: str, base: str, number: str, zone: str,
 # Frames
 
 
-def request_lines(base: str, number: str, pan: str, pin: str, amount: str,
-                  initial: bool = False) -> list[str]:
+def request_lines(base: str, number: str, pan: str = "", pin: str = "", amount: str = "",
+                  reverse: Optional[str] = None, initial: bool = False) -> list[str]:
     first, serial = number_under(base, number, initial)
+    if reverse is not None:
+        frame = write_reversal(key_of(first, serial), serial, other_in(reverse, serial))
+        return [f"reversal {shown(frame)}"]
     demand_pan(pan)
     demand_digits(pin, "Pin", PIN_LENGTHS)
     if not re.fullmatch("[0-9]+", amount) or int(amount) > MOST_AMOUNT:
         raise Refused("amount refused")
     return [f"request {shown(write_request(key_of(first, serial), serial, pan, pin, int(amount)))}"]
+
+
+def other_in(word: str, serial: int) -> int:
+    """The number that a reversal under another number reverses."""
+    other = int.from_bytes(hexadecimal(word, SERIAL, "number"), "big")
+    if iksn_of(other) != iksn_of(serial):
+        raise Refused("OtherIksn")
+    if other == serial:
+        raise Refused("SameNumber")
+    if not usable(counter_of(other)):
+        raise Refused("NotUsable")
+    return other
 
 
 def frame_in(word: str) -> bytes:
@@ -225,18 +242,29 @@ def frame_in(word: str) -> bytes:
 
 
 def reply_lines(base: str, request: str, answer: str, initial: bool = False) -> list[str]:
-    key = base_key(base, initial)
-    asked = read_request(frame_in(request))
+    key, frame = base_key(base, initial), frame_in(request)
+    asked = read_request(frame) or read_reversal(frame)
     if asked is None or not usable(counter_of(asked.serial)):
         raise Refused("request refused")
-    found = read_answer(frame_in(answer))
+    told = frame_in(answer)
+    found = read_answer(told) or read_reversal_reply(told)
     if found is None:
         raise Refused("answer refused")
     if isinstance(found, Refusal) and found.serial in (asked.serial, NO_NUMBER):
         return [f"refused {serial_text(found.serial)} {found.reason}"]
-    if isinstance(found, Refusal) or found.serial != asked.serial:
+    if isinstance(found, Refusal) or not is_of(found, asked):
         raise Refused("NotMine")
     under = response_key(key_of(terminal_key(key, asked.serial, initial), asked.serial))
     if retail_mac(under, found.text) != found.mac:
         raise Refused("BadMac")
+    if isinstance(found, ReversalReply):
+        return [f"{('none stands', 'undone')[found.state]} {serial_text(found.other)}"]
     return [f"accepted {serial_text(found.serial)} {found.code}"]
+
+
+def is_of(found: Union[Reply, ReversalReply], asked: Union[Request, Reversal]) -> bool:
+    """Whether a reply is to what was sent: of its kind, and its number or numbers."""
+    if isinstance(found, ReversalReply) and isinstance(asked, Reversal):
+        return (found.serial, found.other) == (asked.serial, asked.other)
+    return (isinstance(found, Reply) and isinstance(asked, Request)
+            and found.serial == asked.serial)

@@ -7,10 +7,12 @@ from dataclasses import dataclass, field
 from typing import Callable, Optional, Sequence
 
 from .des import encrypt_block
-from .dukpt import COUNTER_BITS, SPENT, derive, key_of, pin_key, serial_text
+from .dukpt import COUNTER_BITS, SPENT, derive, iksn_of, key_of, pin_key, serial_text
 from .everyday import NUMBERS, nth_counter
 from .everyday_words import COMMANDS, MOST_BYTES, MOST_KEYS, is_secret
-from .frames import CODES, NO_NUMBER, REASONS, write_refusal, write_reply, write_request
+from .frames import (
+    CODES, NO_NUMBER, REASONS, STATES, write_refusal, write_reply, write_request, write_reversal,
+    write_reversal_reply)
 from .key_blocks import wrap
 from .pin_blocks import pin_block
 from .worlds import digits
@@ -228,22 +230,52 @@ class Draw:
         return self.case("request", self.key(16)[1], self.number()[1], self.pan()[1], self.pin()[1],
                          self.count(1 << 32, 1 << 32))
 
+    def reversal(self) -> Case:
+        """`request` with a number to reverse."""
+        base, (serial, number) = self.key(16)[1], self.number()
+        payment = (self.pan()[1], self.pin()[1], "1") if self.one_in(40) else ()
+        return self.case("request", base, number, *payment,
+                         reverse=self.written(serial_text(self.reversed_by(serial))))
+
+    def reversed_by(self, serial: int) -> int:
+        """A number that a reversal under this one may reverse, or now and then another one."""
+        if self.one_in(6):
+            return self.chance.choice((serial, self.serial(), serial ^ 1 << self.chance.randrange(21),
+                                       iksn_of(serial) + self.chance.choice(COUNTERS)))
+        return iksn_of(serial) + nth_counter(self.chance.randrange(NUMBERS))
+
     def reply(self) -> Case:
         (base, word), serial = self.key(16), self.serial()
         flags, key = self.under(base, serial)
         pan, pin, amount = self.pan()[0], self.pin()[0], self.chance.randrange(1 << 32)
-        request = write_request(key, serial, pan, pin, amount)
-        return self.case("reply", word, self.frame_word(request),
-                         self.frame_word(self.answer(key, serial)), flags=flags)
+        other = self.reversed_by(serial)
+        sent, back = self.chance.choice((
+            (write_request(key, serial, pan, pin, amount), self.answer(key, serial)),
+            (write_reversal(key, serial, other), self.undoing(key, serial, other))))
+        if self.one_in(12):
+            # What answers a payment, to a reversal, or the other way round.
+            back = self.chance.choice((self.answer, lambda *it: self.undoing(*it, other)))(key, serial)
+        return self.case("reply", word, self.frame_word(sent), self.frame_word(back), flags=flags)
 
     def answer(self, key: bytes, serial: int) -> bytes:
         """An answer to a number, to another one, or to none."""
         other = self.chance.choice((serial, serial, serial, serial, self.serial()))
         if self.one_in(2):
-            made = write_reply(key, other, self.chance.choice(CODES))
-            wrong = made[:-1] + bytes([made[-1] ^ 1 << self.chance.randrange(8)])
-            return wrong if self.one_in(5) else made
+            return self.forged(write_reply(key, other, self.chance.choice(CODES)))
         return write_refusal(self.chance.choice((other, NO_NUMBER)), self.chance.choice(REASONS))
+
+    def undoing(self, key: bytes, serial: int, other: int) -> bytes:
+        """A reply to the reversal of a number, or of another one, or a refusal."""
+        if self.one_in(5):
+            return self.answer(key, serial)
+        if self.one_in(6):
+            other = self.reversed_by(serial)
+        return self.forged(write_reversal_reply(key, serial, other, self.chance.choice(STATES)))
+
+    def forged(self, made: bytes) -> bytes:
+        """Now and then with another MAC."""
+        wrong = made[:-1] + bytes([made[-1] ^ 1 << self.chance.randrange(8)])
+        return wrong if self.one_in(5) else made
 
     def frame_word(self, frame: bytes) -> str:
         if self.one_in(10):
@@ -275,4 +307,4 @@ DRAWS: dict[str, Callable[[Draw], Case]] = {
     "pin": Draw.pin_case,
     **{name: getattr(Draw, name) for name in (
         "derive", "walk", "initial", "registers", "kcv", "mac", "unpin", "translate", "request",
-        "reply", "others")}}
+        "reversal", "reply", "others")}}

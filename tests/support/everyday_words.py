@@ -40,6 +40,8 @@ class Command:
     flags: tuple[str, ...] = ()
     valued: Mapping[str, str] = field(default_factory=dict)
     is_many: bool = False
+    # How many of the arguments are demanded, where some may be left out.
+    least: Optional[int] = None
 
 
 def no_lines(*_values: object, **_options: object) -> list[str]:
@@ -64,9 +66,12 @@ COMMANDS = {
                      {"ledger": "FILE"}),
     # A text; the logs are files.
     "show": Command(show_lines, ("KIND", "WHAT"), ("show",)),
-    "request": Command(request_lines, ("BDK", "KSN", "PAN", "PIN", "AMOUNT"), INITIAL),
+    "request": Command(request_lines, ("BDK", "KSN", "PAN", "PIN", "AMOUNT"), INITIAL,
+                       {"reverse": "NUMBER"}, least=2),
     "reply": Command(reply_lines, ("BDK", "REQUEST", "ANSWER"), INITIAL),
 }
+NO_REVERSAL = ("PAN, PIN and AMOUNT are required without '--reverse <NUMBER>', "
+               "and cannot be used with it")
 # What an option is called where Python has another use for its name.
 HANDED = {"all": "all_", "hex": "hex_", "cmac": "is_cmac"}
 
@@ -117,8 +122,17 @@ def demand_count(command: Command, given: Given) -> None:
     if command.is_many and len(given.values) > MOST_KEYS:
         raise ArgumentsRefused(
             f"unexpected value '{given.values[-1]}' for '<KEY>...' found; no more were expected")
-    if len(given.values) < len(command.values):
+    least = len(command.values) if command.least is None else command.least
+    if len(given.values) < least:
         raise ArgumentsRefused("the following required arguments were not provided:")
+    if command.least is not None:
+        demand_payment(len(given.values) - least, len(command.values) - least, given)
+
+
+def demand_payment(found: int, most: int, given: Given) -> None:
+    """All that a payment has, or a number to reverse, and nothing of a payment."""
+    if found != (0 if "reverse" in given.valued else most):
+        raise ArgumentsRefused(NO_REVERSAL)
 
 
 def read_option(word: str, left: list[str], command: Command, given: Given) -> None:

@@ -43,6 +43,24 @@ class Refusal:
     reason: int
 
 
+@dataclass(frozen=True)
+class Reversal:
+    serial: int
+    # The number that it reverses.
+    other: int
+    mac: bytes
+    text: bytes
+
+
+@dataclass(frozen=True)
+class ReversalReply:
+    serial: int
+    other: int
+    state: int
+    mac: bytes
+    text: bytes
+
+
 def framed(body: bytes) -> bytes:
     return len(body).to_bytes(2, "big") + body
 
@@ -119,3 +137,27 @@ def read_answer(frame: bytes) -> Optional[Union[Reply, Refusal]]:
     if rest is None or len(rest) != 20 or rest[10:12].decode("latin-1") not in CODES:
         return None
     return Reply(int.from_bytes(rest[:10], "big"), rest[10:12].decode(), rest[12:], frame[2:-8])
+
+
+def read_reversal(frame: bytes) -> Optional[Reversal]:
+    """The fields of a reversal, if the bytes are one."""
+    rest = body_of_kind(frame, 4)
+    if rest is None or len(rest) != 28:
+        return None
+    serial, other = numbers_in(rest)
+    return Reversal(serial, other, rest[-8:], frame[2:-8]) if reverses(serial, other) else None
+
+
+def read_reversal_reply(frame: bytes) -> Optional[ReversalReply]:
+    """The fields of a reversal's reply, if the bytes are one."""
+    rest = body_of_kind(frame, 5)
+    if rest is None or len(rest) != 29 or rest[20] not in STATES:
+        return None
+    serial, other = numbers_in(rest)
+    if not reverses(serial, other):
+        return None
+    return ReversalReply(serial, other, rest[20], rest[-8:], frame[2:-8])
+
+
+def numbers_in(rest: bytes) -> tuple[int, int]:
+    return int.from_bytes(rest[:10], "big"), int.from_bytes(rest[10:20], "big")

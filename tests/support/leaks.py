@@ -103,16 +103,18 @@ def made_secrets(name: str, given: Given) -> set[str]:
     if name == "kcv" and "components" in given.flags:
         return {combined(values)}
     if name in ("translate", "request"):
-        pan, base, number = values[1:4] if name == "translate" else (values[2], *values[:2])
+        base, number = values[2:4] if name == "translate" else values[:2]
         serial = int(number, 16)
         first = bytes.fromhex(base)
         if "initial" not in given.flags:
             first = initial_key(first, iksn_of(serial))
         key = key_of(first, serial)
         keys = {shown(first), shown(key), shown(pin_key(key))}
+        if "reverse" in given.valued:
+            return keys
         if name == "request":
-            return keys | {f"{pin_block(values[3], pan):016X}"}
-        return keys | opened(decrypt_block(pin_key(key), bytes.fromhex(values[0])), pan)
+            return keys | {f"{pin_block(values[3], values[2]):016X}"}
+        return keys | opened(decrypt_block(pin_key(key), bytes.fromhex(values[0])), values[1])
     if name == "unpin":
         block, key = bytes.fromhex(values[0]), given.valued.get("key")
         return opened(block if key is None else decrypt_block(bytes.fromhex(key), block), values[1])

@@ -8,7 +8,7 @@ use Rattle.clap.specs.Simple.{Shape}
 use Rattle.clap.specs.Walk.{Row, Rule, Text, all_of, first_of, one_of}
 use Rattle.duk_arguments.specs.Asked.{AsksFor, IsFound, IsFlag}
 use Rattle.duk_arguments.specs.CommandLine.{command_line}
-use Rattle.duk_arguments.specs.Given.{Each, Given, flag, given_of, name_of, named, needed, several, valued}
+use Rattle.duk_arguments.specs.Given.{Each, Given, flag, given_of, name_of, named, needed, optional, several, valued}
 use Rattle.duk_arguments.specs.Written.{arguments_of, option_named, words_of}
 use Rattle.duk_arguments.specs.declared.request.Request.{Request}
 use Rattle.duk_arguments.specs.declared.request.Request.TheVariants as request
@@ -16,6 +16,7 @@ use Rattle.duk_arguments.specs.declared.request.Request.TheVariants as request
 -- what is given, without its value
 abbrev pub key_of : Given → Given
 key_of (needed name text) = needed name []
+key_of (optional name text) = optional name None
 key_of (valued name text) = valued name None
 key_of (named name text) = named name []
 key_of (flag name there) = flag name false
@@ -26,7 +27,8 @@ abbrev key_of_rule : Rule → Given
 key_of_rule rule =
     if rule.required then (if is_some rule.range then several rule.id []
     else (if is_some rule.long then named rule.id [] else needed rule.id []))
-    else (if is_some rule.action then flag rule.id false else valued rule.id None)
+    else (if is_some rule.action then flag rule.id false
+    else (if is_some rule.long then valued rule.id None else optional rule.id None))
 
 -- what the command of this name takes
 abbrev pub keys_of : Text → List Given
@@ -51,6 +53,7 @@ keys_are (request.Mac key text cmac hex) = refl
 keys_are (request.Unpin block pan key show) = refl
 keys_are (request.Translate block pan bdk ksn zone initial) = refl
 keys_are (request.MakeRequest bdk ksn pan pin amount initial) = refl
+keys_are (request.MakeReversal bdk ksn reversed initial) = refl
 keys_are (request.CheckReply bdk asked answer initial) = refl
 keys_are (request.Show kind what show) = refl
 keys_are (request.Issue bdk loading iksn count ledger skip_issued) = refl
@@ -64,6 +67,7 @@ HasFlag rows _ = ⊤
 -- how what was found under this key is written
 abbrev words_by : List Row → Given → List Text
 words_by rows (needed name text) = unwrap_or (first_of name rows) [] ∷ []
+words_by rows (optional name text) = words_of (optional name (first_of name rows))
 words_by rows (valued name text) = words_of (valued name (first_of name rows))
 words_by rows (named name text) = option_named name ∷ unwrap_or (first_of name rows) [] ∷ []
 words_by rows (flag name there) =
@@ -84,6 +88,8 @@ words_are : (rows : List Row) (given : Given) → IsFound rows given → HasFlag
     → words_of given ≡ words_by rows (key_of given)
 words_are rows (needed name text) found flagged =
     sym (ap (λ (o : Option Text). unwrap_or o [] ∷ []) found)
+words_are rows (optional name text) found flagged =
+    sym (ap (λ (o : Option Text). words_of (optional name o)) found)
 words_are rows (valued name text) found flagged =
     sym (ap (λ (o : Option Text). words_of (valued name o)) found)
 words_are rows (named name text) found flagged =

@@ -18,14 +18,34 @@ reads_request bdk ksn pan pin amount false plain = record {
   quiet = refl;
   ends = refl;
   named = refl;
-  shown = (refl, (refl, (refl, (refl, (refl, (refl, tt))))));
+  shown = (refl, (refl, (refl, (refl, (refl, (refl, (refl, tt)))))));
 }
 reads_request bdk ksn pan pin amount true plain = record {
   goes = (plain.0, refl, refl, (plain.1.0, refl, refl, (plain.1.1.0, refl, refl, (plain.1.1.1.0, refl, refl, (plain.1.1.1.1.0, refl, refl, tt)))));
   quiet = refl;
   ends = refl;
   named = refl;
-  shown = (refl, (refl, (refl, (refl, (refl, (refl, tt))))));
+  shown = (refl, (refl, (refl, (refl, (refl, (refl, (refl, tt)))))));
+}
+
+pub reads_reversal : (bdk ksn reversed : Bor Text) (initial : Bool)
+    → IsPlainRequest (request.MakeReversal bdk ksn reversed initial)
+    → IsRead (leaf_of (codes "request")) (all_marked (request.MakeReversal bdk ksn reversed initial))
+    (request.MakeReversal bdk ksn reversed initial)
+unfolding clap_on_literals
+reads_reversal bdk ksn reversed false plain = record {
+  goes = (plain.0, refl, refl, (plain.1.0, refl, refl, (plain.1.1.1.1.1.0, refl, refl, tt)));
+  quiet = refl;
+  ends = refl;
+  named = refl;
+  shown = (refl, (refl, (refl, (refl, (refl, (refl, (refl, tt)))))));
+}
+reads_reversal bdk ksn reversed true plain = record {
+  goes = (plain.0, refl, refl, (plain.1.0, refl, refl, (plain.1.1.1.1.1.0, refl, refl, tt)));
+  quiet = refl;
+  ends = refl;
+  named = refl;
+  shown = (refl, (refl, (refl, (refl, (refl, (refl, (refl, tt)))))));
 }
 
 pub reads_reply : (bdk asked answer : Bor Text) (initial : Bool)

@@ -12,7 +12,7 @@ use Rattle.clap.proofs.FaultLemmas.{stopped_fault}
 use Rattle.clap.proofs.WalkLemmas.{walk_stopped}
 use Rattle.duk_arguments.specs.Asked.{Asks, AsksFor, AsksAfter, IsFlag, IsFound}
 use Rattle.duk_arguments.specs.CommandLine.{command_line}
-use Rattle.duk_arguments.specs.Given.{Each, Given, flag, given_of, name_of, named, needed, several, valued}
+use Rattle.duk_arguments.specs.Given.{Each, Given, flag, given_of, name_of, named, needed, optional, several, valued}
 use Rattle.duk_arguments.specs.declared.request.Request.{Request}
 use Rattle.duk_arguments.specs.Written.{arguments_of, option_named, words_of}
 use Rattle.duk_arguments.proofs.OneRequest.{HasFlag, key_of, one_request}
@@ -94,6 +94,7 @@ top_end = refl
 -- what is given was found, and a flag as one that is there or not
 abbrev pub IsShown : List Row → Given → Type 0
 IsShown rows (needed name text) = first_of name rows ≡ Some text
+IsShown rows (optional name text) = first_of name rows ≡ text
 IsShown rows (valued name text) = first_of name rows ≡ text
 IsShown rows (named name text) = first_of name rows ≡ Some text
 IsShown rows (flag name there) =
@@ -128,6 +129,7 @@ all_found : (rows : List Row) (given : List Given) → Each (IsShown rows) given
     → Each (IsFound rows) given
 all_found rows [] shown = tt
 all_found rows (needed name text ∷ rest) shown = (shown.0, all_found rows rest shown.1)
+all_found rows (optional name text ∷ rest) shown = (shown.0, all_found rows rest shown.1)
 all_found rows (valued name text ∷ rest) shown = (shown.0, all_found rows rest shown.1)
 all_found rows (named name text ∷ rest) shown = (shown.0, all_found rows rest shown.1)
 all_found rows (flag name there ∷ rest) shown =
@@ -138,6 +140,7 @@ all_flagged : (rows : List Row) (given : List Given) → Each (IsShown rows) giv
     → Each (HasFlag rows) (map key_of given)
 all_flagged rows [] shown = tt
 all_flagged rows (needed name text ∷ rest) shown = (tt, all_flagged rows rest shown.1)
+all_flagged rows (optional name text ∷ rest) shown = (tt, all_flagged rows rest shown.1)
 all_flagged rows (valued name text ∷ rest) shown = (tt, all_flagged rows rest shown.1)
 all_flagged rows (named name text ∷ rest) shown = (tt, all_flagged rows rest shown.1)
 all_flagged rows (flag name true ∷ rest) shown =
@@ -206,6 +209,8 @@ made program name leaf enters arguments request is =
 -- what is given as it is written, and whether a text is known alone to be plain
 abbrev pub marked_of : Given → List Marked
 marked_of (needed name text) = (true, text) ∷ []
+marked_of (optional name None) = []
+marked_of (optional name (Some text)) = (true, text) ∷ []
 marked_of (valued name None) = []
 marked_of (valued name (Some text)) = (false, option_named name) ∷ (true, text) ∷ []
 marked_of (named name text) = (false, option_named name) ∷ (true, text) ∷ []
@@ -221,6 +226,8 @@ unmarked (text ∷ rest) = ap (λ (texts : List Text). text ∷ texts) (unmarked
 
 texts_of_given : (given : Given) → texts_in (marked_of given) ≡ words_of given
 texts_of_given (needed name text) = refl
+texts_of_given (optional name None) = refl
+texts_of_given (optional name (Some text)) = refl
 texts_of_given (valued name None) = refl
 texts_of_given (valued name (Some text)) = refl
 texts_of_given (named name text) = refl

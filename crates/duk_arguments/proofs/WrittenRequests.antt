@@ -8,7 +8,7 @@ use Rattle.duk_arguments.proofs.Entered.{leaf_of, enters_derive, enters_walk, en
 use Rattle.duk_arguments.proofs.TopLevel.{Make, make}
 use Rattle.duk_arguments.proofs.ReadBlocks.{reads_mac, reads_pin, reads_unpin, reads_translate, reads_wrap, reads_unwrap, reads_show}
 use Rattle.duk_arguments.proofs.ReadFiles.{reads_run, reads_serve, reads_new_journal, reads_copy_journal}
-use Rattle.duk_arguments.proofs.ReadFrames.{reads_request, reads_reply}
+use Rattle.duk_arguments.proofs.ReadFrames.{reads_request, reads_reversal, reads_reply}
 use Rattle.duk_arguments.proofs.ReadKcv.{reads_kcv}
 use Rattle.duk_arguments.proofs.ReadKeys.{reads_derive, reads_walk, reads_initial, reads_issue, reads_registers}
 
@@ -63,6 +63,9 @@ all_made program (request.Translate block pan bdk ksn zone initial) plain =
 all_made program (request.MakeRequest bdk ksn pan pin amount initial) plain =
     make program (leaf_of (codes "request")) (request.MakeRequest bdk ksn pan pin amount initial) enters_request
     (reads_request bdk ksn pan pin amount initial plain)
+all_made program (request.MakeReversal bdk ksn reversed initial) plain =
+    make program (leaf_of (codes "request")) (request.MakeReversal bdk ksn reversed initial) enters_request
+    (reads_reversal bdk ksn reversed initial plain)
 all_made program (request.CheckReply bdk asked answer initial) plain =
     make program (leaf_of (codes "reply")) (request.CheckReply bdk asked answer initial) enters_reply
     (reads_reply bdk asked answer initial plain)

@@ -7,7 +7,7 @@ use Rattle.clap.specs.Words.{Row, Text, all_of, fault_of, first_of, one_of, subc
 use Rattle.clap.specs.declared.error.kind.ErrorKind.{ErrorKind}
 use Rattle.clap.specs.declared.error.kind.ErrorKind.TheVariants.{DisplayHelp, DisplayVersion}
 use Rattle.duk_arguments.specs.CommandLine.{command_line}
-use Rattle.duk_arguments.specs.Given.{Each, Given, flag, given_of, name_of, named, needed, several, valued}
+use Rattle.duk_arguments.specs.Given.{Each, Given, flag, given_of, name_of, named, needed, optional, several, valued}
 use Rattle.duk_arguments.specs.declared.request.NoRequest.{NoRequest}
 use Rattle.duk_arguments.specs.declared.request.NoRequest.TheVariants as answer
 use Rattle.duk_arguments.specs.declared.request.Request.{Request}
@@ -26,6 +26,7 @@ IsFlag rows name there =
 -- what is given was found, under its own name
 abbrev pub IsFound : List Row → Given → Type 0
 IsFound rows (needed name text) = first_of name rows ≡ Some text
+IsFound rows (optional name text) = first_of name rows ≡ text
 IsFound rows (valued name text) = first_of name rows ≡ text
 IsFound rows (named name text) = first_of name rows ≡ Some text
 IsFound rows (flag name there) = IsFlag rows name there

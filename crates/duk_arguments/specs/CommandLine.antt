@@ -8,6 +8,10 @@ use Rattle.clap.specs.declared.builder.action.ArgAction.TheVariants.{SetTrue}
 abbrev pub argument_rule : Text → Rule
 argument_rule name = record (new_rule name) { required = true }
 
+-- [NAME]: an argument that may be left out
+abbrev pub optional_rule : Text → Rule
+optional_rule name = new_rule name
+
 -- NAME..: an argument that has to be there, from once to 16 times
 abbrev pub several_rule : Text → Rule
 several_rule name = record (new_rule name) {
@@ -105,12 +109,12 @@ abbrev pub show_command : Shape
 show_command = command (codes "show")
     (argument_rule (codes "KIND") ∷ argument_rule (codes "WHAT") ∷ flag_rule (codes "show") ∷ [])
 
--- request BDK KSN PAN PIN AMOUNT [--initial]
+-- request BDK KSN [PAN] [PIN] [AMOUNT] [--reverse NUMBER] [--initial]
 abbrev pub request_command : Shape
 request_command = command (codes "request")
-    (argument_rule (codes "BDK") ∷ argument_rule (codes "KSN") ∷ argument_rule (codes "PAN")
-    ∷ argument_rule (codes "PIN") ∷ argument_rule (codes "AMOUNT") ∷ flag_rule (codes "initial")
-    ∷ [])
+    (argument_rule (codes "BDK") ∷ argument_rule (codes "KSN") ∷ optional_rule (codes "PAN")
+    ∷ optional_rule (codes "PIN") ∷ optional_rule (codes "AMOUNT")
+    ∷ option_rule (codes "reverse") ∷ flag_rule (codes "initial") ∷ [])
 
 -- reply BDK REQUEST ANSWER [--initial]
 abbrev pub reply_command : Shape

@@ -8,11 +8,12 @@ use Rattle.duk_arguments.specs.declared.request.Kept.TheVariants as kept
 use Rattle.duk_arguments.specs.declared.request.Request.{Request}
 use Rattle.duk_arguments.specs.declared.request.Request.TheVariants as request
 
--- what stands after a command under a name: an argument that has to be there, an option with its
--- value, one that has to be there, an option that is there or not, and an argument that may be
--- written more than once
+-- what stands after a command under a name: an argument that has to be there, one that may be left
+-- out, an option with its value, one that has to be there, an option that is there or not, and an
+-- argument that may be written more than once
 pub data Given : Type 0 where
   needed : Text → Text → Given
+  optional : Text → Option Text → Given
   valued : Text → Option Text → Given
   named : Text → Text → Given
   flag : Text → Bool → Given
@@ -45,6 +46,7 @@ name_of (request.Mac key text cmac hex) = codes "mac"
 name_of (request.Unpin block pan key show) = codes "unpin"
 name_of (request.Translate block pan bdk ksn zone initial) = codes "translate"
 name_of (request.MakeRequest bdk ksn pan pin amount initial) = codes "request"
+name_of (request.MakeReversal bdk ksn reversed initial) = codes "request"
 name_of (request.CheckReply bdk asked answer initial) = codes "reply"
 name_of (request.Show kind what show) = codes "show"
 name_of (request.Issue bdk loading iksn count ledger skip_issued) = codes "issue"
@@ -94,9 +96,14 @@ given_of (request.Translate block pan bdk ksn zone initial) =
     ∷ needed (codes "KSN") ksn.now ∷ needed (codes "ZONE") zone.now
     ∷ flag (codes "initial") initial ∷ []
 given_of (request.MakeRequest bdk ksn pan pin amount initial) =
-    needed (codes "BDK") bdk.now ∷ needed (codes "KSN") ksn.now ∷ needed (codes "PAN") pan.now
-    ∷ needed (codes "PIN") pin.now ∷ needed (codes "AMOUNT") amount.now
+    needed (codes "BDK") bdk.now ∷ needed (codes "KSN") ksn.now
+    ∷ optional (codes "PAN") (Some pan.now) ∷ optional (codes "PIN") (Some pin.now)
+    ∷ optional (codes "AMOUNT") (Some amount.now) ∷ valued (codes "reverse") None
     ∷ flag (codes "initial") initial ∷ []
+given_of (request.MakeReversal bdk ksn reversed initial) =
+    needed (codes "BDK") bdk.now ∷ needed (codes "KSN") ksn.now ∷ optional (codes "PAN") None
+    ∷ optional (codes "PIN") None ∷ optional (codes "AMOUNT") None
+    ∷ valued (codes "reverse") (Some reversed.now) ∷ flag (codes "initial") initial ∷ []
 given_of (request.CheckReply bdk asked answer initial) =
     needed (codes "BDK") bdk.now ∷ needed (codes "REQUEST") asked.now
     ∷ needed (codes "ANSWER") answer.now ∷ flag (codes "initial") initial ∷ []

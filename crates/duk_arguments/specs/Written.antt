@@ -2,7 +2,7 @@
 use Rattle.std.specs.Prelude.{◌≢◌, ◌∷◌, ◌++◌, if◌then◌else◌, [], ⊤, IfSome, List, None, Some, codes}
 use Rattle.std.specs.List.{flat_map}
 use Rattle.clap.specs.Words.{Text}
-use Rattle.duk_arguments.specs.Given.{Each, Given, flag, given_of, name_of, named, needed, several, valued}
+use Rattle.duk_arguments.specs.Given.{Each, Given, flag, given_of, name_of, named, needed, optional, several, valued}
 use Rattle.duk_arguments.specs.declared.request.Request.{Request}
 
 -- `--name`
@@ -13,6 +13,8 @@ option_named name = codes "--" ++ name
 -- out, `--name` or nothing
 abbrev pub words_of : Given → List Text
 words_of (needed name text) = text ∷ []
+words_of (optional name None) = []
+words_of (optional name (Some text)) = text ∷ []
 words_of (valued name None) = []
 words_of (valued name (Some text)) = option_named name ∷ text ∷ []
 words_of (named name text) = option_named name ∷ text ∷ []
@@ -31,6 +33,7 @@ IsPlainArgument (first ∷ rest) = first ≢ 45
 -- no text that is given begins with a hyphen
 abbrev pub IsPlainGiven : Given → Type 0
 IsPlainGiven (needed name text) = IsPlainArgument text
+IsPlainGiven (optional name text) = IfSome text IsPlainArgument
 IsPlainGiven (valued name text) = IfSome text IsPlainArgument
 IsPlainGiven (named name text) = IsPlainArgument text
 IsPlainGiven (flag name there) = ⊤

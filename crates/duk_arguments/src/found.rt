@@ -65,7 +65,7 @@ fn is_there(found: &ArgMatches<'_>, argument: Argument<'_>) -> bool
         Argument::Needed(name, _) => value(found, name).is_some(),
         Argument::Named(name, _, _) => value(found, name).is_some(),
         Argument::Several(name, _) => has_several(found, name),
-        Argument::Valued(_, _, _) | Argument::Flag(_, _) => true,
+        Argument::Optional(_, _) | Argument::Valued(_, _, _) | Argument::Flag(_, _) => true,
     }
 }
 
@@ -103,7 +103,7 @@ fn whole_request<'a>(command: CommandName, found: &ArgMatches<'a>) -> Option<Req
         CommandName::Wrap => Some(wrap_request(found)),
         CommandName::Unwrap => Some(unwrap_request(found)),
         CommandName::Show => Some(show_request(found)),
-        CommandName::Request => Some(make_request(found)),
+        CommandName::Request => make_request(found),
         CommandName::Reply => Some(check_reply(found)),
         CommandName::Run => Some(run_request(found)),
         CommandName::Serve => serve_request(found),
@@ -267,17 +267,38 @@ fn show_request<'a>(found: &ArgMatches<'a>) -> Request<'a>
     }
 }
 
-fn make_request<'a>(found: &ArgMatches<'a>) -> Request<'a>
+/// The request of `request`: a payment with all of PAN, PIN and AMOUNT, or a reversal with none of
+/// them.
+fn make_request<'a>(found: &ArgMatches<'a>) -> Option<Request<'a>>
     requires { AreThere (rows_of (found_of found.now)) request_command }
-    ensures { AsksFor (codes "request") (rows_of (found_of found.now)) result }
+    ensures asks { IfSome result (AsksFor (codes "request") (rows_of (found_of found.now))) }
+    ensures all { (request : Request)
+        → AsksFor (codes "request") (rows_of (found_of found.now)) request → IsSome result }
 {
-    Request::MakeRequest {
-        bdk: text(found, "BDK"),
-        ksn: text(found, "KSN"),
-        pan: text(found, "PAN"),
-        pin: text(found, "PIN"),
-        amount: text(found, "AMOUNT"),
-        initial: flag(found, "initial"),
+    let bdk = text(found, "BDK");
+    let ksn = text(found, "KSN");
+    let initial = flag(found, "initial");
+    let payment = (
+        value(found, "PAN"),
+        value(found, "PIN"),
+        value(found, "AMOUNT"),
+    );
+    match (payment, value(found, "reverse")) {
+        ((Some(pan), Some(pin), Some(amount)), None) => Some(Request::MakeRequest {
+            bdk,
+            ksn,
+            pan,
+            pin,
+            amount,
+            initial,
+        }),
+        ((None, None, None), Some(reversed)) => Some(Request::MakeReversal {
+            bdk,
+            ksn,
+            reversed,
+            initial,
+        }),
+        _ => None,
     }
 }
 

@@ -1,6 +1,6 @@
 //! The request that the arguments of the command line make.
 
-ghost use Rattle.std.specs.Prelude.{◌≡◌, [], IfErr, IfOk, IfSome, IsSome};
+ghost use Rattle.std.specs.Prelude.{◌≡◌, [], IfErr, IfOk, IsOk};
 ghost use Rattle.clap.specs.Values.{kind_of};
 ghost use Rattle.clap.specs.Words.{app_of, fault_of, subcommand_rows_of};
 ghost use Rattle.clap.specs.declared.error.kind.ErrorKind.TheVariants.{ArgumentConflict};
@@ -45,40 +45,71 @@ fn match_by<'a>(
 {
     match program.try_get_matches_from_mut(arguments) {
         Ok(matches) => match request_in(matches) {
-            Some(request) => Ok(request),
-            None => Err(two_stores(alloc)),
+            Ok(request) => Ok(request),
+            Err(conflict) => Err(conflict_answer(alloc, conflict)),
         },
         Err(error) => Err(no_request(alloc, &error)),
     }
 }
 
-/// The request of the command that was used, over what was found after it.
-fn request_in<'a>(matches: ArgMatches<'a>) -> Option<Request<'a>>
-    ensures asks { IfSome result (AsksAfter (subcommand_rows_of matches.entry)) }
+/// The request of the command that was used, over what was found after it, or else which arguments
+/// exclude each other there.
+fn request_in<'a>(matches: ArgMatches<'a>) -> Result<Request<'a>, Conflict>
+    ensures asks { IfOk result (AsksAfter (subcommand_rows_of matches.entry)) }
     ensures all { (request : Request) → AsksAfter (subcommand_rows_of matches.entry) request
-        → IsSome result }
+        → IsOk result }
 {
-    request_of(&matches)
+    match request_of(&matches) {
+        Some(request) => Ok(request),
+        None => Err(conflict_in(&matches)),
+    }
 }
 
-/// What stands in place of a request where a log and a journal are given both: `clap` finds no fault,
-/// and yet no request has the two.
-fn two_stores(alloc: Global) -> NoRequest
+/// Arguments that exclude each other, of which `clap` knows nothing: it finds no fault, and yet no
+/// request has them.
+#[derive(Clone, Copy)]
+enum Conflict {
+    /// A log and a journal of `serve`.
+    Stores,
+    /// A number that `request` reverses, and what it takes of a payment.
+    Reversal,
+}
+
+/// The conflict of the command that was used.
+fn conflict_in(matches: &ArgMatches<'_>) -> Conflict {
+    match matches.subcommand() {
+        Some((name, _)) if name == "request" => Conflict::Reversal,
+        _ => Conflict::Stores,
+    }
+}
+
+/// What stands in place of a request where arguments exclude each other.
+fn conflict_answer(alloc: Global, conflict: Conflict) -> NoRequest
     ensures { IsReportedAs ArgumentConflict result }
 {
-    match conflict_of_stores(alloc) {
+    match conflict_error(alloc, conflict) {
         Ok(error) => no_request(alloc, &error),
         Err(AllocError) => NoRequest::NoMemory,
     }
 }
 
-/// The error of `clap` for options that exclude each other.
-fn conflict_of_stores(alloc: Global) -> Result<Error, AllocError>
+/// The error of `clap` for arguments that exclude each other.
+fn conflict_error(alloc: Global, conflict: Conflict) -> Result<Error, AllocError>
     ensures { IfOk result (λ error. kind_of error ≡ ArgumentConflict) }
 {
-    let usage = usage_of(CommandName::Serve);
-    let mut command = command_of(alloc, &usage)?.bin_name("dukpt serve")?;
-    let text = "the argument '--log <FILE>' cannot be used with '--journal <FILE>'";
+    let (command, name, text) = match conflict {
+        Conflict::Stores => (
+            CommandName::Serve,
+            "dukpt serve",
+            "the argument '--log <FILE>' cannot be used with '--journal <FILE>'",
+        ),
+        Conflict::Reversal => (
+            CommandName::Request,
+            "dukpt request",
+            "PAN, PIN and AMOUNT are required without '--reverse <NUMBER>', and cannot be used with it",
+        ),
+    };
+    let mut command = command_of(alloc, &usage_of(command))?.bin_name(name)?;
     command.error(ErrorKind::ArgumentConflict, text)
 }
 

@@ -165,11 +165,22 @@ pub enum Request<'a> {
         /// Whether `bdk` is the terminal's initial key.
         initial: bool,
     },
-    /// What an answer's frame says to a request's.
+    /// The frame of a reversal.
+    MakeReversal {
+        /// The base derivation key, or the terminal's initial key, as written.
+        bdk: &'a str,
+        /// The key serial number that the reversal uses, as written.
+        ksn: &'a str,
+        /// The key serial number that it reverses, as written.
+        reversed: &'a str,
+        /// Whether `bdk` is the terminal's initial key.
+        initial: bool,
+    },
+    /// What an answer's frame says to a request's, or to a reversal.
     CheckReply {
         /// The base derivation key, or the terminal's initial key, as written.
         bdk: &'a str,
-        /// The frame of the request, as written.
+        /// The frame of the request or the reversal, as written.
         request: &'a str,
         /// The frame of the answer, as written.
         answer: &'a str,

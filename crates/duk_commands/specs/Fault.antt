@@ -8,7 +8,7 @@ use Rattle.duk_pin.specs.FaultName.{pin_fault_name}
 use Rattle.duk_pin.specs.declared.fault.PinFault.{PinFault}
 use Rattle.duk_pin.specs.declared.fault.PinFault.TheVariants.{PinLength, PinDigit, PanLength, PanDigit}
 use Rattle.duk_commands.specs.declared.fault.Fault.{Fault}
-use Rattle.duk_commands.specs.declared.fault.Fault.TheVariants.{BdkRefused, InitialRefused, KsnRefused, IksnRefused, CountRefused, CounterRefused, KbpkRefused, FieldsRefused, KeyRefused, PadRefused, PinBlockRefused, ZoneRefused, TextRefused, AmountRefused, RequestRefused, AnswerRefused, PinRefused, BlockRefused, NotAPinBlock, NotMine, BadMac, OutOfMemory, WriteFailed}
+use Rattle.duk_commands.specs.declared.fault.Fault.TheVariants.{BdkRefused, InitialRefused, KsnRefused, IksnRefused, CountRefused, CounterRefused, KbpkRefused, FieldsRefused, KeyRefused, PadRefused, PinBlockRefused, ZoneRefused, TextRefused, AmountRefused, NumberRefused, OtherIksn, SameNumber, NotUsable, RequestRefused, AnswerRefused, PinRefused, BlockRefused, NotAPinBlock, NotMine, BadMac, OutOfMemory, WriteFailed}
 
 -- the order of the faults of a PIN and a PAN
 abbrev pub pin_rank : PinFault → ℕ
@@ -34,6 +34,10 @@ fault_rank ZoneRefused = 11
 fault_rank PadRefused = 12
 fault_rank TextRefused = 12
 fault_rank AmountRefused = 12
+fault_rank NumberRefused = 12
+fault_rank OtherIksn = 13
+fault_rank SameNumber = 14
+fault_rank NotUsable = 15
 fault_rank (BlockRefused fault) = 13 + rank fault
 fault_rank RequestRefused = 13
 fault_rank AnswerRefused = 14
@@ -63,6 +67,10 @@ fault_text PinBlockRefused = codes "block refused"
 fault_text ZoneRefused = codes "zone refused"
 fault_text TextRefused = codes "text refused"
 fault_text AmountRefused = codes "amount refused"
+fault_text NumberRefused = codes "number refused"
+fault_text OtherIksn = codes "OtherIksn"
+fault_text SameNumber = codes "SameNumber"
+fault_text NotUsable = codes "NotUsable"
 fault_text RequestRefused = codes "request refused"
 fault_text AnswerRefused = codes "answer refused"
 fault_text (PinRefused fault) = pin_fault_name fault

@@ -40,6 +40,14 @@ pub enum Fault {
     TextRefused,
     /// The amount is not one or more decimal digits, or is too great.
     AmountRefused,
+    /// The number that is reversed is not 20 hexadecimal digits.
+    NumberRefused,
+    /// The number that is reversed has another initial key serial number.
+    OtherIksn,
+    /// The number that is reversed is the one that the reversal uses.
+    SameNumber,
+    /// The counter of the number that is reversed is zero or has more than ten one bits.
+    NotUsable,
     /// The bytes are no request's frame, or its counter numbers no transaction.
     RequestRefused,
     /// The bytes are no answer's frame.
@@ -50,7 +58,7 @@ pub enum Fault {
     BlockRefused(BlockFault),
     /// The block is that of no PIN under the PAN and the key.
     NotAPinBlock,
-    /// The answer is to another key serial number.
+    /// The answer is to another key serial number, or of another kind than what was sent.
     NotMine,
     /// The MAC of the answer is wrong.
     BadMac,
@@ -81,6 +89,10 @@ impl Fault {
             Fault::ZoneRefused => "zone refused",
             Fault::TextRefused => "text refused",
             Fault::AmountRefused => "amount refused",
+            Fault::NumberRefused => "number refused",
+            Fault::OtherIksn => "OtherIksn",
+            Fault::SameNumber => "SameNumber",
+            Fault::NotUsable => "NotUsable",
             Fault::RequestRefused => "request refused",
             Fault::AnswerRefused => "answer refused",
             Fault::PinRefused(fault) => fault.name(),

@@ -7,7 +7,7 @@ use Rattle.duk_explain.specs.declared.told.Told.TheVariants as told
 -- a place in the list at which a line stands
 pub record StandsAt (line : Told) : Type 0 where
   pub place : ℕ
-  pub within : place < 102
+  pub within : place < 106
   pub is : get_or ALL place line ≡ line
 
 pub stands : (line : Told) → StandsAt line
@@ -113,3 +113,7 @@ stands told.JournalUnread = record { place = 98; within = omega arith; is = refl
 stands told.JournalTooLong = record { place = 99; within = omega arith; is = refl }
 stands told.FrameReversed = record { place = 100; within = omega arith; is = refl }
 stands told.FrameState = record { place = 101; within = omega arith; is = refl }
+stands told.NumberRefused = record { place = 102; within = omega arith; is = refl }
+stands told.OtherIksn = record { place = 103; within = omega arith; is = refl }
+stands told.SameNumber = record { place = 104; within = omega arith; is = refl }
+stands told.NotUsable = record { place = 105; within = omega arith; is = refl }

@@ -16,6 +16,7 @@ bdk_of (request.Initial bdk iksn) = Some bdk.now
 bdk_of (request.Registers bdk ksn initial) = Some bdk.now
 bdk_of (request.Translate block pan bdk ksn zone initial) = Some bdk.now
 bdk_of (request.MakeRequest bdk ksn pan pin amount initial) = Some bdk.now
+bdk_of (request.MakeReversal bdk ksn reversed initial) = Some bdk.now
 bdk_of (request.CheckReply bdk asked answer initial) = Some bdk.now
 bdk_of (request.Issue bdk loading iksn count ledger skip_issued) = Some bdk.now
 bdk_of asked = None
@@ -26,6 +27,7 @@ ksn_of (request.Derive bdk ksn initial trace all) = Some ksn.now
 ksn_of (request.Registers bdk ksn initial) = Some ksn.now
 ksn_of (request.Translate block pan bdk ksn zone initial) = Some ksn.now
 ksn_of (request.MakeRequest bdk ksn pan pin amount initial) = Some ksn.now
+ksn_of (request.MakeReversal bdk ksn reversed initial) = Some ksn.now
 ksn_of asked = None
 
 -- IKSN
@@ -111,6 +113,11 @@ abbrev pub amount_of : Request → Option (List ℕ)
 amount_of (request.MakeRequest bdk ksn pan pin amount initial) = Some amount.now
 amount_of asked = None
 
+-- NUMBER
+abbrev pub reversed_of : Request → Option (List ℕ)
+reversed_of (request.MakeReversal bdk ksn reversed initial) = Some reversed.now
+reversed_of asked = None
+
 -- REQUEST
 abbrev pub frame_of : Request → Option (List ℕ)
 frame_of (request.CheckReply bdk asked answer initial) = Some asked.now
@@ -192,6 +199,7 @@ text_of asked argument.Answer = answer_of asked
 text_of asked argument.Kind = kind_of asked
 text_of asked argument.What = what_of asked
 text_of asked argument.Records = records_of asked
+text_of asked argument.Reversed = reversed_of asked
 
 -- the keys of `kcv`
 abbrev pub keys_of : Request → Option (List (List ℕ))

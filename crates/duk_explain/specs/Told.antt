@@ -121,9 +121,21 @@ row told.TextRefused =
 row told.AmountRefused =
     text_row (codes "amount refused") (codes "AMOUNT") argument.Amount Decimal
     (codes "a number up to 4294967295") []
+row told.NumberRefused =
+    text_row (codes "number refused") (codes "NUMBER") argument.Reversed Hexadecimal
+    (codes "20 hexadecimal digits") []
+row told.OtherIksn =
+    words_row (codes "OtherIksn") (codes "NUMBER") found.Words (codes "another IKSN")
+    (codes "that of KSN") []
+row told.SameNumber =
+    words_row (codes "SameNumber") (codes "NUMBER") found.Words (codes "KSN itself")
+    (codes "the number of the payment") []
+row told.NotUsable =
+    words_row (codes "NotUsable") (codes "NUMBER") found.Words (codes "the counter of no payment")
+    (codes "1 to 10 one bits in its counter") []
 row told.RequestRefused =
     text_row (codes "request refused") (codes "REQUEST") argument.Request Hexadecimal
-    (codes "the frame of a request whose number is usable") (codes "show frame tells its fields")
+    (codes "the frame of a request or a reversal whose number is usable") (codes "show frame tells its fields")
 row told.AnswerRefused =
     text_row (codes "answer refused") (codes "ANSWER") argument.Answer Hexadecimal
     (codes "the frame of a reply or of a refusal") (codes "show frame tells its fields")
@@ -152,7 +164,7 @@ row told.PanDigit =
     text_row (codes "PanDigit") (codes "PAN") argument.Pan Decimal (codes "12 to 19 decimal digits")
     []
 row told.NotMine =
-    words_row (codes "NotMine") (codes "ANSWER") found.Words (codes "another key serial number")
+    words_row (codes "NotMine") (codes "ANSWER") found.Words (codes "another number or kind")
     (codes "the answer to REQUEST") []
 row told.BadMac =
     words_row (codes "BadMac") (codes "ANSWER") found.Words (codes "another MAC")

@@ -3,7 +3,7 @@
 ghost use Rattle.std.specs.Prelude.{◌≡◌};
 ghost use Rattle.std.specs.Option.{option_copied, option_map};
 ghost use Rattle.duk_arguments.specs.Keys.{texts_of_keys};
-ghost use Rattle.duk_explain.specs.Argument.{amount_of, answer_of, bdk_of, block_of, config_of, count_of, fields_of, frame_of, iksn_of, journal_of, kbpk_of, key_of, keys_of, kind_of, ksn_of, ledger_of, loading_of, log_of, mac_text_of, new_of, pad_of, pan_of, pin_of, records_of, script_of, skip_of, text_of, what_of, zone_of};
+ghost use Rattle.duk_explain.specs.Argument.{amount_of, answer_of, bdk_of, block_of, config_of, count_of, fields_of, frame_of, iksn_of, journal_of, kbpk_of, key_of, keys_of, kind_of, ksn_of, ledger_of, loading_of, log_of, mac_text_of, new_of, pad_of, pan_of, pin_of, records_of, reversed_of, script_of, skip_of, text_of, what_of, zone_of};
 
 use duk_arguments::{Kept, Keys, Request};
 
@@ -31,6 +31,7 @@ pub(crate) enum Argument {
     Kind,
     What,
     Records,
+    Reversed,
 }
 
 /// The text of an argument, where the request has it.
@@ -59,6 +60,7 @@ pub(crate) fn text_of<'a>(request: &Request<'a>, argument: Argument) -> Option<&
         Argument::Kind => kind_of(request),
         Argument::What => what_of(request),
         Argument::Records => records_of(request),
+        Argument::Reversed => reversed_of(request),
     }
 }
 
@@ -73,6 +75,7 @@ pub(crate) fn bdk_of<'a>(request: &Request<'a>) -> Option<&'a str>
         | Request::Registers { bdk, .. }
         | Request::Translate { bdk, .. }
         | Request::MakeRequest { bdk, .. }
+        | Request::MakeReversal { bdk, .. }
         | Request::CheckReply { bdk, .. }
         | Request::Issue { bdk, .. } => Some(*bdk),
         _ => None,
@@ -87,7 +90,8 @@ pub(crate) fn ksn_of<'a>(request: &Request<'a>) -> Option<&'a str>
         Request::Derive { ksn, .. }
         | Request::Registers { ksn, .. }
         | Request::Translate { ksn, .. }
-        | Request::MakeRequest { ksn, .. } => Some(*ksn),
+        | Request::MakeRequest { ksn, .. }
+        | Request::MakeReversal { ksn, .. } => Some(*ksn),
         _ => None,
     }
 }
@@ -235,6 +239,16 @@ pub(crate) fn amount_of<'a>(request: &Request<'a>) -> Option<&'a str>
 {
     match request {
         Request::MakeRequest { amount, .. } => Some(*amount),
+        _ => None,
+    }
+}
+
+/// NUMBER.
+pub(crate) fn reversed_of<'a>(request: &Request<'a>) -> Option<&'a str>
+    ensures { option_copied result ≡ reversed_of request.now }
+{
+    match request {
+        Request::MakeReversal { reversed, .. } => Some(*reversed),
         _ => None,
     }
 }

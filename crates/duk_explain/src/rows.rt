@@ -79,6 +79,7 @@ impl Told {
             | Told::Payload => "BLOCK",
             Told::TextRefused => "TEXT",
             Told::AmountRefused => "AMOUNT",
+            Told::NumberRefused | Told::OtherIksn | Told::SameNumber | Told::NotUsable => "NUMBER",
             Told::RequestRefused => "REQUEST",
             Told::AnswerRefused | Told::NotMine | Told::BadMac => "ANSWER",
             Told::KindRefused => "KIND",
@@ -166,6 +167,7 @@ impl Told {
             Told::BlockRefused => Found::Text(Argument::Block, Kind::Hexadecimal),
             Told::TextRefused => Found::MacText,
             Told::AmountRefused => Found::Text(Argument::Amount, Kind::Decimal),
+            Told::NumberRefused => Found::Text(Argument::Reversed, Kind::Hexadecimal),
             Told::RequestRefused => Found::Text(Argument::Request, Kind::Hexadecimal),
             Told::AnswerRefused => Found::Text(Argument::Answer, Kind::Hexadecimal),
             Told::KindRefused => Found::Text(Argument::Kind, Kind::Any),
@@ -232,7 +234,10 @@ impl Told {
         match self {
             Told::CounterRefused => " one bits in its counter",
             Told::NotAPinBlock => "no PIN of this PAN",
-            Told::NotMine => "another key serial number",
+            Told::OtherIksn => "another IKSN",
+            Told::SameNumber => "KSN itself",
+            Told::NotUsable => "the counter of no payment",
+            Told::NotMine => "another number or kind",
             Told::BadMac | Told::Mac => "another MAC",
             Told::Payload => "no such key",
             Told::LogDamaged | Told::JournalDamaged => "record ",
@@ -274,7 +279,7 @@ impl Told {
         match self {
             Told::BdkRefused | Told::InitialRefused | Told::KeyRefused | Told::BadLoading =>
                 "32 hexadecimal digits",
-            Told::KsnRefused => "20 hexadecimal digits",
+            Told::KsnRefused | Told::NumberRefused => "20 hexadecimal digits",
             Told::CounterRefused => "1 to 10",
             Told::IksnRefused => "20 hexadecimal digits, the last 21 bits zeros",
             Told::CountRefused => "1 to 1048576, no more than are left from IKSN on",
@@ -288,7 +293,10 @@ impl Told {
             Told::BlockRefused => "16 hexadecimal digits",
             Told::TextRefused => "one byte or more",
             Told::AmountRefused => "a number up to 4294967295",
-            Told::RequestRefused => "the frame of a request whose number is usable",
+            Told::OtherIksn => "that of KSN",
+            Told::SameNumber => "the number of the payment",
+            Told::NotUsable => "1 to 10 one bits in its counter",
+            Told::RequestRefused => "the frame of a request or a reversal whose number is usable",
             Told::AnswerRefused => "the frame of a reply or of a refusal",
             Told::KindRefused => "frame, block, image, log or journal",
             Told::HeaderField | Told::Length | Told::Version | Told::OptionalBlock | Told::Hex =>

@@ -33,6 +33,14 @@ pub(crate) enum Told {
     TextRefused,
     /// `amount refused`
     AmountRefused,
+    /// `number refused`
+    NumberRefused,
+    /// `OtherIksn`
+    OtherIksn,
+    /// `SameNumber`
+    SameNumber,
+    /// `NotUsable`
+    NotUsable,
     /// `request refused`
     RequestRefused,
     /// `answer refused`
@@ -210,7 +218,7 @@ pub(crate) enum Told {
 }
 
 /// How many lines there are.
-pub(crate) const COUNT: usize = 102;
+pub(crate) const COUNT: usize = 106;
 
 /// All of them.
 pub(crate) static ALL: [Told; COUNT] = [
@@ -316,4 +324,8 @@ pub(crate) static ALL: [Told; COUNT] = [
     Told::JournalTooLong,
     Told::FrameReversed,
     Told::FrameState,
+    Told::NumberRefused,
+    Told::OtherIksn,
+    Told::SameNumber,
+    Told::NotUsable,
 ];

@@ -113,6 +113,7 @@ words_have_meaning held (request.Translate block pan bdk ksn zone initial) over 
 )
 words_have_meaning held (request.MakeRequest bdk ksn pan pin amount initial) over words =
     (word_means held bdk.now words.0, refl, word_means held pan.now words.1.0, word_means held pin.now words.1.1.0, refl, refl)
+words_have_meaning held (request.MakeReversal bdk ksn reversed initial) over words = (word_means held bdk.now words.0, refl, refl, refl)
 words_have_meaning held (request.CheckReply bdk asked answer initial) over words = (word_means held bdk.now words.0, refl, refl, refl)
 words_have_meaning held (request.Issue bdk loading iksn count ledger skip) over words =
     (word_means held bdk.now words.0, word_means held loading.now words.1.0, refl, refl, refl, refl)

@@ -18,6 +18,7 @@ use Rattle.duk_tools.specs.Keys.{derived_of, initial_of}
 use Rattle.duk_tools.specs.Mac.{mac_arguments, mac_of}
 use Rattle.duk_tools.specs.PinBlocks.{translate_arguments, translate_of, unpin_arguments, unpin_of}
 use Rattle.duk_tools.specs.Registers.{registers_of}
+use Rattle.duk_tools.specs.Reversals.{reversal_arguments, reversal_of}
 use Rattle.duk_io.specs.Known.{Known}
 use Rattle.duk_io.specs.Sink.{IsTried}
 use Rattle.duk_service.specs.HandedOn.{IsFlushLost}
@@ -64,6 +65,8 @@ command_for (request.Translate block pan bdk ksn zone initial) =
 command_for (request.MakeRequest bdk ksn pan pin amount initial) =
     request_of
     (request_arguments (key_argument bdk initial) ksn.now pan.now pin.now amount.now)
+command_for (request.MakeReversal bdk ksn reversed initial) =
+    reversal_of (reversal_arguments (key_argument bdk initial) ksn.now reversed.now)
 command_for (request.CheckReply bdk asked answer initial) =
     reply_of (reply_arguments (key_argument bdk initial) asked.now answer.now)
 

@@ -154,6 +154,9 @@ HasMeaning held (request.MakeRequest bdk ksn pan pin amount initial)
     (request.MakeRequest bdk' ksn' pan' pin' amount' initial') =
     Means held bdk.now bdk'.now × (ksn' ≡ ksn) × Means held pan.now pan'.now
     × Means held pin.now pin'.now × (amount' ≡ amount) × (initial' ≡ initial)
+HasMeaning held (request.MakeReversal bdk ksn reversed initial)
+    (request.MakeReversal bdk' ksn' reversed' initial') =
+    Means held bdk.now bdk'.now × (ksn' ≡ ksn) × (reversed' ≡ reversed) × (initial' ≡ initial)
 HasMeaning held (request.CheckReply bdk asked answer initial)
     (request.CheckReply bdk' asked' answer' initial') =
     Means held bdk.now bdk'.now × (asked' ≡ asked) × (answer' ≡ answer) × (initial' ≡ initial)
@@ -180,6 +183,7 @@ secrets_of (request.Mac key text cmac hex) = key.now ∷ []
 secrets_of (request.Unpin block pan key show) = block.now ∷ pan.now ∷ option_to_list (option_copied key)
 secrets_of (request.Translate block pan bdk ksn zone initial) = block.now ∷ pan.now ∷ bdk.now ∷ zone.now ∷ []
 secrets_of (request.MakeRequest bdk ksn pan pin amount initial) = bdk.now ∷ pan.now ∷ pin.now ∷ []
+secrets_of (request.MakeReversal bdk ksn reversed initial) = bdk.now ∷ []
 secrets_of (request.CheckReply bdk asked answer initial) = bdk.now ∷ []
 secrets_of (request.Issue bdk loading iksn count ledger skip) = bdk.now ∷ loading.now ∷ []
 secrets_of (request.Show kind what show) = what.now ∷ []
@@ -200,6 +204,7 @@ secret_names (request.Mac key text cmac hex) = Key ∷ []
 secret_names (request.Unpin block pan key show) = Block ∷ Pan ∷ Key ∷ []
 secret_names (request.Translate block pan bdk ksn zone initial) = Block ∷ Pan ∷ Bdk ∷ Zone ∷ []
 secret_names (request.MakeRequest bdk ksn pan pin amount initial) = Bdk ∷ Pan ∷ Pin ∷ []
+secret_names (request.MakeReversal bdk ksn reversed initial) = Bdk ∷ []
 secret_names (request.CheckReply bdk asked answer initial) = Bdk ∷ []
 secret_names (request.Issue bdk loading iksn count ledger skip) = Bdk ∷ Loading ∷ []
 secret_names (request.Show kind what show) = What ∷ []

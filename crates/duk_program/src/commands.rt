@@ -13,7 +13,7 @@ use duk_commands::{
 use duk_io::Sink;
 use duk_tools::{
     derived_lines, initial_lines, mac_lines, registers_lines, reply_lines, request_lines,
-    translate_lines, unpin_lines, values_lines,
+    reversal_lines, translate_lines, unpin_lines, values_lines,
 };
 use std::alloc::Global;
 
@@ -110,6 +110,12 @@ fn lines_of(alloc: Global, request: Request<'_>) -> Result<Lines, Fault>
             amount,
             initial,
         } => request_lines(KeyArgument::new(bdk, initial), ksn, pan, pin, amount),
+        Request::MakeReversal {
+            bdk,
+            ksn,
+            reversed,
+            initial,
+        } => reversal_lines(KeyArgument::new(bdk, initial), ksn, reversed),
         Request::CheckReply {
             bdk,
             request,

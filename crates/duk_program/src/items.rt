@@ -157,6 +157,7 @@ pub(crate) fn line_command<'a>(request: &Request<'a>) -> Option<LineCommand<'a>>
         | Request::Unpin { .. }
         | Request::Translate { .. }
         | Request::MakeRequest { .. }
+        | Request::MakeReversal { .. }
         | Request::CheckReply { .. } => None,
     }
 }

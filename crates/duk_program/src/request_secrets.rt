@@ -20,6 +20,7 @@ pub(crate) fn secrets_of<'a>(request: &Request<'a>) -> Option<Keys<'a>>
         | Request::Walk { bdk, .. }
         | Request::Initial { bdk, .. }
         | Request::Registers { bdk, .. }
+        | Request::MakeReversal { bdk, .. }
         | Request::CheckReply { bdk, .. } => Keys::from_slice(&[*bdk]),
         Request::Unwrap { kbpk, .. } => Keys::from_slice(&[*kbpk]),
         Request::Mac { key, .. } => Keys::from_slice(&[*key]),
@@ -134,6 +135,17 @@ pub(crate) fn with_secrets<'a>(request: &Request<'a>, texts: &Keys<'a>) -> Reque
         Request::Registers { ksn, initial, .. } => Request::Registers {
             bdk: text_at(texts, 0),
             ksn,
+            initial,
+        },
+        Request::MakeReversal {
+            ksn,
+            reversed,
+            initial,
+            ..
+        } => Request::MakeReversal {
+            bdk: text_at(texts, 0),
+            ksn,
+            reversed,
             initial,
         },
         Request::CheckReply {

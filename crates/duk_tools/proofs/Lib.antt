@@ -5,3 +5,4 @@ mod StepsOnTheWay
 mod RequestOrder
 mod ReplyOrder
 mod OneFrame
+mod ReversalOrder

@@ -5,4 +5,5 @@ pub mod CheckValues
 pub mod Mac
 pub mod PinBlocks
 pub mod Frames
+pub mod Reversals
 pub mod inner

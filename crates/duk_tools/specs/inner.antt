@@ -1,3 +1,4 @@
 pub mod CheckValues
 pub mod Frames
 pub mod Mac
+pub mod Reversals

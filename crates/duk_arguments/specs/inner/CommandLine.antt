@@ -9,12 +9,13 @@ use Rattle.duk_arguments.specs.declared.commands.arguments.Argument.TheVariants 
 use Rattle.duk_arguments.specs.declared.commands.arguments.Usage.{Usage}
 use Rattle.duk_arguments.specs.declared.commands.name.CommandName.{CommandName}
 use Rattle.duk_arguments.specs.declared.commands.name.CommandName.TheVariants as command_name
-use Rattle.duk_arguments.specs.CommandLine.{argument_rule, command, flag_rule, named_rule, option_rule, several_rule}
+use Rattle.duk_arguments.specs.CommandLine.{argument_rule, command, flag_rule, named_rule, option_rule, optional_rule, several_rule}
 use Rattle.duk_arguments.specs.CommandLine.{derive_command, walk_command, initial_command, issue_command, registers_command, kcv_command, mac_command, pin_command, unpin_command, translate_command, wrap_command, unwrap_command, show_command, request_command, reply_command, run_command, serve_command, new_journal_command, copy_journal_command}
 
 -- the rule of an argument of the code
 abbrev pub rule_of_argument : Argument → Rule
 rule_of_argument (argument.Needed name help) = argument_rule name.now
+rule_of_argument (argument.Optional name help) = optional_rule name.now
 rule_of_argument (argument.Several name help) = several_rule name.now
 rule_of_argument (argument.Valued name value help) = option_rule name.now
 rule_of_argument (argument.Named name value help) = named_rule name.now

@@ -1,7 +1,7 @@
 //! What stands after a command, as `clap` has it.
 
 ghost use Rattle.std.specs.Prelude.{IfOk};
-ghost use Rattle.duk_arguments.specs.CommandLine.{argument_rule, flag_rule, named_rule, option_rule, several_rule};
+ghost use Rattle.duk_arguments.specs.CommandLine.{argument_rule, flag_rule, named_rule, option_rule, optional_rule, several_rule};
 ghost use Rattle.duk_arguments.specs.inner.CommandLine.{IsArgument, IsCommand, rule_of_argument, shape_of_usage};
 
 use clap::{Arg, ArgAction, Command};
@@ -12,6 +12,8 @@ use std::alloc::{AllocError, Global};
 pub(crate) enum Argument<'a> {
     /// An argument that has to be there: its name, and its help.
     Needed(&'a str, &'a str),
+    /// An argument that may be left out: its name, and its help.
+    Optional(&'a str, &'a str),
     /// An argument that has to be there, from once to 16 times: its name, and its help.
     Several(&'a str, &'a str),
     /// An option that has a value: its name, that of the value, and its help.
@@ -54,6 +56,7 @@ fn clap_argument<'a>(alloc: Global, argument: Argument<'a>) -> Arg<'a>
 {
     match argument {
         Argument::Needed(name, help) => needed(alloc, name, help),
+        Argument::Optional(name, help) => optional(alloc, name, help),
         Argument::Several(name, help) => several(alloc, name, help),
         Argument::Valued(name, value, help) => valued(alloc, name, value, help),
         Argument::Named(name, value, help) => named(alloc, name, value, help),
@@ -66,6 +69,13 @@ fn needed<'a>(alloc: Global, name: &'a str, help: &'a str) -> Arg<'a>
     ensures { IsArgument (argument_rule name.entry.now) result }
 {
     Arg::new(alloc, name).required(true).help(help)
+}
+
+/// An argument that may be left out.
+fn optional<'a>(alloc: Global, name: &'a str, help: &'a str) -> Arg<'a>
+    ensures { IsArgument (optional_rule name.entry.now) result }
+{
+    Arg::new(alloc, name).help(help)
 }
 
 /// An argument that has to be there, from once to 16 times.

@@ -4,23 +4,28 @@ ghost use Rattle.std.specs.Prelude.{◌≡◌};
 ghost use Rattle.duk_arguments.specs.CommandLine.{request_command, reply_command};
 ghost use Rattle.duk_arguments.specs.inner.CommandLine.{shape_of_usage};
 
-use super::arguments::{Argument, BDK, INITIAL_KEY, KSN, PAN, Usage};
+use super::arguments::{Argument, BDK, INITIAL_KEY, KSN, Usage};
 use crate::help::frames as help;
 
-/// `request BDK KSN PAN PIN AMOUNT [--initial]`
+/// `request BDK KSN [PAN] [PIN] [AMOUNT] [--reverse NUMBER] [--initial]`
 pub(super) fn request<'a>() -> Usage<'a>
     ensures { shape_of_usage result ≡ request_command }
 {
     Usage {
         name: "request",
-        about: "Prints the request frame of a payment, as a terminal makes it",
+        about: "Prints the frame of a payment's request or of a reversal, as a terminal makes it",
         after_help: help::REQUEST,
         arguments: &[
             BDK,
             KSN,
-            PAN,
-            Argument::Needed("PIN", "The PIN, 4 to 12 digits"),
-            Argument::Needed("AMOUNT", "The amount, a number up to 4294967295"),
+            Argument::Optional("PAN", "The PAN, 12 to 19 digits with its check digit"),
+            Argument::Optional("PIN", "The PIN, 4 to 12 digits"),
+            Argument::Optional("AMOUNT", "The amount, a number up to 4294967295"),
+            Argument::Valued(
+                "reverse",
+                "NUMBER",
+                "Reverses this key serial number, and takes no PAN, PIN and AMOUNT",
+            ),
             INITIAL_KEY,
         ],
     }
@@ -32,11 +37,11 @@ pub(super) fn reply<'a>() -> Usage<'a>
 {
     Usage {
         name: "reply",
-        about: "Checks the answer frame to a request frame",
+        about: "Checks the answer frame to a request frame or to a reversal",
         after_help: help::REPLY,
         arguments: &[
             BDK,
-            Argument::Needed("REQUEST", "The request frame in hexadecimal"),
+            Argument::Needed("REQUEST", "The request frame or reversal in hexadecimal"),
             Argument::Needed("ANSWER", "The answer frame in hexadecimal"),
             INITIAL_KEY,
         ],

@@ -2,7 +2,8 @@
 
 /// At the end of the help of `request`.
 pub(crate) const REQUEST: &str = "\
-The frame has the PIN block under the PIN key of KSN, and a MAC under its key for requests.
+The frame of a payment has the PIN block under the PIN key of KSN, and a MAC under its key for
+requests. With --reverse it is a reversal, which uses KSN and undoes the payment of NUMBER.
 
 BDK, PAN and PIN are better written as @FILE (the first line of a file) or @- (of standard input):
 every user of the machine sees the words of a process.
@@ -12,6 +13,8 @@ Example:
   $ echo 4012345678909 >pan.txt
   $ echo 1234 | dukpt request @bdk.txt FFFF9876543210E00001 @pan.txt @- 1000
   request 002E0101FFFF9876543210E000010D34303132333435363738393039000003E81B9C1845EB993A7A25ECC2EEB37FB551
+  $ dukpt request @bdk.txt FFFF9876543210E00002 --reverse FFFF9876543210E00001
+  reversal 001E0104FFFF9876543210E00002FFFF9876543210E000013B8EA61D9F5F532F
 
 Faults, on standard error with status 1, the first alone; --explain says more:
   BDK: ..          BDK as @FILE or @-: cannot read, too long, not UTF-8
@@ -26,13 +29,18 @@ Faults, on standard error with status 1, the first alone; --explain says more:
   PinLength        PIN is not 4 to 12 characters
   PinDigit         PIN has a character that is no digit
   amount refused   AMOUNT is no number, or is above 4294967295
+  number refused   NUMBER is not 20 hexadecimal digits
+  OtherIksn        NUMBER has another initial key serial number than KSN
+  SameNumber       NUMBER is KSN
+  NotUsable        The counter of NUMBER is zero or has more than ten one bits
   write failed     Standard output takes no more
   out of memory    Memory was refused";
 
 /// At the end of the help of `reply`.
 pub(crate) const REPLY: &str = "\
 `accepted` is printed of a reply with a right MAC, with its code; `refused` of a refusal, which has
-no MAC, with its reason. A refusal of no number has a key serial number of zeros.
+no MAC, with its reason. A refusal of no number has a key serial number of zeros. Of a reversal's
+reply with a right MAC it is `undone` or `none stands`, with the number that is reversed.
 
 BDK is better written as @FILE (the first line of a file) or @- (of standard input): every user of
 the machine sees the words of a process.
@@ -46,9 +54,9 @@ Faults, on standard error with status 1, the first alone; --explain says more:
   BDK: ..          BDK as @FILE or @-: cannot read, too long, not UTF-8
   BDK refused      BDK is not 32 hexadecimal digits
   initial refused  The same, with --initial
-  request refused  REQUEST is no request frame, or its counter is not usable
+  request refused  REQUEST is no request frame and no reversal, or its counter is not usable
   answer refused   ANSWER is no answer frame
-  NotMine          ANSWER is to another number
+  NotMine          ANSWER is to another number, or of another kind
   BadMac           ANSWER was changed, or BDK is another key
   write failed     Standard output takes no more
   out of memory    Memory was refused";

@@ -21,5 +21,6 @@ MakesLines (request.Mac key text cmac hex) = Unit {0}
 MakesLines (request.Unpin block pan key show) = Unit {0}
 MakesLines (request.Translate block pan bdk ksn zone initial) = Unit {0}
 MakesLines (request.MakeRequest bdk ksn pan pin amount initial) = Unit {0}
+MakesLines (request.MakeReversal bdk ksn reversed initial) = Unit {0}
 MakesLines (request.CheckReply bdk asked answer initial) = Unit {0}
 MakesLines asked = ⊥

@@ -27,6 +27,7 @@ is_listed name (request.Wrap kbpk fields key pad) others same = others.1.1.1.1.1
 is_listed name (request.Unwrap kbpk block) others same = others.1.1.1.1.1.1.1.1.1.1.1.0 (sym same)
 is_listed name (request.Show kind what show) others same = others.1.1.1.1.1.1.1.1.1.1.1.1.0 (sym same)
 is_listed name (request.MakeRequest bdk ksn pan pin amount initial) others same = others.1.1.1.1.1.1.1.1.1.1.1.1.1.0 (sym same)
+is_listed name (request.MakeReversal bdk ksn reversed initial) others same = others.1.1.1.1.1.1.1.1.1.1.1.1.1.0 (sym same)
 is_listed name (request.CheckReply bdk asked answer initial) others same = others.1.1.1.1.1.1.1.1.1.1.1.1.1.1.0 (sym same)
 is_listed name (request.Run config script) others same = others.1.1.1.1.1.1.1.1.1.1.1.1.1.1.1.0 (sym same)
 is_listed name (request.Serve config keeping) others same = others.1.1.1.1.1.1.1.1.1.1.1.1.1.1.1.1.0 (sym same)

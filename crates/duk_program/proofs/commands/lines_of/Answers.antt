@@ -56,6 +56,15 @@ returns-in-MakeRequest-clause-begun c = rw (c.in-MakeRequest.is, ← c.new-in-Ma
 pub returns-in-MakeRequest-clause-refused : goal.returns-in-MakeRequest-clause-refused
 returns-in-MakeRequest-clause-refused c = rw (c.in-MakeRequest.is, ← c.new-in-MakeRequest.ensures) c.request_lines.ensures.refused
 
+pub returns-in-MakeReversal-clause-lines : goal.returns-in-MakeReversal-clause-lines
+returns-in-MakeReversal-clause-lines c = rw (c.in-MakeReversal.is, ← c.new-in-MakeReversal.ensures) c.reversal_lines.ensures.lines
+
+pub returns-in-MakeReversal-clause-begun : goal.returns-in-MakeReversal-clause-begun
+returns-in-MakeReversal-clause-begun c = rw (c.in-MakeReversal.is, ← c.new-in-MakeReversal.ensures) c.reversal_lines.ensures.lines
+
+pub returns-in-MakeReversal-clause-refused : goal.returns-in-MakeReversal-clause-refused
+returns-in-MakeReversal-clause-refused c = rw (c.in-MakeReversal.is, ← c.new-in-MakeReversal.ensures) c.reversal_lines.ensures.refused
+
 pub returns-in-CheckReply-clause-lines : goal.returns-in-CheckReply-clause-lines
 returns-in-CheckReply-clause-lines c = rw (c.in-CheckReply.is, ← c.new-in-CheckReply.ensures) c.reply_lines.ensures.lines
 
