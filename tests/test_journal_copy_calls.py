@@ -89,8 +89,8 @@ class Calls(CallCase):
 
     def test_syncs_for_a_loss_of_power(self) -> None:
         """It leaves any of the writes since the last sync. So a file that has no journal's size, or begins
-        as none does, is synced before it gets its size; and all of a copy but a last write of one byte
-        is synced before that one."""
+        as none does, is synced before it gets its size, and again before it is written; and all of a copy
+        but a last write of one byte is synced before that one."""
         for kept, room in ((3, 7), (PIECE + 52, 2 * PIECE + 100)):
             self.make_journal(room, alone(payments_of_all(payments(kept))))
             calls, what = self.traced()[1], f"{kept} of {room}"
@@ -101,6 +101,8 @@ class Calls(CallCase):
                 before = max((at for at in written if at < last), default=-1)
                 self.assertTrue(any(before < at < last for at in synced),
                                 f"{what}: no sync before {calls[last]} ({calls[last].count})")
+            for at, after in ((at, min(it for it in written if it > at)) for at in sized):
+                self.assertTrue(any(at < it < after for it in synced), f"{what}: no sync of its size")
             (self.made / "copy").unlink()
 
     def test_each_call_that_fails(self) -> None:

@@ -35,8 +35,8 @@ ROUNDS, FIRST = 9, 3
 # At least so much of the rate in memory is demanded, and so many times the rate over a log. A quiet
 # machine has 0.8 and 25 (docs/PERFORMANCE.md).
 OF_MEMORY, OF_LOG = 0.7, 10
-# One by one a journal has the same two syncs as a log: a quiet machine has 0.9. They are not left out of
-# what other programs make slow, so that no more than this is demanded.
+# One by one a journal has the same two syncs as a log: a quiet machine has 1 (docs/PERFORMANCE.md). They
+# are not left out of what other programs make slow, so that no more than this is demanded.
 ALONE_OF_LOG = 0.5
 # Over a log that is slower than memory by so much its syncs are what takes the time. On a tmpfs they
 # take none.

@@ -274,8 +274,8 @@ pub fn comes_up_on_disks<D: Disk, I: Issuer>()
 /// gives are equal, byte for byte, and so are all replies to reversals that use one number; and the
 /// journal keeps the entry of each. Where reversals tell what was kept at first, as in a journal that is
 /// new, what each reversal was told is so of whatever the journal keeps after the last service. And
-/// where each entry used a new number at first, each does after the last: a further host whose journal
-/// is sound comes up.
+/// where each entry used a new number at first, each does after the last: so no restart of a further
+/// host whose journal is sound is refused as damaged.
 pub fn lifetimes<J: Journal, I: Issuer>()
     ensures alike { (keys : HsmKeys) (first last : J)
         → (services : List (List (List ℕ)))
@@ -297,6 +297,12 @@ pub fn lifetimes<J: Journal, I: Issuer>()
         (J.meaning.state_of first).found services (J.meaning.state_of last).found
         → (J.meaning.state_of last).found entries → Contains (all_answers services) answer
         → TellsReversal numbers state answer → IsAsTold entries numbers state }
+    ensures once { (keys : HsmKeys) (first last : J)
+        → (services : List (List (List ℕ)))
+        → FindsWithin (J.meaning.state_of first) UseNewNumbers
+        → IsLifetime (host_meaning_of J.meaning I.decides) keys
+        (J.meaning.state_of first).found services (J.meaning.state_of last).found
+        → FindsWithin (J.meaning.state_of last) UseNewNumbers }
     ensures usable { let m = host_meaning_of J.meaning I.decides in
         (keys : HsmKeys) (first last : J) (services : List (List (List ℕ))) (made : HostOf J I)
         → FindsWithin (J.meaning.state_of first) UseNewNumbers

@@ -26,7 +26,7 @@ abbrev pub Keeps : {D : Type 0} → DiskMeaning D → D → Entries → Type 0
 Keeps meaning disk entries = FindsOnly (disk_journal_state (meaning.state_of disk) None) entries
 
 -- what a journal keeps on a disk that is read to its end: entries that a restart could find when it
--- was opened, and that a restart finds still, over which a host comes up: each uses a new number. The
+-- was opened, and that a restart finds still, which no host calls damaged: each uses a new number. The
 -- disk is as honest as it was
 pub record HasKept {D : Type 0} (meaning : DiskMeaning D) (opened last : D) (entries : Entries)
     : Type 0 where
@@ -35,7 +35,7 @@ pub record HasKept {D : Type 0} (meaning : DiskMeaning D) (opened last : D) (ent
   pub finds : (meaning.state_of opened).honest → Keeps meaning last entries
   pub new_numbers : UseNewNumbers entries
 
--- the journal OLD is checked: its disk is opened, and a host would come up over it
+-- the journal OLD is checked: its disk is opened, and what it keeps no host would call damaged
 pub record IsOldChecked {D : Type 0} (meaning : DiskMeaning D) (known : DiskKnown D) : Type 0 where
   pub opened : D
   pub last : D
@@ -45,8 +45,9 @@ pub record IsOldChecked {D : Type 0} (meaning : DiskMeaning D) (known : DiskKnow
 
 -- status 0 of `copy-journal`: OLD is checked, a file of its size is made, what OLD keeps is written
 -- over all of its disk and synced, that disk is checked, and its folder is synced. Where the disk of
--- the file is honest, a host comes up over it, with as many entries as OLD keeps, whatever OLD is;
--- and where that of OLD is too, a journal over it finds what OLD keeps, and nothing else
+-- the file is honest, no host over it is refused as damaged, and it has as many entries as OLD keeps,
+-- whatever OLD is; and where that of OLD is too, a journal over it finds what OLD keeps, and nothing
+-- else
 pub record HasCopiedJournal {D : Type 0} (meaning : DiskMeaning D) (known : DiskKnown D)
     (making : MakingKnown D) : Type 0 where
   pub old : IsOldChecked meaning known

@@ -76,8 +76,8 @@ struct Pieces {
 /// is synced: a journal that is read otherwise the second time is not copied.
 ///
 /// The faults, in this order: `journal: cannot open`; `journal: failed`; `journal: cannot make`. In
-/// place of each but the first may stand `out of memory`. A file that was made and cannot be kept is removed
-/// again, if it can be.
+/// place of each but the first may stand `out of memory`. A file that was made and cannot be kept is
+/// removed again, if it can be.
 pub fn copy_journal<S: LogFiles, F: Sink>(
     alloc: Global,
     files: &S,

@@ -60,14 +60,15 @@ fn open_new<R: Files<File = File>>(files: &R, path: &str) -> io::Result<File> {
         .open(files, path)
 }
 
-/// Locks a new file, and gives it so many bytes. The first of them is 1, and on the medium before
-/// there are more, which are zeros: a file that begins so is no journal (`duk_copy::laws::unfinished`),
-/// however soon its writer is stopped.
+/// Locks a new file, and gives it so many bytes, which are synced. The first of them is 1, and on the
+/// medium before there are more, which are zeros: a file that begins so is no journal
+/// (`duk_copy::laws::unfinished`), however soon its writer is stopped.
 fn lock_sized(file: &File, size: u64) -> io::Result<()> {
     file.try_lock()?;
     file.write_all_at(&[1], 0)?;
     file.sync_data()?;
-    file.set_len(size)
+    file.set_len(size)?;
+    file.sync_data()
 }
 
 /// Syncs the folder that a path is in.

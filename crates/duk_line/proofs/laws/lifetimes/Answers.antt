@@ -42,9 +42,13 @@ returns-clause-told g c keys first last services entries answer numbers state be
     (meaning.state_of first).found (meaning.state_of last).found services begins life entries found in
     c.told_what_stands.ensures.told keys entries numbers state answer tell (all.reversals answer numbers state is_in tells)
 
+pub returns-clause-once : goal.returns-clause-once
+returns-clause-once g c keys first last services begins life =
+    let meaning = g.J.Journal.meaning in
+    kept_in_lifetime (host_meaning_of meaning g.I.Issuer.decides) keys (λ answers entries. UseNewNumbers entries) (λ answers. Unit {0}) (new_kept_up keys c.new_numbers.ensures)
+    (meaning.state_of first).found (meaning.state_of last).found services begins life
+
 pub returns-clause-usable : goal.returns-clause-usable
 returns-clause-usable g c keys first last services made begins life is_made sound =
-    let meaning = g.J.Journal.meaning in
-    let all = kept_in_lifetime (host_meaning_of meaning g.I.Issuer.decides) keys (λ answers entries. UseNewNumbers entries) (λ answers. Unit {0}) (new_kept_up keys c.new_numbers.ensures)
-    (meaning.state_of first).found (meaning.state_of last).found services begins life in
+    let all = returns-clause-once g c keys first last services begins life in
     record { honest = is_made.honest; sound = sound; usable = λ entries found. all entries (is_made.within entries found) }
