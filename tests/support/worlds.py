@@ -155,7 +155,7 @@ def random_iksn(chance: random.Random, bank: Configuration) -> int:
 def foreign_iksn(chance: random.Random, bank: Configuration) -> int:
     """One of no key set of the bank."""
     held = {it.prefix for it in bank.bdks}
-    prefix = held.copy().pop()
+    prefix = min(held)
     while prefix in held:
         at, bit = chance.randrange(5), 1 << chance.randrange(8)
         prefix = prefix[:at] + bytes([prefix[at] ^ bit]) + prefix[at + 1 :]
