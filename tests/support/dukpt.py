@@ -48,6 +48,7 @@ def usable(counter: int) -> bool:
     return 0 < counter < SPENT and bin(counter).count("1") <= 10
 
 
+@lru_cache(1 << 12)
 def next_counter(counter: int) -> int:
     """The least usable counter above one, or that of a spent terminal."""
     above = itertools.takewhile(lambda it: it < SPENT, itertools.count(counter + 1))
@@ -141,6 +142,7 @@ class Registers:
         return key, serial, replace(self, counter=next_counter(counter), keys=tuple(keys))
 
 
+@lru_cache(1 << 12)
 def registers_at(initial: bytes, iksn: int, counter: int, past: tuple[int, ...] = ()) -> Registers:
     """The registers of a terminal whose next number has this counter."""
     numbers = [held(counter, place) for place in range(COUNTER_BITS)]

@@ -105,6 +105,11 @@ def reverses(serial: int, other: int) -> bool:
     return iksn_of(serial) == iksn_of(other) and serial != other and usable(counter_of(other))
 
 
+def serial_in(frame: bytes) -> int:
+    """The number of a frame of any kind."""
+    return int.from_bytes(frame[4:14], "big")
+
+
 def body_of_kind(frame: bytes, kind: int) -> Optional[bytes]:
     """What stands behind version and kind, where these are so and the length is right."""
     body = frame[2:]

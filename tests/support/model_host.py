@@ -4,11 +4,11 @@ from __future__ import annotations
 from collections import OrderedDict
 from dataclasses import dataclass
 from enum import Enum
-from typing import Optional, Union
+from typing import Optional, Protocol, Union
 
 from .configuration import Configuration
 from .des import triple_decrypted
-from .dukpt import counter_of, derive, pin_key, prefix_of, request_key, usable
+from .dukpt import counter_of, derive, pin_key, prefix_of, request_key, serial_text, usable
 from .frames import LONGEST_BODY, NO_NUMBER, Request, read_request, write_refusal, write_reply
 from .macs import retail_mac
 from .model_stores import StoreFault, UsedLog
@@ -37,19 +37,85 @@ class Answer:
     says: str
     frame: bytes
 
+    @property
+    def words(self) -> str:
+        """What the line of an outcome has of it."""
+        return f"{self.kind.value} {serial_text(self.serial)} {self.says}"
+
 
 def refused(serial: int, reason: int) -> Answer:
     return Answer(Kind.REFUSED, serial, str(reason), write_refusal(serial, reason))
 
 
-class Host:
-    """It is made stopped, and brought up by its restart."""
+class AnyAnswer(Protocol):
+    """An answer of any host."""
 
-    def __init__(self, configuration: Configuration, log: UsedLog) -> None:
+    @property
+    def frame(self) -> bytes: ...
+
+    @property
+    def words(self) -> str: ...
+
+
+class Authentic(Protocol):
+    """A frame with a number and a MAC over a text."""
+
+    @property
+    def serial(self) -> int: ...
+
+    @property
+    def mac(self) -> bytes: ...
+
+    @property
+    def text(self) -> bytes: ...
+
+
+class AnyHost:
+    """What any host has: its keys and its issuer. It is made stopped."""
+
+    def __init__(self, configuration: Configuration) -> None:
         self.configuration = configuration
         self.key_sets = {it.prefix: it.key for it in configuration.bdks}
-        self.log = log
         self.running = False
+
+    def restart(self) -> int:
+        """Brings it up, and tells how much its store keeps."""
+        raise NotImplementedError
+
+    def answer(self, frame: bytes) -> AnyAnswer:
+        """The answer to the bytes of a frame."""
+        raise NotImplementedError
+
+    def arm(self, passes: int) -> None:
+        """Has its store fail behind so many device steps."""
+        raise NotImplementedError
+
+    def key_for(self, request: Authentic) -> Union[bytes, Answer]:
+        """The transaction key of a request with a right MAC, or the refusal of it."""
+        base = self.key_sets.get(prefix_of(request.serial))
+        if base is None:
+            return refused(request.serial, 2)
+        if not usable(counter_of(request.serial)):
+            return refused(request.serial, 3)
+        key = derive(base, request.serial)
+        if retail_mac(request_key(key), request.text) != request.mac:
+            return refused(request.serial, 4)
+        return key
+
+    def code(self, request: Request, key: bytes) -> str:
+        """The code of a request: the issuer's, where its PIN block is one."""
+        pin = pin_in(triple_decrypted(pin_key(key), request.block), request.pan)
+        if pin is None:
+            return "30"
+        return self.configuration.code(request.pan, pin, request.amount)
+
+
+class Host(AnyHost):
+    """A host over a log, which its restart brings up."""
+
+    def __init__(self, configuration: Configuration, log: UsedLog) -> None:
+        super().__init__(configuration)
+        self.log = log
         self.used: set[int] = set()
         # The last requests that were accepted since the restart, with what was answered.
         self.recent: OrderedDict[bytes, Answer] = OrderedDict()
@@ -87,18 +153,6 @@ class Host:
             return refused(request.serial, 6)
         return self.accept(frame, request, key)
 
-    def key_for(self, request: Request) -> Union[bytes, Answer]:
-        """The transaction key of a request with a right MAC, or the refusal of it."""
-        base = self.key_sets.get(prefix_of(request.serial))
-        if base is None:
-            return refused(request.serial, 2)
-        if not usable(counter_of(request.serial)):
-            return refused(request.serial, 3)
-        key = derive(base, request.serial)
-        if retail_mac(request_key(key), request.text) != request.mac:
-            return refused(request.serial, 4)
-        return key
-
     def accept(self, frame: bytes, request: Request, key: bytes) -> Answer:
         """Takes the number into the log, and then decides."""
         try:
@@ -114,13 +168,6 @@ class Host:
         if len(self.recent) > KEPT:
             self.recent.popitem(last=False)
         return answer
-
-    def code(self, request: Request, key: bytes) -> str:
-        """The code of a request: the issuer's, where its PIN block is one."""
-        pin = pin_in(triple_decrypted(pin_key(key), request.block), request.pan)
-        if pin is None:
-            return "30"
-        return self.configuration.code(request.pan, pin, request.amount)
 
     def arm(self, passes: int) -> None:
         self.log.arm(passes)

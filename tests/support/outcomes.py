@@ -28,6 +28,12 @@ ALL_KINDS = (
 )
 
 
+def kind_of_event(event: str) -> str:
+    """The command of an event, and whether it is done to the host."""
+    command, *words = event.split(" ")
+    return f"{command} host" if words[0] == "host" else command
+
+
 def kind_of(line: str) -> str:
     """An outcome without the numbers that it has by chance."""
     for pattern, word in NAMES:

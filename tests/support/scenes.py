@@ -4,14 +4,15 @@ from __future__ import annotations
 
 import random
 from collections import Counter
-from typing import Callable, Optional
+from typing import Any, Callable, Optional
 
 from .configuration import Configuration
 from .dukpt import MOST_PAST, serial_text
 from .model import World
 from .model_host import KEPT
+from .model_network import Network
 from .model_terminal import Terminal
-from .outcomes import kind_of
+from .outcomes import kind_of, kind_of_event
 from .worlds import Purchase, digits, foreign_iksn, random_iksn, random_purchase
 
 # More device steps than any write has, and behind how many of them one of a terminal's may fail, by
@@ -26,17 +27,19 @@ class Play:
     def __init__(self, chance: random.Random, bank: Configuration) -> None:
         self.chance = chance
         self.bank = bank
-        self.world = World(bank)
+        self.world = self.new_world()
         self.events: list[str] = []
         self.lines: list[str] = []
         self.tally: Counter[str] = Counter()
+
+    def new_world(self) -> Network[Any, Any]:
+        return World(self.bank)
 
     def happens(self, event: str) -> str:
         line = self.world.happens(event)
         self.events.append(event)
         self.lines.append(line)
-        command, *words = event.split(" ")
-        self.tally[f"{command} host" if words[0] == "host" else command] += 1
+        self.tally[kind_of_event(event)] += 1
         self.tally[kind_of(line)] += 1
         return line
 
