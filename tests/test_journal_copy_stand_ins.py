@@ -26,8 +26,8 @@ FOUND = (
         CopyWay.OLD_TO_WRITE, CopyWay.OVERWRITES, CopyWay.NOT_CHECKED, CopyWay.CHECKED_UNSYNCED,
         CopyWay.CHECKED_LATE, CopyWay.CHECKED_IN_PART)),
     (Calls, "test_syncs_for_a_loss_of_power", (
-        CopyWay.MARK_NOT_SYNCED, CopyWay.LAST_WITH_THE_REST, CopyWay.FIRST_TO_LAST,
-        CopyWay.RECORD_LAST, CopyWay.HEAD_LAST)),
+        CopyWay.MARK_NOT_SYNCED, CopyWay.SIZE_NOT_SYNCED, CopyWay.LAST_WITH_THE_REST,
+        CopyWay.FIRST_TO_LAST, CopyWay.RECORD_LAST, CopyWay.HEAD_LAST)),
     (Losses, "test_any_bytes_since_a_sync", (
         CopyWay.RECORD_LAST, CopyWay.HEAD_LAST, CopyWay.GATE_AGAIN, CopyWay.KIND_WITH_THE_REST,
         CopyWay.LAST_WITH_THE_REST)),

@@ -92,21 +92,24 @@ class Recipes(ProgramCase):
     def test_a_frame(self) -> None:
         self.run_recipe(4)
 
-    def test_a_trace(self) -> None:
+    def test_a_reversal_and_its_reply(self) -> None:
         self.run_recipe(5)
 
-    def test_a_translated_pin_block(self) -> None:
+    def test_a_trace(self) -> None:
         self.run_recipe(6)
 
-    def test_a_walk(self) -> None:
+    def test_a_translated_pin_block(self) -> None:
         self.run_recipe(7)
 
-    def test_a_request_and_its_answer(self) -> None:
+    def test_a_walk(self) -> None:
         self.run_recipe(8)
 
-    def test_a_file_of_frames(self) -> None:
+    def test_a_request_and_its_answer(self) -> None:
         self.run_recipe(9)
+
+    def test_a_file_of_frames(self) -> None:
+        self.run_recipe(10)
 
     def test_there_are_no_others(self) -> None:
         """The last one is of the page, and has no command."""
-        self.assertEqual([bool(commands) for _, commands in recipes()], [True] * 10 + [False])
+        self.assertEqual([bool(commands) for _, commands in recipes()], [True] * 11 + [False])

@@ -19,7 +19,7 @@ class CopyWay(Enum):
     at its end, or its first record is none that a journal has."""
 
     LAST_BYTE_LAST = "all but the last byte, sync, the last byte, sync, folder"
-    KIND_LAST = ("the first byte of an open record, sync, its size, all but the first two bytes, sync, "
+    KIND_LAST = ("the first byte of an open record, sync, its size, sync, all but the first two bytes, sync, "
                  "what of them is another, sync, folder")
     RECORD_LAST = "the first record is written last"
     HEAD_LAST = "the first two bytes are written last, together"
@@ -29,6 +29,7 @@ class CopyWay(Enum):
     FRONT_LAST = "its size, pieces from the last to the first"
     MARKED_FRONT_LAST = "the first byte of an open record, its size, pieces from the last to the first"
     MARK_NOT_SYNCED = "that byte is not synced before the size"
+    SIZE_NOT_SYNCED = "the size is not synced before the rest is written"
     LAST_WITH_THE_REST = "nothing is synced before the last small write"
     MADE_FIRST = "the copy is made before the journal is read"
     READS_A_PART = "what the journal keeps is read, and no more"
@@ -52,7 +53,8 @@ class CopyWay(Enum):
 
 # Where what is written begins that stands behind the first bytes.
 FIRST_OF_THE_REST = {
-    CopyWay.KIND_LAST: 2, CopyWay.GATE_AGAIN: 2, CopyWay.MARK_NOT_SYNCED: 2, CopyWay.HEAD_LAST: 2,
+    CopyWay.KIND_LAST: 2, CopyWay.GATE_AGAIN: 2, CopyWay.MARK_NOT_SYNCED: 2, CopyWay.SIZE_NOT_SYNCED: 2,
+    CopyWay.HEAD_LAST: 2,
     CopyWay.KIND_WITH_THE_REST: 1, CopyWay.RECORD_LAST: RECORD, CopyWay.FRONT_LAST: 0,
     CopyWay.MARKED_FRONT_LAST: 0}
 
@@ -115,6 +117,8 @@ class Copy:
             if way is not CopyWay.MARK_NOT_SYNCED:
                 self.sync()
             os.ftruncate(self.file, size)
+            if way is not CopyWay.SIZE_NOT_SYNCED:
+                self.sync()
             for at in reversed(range(FIRST_OF_THE_REST[way], size, PIECE)):
                 write(self.file, self.image, at, min(at + PIECE, size))
         else:
@@ -131,7 +135,8 @@ class Copy:
             self.sync()
         if way in (CopyWay.RECORD_LAST, CopyWay.HEAD_LAST):
             write(self.file, self.image, 0, FIRST_OF_THE_REST[way])
-        elif way in (CopyWay.KIND_LAST, CopyWay.GATE_AGAIN, CopyWay.MARK_NOT_SYNCED):
+        elif way in (CopyWay.KIND_LAST, CopyWay.GATE_AGAIN, CopyWay.MARK_NOT_SYNCED,
+                     CopyWay.SIZE_NOT_SYNCED):
             # Of a journal that keeps nothing the gate is another than at first.
             at = 1 if self.kept else 0
             write(self.file, self.image, at, at + 1)
