@@ -59,8 +59,14 @@ module _ {C L : Type 0} (cells : CellMeaning C) (logs : LogMeaning L) (config : 
   made_calm host loading world host_is loading_is world_is = rw (world_is, host_is, loading_is) starts_calm
 
   -- and one of such a log and such terminals
-  pub calm_as : (log_as : L) (terminals_as : List (TerminalOf C)) → log ≡ log_as → terminals ≡ terminals_as → StartsCalm (meanings_of cells logs table_decision) (new_world_of config log_as terminals_as)
+  calm_as : (log_as : L) (terminals_as : List (TerminalOf C)) → log ≡ log_as → terminals ≡ terminals_as → StartsCalm (meanings_of cells logs table_decision) (new_world_of config log_as terminals_as)
   calm_as log_as terminals_as log_is terminals_are = rw (← log_is, ← terminals_are) starts_calm
+
+  -- and one of as many terminals, and of as long a log, as a configuration says
+  pub calm_for : (view : Settings) → view ≡ config → (log_for : ℕ → L) (terminal : TerminalOf C) → log ≡ log_for view.log → terminals ≡ replicate view.terminals terminal
+      → StartsCalm (meanings_of cells logs table_decision) (new_world_of config (log_for config.log) (replicate config.terminals terminal))
+  calm_for view view_is log_for terminal log_is terminals_are = calm_as (log_for config.log) (replicate config.terminals terminal)
+      (log_is ∙ ap (λ config. log_for config.log) view_is) (terminals_are ∙ ap (λ config. replicate config.terminals terminal) view_is)
 
 -- how many terminals a world has that is made of so many
 pub count_made : {C L I : Type 0} (host : HostOf L I) (loading : List ℕ) (terminals : List (TerminalOf C)) (world : WorldOf C L I) (count : ℕ) (terminal : TerminalOf C)

@@ -7,8 +7,8 @@ use Rattle.duk_term.specs.declared.purchase.Purchase.{Purchase}
 use Rattle.duk_net.specs.declared.event.End.{End}
 use Rattle.duk_net.specs.declared.event.Event.{Event}
 use Rattle.duk_net.specs.declared.event.Event.TheVariants.{Load, Begin, Up, Down, RestartTerm, RestartHost, Arm}
-use Rattle.duk_script.specs.Script.{IsNumber, IsTerminal, IsLoad, IsBegin, IsDown, IsArm, IsEventLine, terminal_name, spaced}
-use Rattle.duk_script.specs.inner.Reading.{AreLoadTokens, AreBeginTokens, AreDownTokens, AreArmTokens, HasNoSpace, IsSplit}
+use Rattle.duk_script.specs.Script.{HasNoSpace, IsNumber, IsSplit, IsTerminal, IsLoad, IsBegin, IsDown, IsArm, IsEventLine, terminal_name, spaced}
+use Rattle.duk_script.specs.inner.Reading.{AreLoadTokens, AreBeginTokens, AreDownTokens, AreArmTokens}
 use Rattle.duk_script.proofs.LineTokens.{no_space_terminal, no_space_end, no_space_decimal}
 
 load_tokens : (line tokens : List ℕ) (t iksn : ℕ) → IsSplit line (codes "load") tokens → IsLoad line t iksn → AreLoadTokens tokens t iksn

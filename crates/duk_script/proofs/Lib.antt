@@ -3,7 +3,6 @@ mod CommandLines
 mod EventLinesAreAscii
 mod FirstLine
 mod ScriptLineByLine
-mod DecimalLengths
 mod SpacedTokens
 mod LinesInTurn
 mod ReadsInTurn

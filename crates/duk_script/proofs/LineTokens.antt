@@ -6,8 +6,8 @@ use Rattle.std.specs.Result.{result_ok}
 use Rattle.std.specs.Str.Parse.{AllDigits, ParsesUnsigned, digits_value}
 use Rattle.duk_net.specs.declared.event.End.{End}
 use Rattle.duk_net.specs.declared.event.End.TheVariants.{Host, Term}
-use Rattle.duk_script.specs.Script.{IsTerminal, IsEnd, terminal_name, end_name}
-use Rattle.duk_script.specs.inner.Reading.{HasNoSpace, IsSplit, IsPlainNumber}
+use Rattle.duk_script.specs.Script.{HasNoSpace, IsEnd, IsSplit, IsTerminal, end_name, terminal_name}
+use Rattle.duk_script.specs.inner.Reading.{IsPlainNumber}
 
 -- no digit is a space
 no_space_digits : (token : List ℕ) → AllDigits 10 token → HasNoSpace token

@@ -1,5 +1,5 @@
 -- Scripts: lines of text, and the events that they are (this project's own).
-use Rattle.std.specs.Prelude.{◌≡◌, ◌⊎◌, ◌<◌, ◌≤◌, ◌^◌, ℕ, List, [], ◌∷◌, ◌++◌, All, codes, decimal, Some}
+use Rattle.std.specs.Prelude.{◌≡◌, ◌≢◌, ◌⊎◌, ◌<◌, ◌≤◌, ◌^◌, ℕ, List, [], ◌∷◌, ◌++◌, All, EachIndex, codes, decimal, slice_index, Some}
 use Rattle.std.specs.List.{join_with_byte}
 use Rattle.std.specs.Str.Lines.{lines}
 use Rattle.duk_io.specs.FirstFault.{IsFirstItem}
@@ -38,6 +38,15 @@ end_name (Term t) = terminal_name t
 -- tokens, with one space between each two
 abbrev pub spaced : List (List ℕ) → List ℕ
 spaced tokens = join_with_byte 32 tokens
+
+-- no byte is a space
+abbrev pub HasNoSpace : List ℕ → Type 0
+HasNoSpace token = EachIndex token (λ i. slice_index token i ≢ 32)
+
+-- the text is the token, a space and the rest
+pub record IsSplit (text token rest : List ℕ) : Type 0 where
+  pub one_token : HasNoSpace token
+  pub text_is : text ≡ token ++ 32 ∷ rest
 
 -- `load T IKSN`, with any text that spells the initial key serial number
 pub record IsLoad (line : List ℕ) (t iksn : ℕ) : Type 0 where

@@ -16,7 +16,7 @@ use std::str;
 
 /// The event of a line, if it is one.
 #[tactic(auto, using(crate::proofs::EventLinesAreAscii::IsUtf8_from_event))]
-pub(crate) fn read_event(line: &[u8]) -> Option<Event>
+pub fn read_event(line: &[u8]) -> Option<Event>
     ensures found { IfSome result (IsEventLine line.now) }
     ensures every { (event : Event) → IsEventLine line.now event → result ≡ Some event }
 {

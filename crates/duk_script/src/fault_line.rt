@@ -58,8 +58,8 @@ fn write_unknown<F: Sink>(fault: &mut F, name: &[u8]) -> Result<(), WriteFailed>
 /// The line of a key with a wrong value, but for its end.
 #[tactic(auto, using(crate::proofs::ShortNames::short_name))]
 fn bad_key(key: ConfigKey) -> Line
-    ensures text { result.text.items ≡ codes "config: bad " ++ key_name key }
-    ensures bound { length result.text.items ≤ 30 }
+    ensures text { result ≡ codes "config: bad " ++ key_name key }
+    ensures bound { length result ≤ 30 }
 {
     Line::of_token(b"config:")
         .token(b"bad")

@@ -12,9 +12,9 @@ impl Line {
     /// The line and the text of a terminal's fault: its name, and that of the fault inside it.
     #[tactic(auto, using(crate::proofs::ShortNames::short_term_name, crate::proofs::ShortNames::short_block_name, crate::proofs::ShortNames::short_store_name))]
     pub(crate) fn term_fault(self, fault: TermFault) -> Line
-        requires { length self.text.items + 20 < LINE_ROOM }
-        ensures text { result.text.items ≡ self.text.items ++ 32 ∷ term_fault_text fault }
-        ensures bound { length result.text.items ≤ length self.text.items + 20 }
+        requires { length self + 20 < LINE_ROOM }
+        ensures text { result ≡ self ++ 32 ∷ term_fault_text fault }
+        ensures bound { length result ≤ length self + 20 }
     {
         let line = self.token(fault.name().as_bytes());
         match fault {
@@ -27,9 +27,9 @@ impl Line {
     /// The line and the text of the host's fault: its name, and that of the fault inside it.
     #[tactic(auto, using(crate::proofs::ShortNames::short_host_name, crate::proofs::ShortNames::short_store_name))]
     pub(crate) fn host_fault(self, fault: HostFault) -> Line
-        requires { length self.text.items + 20 < LINE_ROOM }
-        ensures text { result.text.items ≡ self.text.items ++ 32 ∷ host_fault_text fault }
-        ensures bound { length result.text.items ≤ length self.text.items + 20 }
+        requires { length self + 20 < LINE_ROOM }
+        ensures text { result ≡ self ++ 32 ∷ host_fault_text fault }
+        ensures bound { length result ≤ length self + 20 }
     {
         let line = self.token(fault.name().as_bytes());
         match fault {

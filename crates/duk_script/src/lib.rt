@@ -17,8 +17,11 @@ mod tokens;
 mod whole_text;
 
 pub use duk_config::{Config, ConfigKey, LONGEST_FILE, ScriptFault, open_hsm, read_config};
+pub use event_line::read_event;
 pub use fault_line::print_fault;
-pub use line::{LINE_ROOM, LineText};
-pub use outcome_text::outcome_line;
-pub use script::parse_script;
+pub use line::{LINE_ROOM, Line, LineText};
+pub use outcome_text::{outcome_line, restart_line};
+pub use script::{is_quiet, parse_script, split_line};
 pub use session::{play_script, run_script};
+pub use terminals::{DiskCell, disk_cell};
+pub use tokens::{read_number, read_terminal, split_token};

@@ -20,8 +20,8 @@ pub fn outcome_line(outcome: Outcome) -> LineText
 
 /// The tokens of an outcome.
 fn tokens_of(outcome: Outcome) -> Line
-    ensures text { result.text.items ≡ spaced (outcome_tokens outcome) }
-    ensures bound { length result.text.items < LINE_ROOM }
+    ensures text { result ≡ spaced (outcome_tokens outcome) }
+    ensures bound { length result < LINE_ROOM }
 {
     match outcome {
         Outcome::Loaded { t, iksn } => Line::of_terminal(t).token(b"loaded").iksn(iksn),
@@ -38,7 +38,7 @@ fn tokens_of(outcome: Outcome) -> Line
                 .ksn(ksn)
                 .number(u64::from(reason))
         }
-        Outcome::TermNext { t, next } => restart_tokens(t, next),
+        Outcome::TermNext { t, next } => restart_line(t, next),
         Outcome::HostUsed(n) => Line::of_token(b"host").token(b"used").number(n),
         Outcome::Armed { end, n } => Line::of_end(end).token(b"armed").number(u64::from(n)),
         Outcome::TermFaulted { t, fault } => Line::of_terminal(t).token(b"fault").term_fault(fault),
@@ -56,17 +56,17 @@ fn tokens_of(outcome: Outcome) -> Line
 /// The tokens of an answer of the host, as far as its key serial number.
 fn answer_line(k: u64, verdict: &[u8], ksn: Ksn) -> Line
     requires { length verdict.now ≤ 8 }
-    ensures text { result.text.items
+    ensures text { result
         ≡ spaced (codes "answer" ∷ decimal k ∷ verdict.now ∷ ksn_text ksn ∷ []) }
-    ensures bound { length result.text.items ≤ 57 }
+    ensures bound { length result ≤ 57 }
 {
     Line::of_token(b"answer").number(k).token(verdict).ksn(ksn)
 }
 
-/// The tokens of a terminal's restart: which number it uses next.
-fn restart_tokens(t: u32, next: Next) -> Line
-    ensures text { result.text.items ≡ spaced (terminal_name t ∷ next_tokens next) }
-    ensures bound { length result.text.items < LINE_ROOM }
+/// The line of a terminal's restart, of at most 37 bytes: which number it uses next.
+pub fn restart_line(t: u32, next: Next) -> Line
+    ensures text { result ≡ spaced (terminal_name t ∷ next_tokens next) }
+    ensures bound { length result ≤ 37 }
 {
     let line = Line::of_terminal(t);
     match next {

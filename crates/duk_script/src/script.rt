@@ -58,7 +58,7 @@ fn add_line(events: &mut Vec<Event>, line: &[u8], number: u64) -> Result<(), Scr
 }
 
 /// Whether a line says nothing.
-fn is_quiet(line: &[u8]) -> bool
+pub fn is_quiet(line: &[u8]) -> bool
     ensures quiet { IsTrue result → IsQuiet line.now }
     ensures every { IsQuiet line.now → IsTrue result }
 {
@@ -69,7 +69,7 @@ fn is_quiet(line: &[u8]) -> bool
 }
 
 /// The first line of a text that is not empty, and the text after it.
-fn split_line(text: &[u8]) -> (&[u8], &[u8])
+pub fn split_line(text: &[u8]) -> (&[u8], &[u8])
     requires { 0 < length text.now }
     ensures first { lines text.now ≡ result.0.now ∷ lines result.1.now }
     ensures shorter { length result.1.now < length text.now }

@@ -13,7 +13,7 @@ use duk_term::Terminal;
 use std::alloc::Global;
 
 /// The cell of a terminal, on a disk in memory.
-pub(crate) type DiskCell = SlotCell<MemDisk>;
+pub type DiskCell = SlotCell<MemDisk>;
 
 /// So many terminals over new cells in memory. Refused with `NoMemory`.
 pub(crate) fn memory_terminals(
@@ -50,7 +50,7 @@ pub(crate) fn disk_terminals(
 }
 
 /// A new cell on a new disk. Refused with `NoMemory`.
-fn disk_cell(alloc: Global) -> Result<DiskCell, ScriptFault>
+pub fn disk_cell(alloc: Global) -> Result<DiskCell, ScriptFault>
     ensures made { IfOk result (λ cell. cell ≡ new_disk_cell) }
     ensures new { IfOk result (λ cell. IsNew (disk_cell_meaning.state_of cell) None) }
     ensures refused { IfErr result (λ why. why ≡ ScriptFault.NoMemory) }

@@ -2,8 +2,8 @@
 
 ghost use Rattle.std.specs.Prelude.{◌≡◌, ◌<◌, ◌^◌, ◌++◌, ◌∷◌, ℕ, List, Some, decimal, IfSome, IsTrue, MatchOption};
 ghost use Rattle.duk_net.specs.declared.event.End.{End};
-ghost use Rattle.duk_script.specs.Script.{IsTerminal, IsEnd, terminal_name, end_name};
-ghost use Rattle.duk_script.specs.inner.Reading.{IsPlainNumber, IsSplit};
+ghost use Rattle.duk_script.specs.Script.{IsTerminal, IsEnd, IsSplit, terminal_name, end_name};
+ghost use Rattle.duk_script.specs.inner.Reading.{IsPlainNumber};
 
 use duk_net::End;
 
@@ -11,7 +11,7 @@ use duk_net::End;
 const MOST_TERMINALS: u32 = 16;
 
 /// The first token of a text, and what follows the space after it.
-pub(crate) fn split_token(text: &str) -> Option<(&str, &str)>
+pub fn split_token(text: &str) -> Option<(&str, &str)>
     ensures found { IfSome result (λ parts. IsSplit text.now parts.0.now parts.1.now) }
     ensures every { (token rest : List ℕ) → IsSplit text.now token rest
         → MatchOption result ⊥ (λ parts. (parts.0.now ≡ token) × (parts.1.now ≡ rest)) }
@@ -20,7 +20,7 @@ pub(crate) fn split_token(text: &str) -> Option<(&str, &str)>
 }
 
 /// A decimal number of at most 4,294,967,295, without leading zeros.
-pub(crate) fn read_number(token: &str) -> Option<u32>
+pub fn read_number(token: &str) -> Option<u32>
     ensures found { IfSome result (λ number. token.now ≡ decimal number) }
     ensures every { (number : ℕ) → number < 2 ^ 32 → token.now ≡ decimal number
         → result ≡ Some number }
@@ -43,7 +43,7 @@ fn is_plain(token: &str) -> bool
 }
 
 /// The number of a terminal, from its name: `t1` to `t16`.
-pub(crate) fn read_terminal(token: &str) -> Option<u32>
+pub fn read_terminal(token: &str) -> Option<u32>
     ensures found { IfSome result (λ t. IsTerminal t × (token.now ≡ terminal_name t)) }
     ensures every { (t : ℕ) → IsTerminal t → token.now ≡ terminal_name t → result ≡ Some t }
 {

@@ -1,21 +1,12 @@
 -- How a line is read (this project's own).
-use Rattle.std.specs.Prelude.{◌≡◌, ◌≢◌, ◌⊎◌, ℕ, List, [], ◌∷◌, ◌++◌, length, slice_index, EachIndex, decimal, Some}
+use Rattle.std.specs.Prelude.{◌≡◌, ◌≢◌, ◌⊎◌, ℕ, List, [], ◌∷◌, ◌++◌, length, slice_index, decimal, Some}
 use Rattle.duk_pin.specs.Pan.{IsPan}
 use Rattle.duk_pin.specs.Pin.{IsPin}
 use Rattle.duk_term.specs.declared.purchase.Purchase.{Purchase}
 use Rattle.duk_tree.specs.Serial.{iksn_of_text}
 use Rattle.duk_net.specs.declared.event.End.{End}
 use Rattle.duk_net.specs.declared.event.Event.{Event}
-use Rattle.duk_script.specs.Script.{IsNumber, IsTerminal, IsEnd, IsQuiet, IsEventLine, terminal_name, end_name, spaced}
-
--- no byte is a space
-abbrev pub HasNoSpace : List ℕ → Type 0
-HasNoSpace token = EachIndex token (λ i. slice_index token i ≢ 32)
-
--- the text is the token, a space and the rest
-pub record IsSplit (text token rest : List ℕ) : Type 0 where
-  pub one_token : HasNoSpace token
-  pub text_is : text ≡ token ++ 32 ∷ rest
+use Rattle.duk_script.specs.Script.{IsNumber, IsTerminal, IsEnd, IsQuiet, IsEventLine, IsSplit, terminal_name, end_name, spaced}
 
 -- neither a plus sign nor a leading zero
 pub record IsPlainNumber (token : List ℕ) : Type 0 where

@@ -1,6 +1,6 @@
-use Rattle.std.proofs.Common.{rules, ◌∙◌, ap, replicate}
+use Rattle.std.proofs.Common.{rules, ap}
 use Rattle.duk_script.specs.OnDisk.{disk_cell_meaning, log_on_disk_meaning, new_disk_terminal, new_log_on_disk}
-use Rattle.duk_script.proofs.CalmFirstWorld.{calm_as, count_made, made_calm, new_host, new_terminals}
+use Rattle.duk_script.proofs.CalmFirstWorld.{calm_for, count_made, made_calm, new_host, new_terminals}
 use Rattle.duk_script.proofs.opening.open_on_disk.Goals as goal
 
 pub new-world-requires : goal.new-world-requires
@@ -13,10 +13,10 @@ pub bring_up-requires : goal.bring_up-requires
 bring_up-requires g c =
     let loading = ap (λ config. config.loading) c.config.view_is in
     let starts = made_calm disk_cell_meaning log_on_disk_meaning c.args.config.now c.in_ok-log.log c.in_ok-terminals.terminals.items c.in_ok-log.ensures.new c.in_ok-terminals.ensures.new
-    _ _ _ c.in_ok-host.ensures loading c.new-world.ensures.first in
-    (search, (starts, count_made _ _ _ _ _ new_disk_terminal c.in_ok-terminals.ensures.made c.new-world.ensures.first))
+    c.in_ok-host.host c.config.inside.loading c.new-world.result c.in_ok-host.ensures loading c.new-world.ensures.first in
+    let count = count_made c.in_ok-host.host c.config.inside.loading c.in_ok-terminals.terminals.items c.new-world.result c.config.inside.terminals new_disk_terminal c.in_ok-terminals.ensures.made c.new-world.ensures.first in
+    (search, (starts, count))
 
 pub returns-clause-starts : goal.returns-clause-starts
-returns-clause-starts g c =
-    calm_as disk_cell_meaning log_on_disk_meaning c.args.config.now c.in_ok-log.log c.in_ok-terminals.terminals.items c.in_ok-log.ensures.new c.in_ok-terminals.ensures.new _ _
-    (c.in_ok-log.ensures.made ∙ ap (λ config. new_log_on_disk config.log) c.config.view_is) (c.in_ok-terminals.ensures.made ∙ ap (λ config. replicate config.terminals new_disk_terminal) c.config.view_is)
+returns-clause-starts g c = calm_for disk_cell_meaning log_on_disk_meaning c.args.config.now c.in_ok-log.log c.in_ok-terminals.terminals.items c.in_ok-log.ensures.new c.in_ok-terminals.ensures.new
+    _ c.config.view_is new_log_on_disk new_disk_terminal c.in_ok-log.ensures.made c.in_ok-terminals.ensures.made
