@@ -7,3 +7,5 @@ mod failing_streams;
 mod files;
 #[cfg(test)]
 mod single_events;
+#[cfg(test)]
+mod tills;

@@ -1,0 +1,7 @@
+mod LinesOfTills
+mod LinesInTurn
+mod NewEnds
+mod NewTills
+mod PlayedScripts
+mod ScriptLineByLine
+mod SpacedTokens
