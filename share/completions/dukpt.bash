@@ -18,7 +18,7 @@ declare -gA _dukpt_arguments=(
     [show]="KIND WHAT --show --explain -h --help"
     [request]="BDK KSN PAN PIN AMOUNT --reverse=NUMBER --initial --explain -h --help"
     [reply]="BDK REQUEST ANSWER --initial --explain -h --help"
-    [run]="CONFIG SCRIPT --explain -h --help"
+    [run]="CONFIG SCRIPT --journal --explain -h --help"
     [serve]="CONFIG --log=FILE --journal=FILE --explain -h --help"
     [new-journal]="FILE RECORDS --explain -h --help"
     [copy-journal]="OLD NEW --explain -h --help"

@@ -112,6 +112,7 @@ complete -c dukpt -n '__fish_seen_subcommand_from reply' -s h -l help -d 'Print 
 
 complete -c dukpt -n __fish_use_subcommand -a run -d 'CONFIG SCRIPT: run a script of events'
 complete -c dukpt -n '__fish_seen_subcommand_from run' -F
+complete -c dukpt -n '__fish_seen_subcommand_from run' -l journal -d 'Play it over tills and a journal'
 complete -c dukpt -n '__fish_seen_subcommand_from run' -l explain -d 'Say more of a fault'
 complete -c dukpt -n '__fish_seen_subcommand_from run' -s h -l help -d 'Print help'
 

@@ -1,5 +1,5 @@
 -- The arguments of the commands over files are read as those of their requests.
-use Rattle.std.proofs.Common.{codes, refl}
+use Rattle.std.proofs.Common.{Bool, codes, false, refl, true}
 use Rattle.std.specs.Borrow.{Bor}
 use Rattle.clap.specs.Walk.{Text}
 use Rattle.clap.proofs.OnLiterals.{clap_on_literals}
@@ -10,17 +10,24 @@ use Rattle.duk_arguments.specs.declared.request.Request.TheVariants as request
 use Rattle.duk_arguments.proofs.Entered.{leaf_of}
 use Rattle.duk_arguments.proofs.TopLevel.{IsRead, all_marked}
 
-pub reads_run : (config script : Bor Text)
-    → IsPlainRequest (request.Run config script)
-    → IsRead (leaf_of (codes "run")) (all_marked (request.Run config script))
-    (request.Run config script)
+pub reads_run : (config script : Bor Text) (journal : Bool)
+    → IsPlainRequest (request.Run config script journal)
+    → IsRead (leaf_of (codes "run")) (all_marked (request.Run config script journal))
+    (request.Run config script journal)
 unfolding clap_on_literals
-reads_run config script plain = record {
+reads_run config script false plain = record {
   goes = (plain.0, refl, refl, (plain.1.0, refl, refl, tt));
   quiet = refl;
   ends = refl;
   named = refl;
-  shown = (refl, (refl, tt));
+  shown = (refl, (refl, (refl, tt)));
+}
+reads_run config script true plain = record {
+  goes = (plain.0, refl, refl, (plain.1.0, refl, refl, tt));
+  quiet = refl;
+  ends = refl;
+  named = refl;
+  shown = (refl, (refl, (refl, tt)));
 }
 
 pub reads_serve : (config : Bor Text) (keeping : Kept)

@@ -30,9 +30,9 @@ all_made program (request.Wrap kbpk fields key pad) plain =
 all_made program (request.Unwrap kbpk block) plain =
     make program (leaf_of (codes "unwrap")) (request.Unwrap kbpk block) enters_unwrap
     (reads_unwrap kbpk block plain)
-all_made program (request.Run config script) plain =
-    make program (leaf_of (codes "run")) (request.Run config script) enters_run
-    (reads_run config script plain)
+all_made program (request.Run config script journal) plain =
+    make program (leaf_of (codes "run")) (request.Run config script journal) enters_run
+    (reads_run config script journal plain)
 all_made program (request.Serve config keeping) plain =
     make program (leaf_of (codes "serve")) (request.Serve config keeping) enters_serve
     (reads_serve config keeping plain)

@@ -122,10 +122,11 @@ reply_command = command (codes "reply")
     (argument_rule (codes "BDK") ∷ argument_rule (codes "REQUEST")
     ∷ argument_rule (codes "ANSWER") ∷ flag_rule (codes "initial") ∷ [])
 
--- run CONFIG SCRIPT
+-- run CONFIG SCRIPT [--journal]
 abbrev pub run_command : Shape
 run_command = command (codes "run")
-    (argument_rule (codes "CONFIG") ∷ argument_rule (codes "SCRIPT") ∷ [])
+    (argument_rule (codes "CONFIG") ∷ argument_rule (codes "SCRIPT") ∷ flag_rule (codes "journal")
+    ∷ [])
 
 -- serve CONFIG [--log FILE] [--journal FILE]
 abbrev pub serve_command : Shape

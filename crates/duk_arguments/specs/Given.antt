@@ -35,7 +35,7 @@ name_of (request.Walk bdk iksn count skip alone initial) = codes "walk"
 name_of (request.Pin pin pan key) = codes "pin"
 name_of (request.Wrap kbpk fields key pad) = codes "wrap"
 name_of (request.Unwrap kbpk block) = codes "unwrap"
-name_of (request.Run config script) = codes "run"
+name_of (request.Run config script journal) = codes "run"
 name_of (request.Serve config keeping) = codes "serve"
 name_of (request.NewJournal file records) = codes "new-journal"
 name_of (request.CopyJournal old new) = codes "copy-journal"
@@ -68,8 +68,9 @@ given_of (request.Wrap kbpk fields key pad) =
     ∷ needed (codes "KEY") key.now ∷ needed (codes "PAD") pad.now ∷ []
 given_of (request.Unwrap kbpk block) =
     needed (codes "KBPK") kbpk.now ∷ needed (codes "BLOCK") block.now ∷ []
-given_of (request.Run config script) =
-    needed (codes "CONFIG") config.now ∷ needed (codes "SCRIPT") script.now ∷ []
+given_of (request.Run config script journal) =
+    needed (codes "CONFIG") config.now ∷ needed (codes "SCRIPT") script.now
+    ∷ flag (codes "journal") journal ∷ []
 given_of (request.Serve config keeping) =
     needed (codes "CONFIG") config.now ∷ valued (codes "log") (log_in keeping)
     ∷ valued (codes "journal") (journal_in keeping) ∷ []

@@ -321,6 +321,7 @@ fn run_request<'a>(found: &ArgMatches<'a>) -> Request<'a>
     Request::Run {
         config: text(found, "CONFIG"),
         script: text(found, "SCRIPT"),
+        journal: flag(found, "journal"),
     }
 }
 

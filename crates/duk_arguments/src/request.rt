@@ -66,6 +66,8 @@ pub enum Request<'a> {
         config: &'a str,
         /// The path of the script.
         script: &'a str,
+        /// Whether it is played over tills and a host with a journal.
+        journal: bool,
     },
     /// A host that answers the frames of its input.
     Serve {

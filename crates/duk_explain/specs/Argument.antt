@@ -140,13 +140,13 @@ what_of asked = None
 
 -- CONFIG
 abbrev pub config_of : Request → Option (List ℕ)
-config_of (request.Run config script) = Some config.now
+config_of (request.Run config script journal) = Some config.now
 config_of (request.Serve config kept) = Some config.now
 config_of asked = None
 
 -- SCRIPT
 abbrev pub script_of : Request → Option (List ℕ)
-script_of (request.Run config script) = Some script.now
+script_of (request.Run config script journal) = Some script.now
 script_of asked = None
 
 -- the path of the log

@@ -69,7 +69,7 @@ at_once_not_done (Some items) s alone none not_done = absurd (none-some items (s
 -- what a command does is what the program does
 request_done : {D : Type 0} (meaning : DiskMeaning D) (s : Scene D) (asked : Request) → IsAtOnce asked → IsDone (command_for asked) (writers_of s)
     → IsRequestDone meaning s asked
-request_done meaning s (request.Run config script) at_once done = absurd done.asked
+request_done meaning s (request.Run config script journal) at_once done = absurd done.asked
 request_done meaning s (request.Serve config kept) at_once done = absurd done.asked
 request_done meaning s (request.NewJournal file records) at_once done = absurd done.asked
 request_done meaning s (request.CopyJournal old new) at_once done = absurd done.asked
@@ -95,8 +95,8 @@ program_done meaning arguments s (inr shown) = inr shown
 -- so is what it does not
 request_not_done : {D : Type 0} (meaning : DiskMeaning D) (s : Scene D) (asked : Request) → IsAtOnce asked → IsNotDone (command_for asked) (writers_of s)
     → IsRequestNotDone meaning s asked
-request_not_done meaning s (request.Run config script) at_once (inl refused) = absurd refused.cause
-request_not_done meaning s (request.Run config script) at_once (inr short) = absurd short.asked
+request_not_done meaning s (request.Run config script journal) at_once (inl refused) = absurd refused.cause
+request_not_done meaning s (request.Run config script journal) at_once (inr short) = absurd short.asked
 request_not_done meaning s (request.Serve config kept) at_once (inl refused) = absurd refused.cause
 request_not_done meaning s (request.Serve config kept) at_once (inr short) = absurd short.asked
 request_not_done meaning s (request.NewJournal file records) at_once (inl refused) = absurd refused.cause
@@ -128,7 +128,7 @@ program_not_done meaning arguments s (inr lost) = inr (inr lost)
 -- what a command over secrets does is what the program does, and what it does not
 pub meant_done : {D : Type 0} (meaning : DiskMeaning D) (s : Scene D) (asked : Request) → IsOverSecrets asked → HasMeantDone meaning s asked
     → IsRequestDone meaning s asked
-meant_done meaning s (request.Run config script) over done = absurd over
+meant_done meaning s (request.Run config script journal) over done = absurd over
 meant_done meaning s (request.Serve config kept) over done = absurd over
 meant_done meaning s (request.NewJournal file records) over done = absurd over
 meant_done meaning s (request.CopyJournal old new) over done = absurd over
@@ -136,7 +136,7 @@ meant_done meaning s asked over done = done
 
 pub meant_not_done : {D : Type 0} (meaning : DiskMeaning D) (s : Scene D) (asked : Request) → IsOverSecrets asked → IsMeantNotDone meaning s asked
     → IsRequestNotDone meaning s asked
-meant_not_done meaning s (request.Run config script) over not_done = absurd over
+meant_not_done meaning s (request.Run config script journal) over not_done = absurd over
 meant_not_done meaning s (request.Serve config kept) over not_done = absurd over
 meant_not_done meaning s (request.NewJournal file records) over not_done = absurd over
 meant_not_done meaning s (request.CopyJournal old new) over not_done = absurd over
@@ -160,7 +160,7 @@ pub no_file_needed : (asked : Request) → IsOverSecrets asked
     → ((kind what : Bor (List ℕ)) (show : Bool) → asked ≢ request.Show kind what show)
     → ((bdk loading iksn count ledger : Bor (List ℕ)) (skip : Bool) → asked ≢ request.Issue bdk loading iksn count ledger skip)
     → NeedsNoFile asked
-no_file_needed (request.Run config script) over no_show no_issue = absurd over
+no_file_needed (request.Run config script journal) over no_show no_issue = absurd over
 no_file_needed (request.Serve config kept) over no_show no_issue = absurd over
 no_file_needed (request.NewJournal file records) over no_show no_issue = absurd over
 no_file_needed (request.CopyJournal old new) over no_show no_issue = absurd over

@@ -1,5 +1,5 @@
 -- What is told of a request that is not done, where its fault is explained.
-use Rattle.std.proofs.Common.{◌≡◌, ◌⊎◌, List, [], ℕ, inl, inr, refl}
+use Rattle.std.proofs.Common.{◌≡◌, ◌⊎◌, Bool, List, [], ℕ, inl, inr, refl}
 use Rattle.std.specs.Borrow.{Bor}
 use Rattle.duk_arguments.specs.declared.request.Request.{Request}
 use Rattle.duk_arguments.specs.declared.request.Request.TheVariants as request
@@ -23,7 +23,7 @@ use Rattle.duk_store.specs.Disk.{DiskMeaning}
 pub not_done_of : {D : Type 0} (meaning : DiskMeaning D) (s : Scene D) (asked about : Request) → IsOverSecrets asked
     → IsMeantFailed meaning s asked about ⊎ ((about ≡ asked) × HasUnreadSecret s asked)
     → IsNotDoneOf meaning s asked about
-not_done_of meaning s (request.Run config script) about over failed = absurd over
+not_done_of meaning s (request.Run config script journal) about over failed = absurd over
 not_done_of meaning s (request.Serve config kept) about over failed = absurd over
 not_done_of meaning s (request.NewJournal file records) about over failed = absurd over
 not_done_of meaning s (request.CopyJournal old new) about over failed = absurd over
@@ -94,17 +94,17 @@ meant_heard meaning s asked meant input empty heard none over read means done = 
 }
 
 -- a script that is not run is told of the request itself
-run_explained : {D : Type 0} {q : Inquiry} (meaning : DiskMeaning D) (s : Scene D) (config script : Bor (List ℕ)) (empty line : List ℕ) → empty ≡ []
-    → HasReportedFault (run_in (heard_from s empty line) config.now script.now) → IsTold q line (request.Run config script) s.fault_before s.fault_after
-    → HasExplained meaning q s (request.Run config script)
-run_explained meaning s config script empty line none failed told = record {
+run_explained : {D : Type 0} {q : Inquiry} (meaning : DiskMeaning D) (s : Scene D) (config script : Bor (List ℕ)) (journal : Bool) (empty line : List ℕ) → empty ≡ []
+    → HasReportedFault (run_in (heard_from s empty line) config.now script.now journal) → IsTold q line (request.Run config script journal) s.fault_before s.fault_after
+    → HasExplained meaning q s (request.Run config script journal)
+run_explained meaning s config script journal empty line none failed told = record {
   line = line;
-  about = request.Run config script;
+  about = request.Run config script journal;
   not_done = (refl, rw (← none) failed);
   told = told;
 }
 
-pub run_not_done : {D : Type 0} {q : Inquiry} (meaning : DiskMeaning D) (s : Scene D) (asked : Request) (config script : Bor (List ℕ)) (empty line : List ℕ) → asked ≡ request.Run config script
-    → empty ≡ [] → HasReportedFault (run_in (heard_from s empty line) config.now script.now) → IsTold q line (request.Run config script) s.fault_before s.fault_after
+pub run_not_done : {D : Type 0} {q : Inquiry} (meaning : DiskMeaning D) (s : Scene D) (asked : Request) (config script : Bor (List ℕ)) (journal : Bool) (empty line : List ℕ) → asked ≡ request.Run config script journal
+    → empty ≡ [] → HasReportedFault (run_in (heard_from s empty line) config.now script.now journal) → IsTold q line (request.Run config script journal) s.fault_before s.fault_after
     → HasExplained meaning q s asked
-run_not_done meaning s asked config script empty line is none failed told = rw (is) (run_explained meaning s config script empty line none failed told)
+run_not_done meaning s asked config script journal empty line is none failed told = rw (is) (run_explained meaning s config script journal empty line none failed told)

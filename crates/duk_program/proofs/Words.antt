@@ -80,7 +80,7 @@ words_untouched now texts words = rw (words_no_input texts words) refl
 
 -- words alone are what is meant
 pub words_have_meaning : (held : List ℕ → FileKnown) (asked : Request) → IsOverSecrets asked → HasWordsAlone asked → HasMeaning held asked asked
-words_have_meaning held (request.Run config script) over words = absurd over
+words_have_meaning held (request.Run config script journal) over words = absurd over
 words_have_meaning held (request.Serve config kept) over words = absurd over
 words_have_meaning held (request.NewJournal file records) over words = absurd over
 words_have_meaning held (request.CopyJournal old new) over words = absurd over

@@ -1,11 +1,12 @@
 -- What is written stays written where the writer hands on what it held back.
-use Rattle.std.proofs.Common.{ℕ, List, Option, Some, None, inl, inr, ◌∙◌}
+use Rattle.std.proofs.Common.{ℕ, Bool, true, false, List, Option, Some, None, inl, inr, ◌∙◌}
 use Rattle.std.proofs.KnownBytes.{Keeps-trans}
 use Rattle.std.specs.Io.KnownBytes.{Appends, Keeps}
 use Rattle.duk_config.specs.Settings.{Settings}
 use Rattle.duk_config.specs.declared.fault.ScriptFault.TheVariants.{NoMemory}
 use Rattle.duk_io.specs.Known.{Known, Stayed}
 use Rattle.duk_io.specs.Sink.{IsUntouched, IsWritten}
+use Rattle.duk_program.specs.Run.{IsDoneOver, IsRefusedOver}
 use Rattle.duk_script.specs.Session.{IsRunDone, IsRunRefused, IsScriptDone, IsScriptRefused, session}
 
 appended_still : (a b c : Option (List ℕ)) (text : List ℕ) → Appends a b text → Keeps b c → Appends a c text
@@ -40,6 +41,16 @@ script_done_still config text writer written writer' done kept = record {
   played = (done.played.0, done.played.1, written_still writer written writer' _ done.played.2 kept);
 }
 
+-- over a journal, or over a log
+pub done_over_still : (journal : Bool) (config : Settings) (text : List ℕ) (writer written writer' : Known) → IsDoneOver journal config text writer written
+    → IsUntouched written writer' → IsDoneOver journal config text writer writer'
+done_over_still true config text writer written writer' done kept = record {
+  events = done.events;
+  script = done.script;
+  played = (done.played.0, done.played.1, written_still writer written writer' _ done.played.2 kept);
+}
+done_over_still false config text writer written writer' done kept = script_done_still config text writer written writer' done kept
+
 -- so is one that was read
 pub done_still : (bytes : List ℕ) (reader reader' writer written writer' : Known) → IsRunDone bytes (session reader reader' writer written)
     → IsUntouched written writer' → IsRunDone bytes (session reader reader' writer writer')
@@ -66,6 +77,23 @@ script_refused_still config text writer written writer' refused kept =
         ];
       })
     ]
+
+-- over a journal, or over a log
+pub refused_over_still : (journal : Bool) (config : Settings) (text : List ℕ) (writer written writer' : Known) → IsRefusedOver journal config text writer written NoMemory
+    → IsUntouched written writer' → IsRefusedOver journal config text writer writer' NoMemory
+refused_over_still true config text writer written writer' refused kept =
+    elim refused [
+      | inl quiet ↦ inl (untouched_still writer written writer' quiet kept)
+      | inr stopped ↦ inr (record {
+        events = stopped.events;
+        script = stopped.script;
+        cause = elim stopped.cause [
+          | inl quiet ↦ inl (untouched_still writer written writer' quiet kept)
+          | inr part ↦ inr (record { outcomes = part.outcomes; played = part.played; written = written_still writer written writer' _ part.written kept })
+        ];
+      })
+    ]
+refused_over_still false config text writer written writer' refused kept = script_refused_still config text writer written writer' refused kept
 
 -- so was one that was to be read
 pub refused_still : (bytes : List ℕ) (reader reader' writer written writer' : Known) → IsRunRefused bytes (session reader reader' writer written) NoMemory

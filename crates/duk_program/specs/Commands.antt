@@ -47,7 +47,7 @@ command_for (request.Pin pin pan key) = pin_of pin.now pan.now (option_copied ke
 command_for (request.Wrap kbpk fields key pad) =
     wrap_of (wrap_arguments kbpk.now fields.now key.now pad.now)
 command_for (request.Unwrap kbpk block) = unwrap_of kbpk.now block.now
-command_for (request.Run config script) = no_command
+command_for (request.Run config script journal) = no_command
 command_for (request.Serve config kept) = no_command
 command_for (request.NewJournal file records) = no_command
 command_for (request.CopyJournal old new) = no_command

@@ -55,9 +55,9 @@ pub record IsMeantFailed {D : Type 0} (meaning : DiskMeaning D) (s : Scene D) (a
 -- status 1 of a request, and of which request it is explained: of the one whose secrets are what
 -- they stand for, or where one is not read, of the request as it is written
 abbrev pub IsNotDoneOf : {D : Type 0} → DiskMeaning D → Scene D → Request → Request → Type 0
-IsNotDoneOf meaning s (request.Run config script) about =
-    (about ≡ request.Run config script)
-    × IsRequestNotDone meaning s (request.Run config script)
+IsNotDoneOf meaning s (request.Run config script journal) about =
+    (about ≡ request.Run config script journal)
+    × IsRequestNotDone meaning s (request.Run config script journal)
 IsNotDoneOf meaning s (request.Serve config kept) about =
     (about ≡ request.Serve config kept) × IsRequestNotDone meaning s (request.Serve config kept)
 IsNotDoneOf meaning s (request.NewJournal file records) about =

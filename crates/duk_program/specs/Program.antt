@@ -1,6 +1,6 @@
 -- What a run of the program does (this project's own, over its commands, the files that `run` and
 -- `serve` read, and their streams).
-use Rattle.std.specs.Prelude.{◌⊎◌, ℕ, List}
+use Rattle.std.specs.Prelude.{◌⊎◌, ℕ, Bool, List}
 use Rattle.duk_io.specs.Sink.{IsUntouched}
 use Rattle.duk_service.specs.CopyJournal.{HasCopiedJournal, HasNotCopiedJournal}
 use Rattle.duk_program.specs.Commands.{HasLostCommandOutput, HasShown, IsNotShown}
@@ -17,8 +17,8 @@ use Rattle.duk_arguments.specs.declared.request.Request.{Request}
 use Rattle.duk_arguments.specs.declared.request.Request.TheVariants as request
 
 -- a run over the files of these paths
-abbrev pub run_in : {D : Type 0} → Scene D → List ℕ → List ℕ → FileRun
-run_in s config script = file_run (s.held config) (s.held script)
+abbrev pub run_in : {D : Type 0} → Scene D → List ℕ → List ℕ → Bool → FileRun
+run_in s config script journal = file_run (s.held config) (s.held script) journal
     s.streams.output_before s.streams.output_after s.fault_before s.fault_after
 
 -- a service under the configuration of a path, where the used numbers are kept so
@@ -39,7 +39,8 @@ pub record HasNotMadeIn {D : Type 0} (s : Scene D) (Unmade : Type 0) : Type 0 wh
 
 -- status 0 of a request
 abbrev pub IsRequestDone : {D : Type 0} → DiskMeaning D → Scene D → Request → Type 0
-IsRequestDone meaning s (request.Run config script) = HasRunFiles (run_in s config.now script.now)
+IsRequestDone meaning s (request.Run config script journal) =
+    HasRunFiles (run_in s config.now script.now journal)
 IsRequestDone meaning s (request.Serve config kept) =
     HasServedFiles meaning (service_in s config.now kept)
 IsRequestDone meaning s (request.NewJournal file records) =
@@ -50,8 +51,8 @@ IsRequestDone meaning s asked = HasMeantDone meaning s asked
 
 -- status 1 of a request: of files, the first fault in the order that is reported there
 abbrev pub IsRequestNotDone : {D : Type 0} → DiskMeaning D → Scene D → Request → Type 0
-IsRequestNotDone meaning s (request.Run config script) =
-    HasReportedFault (run_in s config.now script.now)
+IsRequestNotDone meaning s (request.Run config script journal) =
+    HasReportedFault (run_in s config.now script.now journal)
 IsRequestNotDone meaning s (request.Serve config kept) =
     HasNotServedFiles meaning (service_in s config.now kept)
 IsRequestNotDone meaning s (request.NewJournal file records) =

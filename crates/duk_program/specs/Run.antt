@@ -1,12 +1,25 @@
 -- What `run` answers (this project's own, over what the writer of lines makes known when they are
 -- written).
-use Rattle.std.specs.Prelude.{◌⊎◌}
+use Rattle.std.specs.Prelude.{◌⊎◌, ℕ, Bool, false, true, List}
+use Rattle.duk_config.specs.Settings.{Settings}
 use Rattle.duk_config.specs.declared.fault.ScriptFault.{ScriptFault}
 use Rattle.duk_config.specs.declared.fault.ScriptFault.TheVariants.{NoMemory, WriteFailed}
 use Rattle.duk_io.specs.Known.{Known}
 use Rattle.duk_io.specs.Sink.{IsTried, IsUntouched}
+use Rattle.duk_play.specs.Session as play
 use Rattle.duk_script.specs.FaultLine.{fault_line}
+use Rattle.duk_script.specs.Session.{IsScriptDone, IsScriptRefused}
 use Rattle.duk_service.specs.HandedOn.{IsFlushReported}
+
+-- the script is played to its end: over a journal, or over a log
+abbrev pub IsDoneOver : Bool → Settings → List ℕ → Known → Known → Type 0
+IsDoneOver true = play.IsScriptDone
+IsDoneOver false = IsScriptDone
+
+-- why it is not
+abbrev pub IsRefusedOver : Bool → Settings → List ℕ → Known → Known → ScriptFault → Type 0
+IsRefusedOver true = play.IsScriptRefused
+IsRefusedOver false = IsScriptRefused
 
 -- status 0: the script is done, and no fault is reported
 pub record HasRun (Done : Known → Type 0) (output' fault fault' : Known) : Type 0 where

@@ -1,6 +1,6 @@
 -- What `run` answers over files (this project's own, over what the script of a file does). Where
 -- files make nothing known, what they hold may be any bytes.
-use Rattle.std.specs.Prelude.{◌⊎◌, ℕ, List}
+use Rattle.std.specs.Prelude.{◌⊎◌, ℕ, Bool, List}
 use Rattle.duk_config.specs.ConfigFile.{longest_file}
 use Rattle.duk_config.specs.Settings.{Settings}
 use Rattle.duk_config.specs.declared.fault.ScriptFault.TheVariants as fault
@@ -10,24 +10,25 @@ use Rattle.duk_program.specs.Configured.{IsConfigFaultReported, IsConfigured}
 use Rattle.duk_service.specs.Files.{FileKnown, IsFileUnread, HasBytes}
 use Rattle.duk_service.specs.declared.file_system.FileFault.{FileFault}
 use Rattle.duk_service.specs.declared.file_system.FileFault.TheVariants as file
-use Rattle.duk_program.specs.Run.{HasNotRun, HasRun}
+use Rattle.duk_program.specs.Run.{HasNotRun, HasRun, IsDoneOver, IsRefusedOver}
 use Rattle.duk_script.specs.FaultLine.{fault_line}
-use Rattle.duk_script.specs.Session.{IsScriptDone, IsScriptRefused}
 
--- what the files of a configuration and of a script hold, and what the writers of lines and of
--- faults make known before and after
+-- what the files of a configuration and of a script hold, whether that is played over a journal, and
+-- what the writers of lines and of faults make known before and after
 pub record FileRun : Type 0 where
   pub config_held : FileKnown
   pub script_held : FileKnown
+  pub journal : Bool
   pub output_before : Known
   pub output_after : Known
   pub fault_before : Known
   pub fault_after : Known
 
-abbrev pub file_run : FileKnown → FileKnown → Known → Known → Known → Known → FileRun
-file_run config_held script_held output_before output_after fault_before fault_after = record {
+abbrev pub file_run : FileKnown → FileKnown → Bool → Known → Known → Known → Known → FileRun
+file_run config_held script_held journal output_before output_after fault_before fault_after = record {
   config_held = config_held;
   script_held = script_held;
+  journal = journal;
   output_before = output_before;
   output_after = output_after;
   fault_before = fault_before;
@@ -41,7 +42,7 @@ pub record HasRunFiles (r : FileRun) : Type 0 where
   pub configured : IsConfigured r.config_held config
   pub script : List ℕ
   pub script_held : HasBytes r.script_held script
-  pub run : HasRun (IsScriptDone config script r.output_before) r.output_after
+  pub run : HasRun (IsDoneOver r.journal config script r.output_before) r.output_after
       r.fault_before r.fault_after
 
 -- the line where the file of a script is not read
@@ -75,8 +76,8 @@ pub record HasFailedRun (r : FileRun) : Type 0 where
   pub configured : IsConfigured r.config_held config
   pub script : List ℕ
   pub script_held : HasBytes r.script_held script
-  pub run : HasNotRun (IsScriptDone config script r.output_before)
-      (IsScriptRefused config script r.output_before) r.output_after
+  pub run : HasNotRun (IsDoneOver r.journal config script r.output_before)
+      (IsRefusedOver r.journal config script r.output_before) r.output_after
       r.fault_before r.fault_after
 
 -- status 1: the first of these

@@ -242,7 +242,7 @@ HasWordsAlone asked = Each IsWord (secrets_of asked)
 
 -- a request whose command is over secrets, and not over a configuration
 abbrev pub IsOverSecrets : Request → Type 0
-IsOverSecrets (request.Run config script) = ⊥
+IsOverSecrets (request.Run config script journal) = ⊥
 IsOverSecrets (request.Serve config kept) = ⊥
 IsOverSecrets (request.NewJournal file records) = ⊥
 IsOverSecrets (request.CopyJournal old new) = ⊥

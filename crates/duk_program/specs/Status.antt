@@ -14,7 +14,7 @@ IsStatus status = (status ≡ 0) ⊎ (status ≡ 1) ⊎ (status ≡ 2)
 -- make, or a command over secrets that are to be read
 abbrev pub IsLeftToDo : Todo → Type 0
 IsLeftToDo (Exit status) = IsStatus status
-IsLeftToDo (Run config script) = Unit {0}
+IsLeftToDo (Run config script journal) = Unit {0}
 IsLeftToDo (Serve config kept) = Unit {0}
 IsLeftToDo (NewJournal file records) = Unit {0}
 IsLeftToDo (CopyJournal old new) = Unit {0}
@@ -23,7 +23,7 @@ IsLeftToDo (Read asked) = Unit {0}
 -- nothing is left but to end with this status
 abbrev pub EndsWith : Todo → ℕ → Type 0
 EndsWith (Exit status) wanted = status ≡ wanted
-EndsWith (Run config script) wanted = ⊥
+EndsWith (Run config script journal) wanted = ⊥
 EndsWith (Serve config kept) wanted = ⊥
 EndsWith (NewJournal file records) wanted = ⊥
 EndsWith (CopyJournal old new) wanted = ⊥
@@ -33,7 +33,7 @@ EndsWith (Read asked) wanted = ⊥
 -- to do
 abbrev pub IsToRun : Todo → Type 0
 IsToRun (Exit status) = ⊥
-IsToRun (Run config script) = Unit {0}
+IsToRun (Run config script journal) = Unit {0}
 IsToRun (Serve config kept) = Unit {0}
 IsToRun (NewJournal file records) = Unit {0}
 IsToRun (CopyJournal old new) = Unit {0}
@@ -43,7 +43,7 @@ IsToRun (Read asked) = Unit {0}
 -- where the arguments ask for it
 abbrev pub RunsAsked : List (List ℕ) → Todo → Type 0
 RunsAsked arguments (Exit status) = Unit {0}
-RunsAsked arguments (Run config script) = Asks arguments (request.Run config script)
+RunsAsked arguments (Run config script journal) = Asks arguments (request.Run config script journal)
 RunsAsked arguments (Serve config kept) = Asks arguments (request.Serve config kept)
 RunsAsked arguments (NewJournal file records) = Asks arguments (request.NewJournal file records)
 RunsAsked arguments (CopyJournal old new) = Asks arguments (request.CopyJournal old new)

@@ -32,6 +32,8 @@ pub enum Todo<'a> {
         config: &'a str,
         /// The path of the script.
         script: &'a str,
+        /// Whether it is played over tills and a host with a journal.
+        journal: bool,
     },
     /// To serve the frames of the input under a configuration. Nothing is written yet.
     Serve {
@@ -148,7 +150,15 @@ fn do_request<'a, W: Sink, F: Sink>(
     ensures silent { IsToRun result → F.known fault.new ≡ F.known fault.old }
 {
     match request {
-        Request::Run { config, script } => Todo::Run { config, script },
+        Request::Run {
+            config,
+            script,
+            journal,
+        } => Todo::Run {
+            config,
+            script,
+            journal,
+        },
         Request::Serve { config, kept } => Todo::Serve { config, kept },
         Request::NewJournal { file, records } => Todo::NewJournal { file, records },
         Request::CopyJournal { old, new } => Todo::CopyJournal { old, new },

@@ -75,9 +75,13 @@ fn do_explained<S: FileSystem + LogFiles, R: Source, W: Sink, F: Sink>(
         output.new) (F.known fault.old) (F.known fault.new)) request.entry }
 {
     match request {
-        Request::Run { config, script } => {
+        Request::Run {
+            config,
+            script,
+            journal,
+        } => {
             let mut line = Vec::new(alloc);
-            let status = run_files(alloc, files, config, script, output, &mut line);
+            let status = run_files(alloc, files, config, script, journal, output, &mut line);
             tell(alloc, files, &request, status, line.as_slice(), fault)
         }
         Request::Serve { config, kept } => {

@@ -54,7 +54,11 @@ pub fn run_arguments<S: FileSystem + LogFiles, R: Source, W: Sink, F: Sink>(
     duk_io::laws::writes();
     match command(alloc, arguments, output, fault) {
         Todo::Exit(status) => status,
-        Todo::Run { config, script } => run_files(alloc, files, config, script, output, fault),
+        Todo::Run {
+            config,
+            script,
+            journal,
+        } => run_files(alloc, files, config, script, journal, output, fault),
         Todo::Serve { config, kept } => {
             serve_files(alloc, files, config, kept, input, output, fault)
         }

@@ -1,11 +1,11 @@
 //! The command `run` without its files: plays a script under a configuration, and gives the status.
 
-ghost use Rattle.std.specs.Prelude.{◌≡◌, ◌⊎◌};
+ghost use Rattle.std.specs.Prelude.{◌≡◌, ◌⊎◌, IfErr, OnOk};
 ghost use Rattle.duk_config.specs.declared.fault.ScriptFault.{ScriptFault};
 ghost use Rattle.duk_service.specs.HandedOn.{IsReportedAfter};
-ghost use Rattle.duk_program.specs.Run.{HasNotRun, HasRun};
+ghost use Rattle.duk_program.specs.Run.{HasNotRun, HasRun, IsDoneOver, IsRefusedOver};
 ghost use Rattle.duk_script.specs.FaultLine.{fault_line};
-ghost use Rattle.duk_script.specs.Session.{IsRunDone, IsRunRefused, IsScriptDone, IsScriptRefused, session};
+ghost use Rattle.duk_script.specs.Session.{IsRunDone, IsRunRefused, session};
 
 use crate::script_ending::{RunEnding, report_script};
 use duk_config::{Config, ScriptFault};
@@ -46,26 +46,49 @@ pub fn run_status<R: Source, W: Sink, F: Sink>(
     }
 }
 
-/// Does what `run_status` does with a script of these bytes, under a configuration that was read.
+/// Does what `run_status` does with a script of these bytes, under a configuration that was read; with
+/// `journal` over tills and a host with a journal.
 pub(crate) fn play_status<W: Sink, F: Sink>(
     alloc: Global,
     config: &Config,
     script: &[u8],
+    journal: bool,
     output: &mut W,
     fault: &mut F,
 ) -> u8
     ensures status { (result ≡ 0) ⊎ (result ≡ 1) }
-    ensures done { result ≡ 0 → HasRun (IsScriptDone config.now script.now (W.known output.old))
+    ensures done { result ≡ 0 → HasRun (IsDoneOver journal config.now script.now (W.known output.old))
         (W.known output.new) (F.known fault.old) (F.known fault.new) }
     ensures not_done { result ≡ 1
-        → HasNotRun (IsScriptDone config.now script.now (W.known output.old))
-        (IsScriptRefused config.now script.now (W.known output.old))
+        → HasNotRun (IsDoneOver journal config.now script.now (W.known output.old))
+        (IsRefusedOver journal config.now script.now (W.known output.old))
         (W.known output.new) (F.known fault.old) (F.known fault.new) }
 {
-    match play_script(alloc, config, script, output) {
+    match play(alloc, config, script, journal, output) {
         Ok(()) => hand_on(&RunEnding::WriteFailed, output, fault),
         Err(ScriptFault::NoMemory) => refuse_memory(output, fault),
         Err(cause) => report_script(cause, fault),
+    }
+}
+
+/// Plays a script under a configuration: over tills and a host with a journal, or over terminals and a
+/// host with a log.
+fn play<W: Sink>(
+    alloc: Global,
+    config: &Config,
+    script: &[u8],
+    journal: bool,
+    output: &mut W,
+) -> Result<(), ScriptFault>
+    ensures done { OnOk result
+        (IsDoneOver journal config.now script.now (W.known output.old) (W.known output.new)) }
+    ensures refused { IfErr result
+        (IsRefusedOver journal config.now script.now (W.known output.old) (W.known output.new)) }
+{
+    if journal {
+        duk_play::play_script(alloc, config, script, output)
+    } else {
+        play_script(alloc, config, script, output)
     }
 }
 

@@ -13,7 +13,7 @@ use duk_service::{FileFault, FileSystem};
 use std::alloc::Global;
 
 /// Runs the script of one file under the configuration of another, and gives the status: 0, or 1
-/// with a line on `fault`.
+/// with a line on `fault`. With `journal` it is played over tills and a host with a journal.
 ///
 /// The configuration is read and tested before the script is read. The faults, in this order:
 /// `config: cannot read` and `config: too long`; those of the configuration; `script: cannot read`
@@ -25,15 +25,16 @@ pub(crate) fn run_files<S: FileSystem, W: Sink, F: Sink>(
     files: &S,
     config: &str,
     script: &str,
+    journal: bool,
     output: &mut W,
     fault: &mut F,
 ) -> u8
     ensures status { (result ≡ 0) ⊎ (result ≡ 1) }
     ensures done { result ≡ 0
-        → HasRunFiles (file_run (S.held files.now config.now) (S.held files.now script.now)
+        → HasRunFiles (file_run (S.held files.now config.now) (S.held files.now script.now) journal
         (W.known output.old) (W.known output.new) (F.known fault.old) (F.known fault.new)) }
     ensures reported { result ≡ 1
-        → HasReportedFault (file_run (S.held files.now config.now) (S.held files.now script.now)
+        → HasReportedFault (file_run (S.held files.now config.now) (S.held files.now script.now) journal
         (W.known output.old) (W.known output.new) (F.known fault.old) (F.known fault.new)) }
 {
     duk_io::laws::writes();
@@ -45,7 +46,7 @@ pub(crate) fn run_files<S: FileSystem, W: Sink, F: Sink>(
         Ok(script) => script,
         Err(why) => return refuse_script(why, fault),
     };
-    play_status(alloc, &config, script.as_slice(), output, fault)
+    play_status(alloc, &config, script.as_slice(), journal, output, fault)
 }
 
 /// Reports why the file of a script is not read, and gives the status 1.

@@ -7,7 +7,7 @@ ghost use Rattle.duk_arguments.specs.inner.CommandLine.{shape_of_usage};
 use super::arguments::{Argument, Usage};
 use crate::help::files as help;
 
-/// `run CONFIG SCRIPT`
+/// `run CONFIG SCRIPT [--journal]`
 pub(super) fn run<'a>() -> Usage<'a>
     ensures { shape_of_usage result ≡ run_command }
 {
@@ -18,6 +18,10 @@ pub(super) fn run<'a>() -> Usage<'a>
         arguments: &[
             Argument::Needed("CONFIG", "The file of the configuration, in TOML"),
             Argument::Needed("SCRIPT", "The file of the script, an event on each line"),
+            Argument::Flag(
+                "journal",
+                "Plays it over tills, which reverse payments, and a host with a journal",
+            ),
         ],
     }
 }

@@ -5,6 +5,10 @@ pub(crate) const RUN: &str = "\
 A frame is delivered only where SCRIPT says so. What a terminal or the host refuses is a line, and no
 fault.
 
+With --journal each terminal is a till: it has one purchase open at a time, whose outcome a second store
+keeps, its book. The host keeps what it decided in a journal. SCRIPT may have two more lines: `reverse T`
+undoes the open purchase, and `arm T book N` lets the book fail.
+
 Example:
   $ dukpt run examples/bank.toml examples/payment.script
   t1 loaded FFFF9876543210E00000
@@ -14,6 +18,13 @@ Example:
   t1 sent 2 FFFF9876543210E00002
   answer 2 accepted FFFF9876543210E00002 51
   t1 done FFFF9876543210E00002 51
+
+Of a script whose reply is lost, with --journal:
+  t1 sent 1 FFFF9876543210E00001
+  answer 1 accepted FFFF9876543210E00001 00
+  t1 reversing 2 FFFF9876543210E00002 of FFFF9876543210E00001
+  answer 2 undone FFFF9876543210E00002 of FFFF9876543210E00001 01
+  t1 undone FFFF9876543210E00001
 
 Faults, on standard error with status 1, the first alone; --explain says more:
   config: ..             The configuration: cannot read, too long, not TOML, unknown KEY, bad KEY

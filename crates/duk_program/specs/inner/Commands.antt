@@ -4,7 +4,7 @@ use Rattle.duk_arguments.specs.declared.request.Request.TheVariants as request
 
 -- a request whose command is one over its arguments alone
 abbrev pub NeedsNoFile : Request → Type 0
-NeedsNoFile (request.Run config script) = ⊥
+NeedsNoFile (request.Run config script journal) = ⊥
 NeedsNoFile (request.Serve config kept) = ⊥
 NeedsNoFile (request.NewJournal file records) = ⊥
 NeedsNoFile (request.CopyJournal old new) = ⊥

@@ -9,7 +9,7 @@ use Rattle.duk_program.specs.declared.dispatch.Todo.TheVariants.{CopyJournal, Ex
 -- what is left to do is what the request asks
 abbrev pub RunsRequest : Request → Todo → Type 0
 RunsRequest asked (Exit status) = Unit {0}
-RunsRequest asked (Run config script) = asked ≡ request.Run config script
+RunsRequest asked (Run config script journal) = asked ≡ request.Run config script journal
 RunsRequest asked (Serve config kept) = asked ≡ request.Serve config kept
 RunsRequest asked (NewJournal file records) = asked ≡ request.NewJournal file records
 RunsRequest asked (CopyJournal old new) = asked ≡ request.CopyJournal old new

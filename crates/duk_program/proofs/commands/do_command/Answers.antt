@@ -51,7 +51,7 @@ makes_lines (request.Pin pin' pan key) no_file derive walk pin wrap unwrap = abs
 makes_lines (request.Wrap kbpk fields key pad) no_file derive walk pin wrap unwrap =
     absurd (wrap kbpk fields key pad refl)
 makes_lines (request.Unwrap kbpk block) no_file derive walk pin wrap unwrap = absurd (unwrap kbpk block refl)
-makes_lines (request.Run config script) no_file derive walk pin wrap unwrap = absurd no_file
+makes_lines (request.Run config script journal) no_file derive walk pin wrap unwrap = absurd no_file
 makes_lines (request.Serve config kept) no_file derive walk pin wrap unwrap = absurd no_file
 makes_lines (request.NewJournal file records) no_file derive walk pin wrap unwrap = absurd no_file
 makes_lines (request.CopyJournal old new) no_file derive walk pin wrap unwrap = absurd no_file

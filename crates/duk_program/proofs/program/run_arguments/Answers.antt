@@ -16,14 +16,14 @@ returns-in-Run-clause-fault g c failed =
 
 pub returns-in-Run-clause-done : goal.returns-in-Run-clause-done
 returns-in-Run-clause-done g c zero = inl (record {
-  request = request.Run c.in-Run.config c.in-Run.script;
+  request = request.Run c.in-Run.config c.in-Run.script c.in-Run.journal;
   asked = c.in-Run.ensures.asked;
   done = rw (c.in-Run.ensures.quiet tt, c.in-Run.ensures.silent tt) at (c.run_files.ensures.done zero);
 })
 
 pub returns-in-Run-clause-not_done : goal.returns-in-Run-clause-not_done
 returns-in-Run-clause-not_done g c one = inl (record {
-  request = request.Run c.in-Run.config c.in-Run.script;
+  request = request.Run c.in-Run.config c.in-Run.script c.in-Run.journal;
   asked = c.in-Run.ensures.asked;
   not_done = rw (c.in-Run.ensures.quiet tt, c.in-Run.ensures.silent tt) at (c.run_files.ensures.reported one);
 })

@@ -1,11 +1,11 @@
 use Rattle.std.proofs.Common.{inl, inr}
 use Rattle.duk_config.specs.declared.fault.ScriptFault.TheVariants.{NoMemory}
-use Rattle.duk_program.proofs.WrittenStaysWritten.{script_done_still, script_refused_still}
+use Rattle.duk_program.proofs.WrittenStaysWritten.{done_over_still, refused_over_still}
 use Rattle.duk_program.proofs.run.play_status.Goals as goal
 
 pub returns-in-Ok-clause-done : goal.returns-in-Ok-clause-done
 returns-in-Ok-clause-done g c zero = record {
-  done = script_done_still _ _ _ _ _ c.in-Ok.ensures.done (c.hand_on.ensures.kept zero);
+  done = done_over_still c.args.journal _ _ _ _ _ c.in-Ok.ensures.done (c.hand_on.ensures.kept zero);
   no_fault = c.hand_on.ensures.no_fault zero;
 }
 
@@ -13,6 +13,6 @@ pub returns-in-Err-NoMemory-clause-not_done : goal.returns-in-Err-NoMemory-claus
 returns-in-Err-NoMemory-clause-not_done g c one =
     let refused = rw c.in-Err-NoMemory.field-0-is at c.in-Err-NoMemory.ensures.refused in
     elim c.refuse_memory.ensures.reported [
-      | inl kept ↦ inl (record { why = NoMemory; refused = script_refused_still _ _ _ _ _ refused kept.0; line = kept.1 })
+      | inl kept ↦ inl (record { why = NoMemory; refused = refused_over_still c.args.journal _ _ _ _ _ refused kept.0; line = kept.1 })
       | inr lost ↦ inr (record { written = _; played = inr refused; reports = lost })
     ]
