@@ -59,6 +59,11 @@ class Judge:
     def left(self) -> int:
         return self.room - len(self.entries)
 
+    @property
+    def takes_payments(self) -> bool:
+        """Whether more is left than what is kept for reversals."""
+        return LAST_PART * self.left >= self.room
+
     def judge(self, it: Exchange) -> Judged:
         if it.number is None:
             return Judged(it.answer)
@@ -70,7 +75,7 @@ class Judge:
         asked = payment_of(it)
         if self.is_used(asked.serial):
             return Judged(self.reply_again(it, asked) or refusal(number, USED))
-        if LAST_PART * self.left < self.room:
+        if not self.takes_payments:
             return Judged(refusal(number, FULL))
         self.keep(asked)
         return Judged(it.answer, asked)
@@ -96,11 +101,18 @@ class Judge:
         self.places[entry.serial] = len(self.entries)
         self.entries.append(entry)
 
+    def entry(self, serial: int) -> Optional[Entry]:
+        """The entry of a number, if it has one."""
+        place = self.places.get(serial)
+        return None if place is None else self.entries[place]
+
     def was_approved(self, serial: int) -> bool:
         """Whether an approved payment of a number is kept, undone or not."""
-        place = self.places.get(serial)
-        found = None if place is None else self.entries[place]
+        found = self.entry(serial)
         return isinstance(found, Payment) and found.code == 0
+
+    def was_reversed(self, serial: int) -> bool:
+        return serial in self.reversed
 
     def latest(self, serial: int, mac: bytes) -> Optional[Entry]:
         """The entry of a number, if it has this MAC and is one of the latest."""
@@ -113,7 +125,7 @@ class Judge:
         """The reply with the code that is kept, if it is the same request, one of the latest, and
         its payment was not undone."""
         kept = self.latest(asked.serial, asked.mac)
-        if not isinstance(kept, Payment) or kept.serial in self.reversed:
+        if not isinstance(kept, Payment) or self.was_reversed(kept.serial):
             return None
         if kept.code == asked.code:
             return it.answer

@@ -1,15 +1,16 @@
 """A terminal over any cell, by docs/FORMATS.md and docs/OPERATION.md."""
 from __future__ import annotations
 
-from dataclasses import dataclass
-from typing import Optional, Union
+from dataclasses import dataclass, replace
+from typing import Callable, Optional, Union
 
 from .dukpt import MOST_PAST, Registers, registers_at, response_key
-from .frames import Refusal, Reply, read_answer, write_request
+from .frames import Refusal, Reply, read_answer, write_request, write_reversal
 from .images import body_of, read_body
 from .key_blocks import BlockFault, unwrap
 from .macs import retail_mac
 from .model_stores import Cell, StoreFault
+from .reversal_frames import ReversalReply, read_reversal_reply
 
 INITIAL_KEY = b"B1T"
 DERIVING = b"XN"
@@ -87,7 +88,8 @@ class Terminal:
 
     def load_key(self, key: bytes, iksn: int) -> None:
         """Loads it with an initial key, as a right key block brings it."""
-        self.keep(registers_at(key, iksn, 1, self.demand_new(iksn)))
+        past = self.demand_new(iksn)
+        self.keep(replace(registers_at(key, iksn, 1), past=past))
         self.pending = None
 
     def keep(self, registers: Registers) -> None:
@@ -101,16 +103,20 @@ class Terminal:
 
     def begin(self, pan: str, pin: str, amount: int) -> bytes:
         """Takes the next number, and gives the request that goes out."""
+        return self.send(lambda key, serial: write_request(key, serial, pan, pin, amount))
+
+    def send(self, write: Callable[[bytes, int], bytes]) -> bytes:
+        """The frame of the next number, which is written under its key and waits for its answer."""
         self.demand_running()
         if self.registers is None:
             raise TerminalFault("NotLoaded")
         if self.registers.next is None:
             raise TerminalFault("Spent")
         key, serial, left = self.registers.take()
-        request = write_request(key, serial, pan, pin, amount)
+        frame = write(key, serial)
         self.keep(left)
         self.pending = Pending(serial, response_key(key))
-        return request
+        return frame
 
     def reply(self, frame: bytes) -> Union[Reply, Refusal]:
         """Takes an answer: a reply that is right ends the pending transaction."""
@@ -118,14 +124,41 @@ class Terminal:
         answer = read_answer(frame)
         if answer is None:
             raise TerminalFault("Malformed")
+        self.demand_mine(answer.serial)
+        if isinstance(answer, Reply):
+            self.complete(answer)
+        return answer
+
+    def demand_mine(self, serial: int) -> None:
+        """That the pending transaction has this number."""
         if self.pending is None:
             raise TerminalFault("NotPending")
-        if answer.serial != self.pending.serial:
+        if serial != self.pending.serial:
             raise TerminalFault("NotMine")
-        if isinstance(answer, Reply):
-            if retail_mac(self.pending.response_key, answer.text) != answer.mac:
-                raise TerminalFault("BadMac")
-            self.pending = None
+
+    def complete(self, answer: Union[Reply, ReversalReply]) -> None:
+        """Ends the pending transaction by a reply with a right MAC."""
+        assert self.pending is not None
+        if retail_mac(self.pending.response_key, answer.text) != answer.mac:
+            raise TerminalFault("BadMac")
+        self.pending = None
+
+    # Reversals
+
+    def begin_reversal(self, reversed_serial: int) -> bytes:
+        """Takes the next number, and gives the reversal of an earlier one that goes out."""
+        return self.send(lambda key, serial: write_reversal(key, serial, reversed_serial))
+
+    def reversal_reply(self, frame: bytes, reversed_serial: int) -> ReversalReply:
+        """Takes the reply to the pending reversal of this number."""
+        self.demand_running()
+        answer = read_reversal_reply(frame)
+        if answer is None:
+            raise TerminalFault("Malformed")
+        self.demand_mine(answer.serial)
+        if answer.reversed != reversed_serial:
+            raise TerminalFault("NotMine")
+        self.complete(answer)
         return answer
 
     def arm(self, passes: int) -> None:

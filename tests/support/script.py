@@ -5,7 +5,7 @@ It was written from that document alone.
 from __future__ import annotations
 
 import re
-from typing import Optional
+from typing import Callable, Optional
 
 NUMBER = re.compile(rb"0|[1-9][0-9]{0,9}")
 TERMINAL = re.compile(rb"t([1-9]|1[0-6])")
@@ -34,24 +34,37 @@ def events(script: bytes) -> list[bytes]:
     return [line for line in lines(script) if not is_silent(line)]
 
 
-def first_bad_line(script: bytes) -> Optional[int]:
-    """The number of the first line that is no event, counted from 1."""
+def first_bad_line(script: bytes, over_journal: bool = False) -> Optional[int]:
+    """The number of the first line that is no event, counted from 1. Over a journal there are more
+    events."""
     for number, line in enumerate(lines(script), 1):
-        if not is_silent(line) and not is_event(line):
+        if not is_silent(line) and not is_event(line) and not (over_journal and is_of_till(line)):
             return number
     return None
 
 
 def is_event(line: bytes) -> bool:
-    command, *words = line.split(b" ")
-    kinds = {
+    return is_one_of(line, {
         b"load": (is_terminal, is_initial),
         b"begin": (is_terminal, PAN.fullmatch, PIN.fullmatch, is_number),
         b"up": (is_number,),
         b"down": (is_number, is_terminal),
         b"restart": (is_end,),
         b"arm": (is_end, is_number),
-    }.get(command)
+    })
+
+
+def is_of_till(line: bytes) -> bool:
+    """Whether a line is an event that tills alone have."""
+    return is_one_of(line, {
+        b"reverse": (is_terminal,),
+        b"arm": (is_terminal, lambda word: word == b"book", is_number),
+    })
+
+
+def is_one_of(line: bytes, commands: dict[bytes, tuple[Callable[[bytes], object], ...]]) -> bool:
+    command, *words = line.split(b" ")
+    kinds = commands.get(command)
     return kinds is not None and len(kinds) == len(words) and all(
         is_right(word) for is_right, word in zip(kinds, words))
 
