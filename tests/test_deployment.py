@@ -454,11 +454,12 @@ def copied(old: Path, new: Path, limits: Limits = NO_LIMITS) -> Ended:
 
 
 def interruptible(prepare: Optional[Callable[[], None]]) -> Callable[[], None]:
-    """Lets interrupts reach a process, also where the bench runs in the background, which ignores
-    them and would pass that on."""
+    """Lets interrupts and hangups reach a process, also where the bench runs in the background or
+    under nohup, which ignores them and would pass that on."""
 
     def prepare_for_interrupts() -> None:
-        signal.signal(signal.SIGINT, signal.SIG_DFL)
+        for way in (signal.SIGINT, signal.SIGHUP):
+            signal.signal(way, signal.SIG_DFL)
         if prepare:
             prepare()
 
