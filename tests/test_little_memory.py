@@ -93,6 +93,19 @@ class LittleMemory(MemoryCase):
         self.assertTrue(told, "out of memory was never reported")
         self.assertGreater(max(told), 0, "no line is written where memory is refused late")
 
+    def test_a_run_of_many_reversals(self) -> None:
+        """So it is over a journal."""
+        count = 20_000
+        script = b"load t1 FFFF9876543210E00000\nbegin t1 4012345678909 1234 1\n"
+        self.write("tills.script", script + b"reverse t1\n" * count)
+        words = ("run", "bank.toml", "tills.script", "--journal")
+        output = lines_of_reversals(count)
+        self.assert_ended(self.program.run(*words, folder=self.home), 0, output, b"",
+                          "with ample memory")
+        told = self.try_sizes(words, output, 20)
+        self.assertTrue(told, "out of memory was never reported")
+        self.assertGreater(max(told), 0, "no line is written where memory is refused late")
+
     def test_long_files(self) -> None:
         """Nothing is written of a script that there is no memory to read."""
         self.write("long.toml", BANK.ljust(LONGEST, b"#"))
@@ -186,10 +199,25 @@ class JournalMemory(MemoryCase):
 
 def lines_of_begins(count: int) -> bytes:
     """A terminal sends so many requests, with one usable counter after the other."""
-    lines, counter = [b"t1 loaded FFFF9876543210E00000\n"], 0
-    for sent in range(1, count + 1):
-        counter += 1
-        while bin(counter).count("1") > 10:
-            counter += 1
-        lines.append(b"t1 sent %d FFFF9876543210%06X\n" % (sent, 0xE00000 + counter))
+    lines = [b"t1 loaded FFFF9876543210E00000\n"]
+    lines += [b"t1 sent %d %b\n" % (sent + 1, number) for sent, number in enumerate(numbers(count))]
     return b"".join(lines)
+
+
+def lines_of_reversals(count: int) -> bytes:
+    """A till sends a purchase, and so many reversals of it."""
+    first, *others = numbers(count + 1)
+    lines = [b"t1 loaded FFFF9876543210E00000\n", b"t1 sent 1 %b\n" % first]
+    lines += [b"t1 reversing %d %b of %b\n" % (sent + 2, number, first)
+              for sent, number in enumerate(others)]
+    return b"".join(lines)
+
+
+def numbers(count: int) -> list[bytes]:
+    """The first usable key serial numbers of a terminal."""
+    found, counter = [], 0
+    while len(found) < count:
+        counter += 1
+        if bin(counter).count("1") <= 10:
+            found.append(b"FFFF9876543210%06X" % (0xE00000 + counter))
+    return found

@@ -8,6 +8,7 @@ from .support.client import first_counters, payments, refusal
 from .support.program import Ended, Limits, Word, spoken
 from .test_files import BASE, BLOCK, DERIVED, PIN_KEY, PROTECTION, SERIAL, ZONE
 from .test_keys_of_walk import IKSN, lines_of as lines_of_walk
+from .test_worlds_books import BY_HAND
 
 RUN = ("run", "bank.toml", "all.script")
 # Commands with what they write.
@@ -57,6 +58,12 @@ class LostOutput(BankCase):
 
     def test_run_at_each_byte(self) -> None:
         self.cut(RUN, LINES, range(len(LINES) + 2), b"script: write failed\n")
+
+    def test_run_over_a_journal_at_each_byte(self) -> None:
+        self.write("tills.script", "".join(f"{event}\n" for event, _ in BY_HAND).encode())
+        output = "".join(f"{line}\n" for _, line in BY_HAND).encode()
+        self.cut(("run", "bank.toml", "tills.script", "--journal"), output, range(len(output) + 2),
+                 b"script: write failed\n")
 
     def test_run_of_many_lines(self) -> None:
         output = b"no such frame\n" * 20_000
