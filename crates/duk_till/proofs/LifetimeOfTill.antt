@@ -318,7 +318,9 @@ module _ {C J : Type 0} (laws : TillLaws) (cell : CellMeaning C) (book : CellMea
   book_failed : (history : List Entry) (old new : TillOf C J) (why : StoreFault) → IsSound history old → BookRestartFailed book new.terminal.state old.book new.book new.state why → new.state ≡ Stopped
       → IsSound history new
   book_failed history old new why sound is stopped = elim is [
-    | inl failed ↦ is_stopped history new (failed.stops.nature.honest.0 sound.honest) (λ kept found. sound.found kept (failed.stops.within sound.honest kept found)) stopped
+    | inl failed ↦
+        let stops = failed.cell.stops in
+        is_stopped history new (stops.nature.honest.0 sound.honest) (λ kept found. sound.found kept (stops.within sound.honest kept found)) stopped
     | inr other ↦ elim other [
       | inl none ↦
           let cell = none.1.cell in

@@ -19,10 +19,12 @@ use Rattle.duk_till.specs.declared.last.Last.TheVariants.{Undone}
 use Rattle.duk_till.specs.declared.state.TillState.{TillState}
 use Rattle.duk_till.specs.declared.state.TillState.TheVariants.{Stopped, Running}
 
--- the book's restart found this last purchase, of which each field is what its name says
+-- the book's restart found this last purchase, of which each field is what its name says; the book
+-- is armed no more
 pub record FoundLast {J : Type 0} (meaning : CellMeaning J) (old new : J) (last : Option Last)
     : Type 0 where
   pub cell : Restarted (meaning.state_of old) (meaning.state_of new) (kept_of last)
+  pub disarmed : meaning.disarmed new
   pub fields : IfSome last AreLastFields
 
 -- a purchase is open, and its number is still the terminal's next one, so nothing was sent
@@ -60,10 +62,11 @@ pub record IsTillRestarted
       ⊎ IsClosedUnsent book new.terminal.state old.book new.book last
   pub state_is : new.state ≡ Running last
 
--- the book kept bytes that are no body of a last purchase
+-- the book kept bytes that are no body of a last purchase; it is armed no more
 pub record FoundNoLast {J : Type 0} (meaning : CellMeaning J) (old new : J) : Type 0 where
   pub bytes : List ℕ
   pub cell : Restarted (meaning.state_of old) (meaning.state_of new) (Some bytes)
+  pub disarmed : meaning.disarmed new
   pub no_body : (last : Last) → ¬ IsLastBody bytes last
 
 -- a purchase was found of which nothing was sent, and the book did not keep that it is undone
@@ -77,11 +80,17 @@ pub record IsNotClosed
   pub unsent : IsUnsent terminal (Running before) ksn
   pub not_kept : IsLastNotKept meaning (Undone ksn) before between new state why
 
+-- the book's restart failed; the book is armed no more
+pub record BookFailed {J : Type 0} (meaning : CellMeaning J) (old new : J) (why : StoreFault)
+    : Type 0 where
+  pub cell : RestartFailed (meaning.state_of old) (meaning.state_of new) why
+  pub disarmed : meaning.disarmed new
+
 -- why the book is not brought up
 abbrev pub BookRestartFailed : {J : Type 0} → CellMeaning J → State → J → J → TillState
     → StoreFault → Type 0
 BookRestartFailed meaning terminal old new state why =
-    RestartFailed (meaning.state_of old) (meaning.state_of new) why
+    BookFailed meaning old new why
     ⊎ (((why ≡ Damaged) × FoundNoLast meaning old new)
     ⊎ IsNotClosed meaning terminal old new state why)
 

@@ -100,6 +100,9 @@ impl<C: Cell, J: Cell> Till<C, J> {
     /// Brings the terminal up, and then the book, and tells the last purchase that it keeps. An
     /// open one whose number is still the terminal's next was never sent: it is closed as undone.
     ///
+    /// The restart of a cell disarms it. That of the terminal's is always made, and that of the book
+    /// where the terminal comes up.
+    ///
     /// Refused with, in this order: `Terminal`, where the terminal's restart fails; `Store`, where
     /// the book's does, or keeps bytes that are no last purchase (`Damaged`), or does not keep that
     /// a purchase is undone. The till is stopped then.
@@ -109,6 +112,7 @@ impl<C: Cell, J: Cell> Till<C, J> {
         ensures told { IfOk result (λ told. told ≡ self.new.state) }
         ensures refused { IfErr result
             (TillRestartRefused C.meaning J.meaning self.old self.new) }
+        ensures disarmed { C.meaning.disarmed self.new.terminal.cell }
     {
         self.state = TillState::Stopped;
         self.terminal.restart()?;

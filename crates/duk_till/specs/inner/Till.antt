@@ -1,12 +1,11 @@
 -- What only private functions and proofs say beside `Till.antt`: this project's own.
 use Rattle.std.specs.Prelude.{◌≡◌, ◌⊎◌, true, ℕ, List, Option, Some}
 use Rattle.duk_store.specs.Cell.{CellMeaning, Kept}
-use Rattle.duk_store.specs.Restart.{RestartFailed}
 use Rattle.duk_store.specs.StoreState.{StoreState}
 use Rattle.duk_store.specs.declared.fault.StoreFault.TheVariants.{Damaged}
 use Rattle.duk_tree.specs.Serial.{Serial}
 use Rattle.duk_till.specs.Image.{IsLastBody}
-use Rattle.duk_till.specs.Restart.{FoundLast, FoundNoLast}
+use Rattle.duk_till.specs.Restart.{BookFailed, FoundLast, FoundNoLast}
 use Rattle.duk_till.specs.Till.{IsAtRest, IsLastNotKept, IsOpen, KeepsLast, TillOf}
 use Rattle.duk_till.specs.declared.fault.TillFault.{TillFault}
 use Rattle.duk_till.specs.declared.fault.TillFault.TheVariants as fault
@@ -49,7 +48,7 @@ abbrev pub IsBookNotFound : {C J : Type 0} → CellMeaning J → TillOf C J → 
     → TillFault → Type 0
 IsBookNotFound meaning old new (fault.Store why) =
     (new.state ≡ Stopped)
-    × (RestartFailed (meaning.state_of old.book) (meaning.state_of new.book) why
+    × (BookFailed meaning old.book new.book why
     ⊎ ((why ≡ Damaged) × FoundNoLast meaning old.book new.book))
 IsBookNotFound meaning old new _ = ⊥
 
