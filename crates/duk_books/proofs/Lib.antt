@@ -1,2 +1,4 @@
 mod moves
 mod agreement
+mod numbers
+mod accepted

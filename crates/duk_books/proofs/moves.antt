@@ -4,4 +4,7 @@ pub mod IssuedKeys
 pub mod HostAnswers
 pub mod RunsGoOn
 pub mod ReachedByMoves
+pub mod CallsLead
 pub mod StepChanges
+pub mod KeysStay
+pub mod HostFinds

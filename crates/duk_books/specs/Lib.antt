@@ -13,5 +13,16 @@ pub mod Step
 pub mod Run
 pub mod First
 pub mod Reached
+pub mod CallLeads
+pub mod Gained
+pub mod InitialKey
+pub mod Numbers
+pub mod Sent
+pub mod NoUsedKey
+pub mod Images
+pub mod OwnKeyOfRequests
 pub mod Agree
+pub mod AcceptedOnce
+pub mod OwnKeyOfReplies
+pub mod Completed
 pub mod inner

@@ -12,14 +12,16 @@ use Rattle.duk_books.specs.Sales.{TakesSale}
 use Rattle.duk_books.specs.declared.outcome.Outcome.{Outcome}
 use Rattle.duk_books.specs.declared.outcome.Outcome.TheVariants as outcome
 
--- how a till is restarted
+-- how a till is restarted; whatever comes of it, its terminal's cell is armed no more
 abbrev pub TakesRestart : {C B : Type 0} → CellMeaning C → CellMeaning B → ℕ → Outcome → TillOf C B
     → TillOf C B → Type 0
 TakesRestart cell book t (outcome.TillNext u next state) before after =
     (u ≡ t) × (next ≡ next_of after.terminal.state)
     × IsCalled cell book (Restart (Ok state)) before after
+    × cell.disarmed after.terminal.cell
 TakesRestart cell book t (outcome.TillFaulted u why) before after =
     (u ≡ t) × IsCalled cell book (Restart (Err why)) before after
+    × cell.disarmed after.terminal.cell
 TakesRestart cell book t _ before after = ⊥
 
 -- a till is restarted, and what it then has as approved is entered into the merchants' book

@@ -1,9 +1,16 @@
 //! Tills, one host, and the merchants' book.
 
 ghost use Rattle.std.specs.Prelude.{◌≡◌, All};
+ghost use Rattle.duk_books.specs.AcceptedOnce.{HaveOneReply, KeepsAccepted};
 ghost use Rattle.duk_books.specs.Agree.{BooksAgree};
 ghost use Rattle.duk_books.specs.Books.{meanings_of};
+ghost use Rattle.duk_books.specs.Completed.{KnowFromHost};
 ghost use Rattle.duk_books.specs.First.{IsNewHost, IsNewTill, first_books};
+ghost use Rattle.duk_books.specs.Images.{FindLast, FindVersion2};
+ghost use Rattle.duk_books.specs.NoUsedKey.{InEachTill, NoUsedKey, OwnsAboveUsed};
+ghost use Rattle.duk_books.specs.Numbers.{AreUsedOwned, UsedOnce};
+ghost use Rattle.duk_books.specs.OwnKeyOfReplies.{IsOwnKeyReply};
+ghost use Rattle.duk_books.specs.OwnKeyOfRequests.{IsOwnKeySent};
 
 use crate::laws;
 use crate::owner::Owner;
@@ -55,8 +62,31 @@ impl<const N: usize, C: Cell, B: Cell, J: Journal, I: Issuer> Books<N, C, B, J, 
         ensures first { result ≡ first_books host loading tills.items }
         ensures agree { BooksAgree
             (meanings_of C.meaning B.meaning J.meaning I.decides) result }
+        ensures used_once { UsedOnce result.requests }
+        ensures used_are_owned { AreUsedOwned result.requests result.owners }
+        ensures own_key_of_requests { All (IsOwnKeySent result.host.keys) result.requests }
+        ensures above_used { InEachTill (meanings_of C.meaning B.meaning J.meaning I.decides)
+            (OwnsAboveUsed result.host.keys result.requests result.owners) result.tills }
+        ensures no_used_key { InEachTill (meanings_of C.meaning B.meaning J.meaning I.decides)
+            (λ t. NoUsedKey result.host.keys result.requests) result.tills }
+        ensures version_2 { FindVersion2
+            (meanings_of C.meaning B.meaning J.meaning I.decides) result.tills }
+        ensures books_have_no_key { FindLast
+            (meanings_of C.meaning B.meaning J.meaning I.decides) result.tills }
+        ensures one_reply { HaveOneReply result.answers }
+        ensures accepted_is_kept { KeepsAccepted
+            (meanings_of C.meaning B.meaning J.meaning I.decides) result }
+        ensures own_key_of_replies { All (IsOwnKeyReply result.host.keys) result.answers }
+        ensures known_from_host { KnowFromHost
+            (meanings_of C.meaning B.meaning J.meaning I.decides) result }
     {
         laws::agreement::<C, B, J, I>();
+        laws::numbers::<C, B, J, I>();
+        laws::no_used_key::<C, B, J, I>();
+        laws::own_key_of_requests::<C, B, J, I>();
+        laws::accepted_once::<C, B, J, I>();
+        laws::own_key_of_replies::<C, B, J, I>();
+        laws::completed_by_host::<C, B, J, I>();
         Books {
             system: System {
                 alloc,

@@ -1,11 +1,28 @@
 //! The laws of tills and a host, each the contract of a function that does nothing: what holds of all
 //! that was new once and then moved on by events alone.
 
+ghost use Rattle.std.specs.Prelude.{◌≡◌, ℕ, All, List};
+ghost use Rattle.duk_hsm.specs.Commands.{IsIssued};
+ghost use Rattle.duk_hsm.specs.Keys.{HsmKeys};
 ghost use Rattle.duk_journal.specs.DiskJournal.{DiskJournalOf, disk_journal_meaning};
 ghost use Rattle.duk_store.specs.SlotCell.{SlotCellOf, slot_cell_meaning};
+ghost use Rattle.duk_tdes.specs.Tdes.{IsTdesKey};
+ghost use Rattle.duk_term.specs.Loading.{WrapsInitialKey};
+ghost use Rattle.duk_books.specs.AcceptedOnce.{AcceptedOnce, HaveOneReply, KeepsAccepted};
 ghost use Rattle.duk_books.specs.Agree.{BooksAgree};
 ghost use Rattle.duk_books.specs.Books.{BooksOf, meanings_of};
+ghost use Rattle.duk_books.specs.CallLeads.{CallLeads};
+ghost use Rattle.duk_books.specs.Completed.{CompletedByHost, KnowFromHost};
+ghost use Rattle.duk_books.specs.Images.{FindLast, FindVersion2};
+ghost use Rattle.duk_books.specs.InitialKey.{IsInitialKeyOf};
+ghost use Rattle.duk_books.specs.NoUsedKey.{InEachTill, NoUsedKey, OwnsAboveUsed};
+ghost use Rattle.duk_books.specs.Numbers.{AreUsedOwned, IsSentByOwner, UsedOnce};
+ghost use Rattle.duk_books.specs.Owner.{IsOwner, Owns};
+ghost use Rattle.duk_books.specs.OwnKeyOfReplies.{IsOwnKeyReply, IsRefusedAsUsedOrFull};
+ghost use Rattle.duk_books.specs.OwnKeyOfRequests.{IsOwnKeySent};
 ghost use Rattle.duk_books.specs.Reached.{Reached};
+ghost use Rattle.duk_books.specs.Sent.{SentByOwners};
+ghost use Rattle.duk_books.specs.declared.outcome.Outcome.{Outcome};
 
 use duk_host::Issuer;
 use duk_journal::{DiskJournal, Journal};
@@ -41,4 +58,170 @@ pub fn agreement_on_disks<D: Disk, E: Disk, F: Disk, I: Issuer>()
         → Reached m books → BooksAgree m books }
 {
     agreement::<SlotCell<D>, SlotCell<E>, DiskJournal<F>, I>();
+}
+
+/// A till finds no other key in the key block that is issued for it than its own initial key.
+pub fn own_initial_key()
+    ensures { (keys : HsmKeys) (iksn : ℕ) (loading padding block initial : List ℕ)
+        → IsTdesKey loading
+        → IsIssued keys iksn loading padding block → WrapsInitialKey loading block initial
+        → IsInitialKeyOf keys iksn initial }
+{
+    duk_block::laws::one_reading();
+}
+
+/// No two requests or reversals use one number, the initial key serial number of each has one owner,
+/// and a till sends none but under one that it owned just before, and owns for good.
+pub fn numbers<C: Cell, B: Cell, J: Journal, I: Issuer>()
+    ensures used_once { let m = meanings_of C.meaning B.meaning J.meaning I.decides in
+        (books : BooksOf C B J I) → Reached m books → UsedOnce books.requests }
+    ensures used_are_owned { let m = meanings_of C.meaning B.meaning J.meaning I.decides in
+        (books : BooksOf C B J I) → Reached m books → AreUsedOwned books.requests books.owners }
+    ensures owned_when_sent { let m = meanings_of C.meaning B.meaning J.meaning I.decides in
+        (old new : BooksOf C B J I) (outcomes : List Outcome) → Reached m old
+        → CallLeads m old outcomes new → SentByOwners m old outcomes }
+    ensures sent_by_owner { let m = meanings_of C.meaning B.meaning J.meaning I.decides in
+        (old new : BooksOf C B J I) (outcomes : List Outcome) → Reached m old
+        → CallLeads m old outcomes new → All (IsSentByOwner new.owners) outcomes }
+{
+    own_initial_key();
+    duk_term::laws::requests::<C>();
+    duk_term::laws::reversals::<C>();
+    duk_term::laws::found_again();
+    duk_regs::laws::transactions();
+    duk_tree::laws::bits();
+    duk_frame::laws::one_reading();
+    duk_reversal::laws::one_reading();
+    duk_reversal::laws::apart_from_payments();
+}
+
+/// No register of a till's terminal and no image that its cell may find holds the key of a used
+/// number, of a request or of a reversal, or of an ancestor of one. Each such image is of version 2,
+/// and a book may find nothing but last purchases, which have no key.
+pub fn no_used_key<C: Cell, B: Cell, J: Journal, I: Issuer>()
+    ensures above_used { let m = meanings_of C.meaning B.meaning J.meaning I.decides in
+        (books : BooksOf C B J I) → Reached m books → InEachTill m
+        (OwnsAboveUsed books.host.keys books.requests books.owners) books.tills }
+    ensures no_used_key { let m = meanings_of C.meaning B.meaning J.meaning I.decides in
+        (books : BooksOf C B J I) → Reached m books
+        → InEachTill m (λ t. NoUsedKey books.host.keys books.requests) books.tills }
+    ensures version_2 { let m = meanings_of C.meaning B.meaning J.meaning I.decides in
+        (books : BooksOf C B J I) → Reached m books → FindVersion2 m books.tills }
+    ensures books_have_no_key { let m = meanings_of C.meaning B.meaning J.meaning I.decides in
+        (books : BooksOf C B J I) → Reached m books → FindLast m books.tills }
+{
+    own_initial_key();
+    duk_term::laws::requests::<C>();
+    duk_term::laws::reversals::<C>();
+    duk_term::laws::found_again();
+    duk_regs::laws::transactions();
+    duk_tree::laws::bits();
+    duk_frame::laws::one_reading();
+    duk_reversal::laws::one_reading();
+    duk_reversal::laws::apart_from_payments();
+    duk_tree::laws::frontier();
+    duk_regs::laws::uniqueness();
+}
+
+/// Each request and each reversal is made under the transaction key of its number, from the till's
+/// own initial key.
+pub fn own_key_of_requests<C: Cell, B: Cell, J: Journal, I: Issuer>()
+    ensures { let m = meanings_of C.meaning B.meaning J.meaning I.decides in
+        (books : BooksOf C B J I) → Reached m books
+        → All (IsOwnKeySent books.host.keys) books.requests }
+{
+    no_used_key::<C, B, J, I>();
+    duk_regs::laws::transactions();
+    duk_term::laws::requests::<C>();
+    duk_term::laws::reversals::<C>();
+    duk_tree::laws::keys();
+    duk_tree::laws::prefixes();
+    duk_pin::laws::eight_bytes();
+    duk_tdes::laws::inverse();
+}
+
+/// Who owns an initial key serial number owns it alone and for good, and the host's security module
+/// keeps its keys.
+pub fn what_stays<C: Cell, B: Cell, J: Journal, I: Issuer>()
+    ensures owners { let m = meanings_of C.meaning B.meaning J.meaning I.decides in
+        (old new : BooksOf C B J I) (outcomes : List Outcome) → Reached m old
+        → CallLeads m old outcomes new → (iksn t : ℕ) → Owns old.owners iksn t
+        → IsOwner new.owners iksn t }
+    ensures keys { let m = meanings_of C.meaning B.meaning J.meaning I.decides in
+        (old new : BooksOf C B J I) (outcomes : List Outcome) → Reached m old
+        → CallLeads m old outcomes new → new.host.keys ≡ old.host.keys }
+{}
+
+/// The host accepts each number at most once. All replies to one number, to its payment or to the
+/// reversal that uses it, are one frame, and no number has both. What was replied to is kept in every
+/// list of entries by which the host judges or which a restart of its journal may find, and each
+/// entry there used a new number.
+pub fn accepted_once<C: Cell, B: Cell, J: Journal, I: Issuer>()
+    ensures one_reply { let m = meanings_of C.meaning B.meaning J.meaning I.decides in
+        (books : BooksOf C B J I) → Reached m books → HaveOneReply books.answers }
+    ensures accepted_is_kept { let m = meanings_of C.meaning B.meaning J.meaning I.decides in
+        (books : BooksOf C B J I) → Reached m books → KeepsAccepted m books }
+    ensures accepted_once { let m = meanings_of C.meaning B.meaning J.meaning I.decides in
+        (old new : BooksOf C B J I) (outcomes : List Outcome) → Reached m old
+        → CallLeads m old outcomes new → AcceptedOnce old.answers outcomes }
+{
+    duk_frame::laws::one_reading();
+    duk_frame::laws::payments();
+    duk_line::laws::new_numbers();
+    duk_line::laws::one_reply();
+}
+
+/// Each reply to a payment or to a reversal, given for the first time or again, is made under the
+/// transaction key of its number, from the keys that the host holds.
+pub fn own_key_of_replies<C: Cell, B: Cell, J: Journal, I: Issuer>()
+    ensures { let m = meanings_of C.meaning B.meaning J.meaning I.decides in
+        (books : BooksOf C B J I) → Reached m books
+        → All (IsOwnKeyReply books.host.keys) books.answers }
+{
+    duk_frame::laws::one_reading();
+    duk_frame::laws::payments();
+    duk_line::laws::new_numbers();
+    duk_line::laws::one_reply();
+}
+
+/// A running host refuses no request and no reversal that was sent but because its number is used or
+/// there is no room.
+pub fn refusals<C: Cell, B: Cell, J: Journal, I: Issuer>()
+    ensures { let m = meanings_of C.meaning B.meaning J.meaning I.decides in
+        (old new : BooksOf C B J I) (outcomes : List Outcome) → Reached m old
+        → CallLeads m old outcomes new → All IsRefusedAsUsedOrFull outcomes }
+{
+    own_key_of_requests::<C, B, J, I>();
+    duk_frame::laws::one_reading();
+    duk_frame::laws::payments();
+    duk_host::laws::refusals();
+    duk_reversal::laws::one_reading();
+    duk_reversal::laws::apart_from_payments();
+    duk_reversal::laws::authentic();
+    duk_line::laws::new_numbers();
+    duk_line::laws::one_reply();
+}
+
+/// A purchase is complete or undone only by the host's reply to the number for which its till's
+/// terminal waited, and ends at most once. What a till knows of its last purchase, whatever was
+/// restarted since, is the host's reply.
+pub fn completed_by_host<C: Cell, B: Cell, J: Journal, I: Issuer>()
+    ensures completed_by_host { let m = meanings_of C.meaning B.meaning J.meaning I.decides in
+        (old new : BooksOf C B J I) (outcomes : List Outcome) → Reached m old
+        → CallLeads m old outcomes new → CompletedByHost m old new outcomes }
+    ensures known_from_host { let m = meanings_of C.meaning B.meaning J.meaning I.decides in
+        (books : BooksOf C B J I) → Reached m books → KnowFromHost m books }
+{
+    duk_till::laws::one_reading();
+    duk_term::laws::requests::<C>();
+    duk_term::laws::reversals::<C>();
+    duk_term::laws::found_again();
+    duk_regs::laws::transactions();
+    duk_tree::laws::bits();
+    duk_frame::laws::one_reading();
+    duk_frame::laws::payments();
+    duk_reversal::laws::one_reading();
+    duk_reversal::laws::apart_from_payments();
+    duk_line::laws::new_numbers();
+    duk_line::laws::one_reply();
 }

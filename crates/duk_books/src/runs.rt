@@ -1,9 +1,19 @@
 //! Runs of events.
 
-ghost use Rattle.std.specs.Prelude.{◌≡◌, IfOk, IfErr, OnErr};
+ghost use Rattle.std.specs.Prelude.{◌≡◌, ℕ, All, IfOk, IfErr, OnErr};
+ghost use Rattle.duk_books.specs.AcceptedOnce.{AcceptedOnce, HaveOneReply, KeepsAccepted};
 ghost use Rattle.duk_books.specs.Agree.{BooksAgree};
 ghost use Rattle.duk_books.specs.Books.{meanings_of};
+ghost use Rattle.duk_books.specs.Completed.{CompletedByHost, KnowFromHost};
+ghost use Rattle.duk_books.specs.Gained.{EachGained, GainedMeet};
+ghost use Rattle.duk_books.specs.Images.{FindLast, FindVersion2};
+ghost use Rattle.duk_books.specs.NoUsedKey.{InEachTill, NoUsedKey, OwnsAboveUsed};
+ghost use Rattle.duk_books.specs.Numbers.{AreUsedOwned, IsSentByOwner, UsedOnce};
+ghost use Rattle.duk_books.specs.Owner.{IsOwner, Owns};
+ghost use Rattle.duk_books.specs.OwnKeyOfReplies.{IsOwnKeyReply, IsRefusedAsUsedOrFull};
+ghost use Rattle.duk_books.specs.OwnKeyOfRequests.{IsOwnKeySent};
 ghost use Rattle.duk_books.specs.Run.{IsRefusedMemory, IsRun, RunRefused};
+ghost use Rattle.duk_books.specs.Sent.{SentByOwners};
 ghost use Rattle.duk_books.specs.Step.{Step};
 ghost use Rattle.duk_books.specs.inner.Run.{IsStepInto};
 
@@ -37,6 +47,13 @@ pub enum RunFault {
 /// Whatever the events are and however the call ends, the merchants' book and that of the host agree:
 /// each payment that a till was told as approved stands at the host, with its amount; and once a till
 /// is at rest, no other payment of it does.
+///
+/// No two requests or reversals use one number, and each is made under the till's own key for its
+/// number; and no till holds, or may find after a stop, the key of a used number or of an ancestor of
+/// one.
+///
+/// The host accepts each number at most once, and each of its replies is made under the till's own
+/// key; and a purchase ends only by the host's reply to its number, and at most once.
 pub fn run<const N: usize, C: Cell, B: Cell, J: Journal, I: Issuer>(
     books: &mut Books<N, C, B, J, I>,
     events: &[Event],
@@ -50,8 +67,59 @@ pub fn run<const N: usize, C: Cell, B: Cell, J: Journal, I: Issuer>(
         books.old events.now out.old.items out.new.items books.new) }
     ensures agree { BooksAgree
         (meanings_of C.meaning B.meaning J.meaning I.decides) books.new }
+    // What stays: who owns an initial key serial number, alone, and the keys of the security module.
+    ensures owners_stay { (iksn t : ℕ)
+        → Owns books.old.owners iksn t → IsOwner books.new.owners iksn t }
+    ensures keys_stay { books.new.host.keys ≡ books.old.host.keys }
+    // No two requests or reversals use one number, and each is sent by the till that owned its
+    // initial key serial number just before, and owns it at the end.
+    ensures used_once { UsedOnce books.new.requests }
+    ensures used_are_owned { AreUsedOwned books.new.requests books.new.owners }
+    ensures owned_when_sent { GainedMeet
+        (SentByOwners (meanings_of C.meaning B.meaning J.meaning I.decides) books.old)
+        out.old.items out.new.items }
+    ensures sent_by_owner { EachGained (IsSentByOwner books.new.owners) out.old.items out.new.items }
+    // Each request and each reversal is made under the till's own key.
+    ensures own_key_of_requests { All (IsOwnKeySent books.new.host.keys) books.new.requests }
+    // No till's terminal holds the key of a used number or of its ancestors, nor finds it after a
+    // stop. Its registers remember each initial key serial number under which it sent, its present
+    // one or a past one, so that a load of one of these is refused. All its images are of version 2.
+    // A till's book has no key.
+    ensures above_used { InEachTill (meanings_of C.meaning B.meaning J.meaning I.decides)
+        (OwnsAboveUsed books.new.host.keys books.new.requests books.new.owners) books.new.tills }
+    ensures no_used_key { InEachTill (meanings_of C.meaning B.meaning J.meaning I.decides)
+        (λ t. NoUsedKey books.new.host.keys books.new.requests) books.new.tills }
+    ensures version_2 { FindVersion2
+        (meanings_of C.meaning B.meaning J.meaning I.decides) books.new.tills }
+    ensures books_have_no_key { FindLast
+        (meanings_of C.meaning B.meaning J.meaning I.decides) books.new.tills }
+    // The host accepts each number at most once, and has one reply to it.
+    ensures accepted_once { GainedMeet
+        (AcceptedOnce books.old.answers) out.old.items out.new.items }
+    ensures one_reply { HaveOneReply books.new.answers }
+    ensures accepted_is_kept { KeepsAccepted
+        (meanings_of C.meaning B.meaning J.meaning I.decides) books.new }
+    // Each reply is made under the till's own key, and a refusal is of a used number, or for want of
+    // room.
+    ensures own_key_of_replies { All (IsOwnKeyReply books.new.host.keys) books.new.answers }
+    ensures refused_as_used_or_full { EachGained IsRefusedAsUsedOrFull out.old.items out.new.items }
+    // A purchase ends only by the host's reply to its number, and at most once; and what a till
+    // knows of its last purchase, whatever was restarted since, is the host's reply.
+    ensures completed_by_host { GainedMeet
+        (CompletedByHost (meanings_of C.meaning B.meaning J.meaning I.decides) books.old
+        books.new) out.old.items out.new.items }
+    ensures known_from_host { KnowFromHost
+        (meanings_of C.meaning B.meaning J.meaning I.decides) books.new }
 {
     laws::agreement::<C, B, J, I>();
+    laws::numbers::<C, B, J, I>();
+    laws::no_used_key::<C, B, J, I>();
+    laws::own_key_of_requests::<C, B, J, I>();
+    laws::what_stays::<C, B, J, I>();
+    laws::accepted_once::<C, B, J, I>();
+    laws::own_key_of_replies::<C, B, J, I>();
+    laws::refusals::<C, B, J, I>();
+    laws::completed_by_host::<C, B, J, I>();
     run_system(&mut books.system, events, out)
 }
 

@@ -27,10 +27,11 @@ use Rattle.duk_books.specs.Sales.{sale_of}
 use Rattle.duk_books.proofs.agreement.BooksHold.{BookLaws, BooksHold, Holds, lists_of}
 use Rattle.duk_books.proofs.agreement.EachMoveHolds.{holds_after}
 use Rattle.duk_books.proofs.agreement.Facts.{IsAsked, IsCalledBack, IsRepliedTo, IsSold, none_in, the_only}
-use Rattle.duk_books.proofs.agreement.HostHolds.{CameFrom, EntriesHold, judged_hold, reversed_of}
+use Rattle.duk_books.proofs.agreement.HostHolds.{CameFrom, EntriesHold, none_new, reversed_of}
 use Rattle.duk_books.proofs.agreement.Registers.{RegistersHold}
 use Rattle.duk_books.proofs.agreement.Terminals.{KeptHas, StateHas}
 use Rattle.duk_books.proofs.agreement.Tills.{IsInDoubt as IsDoubted, IsKeptOf, OneReading, TillHolds, one_last, stopped_is_not_running}
+use Rattle.duk_books.proofs.moves.HostFinds.{judged_finds}
 use Rattle.duk_books.proofs.moves.ReachedByMoves.{reached_all}
 use Rattle.duk_books.proofs.moves.StepChanges.{at_contains, move_change}
 
@@ -83,7 +84,7 @@ decided_back requests entries number ksn (PaymentDecided amount code) mac came k
 decided_back requests entries number ksn (ReversalDecided counter state) mac came kept has =
     subst (λ (it : Serial). IsCalledBack requests it) (sym (the_only (reversed_by number counter) ksn has)) (came (record { number = number; decided = ReversalDecided counter state; mac = mac }) kept)
 
-called_back : (requests : List Frame) (entries : Entries) (ksn : Serial) → CameFrom requests entries → Contains (reversed_numbers entries) ksn → IsCalledBack requests ksn
+pub called_back : (requests : List Frame) (entries : Entries) (ksn : Serial) → CameFrom requests entries → Contains (reversed_numbers entries) ksn → IsCalledBack requests ksn
 called_back requests entries ksn came has =
     let it = reversed_of entries ksn has in
     decided_back requests entries it.0.number ksn it.0.decided it.0.mac came it.1 it.2
@@ -167,7 +168,7 @@ module _ {C B J I : Type 0} (m : Meanings C B J I) (books : BooksOf C B J I) (be
   }
 
 entries_hold : {C B J I : Type 0} (m : Meanings C B J I) (books : BooksOf C B J I) (begun : List Serial) (entries : Entries) → BooksHold m books begun → AreEntriesOf m books entries → EntriesHold books.requests books.answers entries
-entries_hold m books begun entries holds (inl judges) = judged_hold m.host books.requests books.answers books.host entries holds.host judges
+entries_hold m books begun entries holds (inl judges) = judged_finds m.host (EntriesHold books.requests books.answers) books.host entries holds.host judges
 entries_hold m books begun entries holds (inr found) = holds.host.entries entries found
 
 books_agree : {C B J I : Type 0} (m : Meanings C B J I) (books : BooksOf C B J I) → OneReading → Holds m books → BooksAgree m books
@@ -212,18 +213,18 @@ module _ {C B J I : Type 0} (m : Meanings C B J I) (books : BooksOf C B J I) (is
     known = λ ksn amount asked owned. absurd (nothing_asked ksn amount asked);
   }
 
-  new_at : (tills : List (TillOf C B)) → All (IsNewTill m) tills → (t : ℕ) (till : TillOf C B) → IsAt tills t till → IsNewTill m till
+  pub new_at : (tills : List (TillOf C B)) → All (IsNewTill m) tills → (t : ℕ) (till : TillOf C B) → IsAt tills t till → IsNewTill m till
   new_at tills made t till at = All-contains (IsNewTill m) tills till made (at_contains tills t till at)
 
   no_entries : EntriesHold books.requests books.answers []
   no_entries = record {
-    new_numbers = record { usable = λ i d within. absurd (omega (arith, within)); stand = λ i d within. absurd (omega (arith, within)); new = λ i j d below within. absurd (omega (arith, within)) };
+    new_numbers = none_new;
     came = λ entry is_in. absurd (none_in entry is_in);
     replied = λ ksn code replied. absurd (none_in replied.frame (subst (λ list. Contains list replied.frame) is.no_answers replied.sent));
     undone = λ ksn undone. absurd (none_in undone.frame (subst (λ list. Contains list undone.frame) is.no_answers undone.sent));
   }
 
-  first_holds : Holds m books
+  pub first_holds : Holds m books
   first_holds = (
     [],
     record {

@@ -61,7 +61,7 @@ pub before_at : {A : Type 0} (t : ℕ) (P : A → A → Type 0) (old new : List 
 before_at t P old new change = record { place = change.place; number_is = change.number_is; thing_is = change.was }
 
 -- each till is that one, as it then is, or another one, as it was
-after_at : {A : Type 0} (t : ℕ) (P : A → A → Type 0) (old new : List A) (change : ChangesOnly t P old new) (u : ℕ) (till : A) → IsAt new u till
+pub after_at : {A : Type 0} (t : ℕ) (P : A → A → Type 0) (old new : List A) (change : ChangesOnly t P old new) (u : ℕ) (till : A) → IsAt new u till
     → ((u ≡ t) × (till ≡ change.after)) ⊎ ((u ≢ t) × IsAt old u till)
 after_at t P old new change u till at =
     let found = at_set old change.place at.place change.before change.after till change.was (subst (λ list. slice_get list at.place ≡ Some till) change.others at.thing_is) in

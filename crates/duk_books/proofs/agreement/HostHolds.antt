@@ -1,5 +1,5 @@
--- What holds of each list of entries that the host's journal may find.
-use Rattle.std.proofs.Common.{◌≡◌, ◌⊎◌, ◌++◌, ◌∷◌, [], ℕ, zero, suc, List, None, Contains, flat_map, length, take, inl, inr, refl, sym, ap, subst, ◌∙◌}
+-- Where the entries of the host come from, and what it keeps of its answers.
+use Rattle.std.proofs.Common.{◌≡◌, ◌++◌, ◌∷◌, [], ℕ, zero, suc, List, Contains, flat_map, take, inl, inr, refl, sym, ap, subst, ◌∙◌, arith}
 use Rattle.std.proofs.lemmas.List.Elements.{Contains-append_cases, Contains-append_left, Contains-append_right}
 use Rattle.duk_frame.specs.Answer.{IsAnswer, IsReply}
 use Rattle.duk_frame.specs.Payment.{payment_reply, reply_mac}
@@ -9,32 +9,28 @@ use Rattle.duk_frame.specs.declared.answer.AnswerFrame.TheVariants.{Reply}
 use Rattle.duk_frame.specs.declared.code.Code.{Code}
 use Rattle.duk_frame.specs.declared.request.Request.{Request}
 use Rattle.duk_host.specs.declared.fault.HostFault.{HostFault}
-use Rattle.duk_host.specs.declared.fault.HostFault.TheVariants as host_fault
 use Rattle.duk_hsm.specs.Keys.{HsmKeys}
 use Rattle.duk_journal.specs.Entry.{reversed_by}
 use Rattle.duk_journal.specs.Groups.{Entries}
-use Rattle.duk_journal.specs.Journal.{GroupAppendFailed, JournalRestarted}
 use Rattle.duk_journal.specs.declared.entry.Decided.{Decided}
 use Rattle.duk_journal.specs.declared.entry.Decided.TheVariants.{Payment, Reversal}
 use Rattle.duk_journal.specs.declared.entry.Entry.{Entry}
-use Rattle.duk_line.specs.Group.{AnswersFirst, AnswersFrames, GroupRefused, IsGroupNotKept}
+use Rattle.duk_line.specs.Group.{AnswersFrames, GroupRefused}
 use Rattle.duk_line.specs.Host.{HostMeaning, HostOf, JudgesBy, basis_of}
 use Rattle.duk_line.specs.Judged.{AreJudged, AreRepliesOf, AreReversalRepliesOf, IsReplyOf, IsReversalReplyOf}
 use Rattle.duk_line.specs.Judgement.{IsJudged, LineBasis, with_entries}
 use Rattle.duk_line.specs.Latest.{UseNewNumbers, payment_entry, reversed_in, reversed_numbers}
-use Rattle.duk_line.specs.Restart.{HostRestartRefused, IsHostRestarted}
 use Rattle.duk_reversal.specs.Numbers.{AreNumbers, Numbers}
 use Rattle.duk_reversal.specs.Reply.{IsReversalReply}
 use Rattle.duk_reversal.specs.Reversal.{IsReversal}
 use Rattle.duk_reversal.specs.declared.reply.ReversalReply as reply_frame
 use Rattle.duk_reversal.specs.declared.reversal.Reversal as reversal_frame
-use Rattle.duk_store.specs.declared.fault.StoreFault.{StoreFault}
-use Rattle.duk_store.specs.declared.fault.StoreFault.TheVariants as store_fault
 use Rattle.duk_tree.specs.Serial.{IsSerial, Serial}
-use Rattle.duk_books.specs.Arm.{ArmsJournal}
+use Rattle.duk_books.specs.AcceptedOnce.{HasPayment}
 use Rattle.duk_books.specs.Books.{Frame, Meanings}
 use Rattle.duk_books.proofs.agreement.Facts.{IsAsked, IsCalledBack, IsRepliedTo, IsUndoneBy, asked_before, called_back_before, none_in, the_one, the_only}
-use Rattle.duk_books.proofs.moves.StepChanges.{TouchesHost, host_restarted, host_restart_refused, host_armed}
+use Rattle.duk_books.proofs.moves.HostFinds.{HostFinds, answered_by, answered_finds, refused_finds, touched_finds}
+use Rattle.duk_books.proofs.moves.StepChanges.{TouchesHost}
 
 -- what is known of a host's answers
 pub record HostLaws : Type 0 where
@@ -104,17 +100,15 @@ cause_before requests more number (Reversal counter state) is = called_back_befo
 
 -- ---- what answers say
 
--- a payment of this number is kept with this code
-pub record IsPaidWith (entries : Entries) (ksn : Serial) (code : Code) : Type 0 where
-  pub amount : ℕ
-  pub mac : List ℕ
-  pub kept : Contains entries (payment_entry ksn amount code mac)
-
 pub record EntriesHold (requests answers : List Frame) (entries : Entries) : Type 0 where
   pub new_numbers : UseNewNumbers entries
   pub came : CameFrom requests entries
-  pub replied : (ksn : Serial) (code : Code) → IsRepliedTo answers ksn code → IsPaidWith entries ksn code
+  pub replied : (ksn : Serial) (code : Code) → IsRepliedTo answers ksn code → HasPayment entries ksn code
   pub undone : (ksn : Serial) → IsUndoneBy answers ksn → Contains (reversed_numbers entries) ksn
+
+-- an empty list has no entry
+pub none_new : UseNewNumbers []
+none_new = record { usable = λ i d within. absurd (omega (arith, within)); stand = λ i d within. absurd (omega (arith, within)); new = λ i j d below within. absurd (omega (arith, within)) }
 
 flat_in : {A B : Type 0} (f : A → List B) (things : List A) (thing : A) (other : B) → Contains things thing → Contains (f thing) other → Contains (flat_map f things) other
 flat_in f [] thing other is_in has = absurd (none_in thing is_in)
@@ -151,12 +145,19 @@ more_entries requests answers entries added holds new_numbers came = record {
 }
 
 module _ (laws : HostLaws) where
-  reply_is_kept : (keys : HsmKeys) (entries : Entries) (frame : Frame) (ksn : Serial) (code : Code) (mac : List ℕ) → IsReply frame.items ksn code mac → IsReplyOf keys entries ksn frame.items → IsPaidWith entries ksn code
-  reply_is_kept keys entries frame ksn code mac reply is =
-      let made : IsAnswer frame.items (Reply ksn is.code (reply_mac is.reply.key ksn is.code)) =
+  -- the code of a reply is that of the payment that is kept
+  pub code_kept : (keys : HsmKeys) (entries : Entries) (bytes : List ℕ) (ksn : Serial) (code : Code) (mac : List ℕ) → IsReply bytes ksn code mac → (is : IsReplyOf keys entries ksn bytes) → is.code ≡ code
+  code_kept keys entries bytes ksn code mac reply is =
+      let made : IsAnswer bytes (Reply ksn is.code (reply_mac is.reply.key ksn is.code)) =
       subst (λ bytes. IsAnswer bytes (Reply ksn is.code (reply_mac is.reply.key ksn is.code))) (sym is.reply.frame_is) (laws.replied is.reply.key ksn is.code reply.fields.0) in
-      let same : is.code ≡ code = same_reply ksn is.code code (reply_mac is.reply.key ksn is.code) mac (laws.one_answer frame.items (Reply ksn is.code (reply_mac is.reply.key ksn is.code)) (Reply ksn code mac) made reply) in
-      record { amount = is.amount; mac = is.mac; kept = subst (λ (it : Code). Contains entries (payment_entry ksn is.amount it is.mac)) same is.kept }
+      same_reply ksn is.code code (reply_mac is.reply.key ksn is.code) mac (laws.one_answer bytes (Reply ksn is.code (reply_mac is.reply.key ksn is.code)) (Reply ksn code mac) made reply)
+
+  pub reply_is_kept : (keys : HsmKeys) (entries : Entries) (frame : Frame) (ksn : Serial) (code : Code) (mac : List ℕ) → IsReply frame.items ksn code mac → IsReplyOf keys entries ksn frame.items → HasPayment entries ksn code
+  reply_is_kept keys entries frame ksn code mac reply is = record {
+    amount = is.amount;
+    mac = is.mac;
+    kept = subst (λ (it : Code). Contains entries (payment_entry ksn is.amount it is.mac)) (code_kept keys entries frame.items ksn code mac reply is) is.kept;
+  }
 
   reversal_is_kept : (keys : HsmKeys) (entries : Entries) (frame : Frame) (reply : reply_frame.ReversalReply) → IsReversalReplyOf keys entries reply.numbers reply.state frame.items
       → Contains (reversed_numbers entries) reply.numbers.reversed
@@ -201,17 +202,8 @@ more_requests requests more answers entries holds = record {
 
 -- ---- the host
 
-pub record HostHolds {J I : Type 0} (meaning : HostMeaning J I) (requests answers : List Frame) (host : HostOf J I) : Type 0 where
-  pub honest : (meaning.journal.state_of host.journal).honest
-  pub entries : (entries : Entries) → (meaning.journal.state_of host.journal).found entries → EntriesHold requests answers entries
-  pub runs : (host.state ≡ None) ⊎ ((entries : Entries) × JudgesBy meaning host entries)
-
--- so it is of entries that a host judges by
-pub judged_hold : {J I : Type 0} (meaning : HostMeaning J I) (requests answers : List Frame) (host : HostOf J I) (entries : Entries) → HostHolds meaning requests answers host → JudgesBy meaning host entries → EntriesHold requests answers entries
-judged_hold meaning requests answers host entries holds judges = holds.entries entries ((judges.kept.finds holds.honest entries).1 refl)
-
-not_empty : (frame : List ℕ) → (frame ∷ []) ≡ [] → ⊥
-not_empty frame same = absurd (cc)
+abbrev pub HostHolds : {J I : Type 0} → HostMeaning J I → List Frame → List Frame → HostOf J I → Type 0
+HostHolds meaning requests answers host = HostFinds meaning (EntriesHold requests answers) host
 
 alone_sent : (requests : List Frame) (frame : Frame) → Contains requests frame → WereSent requests (frame.items ∷ [])
 alone_sent requests frame sent bytes has = (frame, sent, sym (the_only frame.items bytes has))
@@ -228,125 +220,25 @@ first_sent requests frame (suc count) sent bytes has = elim (Contains-append_cas
 ]
 
 module _ {J I : Type 0} (laws : HostLaws) (meaning : HostMeaning J I) (requests answers : List Frame) (frame : Frame) (sent : Contains requests frame) (old new : HostOf J I) (holds : HostHolds meaning requests answers old) where
+  one_more : (answer : Frame) (by added : Entries) → AreJudged (basis_of meaning old by) (frame.items ∷ []) (answer.items ∷ []) added → EntriesHold requests answers by → EntriesHold requests (answers ++ answer ∷ []) (by ++ added)
+  one_more answer by added judged hold = one_more_answer laws requests answers (basis_of meaning old by) frame.items answer added judged (alone_sent requests frame sent) hold
+
   -- an answer is given
   pub answered_holds : (answer : Frame) → AnswersFrames meaning (frame.items ∷ []) old new (answer.items ∷ []) → HostHolds meaning requests (answers ++ answer ∷ []) new
-  answered_holds answer is = elim holds.runs [
-    | inl stopped ↦ absurd (not_empty frame.items (is.stopped stopped).no_frames)
-    | inr by ↦
-        let judged = is.answered by.0 by.1 in
-        let honest = is.nature.honest.0 holds.honest in
-        let hold = one_more_answer laws requests answers (basis_of meaning old by.0) frame.items answer judged.0 judged.1 (alone_sent requests frame sent) (judged_hold meaning requests answers old by.0 holds by.1) in
-        record {
-          honest = honest;
-          entries = λ entries found. subst (λ (it : Entries). EntriesHold requests (answers ++ answer ∷ []) it) (sym ((judged.2.kept.finds honest entries).0 found)) hold;
-          runs = inr (by.0 ++ judged.0, judged.2);
-        }
-  ]
+  answered_holds answer is = answered_finds meaning (EntriesHold requests answers) (EntriesHold requests (answers ++ answer ∷ [])) frame.items answer.items old new holds (one_more answer) is
+
+  -- the host then judges by such entries
+  pub answered_entries : (answer : Frame) → AnswersFrames meaning (frame.items ∷ []) old new (answer.items ∷ []) → (entries : Entries) × JudgesBy meaning new entries × EntriesHold requests (answers ++ answer ∷ []) entries
+  answered_entries answer is = answered_by meaning (EntriesHold requests answers) (EntriesHold requests (answers ++ answer ∷ [])) frame.items answer.items old new holds (one_more answer) is
 
   -- none is, and entries of the frame may be kept
-  added_hold : (by : Entries) (count : ℕ) (others : List (List ℕ)) (added : Entries) → JudgesBy meaning old by → AreJudged (basis_of meaning old by) (take count (frame.items ∷ [])) others added → EntriesHold requests answers (by ++ added)
-  added_hold by count others added judges judged =
-      let basis = basis_of meaning old by in
-      let hold = judged_hold meaning requests answers old by holds judges in
-      more_entries requests answers by added hold (laws.new_numbers basis (take count (frame.items ∷ [])) others added judged hold.new_numbers)
-      (came_from requests basis (take count (frame.items ∷ [])) others added (first_sent requests frame count sent) judged)
-
-  out_of_memory : (others : List (List ℕ)) → AnswersFirst meaning (frame.items ∷ []) old new others → HostHolds meaning requests answers new
-  out_of_memory others is = elim holds.runs [
-    | inl stopped ↦ absurd (is.was_running stopped)
-    | inr by ↦
-        let judged = is.answers_are.answered by.0 by.1 in
-        let honest = is.answers_are.nature.honest.0 holds.honest in
-        let hold = added_hold by.0 (length others) others judged.0 by.1 judged.1 in
-        subst (λ (host : HostOf J I). HostHolds meaning requests answers host) (sym is.stopped) (record {
-          honest = honest;
-          entries = λ entries found. subst (λ (it : Entries). EntriesHold requests answers it) (sym ((judged.2.kept.finds honest entries).0 found)) hold;
-          runs = inl refl;
-        })
-  ]
-
-  append_honest : (added : Entries) (why : StoreFault) → GroupAppendFailed meaning.journal old.journal new.journal added why → (meaning.journal.state_of new.journal).honest
-  append_honest added store_fault.Device is = is.stops.nature.honest.0 holds.honest
-  append_honest added store_fault.Stopped is = is.stays.nature.honest.0 holds.honest
-  append_honest added _ is = absurd is
-
-  append_found : (by added : Entries) (why : StoreFault) (entries : Entries) → JudgesBy meaning old by → EntriesHold requests answers (by ++ added) → GroupAppendFailed meaning.journal old.journal new.journal added why
-      → (meaning.journal.state_of new.journal).found entries → EntriesHold requests answers entries
-  append_found by added store_fault.Device entries judges hold is found = elim (is.stops.within holds.honest entries found) [
-    | inl before ↦ holds.entries entries before
-    | inr longer ↦
-        let same : longer.0 ≡ by = (judges.kept.finds holds.honest longer.0).0 longer.1 in
-        subst (λ (it : Entries). EntriesHold requests answers it) (sym (longer.2 ∙ ap (λ (it : Entries). it ++ added) same)) hold
-  ]
-  append_found by added store_fault.Stopped entries judges hold is found = holds.entries entries ((is.stays.found holds.honest entries).0 found)
-  append_found by added _ entries judges hold is found = absurd is
-
-  not_kept : (why : StoreFault) → IsGroupNotKept meaning (frame.items ∷ []) old new why → HostHolds meaning requests answers new
-  not_kept why is = elim holds.runs [
-    | inl stopped ↦ absurd (is.was_running stopped)
-    | inr by ↦
-        let it = is.not_kept by.0 by.1 in
-        let hold = added_hold by.0 it.0 it.1 it.2 by.1 it.3 in
-        record {
-          honest = append_honest it.2 why it.4;
-          entries = λ entries found. append_found by.0 it.2 why entries by.1 hold it.4 found;
-          runs = inl is.stopped;
-        }
-  ]
-
   pub refused_holds : (others : List (List ℕ)) (why : HostFault) → GroupRefused meaning (frame.items ∷ []) old new others why → HostHolds meaning requests answers new
-  refused_holds others host_fault.NoMemory is = out_of_memory others is
-  refused_holds others (host_fault.Store why) is = not_kept why is.0
-  refused_holds others host_fault.Stopped is = subst (λ (host : HostOf J I). HostHolds meaning requests answers host) (sym is.1) holds
-  refused_holds others _ is = absurd is
+  refused_holds others why is = refused_finds meaning (EntriesHold requests answers) frame.items old new holds
+      (λ by count given added judged hold.
+      let basis = basis_of meaning old by in
+      more_entries requests answers by added hold (laws.new_numbers basis (take count (frame.items ∷ [])) given added judged hold.new_numbers)
+      (came_from requests basis (take count (frame.items ∷ [])) given added (first_sent requests frame count sent) judged)) others why is
 
--- ---- restarts and arming
-
-module _ {J I : Type 0} (meaning : HostMeaning J I) (requests answers : List Frame) (old new : HostOf J I) (holds : HostHolds meaning requests answers old) where
-  pub restarted_holds : (found : ℕ) → IsHostRestarted meaning old new found → HostHolds meaning requests answers new
-  restarted_holds found is = record {
-    honest = is.journal.settles.nature.honest.0 holds.honest;
-    entries = λ entries finds. subst (λ (it : Entries). EntriesHold requests answers it) (sym ((is.journal.settles.finds holds.honest entries).0 finds)) (holds.entries is.entries (is.journal.was_found holds.honest));
-    runs = inr (is.entries, is.judges);
-  }
-
-  found_once : (count : ℕ) → JournalRestarted meaning.journal old.journal new.journal count → new.state ≡ None → HostHolds meaning requests answers new
-  found_once count is stopped =
-      let list = is.found holds.honest in
-      record {
-        honest = is.nature.honest.0 holds.honest;
-        entries = λ entries finds. subst (λ (it : Entries). EntriesHold requests answers it) (sym ((list.1.finds entries).0 finds)) (holds.entries list.0 list.1.was_found);
-        runs = inl stopped;
-      }
-
-  pub restart_refused_holds : (why : HostFault) → HostRestartRefused meaning.journal old new why → HostHolds meaning requests answers new
-  restart_refused_holds (host_fault.Store why) is = elim is.cause [
-    | inl failed ↦ record {
-      honest = failed.stops.nature.honest.0 holds.honest;
-      entries = λ entries found. holds.entries entries (failed.stops.within holds.honest entries found);
-      runs = inl is.stopped;
-    }
-    | inr unusable ↦ found_once unusable.1.count unusable.1.journal is.stopped
-  ]
-  restart_refused_holds host_fault.NoMemory is = found_once is.count is.journal is.stopped
-  restart_refused_holds _ is = absurd is
-
-module _ {C B J I : Type 0} (m : Meanings C B J I) (requests answers : List Frame) (old new : HostOf J I) (holds : HostHolds m.host requests answers old) where
-  still_runs : (steps : ℕ) → ArmsJournal m steps old new → (new.state ≡ None) ⊎ ((entries : Entries) × JudgesBy m.host new entries)
-  still_runs steps is = elim holds.runs [
-    | inl stopped ↦ inl (is.state ∙ stopped)
-    | inr by ↦ inr (by.0, is.judges holds.honest by.0 by.1)
-  ]
-
-  armed_holds : (steps : ℕ) → ArmsJournal m steps old new → HostHolds m.host requests answers new
-  armed_holds steps is = record {
-    honest = is.stays.honest.0 holds.honest;
-    entries = λ entries found. holds.entries entries ((is.stays.found holds.honest entries).0 found);
-    runs = still_runs steps is;
-  }
-
-  -- whatever else happens to the host
-  pub touched_holds : TouchesHost m old new → HostHolds m.host requests answers new
-  touched_holds (host_restarted found is) = restarted_holds m.host requests answers old new holds found is
-  touched_holds (host_restart_refused why is) = restart_refused_holds m.host requests answers old new holds why is
-  touched_holds (host_armed steps is) = armed_holds steps is
+-- whatever else happens to the host
+pub touched_holds : {C B J I : Type 0} (m : Meanings C B J I) (requests answers : List Frame) (old new : HostOf J I) → HostHolds m.host requests answers old → TouchesHost m old new → HostHolds m.host requests answers new
+touched_holds m requests answers old new holds touches = touched_finds m (EntriesHold requests answers) old new holds touches

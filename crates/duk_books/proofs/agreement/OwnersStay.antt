@@ -3,11 +3,13 @@ use Rattle.std.proofs.Common.{◌≡◌, ◌≢◌, ◌⊎◌, ◌++◌, ◌∷�
 use Rattle.std.proofs.lemmas.List.Elements.{Contains-append_left, Contains-push, Contains-push_cases}
 use Rattle.duk_term.specs.declared.fault.TermFault.TheVariants as term_fault
 use Rattle.duk_till.specs.declared.fault.TillFault.TheVariants as fault
+use Rattle.duk_books.specs.Books.{BooksOf, Meanings}
 use Rattle.duk_books.specs.Load.{ChangesOwners}
 use Rattle.duk_books.specs.Owner.{BecomesOwner, IsElsewhere, IsOwner, JoinsOwners, Owns}
 use Rattle.duk_books.specs.declared.outcome.Outcome.{Outcome}
 use Rattle.duk_books.specs.declared.outcome.Outcome.TheVariants as came
 use Rattle.duk_books.specs.declared.owner.Owner.{Owner}
+use Rattle.duk_books.proofs.moves.StepChanges.{Change, answered, host, load, nothing, quiet, reverse, send, tell, unanswered}
 
 -- each initial key serial number that is owned has one owner
 abbrev pub HaveOneOwner : List Owner → Type 0
@@ -87,3 +89,44 @@ owns_loaded old iksn t new free (inr keeps) = same_owners old new iksn t keeps.s
   owns = subst (λ owner. Owns old iksn owner) (owns_here old iksn t keeps.owner free keeps.owns) keeps.owns;
   alone = λ other owns. owns_here old iksn t other free owns;
 })
+
+-- ---- in each move
+
+-- how a move changes the owners: not at all, or as a load does
+record OwnersChange (old new : List Owner) : Type 0 where
+  outcome : Outcome
+  iksn : ℕ
+  t : ℕ
+  changes : (new ≡ old) ⊎ ChangesOwners outcome old iksn t new
+
+same_owner_list : (old new : List Owner) → new ≡ old → OwnersChange old new
+same_owner_list old new same = record { outcome = came.NoSuchTill; iksn = 0; t = 0; changes = inl same }
+
+owners_change : {C B J I : Type 0} (m : Meanings C B J I) (old new : BooksOf C B J I) → Change m old new → OwnersChange old.owners new.owners
+owners_change m old new (nothing same) = same_owner_list old.owners new.owners (ap (λ (it : BooksOf _ _ _ _). it.owners) same)
+owners_change m old new (quiet t call is change rest) = same_owner_list old.owners new.owners (ap (λ (it : BooksOf _ _ _ _). it.owners) rest)
+owners_change m old new (load t iksn outcome is) = record { outcome = outcome; iksn = iksn; t = t; changes = inr is.owners }
+owners_change m old new (send t purchase it change rest) = same_owner_list old.owners new.owners (ap (λ (it : BooksOf _ _ _ _). it.owners) rest)
+owners_change m old new (reverse t it sent is_reversal change rest) = same_owner_list old.owners new.owners (ap (λ (it : BooksOf _ _ _ _). it.owners) rest)
+owners_change m old new (tell t call telling change takes rest) = same_owner_list old.owners new.owners (ap (λ (it : BooksOf _ _ _ _). it.owners) rest)
+owners_change m old new (answered frame answer sent is rest) = same_owner_list old.owners new.owners (ap (λ (it : BooksOf _ _ _ _). it.owners) rest)
+owners_change m old new (unanswered frame answers why sent is rest) = same_owner_list old.owners new.owners (ap (λ (it : BooksOf _ _ _ _). it.owners) rest)
+owners_change m old new (host touches rest) = same_owner_list old.owners new.owners (ap (λ (it : BooksOf _ _ _ _). it.owners) rest)
+
+owner_after : (old new : List Owner) (iksn t : ℕ) → OwnersChange old new → IsOwner old iksn t → IsOwner new iksn t
+owner_after old new iksn t change is = elim change.changes [
+  | inl same ↦ same_owners old new iksn t same is
+  | inr changes ↦ owner_stays change.outcome old change.iksn change.t new iksn t changes is
+]
+
+one_owner_then : (old new : List Owner) → OwnersChange old new → HaveOneOwner old → HaveOneOwner new
+one_owner_then old new change one = elim change.changes [
+  | inl same ↦ one_owner_stays old new same one
+  | inr changes ↦ one_owner_after change.outcome old change.iksn change.t new changes one
+]
+
+pub change_owner : {C B J I : Type 0} (m : Meanings C B J I) (old new : BooksOf C B J I) → Change m old new → (iksn t : ℕ) → IsOwner old.owners iksn t → IsOwner new.owners iksn t
+change_owner m old new change iksn t is = owner_after old.owners new.owners iksn t (owners_change m old new change) is
+
+pub change_one_owner : {C B J I : Type 0} (m : Meanings C B J I) (old new : BooksOf C B J I) → Change m old new → HaveOneOwner old.owners → HaveOneOwner new.owners
+change_one_owner m old new change one = one_owner_then old.owners new.owners (owners_change m old new change) one

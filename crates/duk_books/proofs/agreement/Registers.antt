@@ -53,7 +53,7 @@ next_is_above counter next fits after = elim after [
 above_taken : NumberLaws → (set left : RegisterSet) (key : List ℕ) → TakesNumber set key left → set.counter < left.counter
 above_taken laws set left key takes = next_is_above set.counter left.counter (laws.fits set.counter takes.usable) takes.taken.next_counter
 
-behind_left : NumberLaws → (set left : RegisterSet) (key : List ℕ) (ksn : Serial) → TakesNumber set key left → IsBehind ksn set → IsBehind ksn left
+pub behind_left : NumberLaws → (set left : RegisterSet) (key : List ℕ) (ksn : Serial) → TakesNumber set key left → IsBehind ksn set → IsBehind ksn left
 behind_left laws set left key ksn takes behind =
     let above = above_taken laws set left key takes in
     elim behind [

@@ -93,7 +93,7 @@ no_new_sale t old new (Running (Some (Undone ksn))) there takes = takes
 
 -- ---- outcomes
 
-outcome_fields : (ksn : Serial) (amount : ℕ) (why : Code) → IsSerial ksn × (amount < 2 ^ 32) → AreLastFields (outcome_of ksn amount why)
+pub outcome_fields : (ksn : Serial) (amount : ℕ) (why : Code) → IsSerial ksn × (amount < 2 ^ 32) → AreLastFields (outcome_of ksn amount why)
 outcome_fields ksn amount code.Approved fields = fields
 outcome_fields ksn amount code.NoCard fields = (fields.0, λ same. absurd (cc))
 outcome_fields ksn amount code.WrongPin fields = (fields.0, λ same. absurd (cc))
@@ -379,7 +379,9 @@ module _ {C B J I : Type 0} (laws : CallLaws) (m : Meanings C B J I) (t : ℕ) (
   restart_refused_so old new (fault.Store why) holds takes is =
       let terminal = terminal_up old new holds is.0 in
       elim is.1 [
-        | inl failed ↦ stopped_till old new holds takes terminal (failed.stops.nature.honest.0 holds.book.honest) (λ kept found. failed.stops.within holds.book.honest kept found) is.2
+        | inl failed ↦
+            let stops = failed.cell.stops in
+            stopped_till old new holds takes terminal (stops.nature.honest.0 holds.book.honest) (λ kept found. stops.within holds.book.honest kept found) is.2
         | inr other ↦ elim other [
           | inl damaged ↦
               let restart = damaged.1.cell in

@@ -1,5 +1,5 @@
 -- What holds of the registers of a till's terminal, and of each image that its cell may find.
-use Rattle.std.proofs.Common.{◌≡◌, ◌⊎◌, inl, inr, ℕ, List, Option, Some, None, refl, subst, sym}
+use Rattle.std.proofs.Common.{◌≡◌, ◌⊎◌, inl, inr, ℕ, List, Option, Some, None, ap, refl, subst, sym}
 use Rattle.duk_regs.specs.Registers.{AreFutureKeysOf, HaveSixteenBytes, IsRegisterSet, RegisterSet}
 use Rattle.duk_store.specs.Cell.{CellMeaning, IsPut, Kept, PutFailed}
 use Rattle.duk_store.specs.StoreState.{StaysButCalm}
@@ -51,9 +51,14 @@ StateHas P Stopped = Unit {0}
 StateHas P Empty = P None
 StateHas P (Loaded set pending) = P (Some set)
 
+-- a body is that of its registers, as they are kept now, and this holds of them
+pub record BodyHas (P : OfRegisters) (body : List ℕ) : Type 0 where
+  pub own : body ≡ body_bytes (set_of_body body)
+  pub holds : P (Some (set_of_body body))
+
 abbrev pub KeptHas : OfRegisters → Kept → Type 0
 KeptHas P None = P None
-KeptHas P (Some body) = P (Some (set_of_body body))
+KeptHas P (Some body) = BodyHas P body
 
 pub record TerminalHas {C : Type 0} (cell : CellMeaning C) (P : OfRegisters) (terminal : TerminalOf C) : Type 0 where
   pub honest : (cell.state_of terminal.cell).honest
@@ -67,7 +72,7 @@ state_as P Q (Loaded set pending) follows has = follows (Some set) has
 
 kept_as : (P Q : OfRegisters) (kept : Kept) → ((set : Option RegisterSet) → P set → Q set) → KeptHas P kept → KeptHas Q kept
 kept_as P Q None follows has = follows None has
-kept_as P Q (Some body) follows has = follows (Some (set_of_body body)) has
+kept_as P Q (Some body) follows has = record { own = has.own; holds = follows (Some (set_of_body body)) has.holds }
 
 -- what follows of all registers
 pub terminal_as : {C : Type 0} (cell : CellMeaning C) (P Q : OfRegisters) (terminal : TerminalOf C) → ((set : Option RegisterSet) → P set → Q set) → TerminalHas cell P terminal → TerminalHas cell Q terminal
@@ -79,7 +84,9 @@ terminal_as cell P Q terminal follows has = record {
 
 module _ {C : Type 0} (laws : RegisterLaws) (cell : CellMeaning C) (P Q : OfRegisters) where
   body_has : (set : RegisterSet) → IsFoundAgain set → Q (Some set) → KeptHas Q (Some (body_bytes set))
-  body_has set again has = subst (λ (it : RegisterSet). Q (Some it)) (sym (again.same (body_bytes set) (inl refl))) has
+  body_has set again has =
+      let same = sym (again.same (body_bytes set) (inl refl)) in
+      record { own = ap body_bytes same; holds = subst (λ (it : RegisterSet). Q (Some it)) same has }
 
   stopped_has : (it : State) → it ≡ Stopped → StateHas Q it
   stopped_has it is = subst (StateHas Q) (sym is) tt
@@ -170,7 +177,7 @@ module _ {C : Type 0} (laws : RegisterLaws) (cell : CellMeaning C) (P : OfRegist
 
   opened : (kept : Kept) (it : State) → KeptHas P kept → Opens kept it → StateHas P it
   opened None it has opens = subst (StateHas P) (sym opens) has
-  opened (Some body) it has opens = subst (StateHas P) (sym opens.1) has
+  opened (Some body) it has opens = subst (StateHas P) (sym opens.1) has.holds
 
   pub restarted : (old new : TerminalOf C) → TerminalHas cell P old → IsTerminalRestarted cell old new → TerminalHas cell P new
   restarted old new has is =

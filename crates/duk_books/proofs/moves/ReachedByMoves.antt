@@ -29,11 +29,11 @@ reached_all m P first moves books (zero, is) = first books is
 reached_all m P first moves books (suc n, before) = moves before.0 books (reached_all m P first moves before.0 (n, before.1)) before.2
 
 -- a step leads on
-reached_step : {C B J I : Type 0} (m : Meanings C B J I) (old new : BooksOf C B J I) (event : Event) (outcome : Outcome) → Reached m old → Step m old event outcome new → Reached m new
+pub reached_step : {C B J I : Type 0} (m : Meanings C B J I) (old new : BooksOf C B J I) (event : Event) (outcome : Outcome) → Reached m old → Step m old event outcome new → Reached m new
 reached_step m old new event outcome reached step = (suc reached.0, (old, reached.1, inl (record { event = event; outcome = outcome; step = step })))
 
 -- a run leads on
-reached_run : {C B J I : Type 0} (m : Meanings C B J I) (old new : BooksOf C B J I) (events : List Event) (outcomes : List Outcome) → Reached m old → Run m old events outcomes new → Reached m new
+pub reached_run : {C B J I : Type 0} (m : Meanings C B J I) (old new : BooksOf C B J I) (events : List Event) (outcomes : List Outcome) → Reached m old → Run m old events outcomes new → Reached m new
 reached_run m old new [] [] reached run = subst (λ books. Reached m books) (sym run) reached
 reached_run m old new [] (outcome ∷ outcomes) reached run = absurd run
 reached_run m old new (event ∷ events) [] reached run = absurd run

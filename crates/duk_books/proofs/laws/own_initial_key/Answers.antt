@@ -1,0 +1,5 @@
+use Rattle.duk_books.proofs.numbers.InitialKeys.{own_key}
+use Rattle.duk_books.proofs.laws.own_initial_key.Goals as goal
+
+pub returns : goal.returns
+returns c = own_key c.one_reading.ensures
