@@ -1,5 +1,4 @@
 mod LinesOfTills
-mod LinesInTurn
 mod NewEnds
 mod NewTills
 mod PlayedScripts

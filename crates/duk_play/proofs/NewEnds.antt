@@ -100,7 +100,7 @@ terminal_never cell before after _ keeps refused = absurd refused
 -- nor is the book's
 book_never : {A B : Type 0} (book : CellMeaning B) (terminal : State) (old new : B) (state : TillState) (why : StoreFault) → KeepsCalm (book.state_of old) None
     → BookRestartFailed book terminal old new state why → A
-book_never book terminal old new state why keeps (inl failed) = never_fails (book.state_of old) (book.state_of new) None why keeps failed
+book_never book terminal old new state why keeps (inl failed) = never_fails (book.state_of old) (book.state_of new) None why keeps failed.cell
 book_never book terminal old new state why keeps (inr (inl (damaged, none))) = never_some (book.state_of old) (book.state_of new) none.bytes keeps none.cell
 book_never book terminal old new state why keeps (inr (inr not_closed)) =
     none_open not_closed.before not_closed.ksn not_closed.unsent.0.0 (restarted (book.state_of old) (book.state_of not_closed.between) None (kept_of not_closed.before) keeps not_closed.found.cell).0 not_closed.unsent.0.1
@@ -125,8 +125,8 @@ till_never cell book old new _ calm refused = absurd refused
 -- so a till's restart brings it up
 till_up : {C B : Type 0} (cell : CellMeaning C) (book : CellMeaning B) (t : ℕ) (outcome : Outcome) (old new : TillOf C B) → IsCalmNew cell book old
     → TakesRestart cell book t outcome old new → ReportsBroughtUp outcome × IsCalmNew cell book new
-till_up cell book t (came.TillNext u next state) old new calm (same, next_is, (done, told)) = (tt, till_stays cell book old new calm done)
-till_up cell book t (came.TillFaulted u why) old new calm (same, refused) = till_never cell book old new why calm refused
+till_up cell book t (came.TillNext u next state) old new calm (same, next_is, (done, told), disarmed) = (tt, till_stays cell book old new calm done)
+till_up cell book t (came.TillFaulted u why) old new calm (same, refused, disarmed) = till_never cell book old new why calm refused
 till_up cell book t _ old new calm restarts = absurd restarts
 
 -- ---- the ends together

@@ -32,6 +32,7 @@ fn write_buffered<W: Sink>(writer: &mut W, outcomes: &[Outcome]) -> Result<(), W
         (IsCut (W.known writer.old) (W.known writer.new) (lines_of outcomes.now)) }
 {
     duk_io::laws::writes();
+    duk_script::laws::lines_in_turn::<Outcome>();
     let mut lines = Buffer::new();
     for outcome in outcomes {
         make_room(&mut lines, LINE_ROOM, writer)?;

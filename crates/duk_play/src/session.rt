@@ -6,7 +6,7 @@ ghost use Rattle.duk_io.specs.Sink.{IsCut, IsWritten};
 ghost use Rattle.duk_play.specs.OutcomeText.{lines_of};
 ghost use Rattle.duk_play.specs.Play.{ArePlayed, ArePlayedOn, IsPlayed, PlayRefused};
 ghost use Rattle.duk_play.specs.Session.{IsScriptDone, IsScriptRefused};
-ghost use Rattle.duk_play.specs.inner.Play.{HaveOutcomes};
+ghost use Rattle.duk_play.specs.inner.Play.{EventsRefused, HaveOutcomes};
 ghost use Rattle.duk_tdes.specs.KeyBytes.{bytes_of};
 ghost use Rattle.duk_tdes.specs.Tdes.{IsTdesLength};
 
@@ -134,10 +134,10 @@ fn play_in<const N: usize, C: Cell, B: Cell, J: Journal, I: Issuer, W: Sink>(
     writer: &mut W,
 ) -> Result<(), ScriptFault>
     ensures done { OnOk result (IsPlayed
-        (HaveOutcomes (meanings_of C.meaning B.meaning J.meaning I.decides) books.old)
+        (HaveOutcomes (meanings_of C.meaning B.meaning J.meaning I.decides) books.old books.new)
         events.now (W.known writer.old) (W.known writer.new)) }
-    ensures refused { IfErr result (PlayRefused
-        (HaveOutcomes (meanings_of C.meaning B.meaning J.meaning I.decides) books.old)
+    ensures refused { IfErr result (EventsRefused
+        (meanings_of C.meaning B.meaning J.meaning I.decides) books.old books.new
         events.now (W.known writer.old) (W.known writer.new)) }
 {
     let mut outcomes = Vec::new(alloc);

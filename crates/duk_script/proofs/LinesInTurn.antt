@@ -1,12 +1,8 @@
--- The lines of outcomes, written one after the other; and lists that are made one by one.
-use Rattle.std.proofs.Common.{◌≡◌, ◌+◌, ◌<◌, ◌≤◌, ◌++◌, ◌∷◌, [], ℕ, zero, suc, List, length, take, drop, replicate, get_or, refl, sym, ap, subst, ◌∙◌, arith, append-nil, append_assoc, length-append, add-one, Result, Ok, Err, OnErr}
+-- The lines of things, written one after the other.
+use Rattle.std.proofs.Common.{◌≡◌, ◌+◌, ◌<◌, ◌≤◌, ◌++◌, ◌∷◌, [], ℕ, zero, suc, List, length, take, drop, get_or, refl, sym, ap, subst, ◌∙◌, arith, append-nil, append_assoc, length-append, Result, Ok, Err, OnErr}
+use Rattle.std.specs.List.{flat_map}
 use Rattle.std.proofs.lemmas.Grind.{flat_map-append}
-use Rattle.std.proofs.lemmas.List.{replicate-append-replicate, take-append-drop, take-append-le}
-use Rattle.duk_net.specs.declared.event.Event.{Event}
-use Rattle.duk_net.specs.declared.event.Event.TheVariants.{RestartTerm}
-use Rattle.duk_net.specs.declared.outcome.Outcome.{Outcome}
-use Rattle.duk_script.specs.OutcomeText.{line_of, lines_of}
-use Rattle.duk_script.specs.Opening.{opening}
+use Rattle.std.proofs.lemmas.List.{take-append-drop, take-append-le}
 use Rattle.duk_io.specs.Known.{Known}
 use Rattle.duk_io.specs.Sink.{IsCut, IsWritten}
 
@@ -17,20 +13,11 @@ split_at [] place thing within is = absurd (omega (arith, within))
 split_at (first ∷ things) zero thing within is = grind (arith, is)
 split_at (first ∷ things) (suc place) thing within is = grind (arith, is, split_at things place thing (omega (arith, within)))
 
-lines_next : (outcomes : List Outcome) (place : ℕ) (outcome : Outcome) → place < length outcomes → outcome ≡ get_or outcomes place outcome
-    → lines_of (take (place + 1) outcomes) ≡ lines_of (take place outcomes) ++ line_of outcome
-lines_next outcomes place outcome within is =
-    ap lines_of (split_at outcomes place outcome within is)
-    ∙ flat_map-append line_of (take place outcomes) (outcome ∷ [])
-    ∙ ap (λ line. lines_of (take place outcomes) ++ line) (append-nil (line_of outcome))
-
--- one line more is held, after what is left of those before
-pub lines_more : (outcomes : List Outcome) (place : ℕ) (outcome : Outcome) (written held front left pushed : List ℕ)
-    → place < length outcomes → outcome ≡ get_or outcomes place outcome
-    → lines_of (take place outcomes) ≡ written ++ held → held ≡ front ++ left → pushed ≡ left ++ line_of outcome
-    → lines_of (take (place + 1) outcomes) ≡ (written ++ front) ++ pushed
-lines_more outcomes place outcome written held front left pushed within is so_far split more =
-    lines_next outcomes place outcome within is ∙ rw (so_far, split, more) (simp append_assoc)
+take_all : {A : Type 0} (things : List A) (place : ℕ) → length things ≤ place → take place things ≡ things
+take_all [] zero within = refl
+take_all [] (suc place) within = refl
+take_all (first ∷ things) zero within = absurd (omega (arith, within))
+take_all (first ∷ things) (suc place) within = ap (λ rest. first ∷ rest) (take_all things place (omega (arith, within)))
 
 pub cut_longer : (a c : Known) (text rest : List ℕ) → IsCut a c text → IsCut a c (text ++ rest)
 cut_longer a c text rest (count, cut) = (
@@ -42,25 +29,35 @@ cut_longer a c text rest (count, cut) = (
   },
 )
 
--- the writing is cut off in the lines up to an outcome
-pub cut_among : (a b : Known) (outcomes : List Outcome) (place : ℕ) (text : List ℕ)
-    → lines_of (take place outcomes) ≡ text → IsCut a b text → IsCut a b (lines_of outcomes)
-cut_among a b outcomes place text is cut =
-    subst (λ all. IsCut a b (lines_of all)) (take-append-drop place outcomes)
-    (subst (λ text. IsCut a b text) (sym (flat_map-append line_of (take place outcomes) (drop place outcomes)))
-    (cut_longer a b (lines_of (take place outcomes)) (lines_of (drop place outcomes)) (subst (λ text. IsCut a b text) (sym is) cut)))
+module _ {A : Type 0} (line_of : A → List ℕ) where
+  lines_next : (things : List A) (place : ℕ) (thing : A) → place < length things → thing ≡ get_or things place thing
+      → flat_map line_of (take (place + 1) things) ≡ flat_map line_of (take place things) ++ line_of thing
+  lines_next things place thing within is =
+      ap (flat_map line_of) (split_at things place thing within is)
+      ∙ flat_map-append line_of (take place things) (thing ∷ [])
+      ∙ ap (λ line. flat_map line_of (take place things) ++ line) (append-nil (line_of thing))
 
-take_all : {A : Type 0} (things : List A) (place : ℕ) → length things ≤ place → take place things ≡ things
-take_all [] zero within = refl
-take_all [] (suc place) within = refl
-take_all (first ∷ things) zero within = absurd (omega (arith, within))
-take_all (first ∷ things) (suc place) within = ap (λ rest. first ∷ rest) (take_all things place (omega (arith, within)))
+  -- one line more is held, after what is left of those before
+  pub lines_more : (things : List A) (place : ℕ) (thing : A) (written held front left pushed : List ℕ)
+      → place < length things → thing ≡ get_or things place thing
+      → flat_map line_of (take place things) ≡ written ++ held → held ≡ front ++ left → pushed ≡ left ++ line_of thing
+      → flat_map line_of (take (place + 1) things) ≡ (written ++ front) ++ pushed
+  lines_more things place thing written held front left pushed within is so_far split more =
+      lines_next things place thing within is ∙ rw (so_far, split, more) (simp append_assoc)
 
--- every line is written
-pub written_all : (a b : Known) (outcomes : List Outcome) (place : ℕ) (text : List ℕ) → length outcomes ≤ place
-    → lines_of (take place outcomes) ≡ text → IsWritten a b text → IsWritten a b (lines_of outcomes)
-written_all a b outcomes place text within is written =
-    subst (λ text. IsWritten a b text) (sym is ∙ ap lines_of (take_all outcomes place within)) written
+  -- the writing is cut off in the lines up to a thing
+  pub cut_among : (a b : Known) (things : List A) (place : ℕ) (text : List ℕ)
+      → flat_map line_of (take place things) ≡ text → IsCut a b text → IsCut a b (flat_map line_of things)
+  cut_among a b things place text is cut =
+      subst (λ all. IsCut a b (flat_map line_of all)) (take-append-drop place things)
+      (subst (λ text. IsCut a b text) (sym (flat_map-append line_of (take place things) (drop place things)))
+      (cut_longer a b (flat_map line_of (take place things)) (flat_map line_of (drop place things)) (subst (λ text. IsCut a b text) (sym is) cut)))
+
+  -- every line is written
+  pub written_all : (a b : Known) (things : List A) (place : ℕ) (text : List ℕ) → length things ≤ place
+      → flat_map line_of (take place things) ≡ text → IsWritten a b text → IsWritten a b (flat_map line_of things)
+  written_all a b things place text within is written =
+      subst (λ text. IsWritten a b text) (sym is ∙ ap (flat_map line_of) (take_all things place within)) written
 
 -- what holds in any case holds where a write failed
 pub as_err : {T E : Type 0} (result : Result T E) (P : Type 0) → P → OnErr result P
@@ -71,11 +68,3 @@ as_err (Err e) P holds = holds
 pub on_err : {T E : Type 0} (P Q : Type 0) → (P → Q) → (result : Result T E) → OnErr result P → OnErr result Q
 on_err P Q follows (Ok x) holds = holds
 on_err P Q follows (Err e) holds = follows holds
-
--- one thing more, all of one kind
-pub replicate_next : {A : Type 0} (count : ℕ) (thing : A) (things more : List A) → things ≡ replicate count thing → more ≡ things ++ thing ∷ [] → more ≡ replicate (count + 1) thing
-replicate_next count thing things more so_far is = is ∙ ap (λ list. list ++ thing ∷ []) so_far ∙ replicate-append-replicate count 1 thing
-
--- one terminal more is restarted
-pub opening_next : (count : ℕ) (events more : List Event) → events ≡ opening count → more ≡ events ++ RestartTerm (count + 1) ∷ [] → more ≡ opening (count + 1)
-opening_next count events more so_far is = is ∙ ap (λ list. list ++ RestartTerm (count + 1) ∷ []) so_far ∙ ap opening (sym (add-one count))

@@ -1,11 +1,11 @@
 -- What a script does, from what its parts do.
-use Rattle.std.proofs.Common.{◌≡◌, ◌⊎◌, ◌++◌, [], ℕ, Bool, List, Result, Ok, Err, OnOk, IfErr, take, inl, inr, sym, ap, subst, ◌∙◌}
+use Rattle.std.proofs.Common.{◌≡◌, ◌⊎◌, ◌++◌, [], ℕ, Bool, List, Result, Ok, Err, OnOk, IfErr, take, inl, inr, refl, sym, ap, subst, ◌∙◌}
 use Rattle.duk_config.specs.Settings.{Settings}
 use Rattle.duk_config.specs.declared.fault.ScriptFault.{ScriptFault}
 use Rattle.duk_config.specs.declared.fault.ScriptFault.TheVariants as fault
 use Rattle.duk_io.specs.Known.{Known}
 use Rattle.duk_io.specs.Sink.{IsCut, IsUntouched}
-use Rattle.duk_net.specs.Run.{IsRun, Run, RunRefused}
+use Rattle.duk_net.specs.Run.{IsRun, IsRunUpTo, Run, RunRefused}
 use Rattle.duk_net.specs.World.{Meanings, WorldOf}
 use Rattle.duk_net.specs.declared.event.Event.{Event}
 use Rattle.duk_net.specs.declared.outcome.Outcome.{Outcome}
@@ -13,8 +13,8 @@ use Rattle.duk_net.specs.declared.runs.NetFault.{NetFault}
 use Rattle.duk_net.specs.declared.runs.NetFault.TheVariants as net
 use Rattle.duk_script.specs.Opening.{AreEndsBroughtUp, StartsCalm}
 use Rattle.duk_script.specs.OutcomeText.{lines_of}
-use Rattle.duk_script.specs.Play.{ArePlayed, ArePlayedIn, ArePlayedInPart, ArePlayedOn, IsPlayed, IsPlayedUpTo, PlayRefused, Playing}
-use Rattle.duk_script.specs.inner.Play.{HaveOutcomes}
+use Rattle.duk_script.specs.Play.{ArePlayed, ArePlayedIn, ArePlayedInPart, ArePlayedOn, IsPlayed, PlayRefused, Playing}
+use Rattle.duk_script.specs.inner.Play.{EventsRefused, HaveOutcomes, HaveOutcomesInPart}
 use Rattle.duk_script.specs.Script.{IsNoScript, IsScript}
 use Rattle.duk_script.specs.Session.{IsScriptRefused}
 
@@ -32,60 +32,60 @@ gained_none before after outcomes none gained = sym (gained ∙ ap (λ list. lis
 
 -- a run of events in a world
 pub run_done : {C L I : Type 0} (m : Meanings C L I) (start last : WorldOf C L I) (events : List Event) (before after : List Outcome) → before ≡ []
-    → IsRun m start events before after last → HaveOutcomes m start events after
+    → IsRun m start events before after last → HaveOutcomes m start last events after
 run_done m start last events before after none run =
-    (last, subst (λ outcomes. Run m start events outcomes last) (gained_none before after run.outcomes none run.gained) run.run)
+    subst (λ outcomes. Run m start events outcomes last) (gained_none before after run.outcomes none run.gained) run.run
 
 -- a run that was refused memory did the first events
-pub run_up_to : {C L I : Type 0} (m : Meanings C L I) (start new : WorldOf C L I) (events : List Event) (before after : List Outcome) (why : NetFault) → before ≡ []
-    → RunRefused m start events before after new why → ArePlayedInPart (HaveOutcomes m start) events after
-run_up_to m start new events before after (net.NoMemory done) none part = record {
-  done = done;
-  refused = part.refused;
-  next = part.next;
-  played = run_done m start part.mid (take done events) before after none part.done_part;
-}
+pub run_up_to : {C L I : Type 0} (m : Meanings C L I) (start last : WorldOf C L I) (events : List Event) (before after : List Outcome) (why : NetFault) → before ≡ []
+    → RunRefused m start events before after last why → HaveOutcomesInPart m start last events after
+run_up_to m start last events before after (net.NoMemory done) none part =
+    (done, subst (λ before. IsRunUpTo m start events before after done last) none part)
 
 -- the writing of outcomes is cut off
-pub cut_off : (may_have : Playing) (events : List Event) (old new : Known) (outcomes : List Outcome) (why : ScriptFault)
-    → (may_have events outcomes ⊎ ArePlayedInPart may_have events outcomes)
-    → (why ≡ fault.WriteFailed) × IsCut old new (lines_of outcomes) → PlayRefused may_have events old new why
-cut_off may_have events old new outcomes why played cut =
-    subst (λ why. PlayRefused may_have events old new why) (sym cut.0) (record { outcomes = outcomes; played = played; cut = cut.1 })
+pub cut_off : {C L I : Type 0} (m : Meanings C L I) (start last : WorldOf C L I) (events : List Event) (old new : Known) (outcomes : List Outcome) (why : ScriptFault)
+    → (HaveOutcomes m start last events outcomes ⊎ HaveOutcomesInPart m start last events outcomes)
+    → (why ≡ fault.WriteFailed) × IsCut old new (lines_of outcomes) → EventsRefused m start last events old new why
+cut_off m start last events old new outcomes why have cut =
+    subst (λ why. EventsRefused m start last events old new why) (sym cut.0) (record { outcomes = outcomes; have = have; cut = cut.1 })
 
 -- what is done where events may have some outcomes is done where they may have those and more
-module _ (fewer more : Playing) (follows : (events : List Event) (outcomes : List Outcome) → fewer events outcomes → more events outcomes) where
-  pub played_too : (events : List Event) (old new : Known) → IsPlayed fewer events old new → IsPlayed more events old new
-  played_too events old new (outcomes, have, written) = (outcomes, follows events outcomes have, written)
-
-  part_too : (events : List Event) (outcomes : List Outcome) → ArePlayedInPart fewer events outcomes → ArePlayedInPart more events outcomes
-  part_too events outcomes part = record { done = part.done; refused = part.refused; next = part.next; played = follows (take part.done events) outcomes part.played }
-
-  all_or_part_too : (events : List Event) (outcomes : List Outcome) → fewer events outcomes ⊎ ArePlayedInPart fewer events outcomes
-      → more events outcomes ⊎ ArePlayedInPart more events outcomes
-  all_or_part_too events outcomes (inl all) = inl (follows events outcomes all)
-  all_or_part_too events outcomes (inr part) = inr (part_too events outcomes part)
-
-  up_to_too : (events : List Event) (old new : Known) → IsUntouched old new ⊎ IsPlayedUpTo fewer events old new → IsUntouched old new ⊎ IsPlayedUpTo more events old new
-  up_to_too events old new (inl quiet) = inl quiet
-  up_to_too events old new (inr part) = inr (record { outcomes = part.outcomes; played = part_too events part.outcomes part.played; written = part.written })
-
-  pub refused_too : (events : List Event) (old new : Known) (why : ScriptFault) → PlayRefused fewer events old new why → PlayRefused more events old new why
-  refused_too events old new fault.ConfigTooLong cause = absurd cause
-  refused_too events old new fault.NotToml cause = absurd cause
-  refused_too events old new (fault.UnknownKey name) cause = absurd cause
-  refused_too events old new (fault.BadKey key) cause = absurd cause
-  refused_too events old new (fault.BadEntry key place) cause = absurd cause
-  refused_too events old new fault.CannotRead cause = absurd cause
-  refused_too events old new fault.TooLong cause = absurd cause
-  refused_too events old new (fault.NotAnEvent line) cause = absurd cause
-  refused_too events old new fault.WriteFailed cause = record { outcomes = cause.outcomes; played = all_or_part_too events cause.outcomes cause.played; cut = cause.cut }
-  refused_too events old new fault.NoMemory cause = up_to_too events old new cause
+pub played_too : (fewer more : Playing) → ((events : List Event) (outcomes : List Outcome) → fewer events outcomes → more events outcomes)
+    → (events : List Event) (old new : Known) → IsPlayed fewer events old new → IsPlayed more events old new
+played_too fewer more follows events old new (outcomes, have, written) = (outcomes, follows events outcomes have, written)
 
 -- events that are done in a world whose ends were brought up are played
-pub played_from : {C L I : Type 0} (m : Meanings C L I) (first start : WorldOf C L I) → StartsCalm m first → AreEndsBroughtUp m first start
-    → (events : List Event) (outcomes : List Outcome) → HaveOutcomes m start events outcomes → ArePlayedIn m first events outcomes
-played_from m first start starts opened events outcomes (last, run) = record { start = start; last = last; starts = starts; opened = opened; run = run }
+module _ {C L I : Type 0} (m : Meanings C L I) (first start : WorldOf C L I) (starts : StartsCalm m first) (opened : AreEndsBroughtUp m first start) where
+  pub played_from : (last : WorldOf C L I) (events : List Event) (outcomes : List Outcome) → HaveOutcomes m start last events outcomes → ArePlayedIn m first events outcomes
+  played_from last events outcomes run = record { start = start; last = last; starts = starts; opened = opened; run = run }
+
+  part_from : (last : WorldOf C L I) (events : List Event) (outcomes : List Outcome) → HaveOutcomesInPart m start last events outcomes → ArePlayedInPart (ArePlayedIn m first) events outcomes
+  part_from last events outcomes (done, part) = record {
+    done = done;
+    refused = part.refused;
+    next = part.next;
+    played = played_from part.mid (take done events) outcomes (run_done m start part.mid (take done events) [] outcomes refl part.done_part);
+  }
+
+  all_or_part_from : (last : WorldOf C L I) (events : List Event) (outcomes : List Outcome) → HaveOutcomes m start last events outcomes ⊎ HaveOutcomesInPart m start last events outcomes
+      → ArePlayedIn m first events outcomes ⊎ ArePlayedInPart (ArePlayedIn m first) events outcomes
+  all_or_part_from last events outcomes (inl all) = inl (played_from last events outcomes all)
+  all_or_part_from last events outcomes (inr part) = inr (part_from last events outcomes part)
+
+  pub refused_from : (last : WorldOf C L I) (events : List Event) (old new : Known) (why : ScriptFault) → EventsRefused m start last events old new why
+      → PlayRefused (ArePlayedIn m first) events old new why
+  refused_from last events old new fault.ConfigTooLong cause = absurd cause
+  refused_from last events old new fault.NotToml cause = absurd cause
+  refused_from last events old new (fault.UnknownKey name) cause = absurd cause
+  refused_from last events old new (fault.BadKey key) cause = absurd cause
+  refused_from last events old new (fault.BadEntry key place) cause = absurd cause
+  refused_from last events old new fault.CannotRead cause = absurd cause
+  refused_from last events old new fault.TooLong cause = absurd cause
+  refused_from last events old new (fault.NotAnEvent line) cause = absurd cause
+  refused_from last events old new fault.WriteFailed cause =
+      record { outcomes = cause.outcomes; played = all_or_part_from last events cause.outcomes cause.have; cut = cause.cut }
+  refused_from last events old new fault.NoMemory cause =
+      inr (record { outcomes = cause.outcomes; played = part_from last events cause.outcomes cause.have; written = cause.written })
 
 -- what may come over the stores that a configuration names is what may come under it
 pub named_stores : (config : Settings) (disk : Bool) → config.disk ≡ disk

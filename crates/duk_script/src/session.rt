@@ -5,7 +5,7 @@ ghost use Rattle.duk_io.specs.Sink.{IsCut, IsWritten};
 ghost use Rattle.duk_net.specs.World.{meanings_of};
 ghost use Rattle.duk_script.specs.OutcomeText.{lines_of};
 ghost use Rattle.duk_script.specs.Play.{ArePlayed, ArePlayedOn, IsPlayed, PlayRefused};
-ghost use Rattle.duk_script.specs.inner.Play.{HaveOutcomes};
+ghost use Rattle.duk_script.specs.inner.Play.{EventsRefused, HaveOutcomes};
 ghost use Rattle.duk_script.specs.Session.{IsRunDone, IsRunRefused, IsScriptDone, IsScriptRefused, session};
 ghost use Rattle.duk_tdes.specs.KeyBytes.{bytes_of};
 ghost use Rattle.duk_tdes.specs.Tdes.{IsTdesLength};
@@ -156,10 +156,10 @@ fn play_in<const N: usize, C: Cell, L: UsedLog, I: Issuer, W: Sink>(
     writer: &mut W,
 ) -> Result<(), ScriptFault>
     ensures done { OnOk result (IsPlayed
-        (HaveOutcomes (meanings_of C.meaning L.meaning I.decides) world.old)
+        (HaveOutcomes (meanings_of C.meaning L.meaning I.decides) world.old world.new)
         events.now (W.known writer.old) (W.known writer.new)) }
-    ensures refused { IfErr result (PlayRefused
-        (HaveOutcomes (meanings_of C.meaning L.meaning I.decides) world.old)
+    ensures refused { IfErr result (EventsRefused
+        (meanings_of C.meaning L.meaning I.decides) world.old world.new
         events.now (W.known writer.old) (W.known writer.new)) }
 {
     let mut outcomes = Vec::new(alloc);
