@@ -88,7 +88,11 @@ files_reported r (inl none) = config_reported r.config_held r.fault_before r.fau
 files_reported r (inr (inl unread)) = unread_reported r.fault_before r.fault_after unread.why unread.reported.reported
 files_reported r (inr (inr failed)) = elim failed.run [
   | inl refused ↦ script_reported r.fault_before r.fault_after refused.why refused.line
-  | inr lost ↦ script_reported r.fault_before r.fault_after fault.WriteFailed lost.reports.line
+  | inr (inl short) ↦ elim short.reports [
+    | inl reported ↦ script_reported r.fault_before r.fault_after fault.NoMemory reported.1
+    | inr lost ↦ script_reported r.fault_before r.fault_after fault.WriteFailed lost.line
+  ]
+  | inr (inr lost) ↦ script_reported r.fault_before r.fault_after fault.WriteFailed lost.reports.line
 ]
 
 -- the line of a host's fault is the line of a fault

@@ -1,13 +1,12 @@
 -- What is written stays written where the writer hands on what it held back.
-use Rattle.std.proofs.Common.{ℕ, Bool, true, false, List, Option, Some, None, inl, inr, ◌∙◌}
+use Rattle.std.proofs.Common.{ℕ, Bool, true, false, List, Option, Some, None, ◌∙◌}
 use Rattle.std.proofs.KnownBytes.{Keeps-trans}
 use Rattle.std.specs.Io.KnownBytes.{Appends, Keeps}
 use Rattle.duk_config.specs.Settings.{Settings}
-use Rattle.duk_config.specs.declared.fault.ScriptFault.TheVariants.{NoMemory}
 use Rattle.duk_io.specs.Known.{Known, Stayed}
 use Rattle.duk_io.specs.Sink.{IsUntouched, IsWritten}
-use Rattle.duk_program.specs.Run.{IsDoneOver, IsRefusedOver}
-use Rattle.duk_script.specs.Session.{IsRunDone, IsRunRefused, IsScriptDone, IsScriptRefused, session}
+use Rattle.duk_program.specs.Run.{IsDoneOver}
+use Rattle.duk_script.specs.Session.{IsRunDone, IsScriptDone, session}
 
 appended_still : (a b c : Option (List ℕ)) (text : List ℕ) → Appends a b text → Keeps b c → Appends a c text
 appended_still None b c text first kept = tt
@@ -61,55 +60,3 @@ done_still bytes reader reader' writer written writer' run kept = record {
   text_is = run.text_is;
   done = script_done_still run.config run.text writer written writer' run.done kept;
 }
-
--- a script that was refused memory was so once its lines are handed on
-pub script_refused_still : (config : Settings) (text : List ℕ) (writer written writer' : Known) → IsScriptRefused config text writer written NoMemory
-    → IsUntouched written writer' → IsScriptRefused config text writer writer' NoMemory
-script_refused_still config text writer written writer' refused kept =
-    elim refused [
-      | inl quiet ↦ inl (untouched_still writer written writer' quiet kept)
-      | inr stopped ↦ inr (record {
-        events = stopped.events;
-        script = stopped.script;
-        cause = elim stopped.cause [
-          | inl quiet ↦ inl (untouched_still writer written writer' quiet kept)
-          | inr part ↦ inr (record { outcomes = part.outcomes; played = part.played; written = written_still writer written writer' _ part.written kept })
-        ];
-      })
-    ]
-
--- over a journal, or over a log
-pub refused_over_still : (journal : Bool) (config : Settings) (text : List ℕ) (writer written writer' : Known) → IsRefusedOver journal config text writer written NoMemory
-    → IsUntouched written writer' → IsRefusedOver journal config text writer writer' NoMemory
-refused_over_still true config text writer written writer' refused kept =
-    elim refused [
-      | inl quiet ↦ inl (untouched_still writer written writer' quiet kept)
-      | inr stopped ↦ inr (record {
-        events = stopped.events;
-        script = stopped.script;
-        cause = elim stopped.cause [
-          | inl quiet ↦ inl (untouched_still writer written writer' quiet kept)
-          | inr part ↦ inr (record { outcomes = part.outcomes; played = part.played; written = written_still writer written writer' _ part.written kept })
-        ];
-      })
-    ]
-refused_over_still false config text writer written writer' refused kept = script_refused_still config text writer written writer' refused kept
-
--- so was one that was to be read
-pub refused_still : (bytes : List ℕ) (reader reader' writer written writer' : Known) → IsRunRefused bytes (session reader reader' writer written) NoMemory
-    → IsUntouched written writer' → IsRunRefused bytes (session reader reader' writer writer') NoMemory
-refused_still bytes reader reader' writer written writer' (inl bad) kept =
-    inl (record { cause = bad.cause; unread = bad.unread; quiet = untouched_still writer written writer' bad.quiet kept })
-refused_still bytes reader reader' writer written writer' (inr (inl unread)) kept = inr (inl (record {
-  config = unread.config;
-  config_is = unread.config_is;
-  cause = unread.cause;
-  quiet = untouched_still writer written writer' unread.quiet kept;
-}))
-refused_still bytes reader reader' writer written writer' (inr (inr under)) kept = inr (inr (record {
-  config = under.config;
-  config_is = under.config_is;
-  text = under.text;
-  text_is = under.text_is;
-  refused = script_refused_still under.config under.text writer written writer' under.refused kept;
-}))

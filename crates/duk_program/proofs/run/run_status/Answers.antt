@@ -1,6 +1,5 @@
 use Rattle.std.proofs.Common.{inl, inr}
-use Rattle.duk_config.specs.declared.fault.ScriptFault.TheVariants.{NoMemory}
-use Rattle.duk_program.proofs.WrittenStaysWritten.{done_still, refused_still}
+use Rattle.duk_program.proofs.WrittenStaysWritten.{done_still}
 use Rattle.duk_program.proofs.run.run_status.Goals as goal
 
 pub returns-in-Ok-clause-done : goal.returns-in-Ok-clause-done
@@ -12,7 +11,4 @@ returns-in-Ok-clause-done g c zero = record {
 pub returns-in-Err-NoMemory-clause-not_done : goal.returns-in-Err-NoMemory-clause-not_done
 returns-in-Err-NoMemory-clause-not_done g c one =
     let refused = rw c.in-Err-NoMemory.field-0-is at c.in-Err-NoMemory.ensures.refused in
-    elim c.refuse_memory.ensures.reported [
-      | inl kept ↦ inl (record { why = NoMemory; refused = refused_still _ _ _ _ _ _ refused kept.0; line = kept.1 })
-      | inr lost ↦ inr (record { written = _; played = inr refused; reports = lost })
-    ]
+    inr (inl (record { written = _; refused = refused; reports = c.refuse_memory.ensures.reported }))
