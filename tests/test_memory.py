@@ -19,6 +19,7 @@ from .support.case import Case
 from .support.commands import derive_lines
 from .support.configuration import read
 from .support.model import played
+from .support.model_books import played as played_by_tills
 from .support.program import ROOT
 
 CRATES = ROOT / "crates"
@@ -63,16 +64,42 @@ LIBRARY = Driver("duk_driver", 4000 + 7, {
 })
 PROGRAM = Driver("duk_driver_program", 4000 + 8, {
     "run_status": Growths(1, 58, 40, has_events=True),
+    "play_script": Growths(1, 90, 40, has_events=True),
     "command": Growths(1, 220, 20),
 })
 
 # What the calls of `duk_driver_program` are given, and what they write where they are whole.
 RUN = (CRATES / PROGRAM.crate / "stdin").read_bytes()
 CONFIGURATION, _, SCRIPT = RUN.partition(b"\n\n")
+# A payment whose reply is lost and which is undone; one that is declined; a book that fails; stops.
+TILLS = b"""load t1 FFFF9876543210E00000
+begin t1 4012345678909 1234 1
+up 1
+reverse t1
+up 2
+down 2 t1
+begin t1 4012345678909 1234 10001
+up 3
+down 3 t1
+arm t1 book 0
+begin t1 4012345678909 1234 1
+restart t1
+restart host
+begin t1 4012345678909 1234 1
+up 4
+up 1
+down 4 t1
+restart t1
+"""
 DERIVED = ("0123456789ABCDEFFEDCBA9876543210", "FFFF9876543210E00001")
-GIVEN = {"run_status": RUN, "command": "\n".join(("dukpt", "derive", *DERIVED)).encode()}
+GIVEN = {
+    "run_status": RUN,
+    "play_script": CONFIGURATION + b"\n\n" + TILLS,
+    "command": "\n".join(("dukpt", "derive", *DERIVED)).encode(),
+}
 WRITTEN = {
     "run_status": played(read(CONFIGURATION), SCRIPT),
+    "play_script": played_by_tills(read(CONFIGURATION), TILLS),
     "command": "".join(f"{line}\n" for line in derive_lines(*DERIVED)).encode(),
 }
 
