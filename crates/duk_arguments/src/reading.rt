@@ -75,10 +75,40 @@ enum Conflict {
     Reversal,
 }
 
+impl Conflict {
+    /// The command whose arguments they are.
+    fn command(self) -> CommandName {
+        match self {
+            Conflict::Stores => CommandName::Serve,
+            Conflict::Reversal => CommandName::Request,
+        }
+    }
+
+    /// How that command is written.
+    fn command_line(self) -> &'static str {
+        match self {
+            Conflict::Stores => "dukpt serve",
+            Conflict::Reversal => "dukpt request",
+        }
+    }
+
+    /// What is told of them.
+    fn reason(self) -> &'static str {
+        match self {
+            Conflict::Stores => {
+                "the argument '--log <FILE>' cannot be used with '--journal <FILE>'"
+            }
+            Conflict::Reversal => {
+                "PAN, PIN and AMOUNT are required without '--reverse <NUMBER>', and cannot be used with it"
+            }
+        }
+    }
+}
+
 /// The conflict of the command that was used.
 fn conflict_in(matches: &ArgMatches<'_>) -> Conflict {
-    match matches.subcommand() {
-        Some((name, _)) if name == "request" => Conflict::Reversal,
+    match matches.subcommand_name() {
+        Some("request") => Conflict::Reversal,
         _ => Conflict::Stores,
     }
 }
@@ -97,20 +127,9 @@ fn conflict_answer(alloc: Global, conflict: Conflict) -> NoRequest
 fn conflict_error(alloc: Global, conflict: Conflict) -> Result<Error, AllocError>
     ensures { IfOk result (λ error. kind_of error ≡ ArgumentConflict) }
 {
-    let (command, name, text) = match conflict {
-        Conflict::Stores => (
-            CommandName::Serve,
-            "dukpt serve",
-            "the argument '--log <FILE>' cannot be used with '--journal <FILE>'",
-        ),
-        Conflict::Reversal => (
-            CommandName::Request,
-            "dukpt request",
-            "PAN, PIN and AMOUNT are required without '--reverse <NUMBER>', and cannot be used with it",
-        ),
-    };
-    let mut command = command_of(alloc, &usage_of(command))?.bin_name(name)?;
-    command.error(ErrorKind::ArgumentConflict, text)
+    let usage = usage_of(conflict.command());
+    let mut command = command_of(alloc, &usage)?.bin_name(conflict.command_line())?;
+    command.error(ErrorKind::ArgumentConflict, conflict.reason())
 }
 
 /// What `clap` reports with an error: that memory was refused, or a text for the user.

@@ -7,7 +7,7 @@ fault.
 
 With --journal each terminal is a till: it has one purchase open at a time, whose outcome a second store
 keeps, its book. The host keeps what it decided in a journal. SCRIPT may have two more lines: `reverse T`
-undoes the open purchase, and `arm T book N` lets the book fail.
+sends the reversal of the open purchase, and `arm T book N` lets the book fail.
 
 Example:
   $ dukpt run examples/bank.toml examples/payment.script
