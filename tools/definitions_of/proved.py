@@ -3,8 +3,8 @@
 `FUNCTION.CLAUSE` names a clause of a public function, by its path from the crate on, and `.CLAUSE`
 another clause of the function before it in the same line. `FUNCTION()` and a path with `::` name a
 function alone. The crate is that of the path, or one that stands alone in backticks in the line, or
-else in the heading; a method of a type may be of any crate. The table of the headline has a row for
-each law.
+else in the heading; a method of a type may be of any crate. Under the headline it is `duk_net`, and
+the table there has a row for each law.
 """
 from __future__ import annotations
 
@@ -18,6 +18,7 @@ SPAN = re.compile(r"`([^`\s/(){}\[\]<>]*(?:\(\))?)`")
 NAMED = re.compile(r"((?:\w+::)*\w+)?(?:\.(\w+)|(\(\)))?$")
 FILES = (".rt", ".antt", ".md", ".txt", ".py", ".edit", ".edits", ".toml")
 HEADLINE = "## The headline"
+OF_HEADLINE = ["duk_net"]
 
 
 @dataclass
@@ -62,7 +63,7 @@ def named_in(path: Path) -> list[Named]:
     crates: list[str] = []
     for number, line in enumerate(path.read_text(encoding="utf-8").splitlines(), 1):
         if line.startswith("#"):
-            crates = re.findall(r"`(duk_\w+|dukpt\w*)`", line)
+            crates = OF_HEADLINE if line == HEADLINE else re.findall(r"`(duk_\w+|dukpt\w*)`", line)
         found += named_in_line(number, line, crates)
     return found
 
