@@ -6,7 +6,7 @@ from __future__ import annotations
 
 import random
 from dataclasses import dataclass
-from typing import Any, Callable, Iterator, Optional, Sequence, Union
+from typing import Any, Callable, Iterator, Optional, Sequence, TypeVar, Union
 
 from .dukpt import counter_of, iksn_of, serial_text, usable
 
@@ -297,11 +297,23 @@ def rows_in(groups: Sequence[Group]) -> list[Row]:
 # Journals and damage at random
 
 
+T = TypeVar("T")
+
+
 class Journals:
     """What draws them."""
 
     def __init__(self, chance: random.Random) -> None:
         self.chance = chance
+        self.left: dict[str, list[int]] = {}
+
+    def in_turn(self, what: str, ways: Sequence[T]) -> T:
+        """One of these ways. Each of them comes, in an order at random, before one comes again, so
+        that few draws leave none out."""
+        left = self.left.setdefault(what, [])
+        if not left:
+            left += self.chance.sample(range(len(ways)), len(ways))
+        return ways[left.pop()]
 
     def serial(self, iksn: int) -> int:
         counter = 0
@@ -402,7 +414,7 @@ def no_payment(journals: Journals, groups: Sequence[Group], data: bytes) -> tupl
 
 
 def unknown_kind(journals: Journals, groups: Sequence[Group], data: bytes) -> tuple[bytes, Place]:
-    kind = journals.chance.choice((0, 3, journals.chance.randint(3, 255)))
+    kind = journals.in_turn("kind", (0, 3, journals.chance.randint(3, 255)))
     return put(data, any_entry(journals, groups), 1, bytes([kind]))
 
 
@@ -419,11 +431,15 @@ def no_state(journals: Journals, groups: Sequence[Group], data: bytes) -> tuple[
 def unusable_reversed(journals: Journals, groups: Sequence[Group], data: bytes
                       ) -> tuple[bytes, Place]:
     """No number has the counter that is reversed: it is zero, has many one bits, or is too long."""
-    ones = journals.chance.choice((0, 11, 21))
-    counter = sum(1 << it for it in journals.chance.sample(range(21), ones))
-    long = (1 << 21, 1 << 24 | 1, journals.chance.randrange(1 << 21, 1 << 32))
-    value = journals.chance.choice((counter, journals.chance.choice(long)))
+    value = journals.in_turn("reversed", (
+        0, many_ones(journals, 11), many_ones(journals, 21),
+        1 << 21, 1 << 24 | 1, journals.chance.randrange(1 << 21, 1 << 32)))
     return put(data, any_of(Reversal, journals, groups), 14, value.to_bytes(4, "big"))
+
+
+def many_ones(journals: Journals, ones: int) -> int:
+    """A counter with so many one bits."""
+    return sum(1 << it for it in journals.chance.sample(range(21), ones))
 
 
 def own_reversed(journals: Journals, groups: Sequence[Group], data: bytes
@@ -436,8 +452,7 @@ def own_reversed(journals: Journals, groups: Sequence[Group], data: bytes
 
 def unusable_counter(journals: Journals, groups: Sequence[Group], data: bytes
                      ) -> tuple[bytes, Place]:
-    ones = journals.chance.choice((0, 11, 21))
-    counter = sum(1 << it for it in journals.chance.sample(range(21), ones))
+    counter = many_ones(journals, journals.in_turn("ones", (0, 11, 21)))
     record = any_entry(journals, groups)
     front = data[RECORD * record + 11] & 0xE0
     return put(data, record, 11, (front << 16 | counter).to_bytes(3, "big"))
@@ -462,7 +477,7 @@ def open_behind(journals: Journals, groups: Sequence[Group], data: bytes) -> tup
 
 def following_follower(journals: Journals, groups: Sequence[Group], data: bytes
                        ) -> tuple[bytes, Place]:
-    followers = journals.chance.choice((1, 256, journals.chance.randint(1, 0xFFFF)))
+    followers = journals.in_turn("following", (1, 256, journals.chance.randint(1, 0xFFFF)))
     return put(data, a_follower(journals, groups), 2, followers.to_bytes(2, "big"))
 
 
@@ -473,7 +488,7 @@ def a_follower(journals: Journals, groups: Sequence[Group]) -> int:
 
 def too_many(journals: Journals, groups: Sequence[Group], data: bytes) -> tuple[bytes, Place]:
     """More followers than a group may have, with records for all of them behind it."""
-    followers = journals.chance.choice((MOST_FOLLOWERS + 1, journals.chance.randint(4096, 9000)))
+    followers = journals.in_turn("followers", (MOST_FOLLOWERS + 1, journals.chance.randint(4096, 9000)))
     record = journals.chance.choice(starts_of(groups)[:-1])
     data = data.ljust(RECORD * (record + followers + 1), b"\x00")
     return put(data, record, 2, followers.to_bytes(2, "big"))
