@@ -15,7 +15,6 @@ pub mod First
 pub mod Reached
 pub mod CallLeads
 pub mod Gained
-pub mod InitialKey
 pub mod Numbers
 pub mod Sent
 pub mod NoUsedKey

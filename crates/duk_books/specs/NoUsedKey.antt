@@ -14,7 +14,7 @@ use Rattle.duk_tree.specs.Next.{spent_counter}
 use Rattle.duk_tree.specs.Path.{IsUsable}
 use Rattle.duk_tree.specs.Serial.{Serial}
 use Rattle.duk_books.specs.Books.{Frame, IsAt, Meanings}
-use Rattle.duk_books.specs.InitialKey.{IsInitialKeyOf}
+use Rattle.duk_hsm.specs.InitialKey.{IsInitialKeyOf}
 use Rattle.duk_books.specs.Numbers.{IsUsedNumber}
 use Rattle.duk_books.specs.Owner.{IsOwner, Owns}
 use Rattle.duk_books.specs.declared.owner.Owner.{Owner}

@@ -14,7 +14,7 @@ ghost use Rattle.duk_books.specs.Books.{BooksOf, meanings_of};
 ghost use Rattle.duk_books.specs.CallLeads.{CallLeads};
 ghost use Rattle.duk_books.specs.Completed.{CompletedByHost, KnowFromHost};
 ghost use Rattle.duk_books.specs.Images.{FindLast, FindVersion2};
-ghost use Rattle.duk_books.specs.InitialKey.{IsInitialKeyOf};
+ghost use Rattle.duk_hsm.specs.InitialKey.{IsInitialKeyOf};
 ghost use Rattle.duk_books.specs.NoUsedKey.{InEachTill, NoUsedKey, OwnsAboveUsed};
 ghost use Rattle.duk_books.specs.Numbers.{AreUsedOwned, IsSentByOwner, UsedOnce};
 ghost use Rattle.duk_books.specs.Owner.{IsOwner, Owns};

@@ -1,4 +1,5 @@
 pub mod Keys
+pub mod InitialKey
 pub mod Load
 pub mod Commands
 pub mod TransactionKeys

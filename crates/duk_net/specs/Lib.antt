@@ -1,7 +1,6 @@
 pub mod Owner
 pub mod World
 pub mod First
-pub mod InitialKey
 pub mod Load
 pub mod Begin
 pub mod Up

@@ -13,7 +13,7 @@ use Rattle.duk_tree.specs.Frontier.{IsAncestorOrSelf}
 use Rattle.duk_tree.specs.Next.{spent_counter}
 use Rattle.duk_tree.specs.Path.{IsUsable}
 use Rattle.duk_tree.specs.Serial.{Serial}
-use Rattle.duk_net.specs.InitialKey.{IsInitialKeyOf}
+use Rattle.duk_hsm.specs.InitialKey.{IsInitialKeyOf}
 use Rattle.duk_net.specs.UsedOnce.{IsUsedNumber}
 use Rattle.duk_net.specs.Owner.{IsOwner, Owns}
 use Rattle.duk_net.specs.World.{Frame, IsAt, Meanings}

@@ -13,7 +13,7 @@ ghost use Rattle.duk_net.specs.declared.event.End.{End};
 ghost use Rattle.duk_net.specs.declared.event.Event.{Event};
 ghost use Rattle.duk_net.specs.declared.outcome.Outcome.{Outcome};
 ghost use Rattle.duk_net.specs.Images.{FindVersion2};
-ghost use Rattle.duk_net.specs.InitialKey.{IsInitialKeyOf};
+ghost use Rattle.duk_hsm.specs.InitialKey.{IsInitialKeyOf};
 ghost use Rattle.duk_net.specs.UsedOnce.{AreUsedOwned, IsSentByOwner, UsedOnce};
 ghost use Rattle.duk_net.specs.Owner.{IsOwner, Owns};
 ghost use Rattle.duk_net.specs.OwnKey.{IsOwnKeyReply, IsOwnKeyRequest, IsRefusedAsUsedOrFull};

@@ -22,7 +22,7 @@ use Rattle.duk_term.specs.declared.purchase.Purchase.{Purchase}
 use Rattle.duk_till.specs.Till.{TillOf}
 use Rattle.duk_tree.specs.Serial.{Serial}
 use Rattle.duk_books.specs.Books.{BooksOf, ChangesOnly, Frame, IsAt, Meanings}
-use Rattle.duk_books.specs.InitialKey.{IsInitialKeyOf}
+use Rattle.duk_hsm.specs.InitialKey.{IsInitialKeyOf}
 use Rattle.duk_books.specs.Numbers.{AreUsedOwned, HasNumber, HasUsableNumber, HaveDifferentNumbers, IsUsedNumber, UsedOnce}
 use Rattle.duk_books.specs.Owner.{IsOwner, Owns}
 use Rattle.duk_books.proofs.agreement.BooksHold.{after_at}

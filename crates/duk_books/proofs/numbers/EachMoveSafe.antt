@@ -16,7 +16,7 @@ use Rattle.duk_tree.specs.Serial.{Serial}
 use Rattle.duk_books.specs.Books.{BooksOf, ChangesOnly, Meanings}
 use Rattle.duk_books.specs.First.{IsFirst, IsNewTill}
 use Rattle.duk_books.specs.Images.{IsNothingOrLast}
-use Rattle.duk_books.specs.InitialKey.{IsInitialKeyOf}
+use Rattle.duk_hsm.specs.InitialKey.{IsInitialKeyOf}
 use Rattle.duk_books.specs.Load.{ChangesOwners, IsGiven, TakesLoad}
 use Rattle.duk_books.specs.Numbers.{HasNumber, HasUsableNumber, IsUsedNumber, UsedOnce}
 use Rattle.duk_books.specs.Owner.{BecomesOwner, IsOwner, Owns}

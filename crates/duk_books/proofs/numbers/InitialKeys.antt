@@ -6,7 +6,7 @@ use Rattle.duk_hsm.specs.Commands.{IsIssued}
 use Rattle.duk_hsm.specs.Keys.{HsmKeys}
 use Rattle.duk_tdes.specs.Tdes.{IsTdesKey}
 use Rattle.duk_term.specs.Loading.{WrapsInitialKey}
-use Rattle.duk_books.specs.InitialKey.{IsInitialKeyOf}
+use Rattle.duk_hsm.specs.InitialKey.{IsInitialKeyOf}
 
 -- under one key a text is a key block of at most one header and one key
 abbrev pub OneKeyBlock : Type 0

@@ -13,7 +13,7 @@ use Rattle.duk_term.specs.declared.state.State.TheVariants.{Stopped, Empty, Load
 use Rattle.duk_tree.specs.Path.{IsUsable}
 use Rattle.duk_tree.specs.Serial.{Serial}
 use Rattle.duk_books.specs.Books.{BooksOf, Frame}
-use Rattle.duk_books.specs.InitialKey.{IsInitialKeyOf}
+use Rattle.duk_hsm.specs.InitialKey.{IsInitialKeyOf}
 use Rattle.duk_books.specs.Numbers.{IsUsedNumber}
 use Rattle.duk_books.specs.Owner.{IsOwner, Owns}
 use Rattle.duk_books.specs.declared.owner.Owner.{Owner}

@@ -9,7 +9,7 @@ use Rattle.duk_hsm.specs.declared.fault.HsmFault.{HsmFault}
 use Rattle.duk_hsm.specs.declared.fault.HsmFault.TheVariants as fault
 use Rattle.duk_tdes.specs.Tdes.{IsTdesKey}
 use Rattle.duk_term.specs.Loading.{WrapsInitialKey}
-use Rattle.duk_net.specs.InitialKey.{IsInitialKeyOf}
+use Rattle.duk_hsm.specs.InitialKey.{IsInitialKeyOf}
 
 fits : FitsKeyBlock 16 6
 fits = search rules

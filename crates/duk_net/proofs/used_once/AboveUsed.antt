@@ -21,7 +21,7 @@ use Rattle.duk_tdes.specs.Tdes.{IsTdesKey}
 use Rattle.duk_tree.specs.Next.{ComesAfter}
 use Rattle.duk_tree.specs.Path.{IsUsable, path_of}
 use Rattle.duk_tree.specs.Serial.{Serial}
-use Rattle.duk_net.specs.InitialKey.{IsInitialKeyOf}
+use Rattle.duk_hsm.specs.InitialKey.{IsInitialKeyOf}
 use Rattle.duk_net.specs.UsedOnce.{AreUsedOwned, HasNumber, IsUsedNumber, UsedOnce}
 use Rattle.duk_net.specs.Owner.{IsOwner, Owns}
 use Rattle.duk_net.specs.NoUsedKey.{RemembersUsed, AreRegistersAboveUsed}

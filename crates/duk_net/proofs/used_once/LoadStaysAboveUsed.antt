@@ -13,7 +13,7 @@ use Rattle.duk_term.specs.declared.fault.TermFault.TheVariants as fault
 use Rattle.duk_term.specs.declared.state.State.{State}
 use Rattle.duk_term.specs.declared.state.State.TheVariants.{Stopped, Empty, Loaded}
 use Rattle.duk_tree.specs.Serial.{Serial}
-use Rattle.duk_net.specs.InitialKey.{IsInitialKeyOf}
+use Rattle.duk_hsm.specs.InitialKey.{IsInitialKeyOf}
 use Rattle.duk_net.specs.Load.{ChangesOwners, TakesLoad}
 use Rattle.duk_net.specs.Owner.{BecomesOwner, IsElsewhere, IsOwner, Owns}
 use Rattle.duk_net.specs.UsedOnce.{IsUsedNumber}
