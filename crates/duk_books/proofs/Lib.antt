@@ -2,3 +2,4 @@ mod moves
 mod agreement
 mod numbers
 mod accepted
+mod calm_stores

@@ -24,4 +24,5 @@ pub mod Agree
 pub mod AcceptedOnce
 pub mod OwnKeyOfReplies
 pub mod Completed
+pub mod Calm
 pub mod inner

@@ -12,6 +12,7 @@ ghost use Rattle.duk_books.specs.AcceptedOnce.{AcceptedOnce, HaveOneReply, Keeps
 ghost use Rattle.duk_books.specs.Agree.{BooksAgree};
 ghost use Rattle.duk_books.specs.Books.{BooksOf, meanings_of};
 ghost use Rattle.duk_books.specs.CallLeads.{CallLeads};
+ghost use Rattle.duk_books.specs.Calm.{FailsOnceArmed, HasSoundStores, IsCalmAt, IsRestartEvent, ReportsBroughtUp, ReportsNoDamage, StaysCalm};
 ghost use Rattle.duk_books.specs.Completed.{CompletedByHost, KnowFromHost};
 ghost use Rattle.duk_books.specs.Images.{FindLast, FindVersion2};
 ghost use Rattle.duk_hsm.specs.InitialKey.{IsInitialKeyOf};
@@ -21,7 +22,10 @@ ghost use Rattle.duk_books.specs.Owner.{IsOwner, Owns};
 ghost use Rattle.duk_books.specs.OwnKeyOfReplies.{IsOwnKeyReply, IsRefusedAsUsedOrFull};
 ghost use Rattle.duk_books.specs.OwnKeyOfRequests.{IsOwnKeySent};
 ghost use Rattle.duk_books.specs.Reached.{Reached};
+ghost use Rattle.duk_books.specs.Run.{Run};
 ghost use Rattle.duk_books.specs.Sent.{SentByOwners};
+ghost use Rattle.duk_books.specs.declared.event.End.{End};
+ghost use Rattle.duk_books.specs.declared.event.Event.{Event};
 ghost use Rattle.duk_books.specs.declared.outcome.Outcome.{Outcome};
 
 use duk_host::Issuer;
@@ -212,6 +216,71 @@ pub fn completed_by_host<C: Cell, B: Cell, J: Journal, I: Issuer>()
     ensures known_from_host { let m = meanings_of C.meaning B.meaning J.meaning I.decides in
         (books : BooksOf C B J I) → Reached m books → KnowFromHost m books }
 {
+    duk_till::laws::one_reading();
+    duk_term::laws::requests::<C>();
+    duk_term::laws::reversals::<C>();
+    duk_term::laws::found_again();
+    duk_regs::laws::transactions();
+    duk_tree::laws::bits();
+    duk_frame::laws::one_reading();
+    duk_frame::laws::payments();
+    duk_reversal::laws::one_reading();
+    duk_reversal::laws::apart_from_payments();
+    duk_line::laws::new_numbers();
+    duk_line::laws::one_reply();
+}
+
+/// Sound stores stay sound, and none of them is reported as damaged. A store that is calm stays so
+/// until it is armed, and no failed device step of it is reported before.
+pub fn calm_stores<C: Cell, B: Cell, J: Journal, I: Issuer>()
+    ensures sound { let m = meanings_of C.meaning B.meaning J.meaning I.decides in
+        (old new : BooksOf C B J I) (outcomes : List Outcome) → Reached m old
+        → HasSoundStores m old → CallLeads m old outcomes new → HasSoundStores m new }
+    ensures no_damage { let m = meanings_of C.meaning B.meaning J.meaning I.decides in
+        (old new : BooksOf C B J I) (outcomes : List Outcome) → Reached m old
+        → HasSoundStores m old → CallLeads m old outcomes new → All ReportsNoDamage outcomes }
+    ensures calm { let m = meanings_of C.meaning B.meaning J.meaning I.decides in
+        (end : End) (old new : BooksOf C B J I) (outcomes : List Outcome) → Reached m old
+        → IsCalmAt m old end → CallLeads m old outcomes new → StaysCalm m end new outcomes }
+    ensures once_armed { let m = meanings_of C.meaning B.meaning J.meaning I.decides in
+        (end : End) (old new : BooksOf C B J I) (outcomes : List Outcome) → Reached m old
+        → IsCalmAt m old end → CallLeads m old outcomes new → FailsOnceArmed end outcomes }
+{
+    no_used_key::<C, B, J, I>();
+    duk_till::laws::one_reading();
+    duk_term::laws::requests::<C>();
+    duk_term::laws::reversals::<C>();
+    duk_term::laws::found_again();
+    duk_regs::laws::transactions();
+    duk_tree::laws::bits();
+    duk_frame::laws::one_reading();
+    duk_frame::laws::payments();
+    duk_reversal::laws::one_reading();
+    duk_reversal::laws::apart_from_payments();
+    duk_line::laws::new_numbers();
+    duk_line::laws::one_reply();
+}
+
+/// Restarts of the host and of tills that are there bring them all up, where all stores are sound
+/// and calm, and leave the stores so.
+pub fn calm_restarts<C: Cell, B: Cell, J: Journal, I: Issuer>()
+    ensures brought_up { let m = meanings_of C.meaning B.meaning J.meaning I.decides in
+        (old new : BooksOf C B J I) (events : List Event) (outcomes : List Outcome)
+        → Reached m old → HasSoundStores m old → ((end : End) → IsCalmAt m old end)
+        → All (IsRestartEvent old) events → Run m old events outcomes new
+        → All ReportsBroughtUp outcomes }
+    ensures sound { let m = meanings_of C.meaning B.meaning J.meaning I.decides in
+        (old new : BooksOf C B J I) (events : List Event) (outcomes : List Outcome)
+        → Reached m old → HasSoundStores m old → Run m old events outcomes new
+        → HasSoundStores m new }
+    ensures calm { let m = meanings_of C.meaning B.meaning J.meaning I.decides in
+        (old new : BooksOf C B J I) (events : List Event) (outcomes : List Outcome)
+        → Reached m old → HasSoundStores m old → ((end : End) → IsCalmAt m old end)
+        → All (IsRestartEvent old) events → Run m old events outcomes new → (end : End)
+        → IsCalmAt m new end }
+{
+    calm_stores::<C, B, J, I>();
+    no_used_key::<C, B, J, I>();
     duk_till::laws::one_reading();
     duk_term::laws::requests::<C>();
     duk_term::laws::reversals::<C>();

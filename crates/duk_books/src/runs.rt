@@ -4,7 +4,9 @@ ghost use Rattle.std.specs.Prelude.{◌≡◌, ℕ, All, IfOk, IfErr, OnErr};
 ghost use Rattle.duk_books.specs.AcceptedOnce.{AcceptedOnce, HaveOneReply, KeepsAccepted};
 ghost use Rattle.duk_books.specs.Agree.{BooksAgree};
 ghost use Rattle.duk_books.specs.Books.{meanings_of};
+ghost use Rattle.duk_books.specs.Calm.{FailsOnceArmed, HasSoundStores, IsCalmAt, ReportsNoDamage, StaysCalm};
 ghost use Rattle.duk_books.specs.Completed.{CompletedByHost, KnowFromHost};
+ghost use Rattle.duk_books.specs.declared.event.End.{End};
 ghost use Rattle.duk_books.specs.Gained.{EachGained, GainedMeet};
 ghost use Rattle.duk_books.specs.Images.{FindLast, FindVersion2};
 ghost use Rattle.duk_books.specs.NoUsedKey.{InEachTill, NoUsedKey, OwnsAboveUsed};
@@ -54,6 +56,9 @@ pub enum RunFault {
 ///
 /// The host accepts each number at most once, and each of its replies is made under the till's own
 /// key; and a purchase ends only by the host's reply to its number, and at most once.
+///
+/// Where all stores are sound, none of them is reported as damaged; and of one that is calm no failed
+/// device step is reported before it was armed.
 pub fn run<const N: usize, C: Cell, B: Cell, J: Journal, I: Issuer>(
     books: &mut Books<N, C, B, J, I>,
     events: &[Event],
@@ -110,6 +115,18 @@ pub fn run<const N: usize, C: Cell, B: Cell, J: Journal, I: Issuer>(
         books.new) out.old.items out.new.items }
     ensures known_from_host { KnowFromHost
         (meanings_of C.meaning B.meaning J.meaning I.decides) books.new }
+    // Sound stores report no damage, and calm ones fail only once they were armed.
+    ensures sound { let m = meanings_of C.meaning B.meaning J.meaning I.decides in
+        HasSoundStores m books.old → HasSoundStores m books.new }
+    ensures no_damage { HasSoundStores
+        (meanings_of C.meaning B.meaning J.meaning I.decides) books.old
+        → EachGained ReportsNoDamage out.old.items out.new.items }
+    ensures calm { let m = meanings_of C.meaning B.meaning J.meaning I.decides in
+        (end : End) → IsCalmAt m books.old end
+        → GainedMeet (StaysCalm m end books.new) out.old.items out.new.items }
+    ensures once_armed { (end : End)
+        → IsCalmAt (meanings_of C.meaning B.meaning J.meaning I.decides) books.old end
+        → GainedMeet (FailsOnceArmed end) out.old.items out.new.items }
 {
     laws::agreement::<C, B, J, I>();
     laws::numbers::<C, B, J, I>();
@@ -120,6 +137,7 @@ pub fn run<const N: usize, C: Cell, B: Cell, J: Journal, I: Issuer>(
     laws::own_key_of_replies::<C, B, J, I>();
     laws::refusals::<C, B, J, I>();
     laws::completed_by_host::<C, B, J, I>();
+    laws::calm_stores::<C, B, J, I>();
     run_system(&mut books.system, events, out)
 }
 

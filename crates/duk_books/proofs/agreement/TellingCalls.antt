@@ -298,11 +298,14 @@ module _ {C B J I : Type 0} (laws : CallLaws) (m : Meanings C B J I) (t : ℕ) (
 
   -- ---- restarts
 
-  -- a purchase is not found that has begun, and whose number comes next
-  not_unsent : (new : TillOf C B) (before : Option Last) (ksn : Serial) → TerminalHas m.cell (RegistersHold lists t) new.terminal → IfSome before (Fits lists t) → ¬ IsUnsent new.terminal.state (Running before) ksn
-  not_unsent new before ksn terminal fits unsent =
-      let at = spent_or_at new.terminal.state ksn unsent.1 in
-      let set : SetHolds lists t at.0 = subst (StateHas (RegistersHold lists t)) at.2 terminal.state in
+  -- a restart finds no purchase whose number is the terminal's next one: each that it may find has begun
+  pub none_unsent : (old : TillOf C B) (terminal : TerminalOf C) (between : B) (before : Option Last) (ksn : Serial) → TillHolds m lists t old → IsTerminalRestarted m.cell old.terminal terminal
+      → FoundLast m.book old.book between before → ¬ IsUnsent terminal.state (Running before) ksn
+  none_unsent old terminal between before ksn holds is found unsent =
+      let up = restarted laws.registers m.cell (RegistersHold lists t) old.terminal terminal holds.terminal is in
+      let fits = found_fits laws.reading m.book t lists old (record old { book = between }) before holds.book found in
+      let at = spent_or_at terminal.state ksn unsent.1 in
+      let set : SetHolds lists t at.0 = subst (StateHas (RegistersHold lists t)) at.2 up.state in
       let opens_on : before ≡ Some (Open ksn unsent.0.0) = same_last (Running before) before (Some (Open ksn unsent.0.0)) refl unsent.0.1 in
       let fits_open : Fits lists t (Open ksn unsent.0.0) = subst (λ (it : Option Last). IfSome it (Fits lists t)) opens_on fits in
       let owned : IsOwner lists.owners ksn.iksn t = subst (λ (it : Serial). IsOwner lists.owners it.iksn t) at.3 set.owned in
@@ -368,8 +371,7 @@ module _ {C B J I : Type 0} (laws : CallLaws) (m : Meanings C B J I) (t : ℕ) (
   restart_done : (old new : TillOf C B) → TillHolds m lists t old → TakesSale lists.sales t (approved_in new.state) sales → IsTillRestarted m.cell m.book old new → TillHolds m After t new
   restart_done old new holds takes is = elim is.book_is [
     | inl found ↦ restart_finds old new is.last holds takes is.terminal found.found is.state_is
-    | inr closed ↦ absurd (not_unsent new closed.before closed.ksn (terminal_up old new holds is.terminal)
-        (found_fits laws.reading m.book t lists old (record new { book = closed.between }) closed.before holds.book closed.found) closed.unsent)
+    | inr closed ↦ absurd (none_unsent old new.terminal closed.between closed.before closed.ksn holds is.terminal closed.found closed.unsent)
   ]
 
   pub restart_refused_so : (old new : TillOf C B) (why : TillFault) → TillHolds m lists t old → TakesSale lists.sales t (approved_in new.state) sales → TillRestartRefused m.cell m.book old new why → TillHolds m After t new
@@ -387,8 +389,7 @@ module _ {C B J I : Type 0} (laws : CallLaws) (m : Meanings C B J I) (t : ℕ) (
               let restart = damaged.1.cell in
               stopped_till old new holds takes terminal (restart.settles.nature.honest.0 holds.book.honest)
               (λ kept found. subst (λ it. (m.book.state_of old.book).found it) (sym ((restart.settles.finds holds.book.honest kept).0 found)) (restart.was_found holds.book.honest)) is.2
-          | inr not_closed ↦ absurd (not_unsent new not_closed.before not_closed.ksn terminal
-              (found_fits laws.reading m.book t lists old (record new { book = not_closed.between }) not_closed.before holds.book not_closed.found) not_closed.unsent)
+          | inr closing ↦ absurd (none_unsent old new.terminal closing.between closing.before closing.ksn holds is.0 closing.found closing.unsent)
         ]
       ]
   restart_refused_so old new fault.Stopped holds takes is = absurd is

@@ -1,5 +1,6 @@
 -- Things and tills in their places.
-use Rattle.std.proofs.Common.{◌≡◌, ◌+◌, ◌<◌, ℕ, List, [], ◌∷◌, zero, suc, Some, length, ap, refl, sym, subst, arith}
+use Rattle.std.proofs.Common.{◌≡◌, ◌+◌, ◌<◌, ℕ, List, [], ◌∷◌, zero, suc, All, Some, get_or, length, ap, refl, sym, subst, arith}
+use Rattle.std.proofs.lemmas.Option.{slice_get-get_or}
 use Rattle.std.specs.List.{slice_get, slice_index_or, slice_set}
 use Rattle.duk_books.specs.Books.{ChangesOnly, HasOne, IsAt}
 
@@ -16,6 +17,11 @@ is_at things number place count thing number_is within counted is = record {
   number_is = number_is;
   thing_is = stands_at things place thing (subst (λ n. place < n) counted within) is;
 }
+
+-- what holds of each thing by its number holds of all
+pub all_at : {A : Type 0} (P : A → Type 0) (things : List A) → ((number : ℕ) (thing : A) → IsAt things number thing → P thing) → All P things
+all_at P things each place default within =
+    each (place + 1) (get_or things place default) (record { place = place; number_is = refl; thing_is = slice_get-get_or things place default within })
 
 -- a list of so many things has one of this number
 pub has_one : {A : Type 0} (things : List A) (number place count : ℕ) → number ≡ place + 1 → place < count → count ≡ length things → HasOne things number

@@ -1,8 +1,7 @@
 -- Registers that are safe hold the key of no used number, nor of an ancestor of one, and so it is of
 -- what the cells of tills find.
-use Rattle.std.proofs.Common.{pow_pos, ◌≡◌, ◌⊎◌, ◌<◌, ◌≤◌, ◌^◌, ◌+◌, [], ◌∷◌, ℕ, List, Some, None, All, get_or, length, inl, inr, refl, sym, ap, subst, arith}
+use Rattle.std.proofs.Common.{pow_pos, ◌≡◌, ◌⊎◌, ◌<◌, ◌≤◌, ◌^◌, [], ◌∷◌, ℕ, List, Some, None, length, inl, inr, refl, sym, ap, subst, arith}
 use Rattle.std.specs.List.{Contains, slice_index}
-use Rattle.std.proofs.lemmas.Option.{slice_get-get_or}
 use Rattle.duk_regs.specs.Image.{IsImage, IsImageOfVersion2}
 use Rattle.duk_regs.specs.Registers.{AreFutureKeysOf, IsKeyOfNode, IsSpentIksn, RegisterSet, empty_register, register_at}
 use Rattle.duk_store.specs.Cell.{Kept}
@@ -14,13 +13,14 @@ use Rattle.duk_tree.specs.Frontier.{IsAncestorOrSelf, IsInFrontier}
 use Rattle.duk_tree.specs.Next.{spent_counter}
 use Rattle.duk_tree.specs.Path.{IsUsable, path_of, value_of}
 use Rattle.duk_tree.specs.Serial.{Serial}
-use Rattle.duk_books.specs.Books.{BooksOf, IsAt, Meanings}
+use Rattle.duk_books.specs.Books.{BooksOf, Meanings}
 use Rattle.duk_books.specs.Images.{FindLast, FindVersion2, FindsLast, FindsVersion2, HasVersion2}
 use Rattle.duk_books.specs.NoUsedKey.{IfKept, IfLoaded, InEachTill, IsAboveUsed, IsEmptyOrOfUnusedNode, NoUsedKey, OwnsAboveUsed}
 use Rattle.duk_books.specs.Owner.{Owns}
 use Rattle.duk_books.specs.Reached.{Reached}
 use Rattle.duk_books.proofs.agreement.Registers.{IsBehind}
 use Rattle.duk_books.proofs.agreement.Terminals.{KeptHas, RegisterLaws, StateHas}
+use Rattle.duk_books.proofs.moves.PlacesInLists.{all_at}
 use Rattle.duk_books.proofs.numbers.AllSafe.{SafeLaws}
 use Rattle.duk_books.proofs.numbers.EachMoveSafe.{reached_safe}
 use Rattle.duk_books.proofs.numbers.Safe.{RegistersSafe, Rest, SetSafe, rest_of}
@@ -148,10 +148,6 @@ kept_of_version_2 rest t (Some body) laws safe =
     of_version_2 (image_in body) (subst (λ (it : List ℕ). slice_index (image_in it) 0 ≡ 2) (sym safe.own) (first_is_2 (set_of_body body))) is_body.image
 
 -- ---- each till
-
-all_at : {A : Type 0} (P : A → Type 0) (things : List A) → ((t : ℕ) (thing : A) → IsAt things t thing → P thing) → All P things
-all_at P things each place default within =
-    each (place + 1) (get_or things place default) (record { place = place; number_is = refl; thing_is = slice_get-get_or things place default within })
 
 module _ {C B J I : Type 0} (m : Meanings C B J I) (books : BooksOf C B J I) (laws : SafeLaws m.cell) (reached : Reached m books) where
   pub find_version_2 : FindVersion2 m books.tills

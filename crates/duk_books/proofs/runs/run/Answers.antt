@@ -83,3 +83,23 @@ returns-clause-completed_by_host g c =
 
 pub returns-clause-known_from_host : goal.returns-clause-known_from_host
 returns-clause-known_from_host g c = c.completed_by_host.ensures.known_from_host c.run_system.new.system (reached g c)
+
+pub returns-clause-sound : goal.returns-clause-sound
+returns-clause-sound g c =
+    let led = leads g c in
+    rw (← c.books.view_is) (λ sound. c.calm_stores.ensures.sound c.books.inside.system c.run_system.new.system led.outcomes c.books.invariant sound led.holds)
+
+pub returns-clause-no_damage : goal.returns-clause-no_damage
+returns-clause-no_damage g c =
+    rw (← c.books.view_is) (λ sound. gained_so _ _ c.args.out.now.items c.run_system.new.out.items
+    (λ outcomes. c.calm_stores.ensures.no_damage c.books.inside.system c.run_system.new.system outcomes c.books.invariant sound) (leads g c))
+
+pub returns-clause-calm : goal.returns-clause-calm
+returns-clause-calm g c =
+    rw (← c.books.view_is) (λ end calm. gained_so _ _ c.args.out.now.items c.run_system.new.out.items
+    (λ outcomes. c.calm_stores.ensures.calm end c.books.inside.system c.run_system.new.system outcomes c.books.invariant calm) (leads g c))
+
+pub returns-clause-once_armed : goal.returns-clause-once_armed
+returns-clause-once_armed g c =
+    rw (← c.books.view_is) (λ end calm. gained_so _ _ c.args.out.now.items c.run_system.new.out.items
+    (λ outcomes. c.calm_stores.ensures.once_armed end c.books.inside.system c.run_system.new.system outcomes c.books.invariant calm) (leads g c))
