@@ -1,5 +1,5 @@
 -- What writing does to a writer (this project's own).
-use Rattle.std.specs.Prelude.{◌≡◌, ◌<◌, ◌⊎◌, ◌++◌, ℕ, List, length, take, MatchResult, Result}
+use Rattle.std.specs.Prelude.{◌≡◌, ◌<◌, ◌⊎◌, ◌++◌, ℕ, List, ⊤, Option, Some, None, length, take, MatchResult, Result}
 use Rattle.std.specs.Io.KnownBytes.{Appends, Keeps}
 use Rattle.duk_io.specs.Known.{Known, Rose, Stayed}
 
@@ -39,3 +39,8 @@ pub record IsDrained (held left : List ℕ) (old new : Known) : Type 0 where
   pub front : List ℕ
   pub split : held ≡ front ++ left
   pub written : IsWritten old new front
+
+-- a writer holds nothing back, where it makes known how many bytes it does
+abbrev pub IsHandedOn : Option ℕ → Type 0
+IsHandedOn None = ⊤
+IsHandedOn (Some count) = count ≡ 0

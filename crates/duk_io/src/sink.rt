@@ -1,24 +1,29 @@
-//! Writers as the program sees them: each may make known its bytes, and its failures.
+//! Writers as the program sees them: each may make known its bytes, its failures, and what it holds
+//! back.
 
-ghost use Rattle.std.specs.Prelude.{◌≡◌, ◌<◌, length, None, MatchResult, OnOk, OnErr};
+ghost use Rattle.std.specs.Prelude.{◌≡◌, ◌<◌, ℕ, Option, length, None, MatchResult, OnOk, OnErr};
 ghost use Rattle.std.specs.Io.{WritesAtMost};
 ghost use Rattle.std.specs.Io.KnownBytes.{Keeps, WriteAppends};
 ghost use Rattle.duk_io.specs.Known.{Known, Rose, Stayed};
-ghost use Rattle.duk_io.specs.Sink.{CountsFailure, IsWritten, IsCut};
+ghost use Rattle.duk_io.specs.Sink.{CountsFailure, IsHandedOn, IsWritten, IsCut};
 
 use std::io;
 use std::io::Write;
 
-/// A writer that may make known, for contracts to say, which bytes it holds and how often it
-/// failed.
+/// A writer that may make known, for contracts to say, which bytes it holds, how often it failed,
+/// and how many bytes it holds back.
 ///
-/// Each `Write` is one: it makes its bytes known where its type does, and never its failures, of
-/// which the contract of `write` says nothing. A type that makes them known has this trait in place
-/// of `Write`.
+/// Each `Write` is one: it makes its bytes known where its type does, and never its failures or what
+/// it holds back, of which the contracts of `Write` say nothing. A type that makes them known has
+/// this trait in place of `Write`.
 pub trait Sink {
     /// The bytes that the writer holds and how many writes and flushes failed, where it makes them
     /// known.
     ghost known: { Self → Known };
+
+    /// How many of the bytes that were written the writer still holds back, where it makes that
+    /// known.
+    ghost held_back: { Self → Option ℕ };
 
     /// One write, of some bytes. It gives how many were taken; to take none is a failure.
     fn put(&mut self, bytes: &[u8]) -> io::Result<usize>
@@ -33,11 +38,14 @@ pub trait Sink {
         ensures bytes { Keeps (known self.old).contents (known self.new).contents }
         ensures counted { MatchResult result
             (λ _. Stayed (known self.old).failures (known self.new).failures)
-            (λ _. Rose (known self.old).failures (known self.new).failures) };
+            (λ _. Rose (known self.old).failures (known self.new).failures) }
+        ensures handed_on { OnOk result (IsHandedOn (held_back self.new)) };
 }
 
 impl<W: Write> Sink for W {
     ghost known = { λ writer. record { contents = W.contents writer; failures = None } };
+
+    ghost held_back = { λ _. None };
 
     fn put(&mut self, bytes: &[u8]) -> io::Result<usize> {
         Write::write(self, bytes)
