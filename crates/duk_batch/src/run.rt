@@ -2,7 +2,9 @@
 
 ghost use Rattle.std.specs.Prelude.{◌≡◌, ◌⊎◌, true, false};
 ghost use Rattle.duk_commands.specs.Answer.{streams};
-ghost use Rattle.duk_io.specs.Sink.{IsTried, IsUntouched};
+ghost use Rattle.duk_commands.specs.Fault.{report_line};
+ghost use Rattle.duk_commands.specs.declared.fault.Fault.{Fault};
+ghost use Rattle.duk_io.specs.Sink.{IsHandedOn, IsTried, IsUntouched};
 ghost use Rattle.duk_batch.specs.Batch.{IsBatchDone, IsBatchNotDone, input_of, refused_line, unread_line};
 ghost use Rattle.duk_batch.specs.inner.Batch.{IsEnd, IsFlushReported, end_of};
 
@@ -43,6 +45,9 @@ pub fn do_batch<I: Items, R: Source, W: Sink, F: Sink>(
     fault: &mut F,
 ) -> u8
     ensures status { (result ≡ 0) ⊎ (result ≡ 1) }
+    ensures handed_on { result ≡ 0 → IsHandedOn (W.held_back output.new) }
+    ensures handed_on_at_fault { result ≡ 1 → IsHandedOn (W.held_back output.new)
+        ⊎ IsTried (F.known fault.old) (F.known fault.new) (report_line Fault.WriteFailed) }
     ensures done { result ≡ 0 → IsBatchDone (I.command items.now)
         (input_of (R.known input.old) (R.known input.new) (R.reads input.old) (R.reads input.new))
         (streams (W.known output.old) (W.known output.new)
@@ -65,6 +70,9 @@ pub fn do_batch<I: Items, R: Source, W: Sink, F: Sink>(
 /// or else 1 with a line.
 fn end_answered<W: Sink, F: Sink>(done: bool, output: &mut W, fault: &mut F) -> u8
     ensures status { (result ≡ 0) ⊎ (result ≡ 1) }
+    ensures handed_on { result ≡ 0 → IsHandedOn (W.held_back output.new) }
+    ensures handed_on_at_fault { result ≡ 1 → IsHandedOn (W.held_back output.new)
+        ⊎ IsTried (F.known fault.old) (F.known fault.new) (report_line Fault.WriteFailed) }
     ensures done { result ≡ 0 → (done ≡ true)
         × IsUntouched (W.known output.old) (W.known output.new)
         × IsUntouched (F.known fault.old) (F.known fault.new) }
@@ -86,6 +94,8 @@ fn end_answered<W: Sink, F: Sink>(done: bool, output: &mut W, fault: &mut F) -> 
 /// input that cannot be read.
 fn end_unread<W: Sink, F: Sink>(output: &mut W, fault: &mut F) -> u8
     ensures status { result ≡ 1 }
+    ensures handed_on { IsHandedOn (W.held_back output.new)
+        ⊎ IsTried (F.known fault.old) (F.known fault.new) (report_line Fault.WriteFailed) }
     ensures reported { (IsUntouched (W.known output.old) (W.known output.new)
         × IsTried (F.known fault.old) (F.known fault.new) unread_line)
         ⊎ IsFlushReported (W.known output.old) (W.known output.new)

@@ -2,7 +2,7 @@
 
 ghost use Rattle.std.specs.Prelude.{◌≡◌, ◌⊎◌, ℕ, List};
 ghost use Rattle.duk_commands.specs.Fault.{report_line};
-ghost use Rattle.duk_io.specs.Sink.{IsTried, IsUntouched};
+ghost use Rattle.duk_io.specs.Sink.{IsHandedOn, IsTried, IsUntouched};
 ghost use Rattle.duk_service.specs.HandedOn.{IsFlushReported, IsReportedAfter};
 ghost use Rattle.duk_service.specs.Serve.{serve_line};
 ghost use Rattle.duk_service.specs.ServeJournal.{journal_line};
@@ -86,6 +86,7 @@ fn journal_host_line(why: HostFault) -> &'static str
 /// where that fails, since what was written may be missing then.
 pub fn hand_on<T: EndingFault, W: Sink, F: Sink>(lost: &T, output: &mut W, fault: &mut F) -> u8
     ensures status { (result ≡ 0) ⊎ (result ≡ 1) }
+    ensures handed_on { result ≡ 0 → IsHandedOn (W.held_back output.new) }
     ensures kept { result ≡ 0 → IsUntouched (W.known output.old) (W.known output.new) }
     ensures no_fault { result ≡ 0 → IsUntouched (F.known fault.old) (F.known fault.new) }
     ensures lost { result ≡ 1 → IsFlushReported (T.line lost.now)
@@ -107,6 +108,8 @@ pub fn report_after<T: EndingFault, W: Sink, F: Sink>(
     fault: &mut F,
 ) -> u8
     ensures status { result ≡ 1 }
+    ensures handed_on { IsHandedOn (W.held_back output.new)
+        ⊎ IsTried (F.known fault.old) (F.known fault.new) (T.line lost.now) }
     ensures reported { IsReportedAfter (T.line why.now) (T.line lost.now)
         (W.known output.old) (W.known output.new) (F.known fault.old) (F.known fault.new) }
 {

@@ -8,9 +8,10 @@
 ghost use Rattle.std.specs.Prelude.{◌≡◌, ◌⊎◌, IfErr, IfOk};
 ghost use Rattle.duk_host.specs.Host.{host_meaning_of};
 ghost use Rattle.duk_config.specs.NewHost.{new_host_of};
-ghost use Rattle.duk_io.specs.Sink.{IsUntouched};
+ghost use Rattle.duk_host.specs.declared.fault.HostFault.{HostFault};
+ghost use Rattle.duk_io.specs.Sink.{IsHandedOn, IsTried, IsUntouched};
 ghost use Rattle.duk_service.specs.HostSize.{HostFits, HostsFit};
-ghost use Rattle.duk_service.specs.Serve.{HasNotServed, HasServed, HostRefused, IsServedUp, ServeRefused, over_log, serving_of};
+ghost use Rattle.duk_service.specs.Serve.{HasNotServed, HasServed, HostRefused, IsServedUp, ServeRefused, over_log, serve_line, serving_of};
 ghost use Rattle.duk_tdes.specs.KeyBytes.{bytes_of};
 ghost use Rattle.duk_tdes.specs.Tdes.{IsTdesLength};
 
@@ -46,6 +47,9 @@ pub fn serve_with<L: UsedLog, R: Source, W: Sink, F: Sink>(
     ensures done { result ≡ 0 → HasServed (over_log L.meaning) (new_host_of config.now log)
         (serving_of R.known R.reads W.known input.old input.new output.old output.new) }
     ensures no_fault { result ≡ 0 → IsUntouched (F.known fault.old) (F.known fault.new) }
+    ensures handed_on { result ≡ 0 → IsHandedOn (W.held_back output.new) }
+    ensures handed_on_at_fault { result ≡ 1 → IsHandedOn (W.held_back output.new)
+        ⊎ IsTried (F.known fault.old) (F.known fault.new) (serve_line HostFault.Write) }
     ensures not_done { result ≡ 1 → HasNotServed (over_log L.meaning) (new_host_of config.now log)
         (serving_of R.known R.reads W.known input.old input.new output.old output.new)
         (F.known fault.old) (F.known fault.new) }

@@ -4,11 +4,12 @@
 //! That a host over its journal fits in memory is required, as of one over its log.
 
 ghost use Rattle.std.specs.Prelude.{◌≡◌, ◌⊎◌, IfErr, IfOk, OnOk};
-ghost use Rattle.duk_io.specs.Sink.{IsUntouched};
+ghost use Rattle.duk_host.specs.declared.fault.HostFault.{HostFault};
+ghost use Rattle.duk_io.specs.Sink.{IsHandedOn, IsTried, IsUntouched};
 ghost use Rattle.duk_line.specs.Host.{host_meaning_of};
 ghost use Rattle.duk_service.specs.HostSize.{JournalHostFits, JournalHostsFit};
 ghost use Rattle.duk_service.specs.Serve.{serving_of};
-ghost use Rattle.duk_service.specs.ServeJournal.{HasNotServedJournal, HasServedJournal, IsJournalServed, JournalServiceRefused, journal_host_of, over_journal};
+ghost use Rattle.duk_service.specs.ServeJournal.{HasNotServedJournal, HasServedJournal, IsJournalServed, JournalServiceRefused, journal_host_of, journal_line, over_journal};
 ghost use Rattle.duk_tdes.specs.KeyBytes.{bytes_of};
 ghost use Rattle.duk_tdes.specs.Tdes.{IsTdesLength};
 
@@ -46,6 +47,9 @@ pub fn serve_with_journal<J: Journal, R: Source, W: Sink, F: Sink>(
         (journal_host_of config.now journal)
         (serving_of R.known R.reads W.known input.old input.new output.old output.new) }
     ensures no_fault { result ≡ 0 → IsUntouched (F.known fault.old) (F.known fault.new) }
+    ensures handed_on { result ≡ 0 → IsHandedOn (W.held_back output.new) }
+    ensures handed_on_at_fault { result ≡ 1 → IsHandedOn (W.held_back output.new)
+        ⊎ IsTried (F.known fault.old) (F.known fault.new) (journal_line HostFault.Write) }
     ensures not_done { result ≡ 1 → HasNotServedJournal (over_journal J.meaning)
         (journal_host_of config.now journal)
         (serving_of R.known R.reads W.known input.old input.new output.old output.new)

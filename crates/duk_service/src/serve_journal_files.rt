@@ -1,7 +1,7 @@
 //! The command `serve` over a journal in a file: opens it, and serves.
 
 ghost use Rattle.std.specs.Prelude.{◌≡◌, ◌⊎◌};
-ghost use Rattle.duk_io.specs.Sink.{IsTried, IsUntouched};
+ghost use Rattle.duk_io.specs.Sink.{IsHandedOn, IsTried, IsUntouched};
 ghost use Rattle.duk_journal.specs.DiskJournal.{disk_journal_meaning, new_disk_journal};
 ghost use Rattle.duk_service.specs.HostSize.{IsSmall};
 ghost use Rattle.duk_service.specs.Serve.{serving_of};
@@ -33,6 +33,7 @@ pub fn serve_on_journal<S: LogFiles, R: Source, W: Sink, F: Sink>(
     ensures done { result ≡ 0 → IsServedOnJournal S.Disk.meaning (S.disks files.now path.now)
         config.now (serving_of R.known R.reads W.known input.old input.new output.old output.new) }
     ensures no_fault { result ≡ 0 → IsUntouched (F.known fault.old) (F.known fault.new) }
+    ensures handed_on { result ≡ 0 → IsHandedOn (W.held_back output.new) }
     ensures not_done { result ≡ 1 → IsUnservedOnJournal S.Disk.meaning (S.disks files.now path.now)
         config.now (serving_of R.known R.reads W.known input.old input.new output.old output.new)
         (F.known fault.old) (F.known fault.new) }
@@ -58,6 +59,7 @@ fn serve_over_disk<D: Disk, R: Source, W: Sink, F: Sink>(
         (journal_host_of config.now (new_disk_journal disk))
         (serving_of R.known R.reads W.known input.old input.new output.old output.new) }
     ensures no_fault { result ≡ 0 → IsUntouched (F.known fault.old) (F.known fault.new) }
+    ensures handed_on { result ≡ 0 → IsHandedOn (W.held_back output.new) }
     ensures not_done { result ≡ 1 → HasNotServedJournal
         (over_journal (disk_journal_meaning D.meaning))
         (journal_host_of config.now (new_disk_journal disk))

@@ -2,7 +2,7 @@
 
 ghost use Rattle.std.specs.Prelude.{◌≡◌, ◌⊎◌};
 ghost use Rattle.duk_config.specs.NewHost.{new_host_of};
-ghost use Rattle.duk_io.specs.Sink.{IsTried, IsUntouched};
+ghost use Rattle.duk_io.specs.Sink.{IsHandedOn, IsTried, IsUntouched};
 ghost use Rattle.duk_service.specs.Serve.{HasNotServed, HasServed, over_log, serving_of};
 ghost use Rattle.duk_service.specs.ServeLogFiles.{IsServedOnDisk, IsUnservedOnDisk, unopened_line};
 ghost use Rattle.duk_store.specs.MemoryLog.{memory_log_meaning, new_log};
@@ -29,6 +29,7 @@ pub fn serve_in_memory<R: Source, W: Sink, F: Sink>(
         (new_host_of config.now (new_log config.now.log))
         (serving_of R.known R.reads W.known input.old input.new output.old output.new) }
     ensures no_fault { result ≡ 0 → IsUntouched (F.known fault.old) (F.known fault.new) }
+    ensures handed_on { result ≡ 0 → IsHandedOn (W.held_back output.new) }
     ensures not_done { result ≡ 1 → HasNotServed (over_log memory_log_meaning)
         (new_host_of config.now (new_log config.now.log))
         (serving_of R.known R.reads W.known input.old input.new output.old output.new)
@@ -56,6 +57,7 @@ pub fn serve_on_file<S: LogFiles, R: Source, W: Sink, F: Sink>(
     ensures done { result ≡ 0 → IsServedOnDisk S.Disk.meaning (S.disks files.now path.now)
         config.now (serving_of R.known R.reads W.known input.old input.new output.old output.new) }
     ensures no_fault { result ≡ 0 → IsUntouched (F.known fault.old) (F.known fault.new) }
+    ensures handed_on { result ≡ 0 → IsHandedOn (W.held_back output.new) }
     ensures not_done { result ≡ 1 → IsUnservedOnDisk S.Disk.meaning (S.disks files.now path.now)
         config.now (serving_of R.known R.reads W.known input.old input.new output.old output.new)
         (F.known fault.old) (F.known fault.new) }
