@@ -14,8 +14,8 @@ pub record IsFlushReported (lost : List ℕ) (output output' fault fault' : Know
   pub flush : IsFlushLost output output'
   pub line : IsTried fault fault' lost
 
--- what was held back was handed on, and the first line reports a fault; or it could not be, and the
--- second line reports that
+-- the bytes are the same, and the first line reports a fault; or a flush failed, and the second line
+-- reports that
 abbrev pub IsReportedAfter : List ℕ → List ℕ → Known → Known → Known → Known → Type 0
 IsReportedAfter why lost output output' fault fault' =
     (IsUntouched output output' × IsTried fault fault' why)

@@ -95,14 +95,14 @@ abbrev pub ServeRefused : {L I : Type 0} → HostMeaning L I → HostOf L I → 
     → Type 0
 ServeRefused meaning made s why = IsNotMade s why ⊎ HostRefused meaning made s why
 
--- status 0: the host served to the end of the input, and its answers were handed on
+-- status 0: the host served to the end of the input, and wrote nothing behind its answers
 pub record HasServed
     {L I : Type 0} (meaning : HostMeaning L I) (made : HostOf L I) (s : Serving)
     : Type 0 where
   pub count : ℕ
   pub written : Known
   pub served : IsServedUp meaning made (answered_at s written) count
-  pub handed_on : IsUntouched written s.output_after
+  pub kept : IsUntouched written s.output_after
 
 -- the line of a fault of serving
 abbrev pub serve_line : HostFault → List ℕ

@@ -69,12 +69,12 @@ JournalServiceRefused meaning made s why =
     IsNotMade s why
     ⊎ IsJournalHostDown meaning made s why ⊎ IsJournalServiceStopped meaning made s why
 
--- status 0: the host served to the end of the input, and its answers were handed on
+-- status 0: the host served to the end of the input, and wrote nothing behind its answers
 pub record HasServedJournal
     {J I : Type 0} (meaning : HostMeaning J I) (made : HostOf J I) (s : Serving) : Type 0 where
   pub written : Known
   pub served : IsJournalServed meaning made (answered_at s written)
-  pub handed_on : IsUntouched written s.output_after
+  pub kept : IsUntouched written s.output_after
 
 -- the line of a fault of serving over a journal: that of the journal in place of the log's
 abbrev pub journal_line : HostFault → List ℕ

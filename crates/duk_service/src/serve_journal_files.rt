@@ -1,11 +1,12 @@
 //! The command `serve` over a journal in a file: opens it, and serves.
 
 ghost use Rattle.std.specs.Prelude.{◌≡◌, ◌⊎◌};
+ghost use Rattle.duk_host.specs.declared.fault.HostFault.{HostFault};
 ghost use Rattle.duk_io.specs.Sink.{IsHandedOn, IsTried, IsUntouched};
 ghost use Rattle.duk_journal.specs.DiskJournal.{disk_journal_meaning, new_disk_journal};
 ghost use Rattle.duk_service.specs.HostSize.{IsSmall};
 ghost use Rattle.duk_service.specs.Serve.{serving_of};
-ghost use Rattle.duk_service.specs.ServeJournal.{HasNotServedJournal, HasServedJournal, journal_host_of, over_journal};
+ghost use Rattle.duk_service.specs.ServeJournal.{HasNotServedJournal, HasServedJournal, journal_host_of, journal_line, over_journal};
 ghost use Rattle.duk_service.specs.ServeJournalFiles.{IsServedOnJournal, IsUnservedOnJournal, unopened_journal_line};
 
 use crate::ending::EndingFault;
@@ -34,6 +35,9 @@ pub fn serve_on_journal<S: LogFiles, R: Source, W: Sink, F: Sink>(
         config.now (serving_of R.known R.reads W.known input.old input.new output.old output.new) }
     ensures no_fault { result ≡ 0 → IsUntouched (F.known fault.old) (F.known fault.new) }
     ensures handed_on { result ≡ 0 → IsHandedOn (W.held_back output.new) }
+    ensures handed_on_at_fault { result ≡ 1 → IsHandedOn (W.held_back output.old)
+        → IsHandedOn (W.held_back output.new)
+        ⊎ IsTried (F.known fault.old) (F.known fault.new) (journal_line HostFault.Write) }
     ensures not_done { result ≡ 1 → IsUnservedOnJournal S.Disk.meaning (S.disks files.now path.now)
         config.now (serving_of R.known R.reads W.known input.old input.new output.old output.new)
         (F.known fault.old) (F.known fault.new) }
@@ -60,6 +64,9 @@ fn serve_over_disk<D: Disk, R: Source, W: Sink, F: Sink>(
         (serving_of R.known R.reads W.known input.old input.new output.old output.new) }
     ensures no_fault { result ≡ 0 → IsUntouched (F.known fault.old) (F.known fault.new) }
     ensures handed_on { result ≡ 0 → IsHandedOn (W.held_back output.new) }
+    ensures handed_on_at_fault { result ≡ 1 → IsHandedOn (W.held_back output.old)
+        → IsHandedOn (W.held_back output.new)
+        ⊎ IsTried (F.known fault.old) (F.known fault.new) (journal_line HostFault.Write) }
     ensures not_done { result ≡ 1 → HasNotServedJournal
         (over_journal (disk_journal_meaning D.meaning))
         (journal_host_of config.now (new_disk_journal disk))

@@ -2,8 +2,9 @@
 
 ghost use Rattle.std.specs.Prelude.{◌≡◌, ◌⊎◌};
 ghost use Rattle.duk_config.specs.NewHost.{new_host_of};
+ghost use Rattle.duk_host.specs.declared.fault.HostFault.{HostFault};
 ghost use Rattle.duk_io.specs.Sink.{IsHandedOn, IsTried, IsUntouched};
-ghost use Rattle.duk_service.specs.Serve.{HasNotServed, HasServed, over_log, serving_of};
+ghost use Rattle.duk_service.specs.Serve.{HasNotServed, HasServed, over_log, serve_line, serving_of};
 ghost use Rattle.duk_service.specs.ServeLogFiles.{IsServedOnDisk, IsUnservedOnDisk, unopened_line};
 ghost use Rattle.duk_store.specs.MemoryLog.{memory_log_meaning, new_log};
 
@@ -30,6 +31,9 @@ pub fn serve_in_memory<R: Source, W: Sink, F: Sink>(
         (serving_of R.known R.reads W.known input.old input.new output.old output.new) }
     ensures no_fault { result ≡ 0 → IsUntouched (F.known fault.old) (F.known fault.new) }
     ensures handed_on { result ≡ 0 → IsHandedOn (W.held_back output.new) }
+    ensures handed_on_at_fault { result ≡ 1 → IsHandedOn (W.held_back output.old)
+        → IsHandedOn (W.held_back output.new)
+        ⊎ IsTried (F.known fault.old) (F.known fault.new) (serve_line HostFault.Write) }
     ensures not_done { result ≡ 1 → HasNotServed (over_log memory_log_meaning)
         (new_host_of config.now (new_log config.now.log))
         (serving_of R.known R.reads W.known input.old input.new output.old output.new)
@@ -58,6 +62,9 @@ pub fn serve_on_file<S: LogFiles, R: Source, W: Sink, F: Sink>(
         config.now (serving_of R.known R.reads W.known input.old input.new output.old output.new) }
     ensures no_fault { result ≡ 0 → IsUntouched (F.known fault.old) (F.known fault.new) }
     ensures handed_on { result ≡ 0 → IsHandedOn (W.held_back output.new) }
+    ensures handed_on_at_fault { result ≡ 1 → IsHandedOn (W.held_back output.old)
+        → IsHandedOn (W.held_back output.new)
+        ⊎ IsTried (F.known fault.old) (F.known fault.new) (serve_line HostFault.Write) }
     ensures not_done { result ≡ 1 → IsUnservedOnDisk S.Disk.meaning (S.disks files.now path.now)
         config.now (serving_of R.known R.reads W.known input.old input.new output.old output.new)
         (F.known fault.old) (F.known fault.new) }
