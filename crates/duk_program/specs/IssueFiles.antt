@@ -39,12 +39,12 @@ pub record Issuing (L : Type 0) : Type 0 where
 abbrev pub issuing : {L : Type 0} → L → Streams → Issuing L
 issuing made s = record { made = made; streams = s }
 
--- all keys are issued over a ledger, and their lines are handed on
+-- all keys are issued over a ledger, and nothing is written behind their lines
 pub record IsIssuedOver {L : Type 0} (meaning : LogMeaning L) (job : Job) (i : Issuing L) : Type 0 where
   pub last : L
   pub written : Known
   pub issued : HasIssued meaning job (ends i.made i.streams.output_before) (ends last written)
-  pub handed_on : IsUntouched written i.streams.output_after
+  pub kept : IsUntouched written i.streams.output_after
   pub no_fault : IsUntouched i.streams.fault_before i.streams.fault_after
 
 -- not all keys are issued, and that is reported behind the lines that were written

@@ -103,13 +103,13 @@ IsShowRefused arguments why =
     ⊎ (IsNoKind arguments.kind × (why ≡ KindRefused))
     ⊎ (why ≡ OutOfMemory)
 
--- status 0: the lines are written, and handed on
+-- status 0: the lines are written, and nothing behind them
 pub record HasShownText (arguments : ShowArguments) (s : Streams) : Type 0 where
   pub text : List ℕ
   pub asked : IsShowText arguments text
   pub mid : Known
   pub written : IsWritten s.output_before mid text
-  pub handed_on : IsUntouched mid s.output_after
+  pub kept : IsUntouched mid s.output_after
   pub no_fault : IsUntouched s.fault_before s.fault_after
 
 -- nothing is shown, and that is reported

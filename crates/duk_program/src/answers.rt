@@ -2,6 +2,7 @@
 
 ghost use Rattle.std.specs.Prelude.{◌≡◌, ◌⊎◌};
 ghost use Rattle.duk_commands.specs.Answer.{IsDone, IsNotDone, streams};
+ghost use Rattle.duk_io.specs.Sink.{IsHandedOn};
 ghost use Rattle.duk_program.specs.Commands.{command_for};
 ghost use Rattle.duk_program.specs.ExplainedItems.{IsNotAnsweredExplained};
 ghost use Rattle.duk_program.specs.Meant.{HasLostLines, IsAnswered, IsDoneAlone, IsNotAnswered, IsNotDoneAlone};
@@ -34,6 +35,7 @@ pub(crate) fn answer<S: FileSystem + LogFiles, R: Source, W: Sink, F: Sink>(
 ) -> u8
     requires { IsOverSecrets request }
     ensures status { (result ≡ 0) ⊎ (result ≡ 1) }
+    ensures handed_on { result ≡ 0 → IsHandedOn (W.held_back output.new) }
     ensures done { result ≡ 0 → IsAnswered S.Disk.meaning (scene (S.held files.now)
         (S.disks files.now) (S.making files.now) (serving_of R.known R.reads W.known input.old input.new output.old
         output.new) (F.known fault.old) (F.known fault.new)) request.entry }
@@ -58,6 +60,7 @@ pub(crate) fn answer_explained<S: FileSystem + LogFiles, R: Source, W: Sink, F: 
 ) -> u8
     requires { IsOverSecrets request }
     ensures status { (result ≡ 0) ⊎ (result ≡ 1) }
+    ensures handed_on { result ≡ 0 → IsHandedOn (W.held_back output.new) }
     ensures done { result ≡ 0 → IsAnswered S.Disk.meaning (scene (S.held files.now)
         (S.disks files.now) (S.making files.now) (serving_of R.known R.reads W.known input.old input.new output.old
         output.new) (F.known fault.old) (F.known fault.new)) request.entry }
@@ -84,6 +87,7 @@ fn answer_alone<S: FileSystem + LogFiles, W: Sink, F: Sink>(
 ) -> u8
     requires { IsOverSecrets request }
     ensures status { (result ≡ 0) ⊎ (result ≡ 1) }
+    ensures handed_on { result ≡ 0 → IsHandedOn (W.held_back output.new) }
     ensures done { result ≡ 0 → IsDoneAlone S.Disk.meaning (S.held files.now) (S.disks files.now)
         (streams (W.known output.old) (W.known output.new)
         (F.known fault.old) (F.known fault.new)) request.entry }
@@ -125,6 +129,7 @@ fn answer_over_arguments<W: Sink, F: Sink>(
 ) -> u8
     requires { NeedsNoFile request }
     ensures status { (result ≡ 0) ⊎ (result ≡ 1) }
+    ensures handed_on { result ≡ 0 → IsHandedOn (W.held_back output.new) }
     ensures done { result ≡ 0 → IsDone (command_for request.entry)
         (streams (W.known output.old) (W.known output.new)
         (F.known fault.old) (F.known fault.new)) }

@@ -4,7 +4,7 @@ ghost use Rattle.std.specs.Prelude.{◌≡◌, ◌⊎◌, ℕ, IsFalse, List};
 ghost use Rattle.std.specs.Io.KnownBytes.{Keeps};
 ghost use Rattle.duk_commands.specs.Answer.{IsDone, IsNotDone, streams};
 ghost use Rattle.duk_commands.specs.Fault.{IsFaultReported};
-ghost use Rattle.duk_io.specs.Sink.{IsUntouched};
+ghost use Rattle.duk_io.specs.Sink.{IsHandedOn, IsUntouched};
 ghost use Rattle.duk_program.specs.Commands.{HasLostCommandOutput, HasShown, IsCommandLineDone, IsNotShown, IsCommandLineFailed, command_for};
 ghost use Rattle.duk_program.specs.Items.{IsAtOnce};
 ghost use Rattle.duk_program.specs.Status.{EndsWith, IsLeftToDo, IsStatus, IsToRun, RunsAsked};
@@ -75,6 +75,7 @@ pub fn command<'a, W: Sink, F: Sink>(
 ) -> Todo<'a>
     ensures status { IsLeftToDo result }
     ensures no_fault { EndsWith result 0 → IsUntouched (F.known fault.old) (F.known fault.new) }
+    ensures handed_on { EndsWith result 0 → IsHandedOn (W.held_back output.new) }
     ensures fault { EndsWith result 1 → IsFaultReported (F.known fault.old) (F.known fault.new) }
     ensures refused { EndsWith result 2
         → Keeps (W.known output.old).contents (W.known output.new).contents }
@@ -87,6 +88,7 @@ pub fn command<'a, W: Sink, F: Sink>(
         (F.known fault.old) (F.known fault.new)) }
     ensures asked { RunsAsked (texts_of arguments.now) result }
     ensures quiet { IsToRun result → W.known output.new ≡ W.known output.old }
+    ensures held_back { IsToRun result → W.held_back output.new ≡ W.held_back output.old }
     ensures silent { IsToRun result → F.known fault.new ≡ F.known fault.old }
 {
     duk_io::laws::writes();
@@ -118,6 +120,7 @@ fn dispatch_arguments<'a, W: Sink, F: Sink>(
         (F.known fault.old) (F.known fault.new)) }
     ensures asked { RunsAsked (texts_of arguments.now) result }
     ensures quiet { IsToRun result → W.known output.new ≡ W.known output.old }
+    ensures held_back { IsToRun result → W.held_back output.new ≡ W.held_back output.old }
     ensures silent { IsToRun result → F.known fault.new ≡ F.known fault.old }
 {
     match read_request(alloc, arguments) {
@@ -147,6 +150,7 @@ fn do_request<'a, W: Sink, F: Sink>(
         (F.known fault.old) (F.known fault.new)) }
     ensures asked { RunsRequest request.entry result }
     ensures quiet { IsToRun result → W.known output.new ≡ W.known output.old }
+    ensures held_back { IsToRun result → W.held_back output.new ≡ W.held_back output.old }
     ensures silent { IsToRun result → F.known fault.new ≡ F.known fault.old }
 {
     match request {
@@ -179,6 +183,7 @@ fn is_left(request: &Request<'_>) -> bool
 pub(crate) fn show_at_end<W: Sink, F: Sink>(answer: &NoRequest, output: &mut W, fault: &mut F) -> u8
     ensures status { IsStatus result }
     ensures no_fault { result ≡ 0 → IsUntouched (F.known fault.old) (F.known fault.new) }
+    ensures handed_on { result ≡ 0 → IsHandedOn (W.held_back output.new) }
     ensures refused { result ≡ 2
         → Keeps (W.known output.old).contents (W.known output.new).contents }
     ensures arguments_refused { (arguments : List (List ℕ)) → IsNoRequestOf arguments answer.now → result ≡ 2

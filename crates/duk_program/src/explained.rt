@@ -3,7 +3,7 @@
 ghost use Rattle.std.specs.Prelude.{◌≡◌, ◌≢◌, ◌⊎◌};
 ghost use Rattle.std.specs.Io.KnownBytes.{Keeps};
 ghost use Rattle.duk_arguments.specs.Asked.{AreRefused, texts_of};
-ghost use Rattle.duk_io.specs.Sink.{IsTried, IsUntouched};
+ghost use Rattle.duk_io.specs.Sink.{IsHandedOn, IsTried, IsUntouched};
 ghost use Rattle.duk_program.specs.Explained.{HasExplained, IsExplainedDone, IsExplainedNotDone, IsHeardDone, IsTold};
 ghost use Rattle.duk_program.specs.Inquiry.{inquiry};
 ghost use Rattle.duk_program.specs.Scene.{scene};
@@ -39,6 +39,8 @@ pub(crate) fn run_explained<S: FileSystem + LogFiles, R: Source, W: Sink, F: Sin
 ) -> u8
     ensures status { IsStatus result }
     ensures no_fault { result ≡ 0 → IsUntouched (F.known fault.old) (F.known fault.new) }
+    ensures handed_on { result ≡ 0 → IsHandedOn (W.held_back output.old)
+        → IsHandedOn (W.held_back output.new) }
     ensures refused { result ≡ 2
         → Keeps (W.known output.old).contents (W.known output.new).contents }
     ensures arguments_refused { result ≡ 2 → AreRefused (texts_of arguments.now) }
@@ -67,6 +69,8 @@ fn do_explained<S: FileSystem + LogFiles, R: Source, W: Sink, F: Sink>(
 ) -> u8
     ensures status { (result ≡ 0) ⊎ (result ≡ 1) }
     ensures no_fault { result ≡ 0 → IsUntouched (F.known fault.old) (F.known fault.new) }
+    ensures handed_on { result ≡ 0 → IsHandedOn (W.held_back output.old)
+        → IsHandedOn (W.held_back output.new) }
     ensures done { result ≡ 0 → IsHeardDone S.Disk.meaning (scene (S.held files.now)
         (S.disks files.now) (S.making files.now) (serving_of R.known R.reads W.known input.old input.new output.old
         output.new) (F.known fault.old) (F.known fault.new)) request.entry }
@@ -116,6 +120,7 @@ fn do_meant_explained<S: FileSystem + LogFiles, R: Source, W: Sink, F: Sink>(
     requires { IsOverSecrets request }
     ensures status { (result ≡ 0) ⊎ (result ≡ 1) }
     ensures no_fault { result ≡ 0 → IsUntouched (F.known fault.old) (F.known fault.new) }
+    ensures handed_on { result ≡ 0 → IsHandedOn (W.held_back output.new) }
     ensures done { result ≡ 0 → IsHeardDone S.Disk.meaning (scene (S.held files.now)
         (S.disks files.now) (S.making files.now) (serving_of R.known R.reads W.known input.old input.new output.old
         output.new) (F.known fault.old) (F.known fault.new)) request.entry }

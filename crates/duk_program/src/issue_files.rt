@@ -2,9 +2,11 @@
 
 ghost use Rattle.std.specs.Prelude.{◌≡◌, ◌⊎◌, ◌*◌, ◌≤◌, IfErr, IfOk, length};
 ghost use Rattle.duk_commands.specs.Answer.{streams};
+ghost use Rattle.duk_io.specs.Sink.{IsHandedOn, IsTried};
 ghost use Rattle.duk_issue.specs.Fault.{issue_line};
 ghost use Rattle.duk_issue.specs.Issue.{job};
 ghost use Rattle.duk_issue.specs.Order.{IsOrderOf, IsOrderRefused};
+ghost use Rattle.duk_issue.specs.declared.fault.IssueFault.{IssueFault};
 ghost use Rattle.duk_service.specs.Files.{IsFrontRead};
 ghost use Rattle.duk_program.specs.IssueFiles.{HasIssuedFiles, HasNotIssuedFiles, IsIssuedOver, IsNotIssuedOver, IsPaddingRefused, issue_files_known, issuing, order_in, random_device};
 
@@ -57,6 +59,10 @@ pub(crate) fn issue_files<S: FileSystem + LogFiles, W: Sink, F: Sink>(
     fault: &mut F,
 ) -> u8
     ensures status { (result ≡ 0) ⊎ (result ≡ 1) }
+    ensures handed_on { result ≡ 0 → IsHandedOn (W.held_back output.new) }
+    ensures handed_on_at_fault { result ≡ 1 → IsHandedOn (W.held_back output.old)
+        → IsHandedOn (W.held_back output.new)
+        ⊎ IsTried (F.known fault.old) (F.known fault.new) (issue_line IssueFault.WriteFailed) }
     ensures done { result ≡ 0 → HasIssuedFiles S.Disk.meaning (issue_files_known (S.held files.now)
         (S.disks files.now ledger.now)) arguments.now (streams (W.known output.old) (W.known output.new)
         (F.known fault.old) (F.known fault.new)) }
@@ -132,6 +138,9 @@ fn issue_over<L: UsedLog, W: Sink, F: Sink>(
 ) -> u8
     requires { 6 * order.now.count ≤ length padding.now }
     ensures status { (result ≡ 0) ⊎ (result ≡ 1) }
+    ensures handed_on { result ≡ 0 → IsHandedOn (W.held_back output.new) }
+    ensures handed_on_at_fault { result ≡ 1 → IsHandedOn (W.held_back output.new)
+        ⊎ IsTried (F.known fault.old) (F.known fault.new) (issue_line IssueFault.WriteFailed) }
     ensures done { result ≡ 0 → IsIssuedOver L.meaning (job order.now skip_issued padding.now)
         (issuing ledger (streams (W.known output.old) (W.known output.new)
         (F.known fault.old) (F.known fault.new))) }

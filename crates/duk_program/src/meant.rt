@@ -3,6 +3,7 @@
 ghost use Rattle.std.specs.Prelude.{◌≡◌, ◌⊎◌, IfErr, IfOk, IfSome, OnErr, map, string_bytes};
 ghost use Rattle.duk_arguments.specs.Keys.{texts_of_keys};
 ghost use Rattle.duk_host.specs.Serve.{supply};
+ghost use Rattle.duk_io.specs.Sink.{IsHandedOn};
 ghost use Rattle.duk_program.specs.Meant.{HasMeantDone, HasMeantNotDone, IsMeantNotDone};
 ghost use Rattle.duk_program.specs.Scene.{scene};
 ghost use Rattle.duk_program.specs.Secrets.{AreRead, IsOverSecrets, IsSecretFault, secrets_of};
@@ -32,6 +33,7 @@ pub(crate) fn do_over_secrets<S: FileSystem + LogFiles, R: Source, W: Sink, F: S
 ) -> u8
     requires { IsOverSecrets request }
     ensures status { (result ≡ 0) ⊎ (result ≡ 1) }
+    ensures handed_on { result ≡ 0 → IsHandedOn (W.held_back output.new) }
     ensures done { result ≡ 0 → HasMeantDone S.Disk.meaning (scene (S.held files.now)
         (S.disks files.now) (S.making files.now) (serving_of R.known R.reads W.known input.old input.new output.old
         output.new) (F.known fault.old) (F.known fault.new)) request.entry }
@@ -57,6 +59,7 @@ fn do_meant<S: FileSystem + LogFiles, R: Source, W: Sink, F: Sink>(
 ) -> Result<u8, SecretFault>
     requires { IsOverSecrets request }
     ensures status { IfOk result (λ status. (status ≡ 0) ⊎ (status ≡ 1)) }
+    ensures handed_on { IfOk result (λ status. status ≡ 0 → IsHandedOn (W.held_back output.new)) }
     ensures done { IfOk result (λ status. status ≡ 0 → HasMeantDone S.Disk.meaning (scene
         (S.held files.now) (S.disks files.now) (S.making files.now) (serving_of R.known R.reads W.known input.old
         input.new output.old output.new) (F.known fault.old) (F.known fault.new))

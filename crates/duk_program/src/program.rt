@@ -2,7 +2,7 @@
 
 ghost use Rattle.std.specs.Prelude.{◌≡◌, false};
 ghost use Rattle.std.specs.Io.KnownBytes.{Keeps};
-ghost use Rattle.duk_io.specs.Sink.{IsUntouched};
+ghost use Rattle.duk_io.specs.Sink.{IsHandedOn, IsUntouched};
 ghost use Rattle.duk_program.specs.Explain.{is_marked, without_explain};
 ghost use Rattle.duk_program.specs.Explained.{IsRunDone, IsRunNotDone};
 ghost use Rattle.duk_program.specs.Inquiry.{inquiry};
@@ -40,6 +40,8 @@ pub fn run_arguments<S: FileSystem + LogFiles, R: Source, W: Sink, F: Sink>(
 ) -> u8
     ensures status { IsStatus result }
     ensures no_fault { result ≡ 0 → IsUntouched (F.known fault.old) (F.known fault.new) }
+    ensures handed_on { result ≡ 0 → IsHandedOn (W.held_back output.old)
+        → IsHandedOn (W.held_back output.new) }
     ensures fault { result ≡ 1 → IsLineReported (F.known fault.old) (F.known fault.new) }
     ensures refused { result ≡ 2
         → Keeps (W.known output.old).contents (W.known output.new).contents }
@@ -84,6 +86,8 @@ pub fn run_program<S: FileSystem + LogFiles, R: Source, W: Sink, F: Sink>(
 ) -> u8
     ensures status { IsStatus result }
     ensures no_fault { result ≡ 0 → IsUntouched (F.known fault.old) (F.known fault.new) }
+    ensures handed_on { result ≡ 0 → IsHandedOn (W.held_back output.old)
+        → IsHandedOn (W.held_back output.new) }
     ensures fault { result ≡ 1 → is_marked (texts_of arguments.old.items) ≡ false
         → IsLineReported (F.known fault.old) (F.known fault.new) }
     ensures refused { result ≡ 2

@@ -2,6 +2,7 @@
 
 ghost use Rattle.std.specs.Prelude.{◌≡◌, ◌⊎◌, IfErr, OnOk};
 ghost use Rattle.duk_config.specs.declared.fault.ScriptFault.{ScriptFault};
+ghost use Rattle.duk_io.specs.Sink.{IsHandedOn, IsTried};
 ghost use Rattle.duk_service.specs.HandedOn.{IsReportedAfter};
 ghost use Rattle.duk_program.specs.Run.{HasNotRun, HasRun, IsDoneOver, IsRefusedOver};
 ghost use Rattle.duk_script.specs.FaultLine.{fault_line};
@@ -30,6 +31,7 @@ pub fn run_status<R: Source, W: Sink, F: Sink>(
     fault: &mut F,
 ) -> u8
     ensures status { (result ≡ 0) ⊎ (result ≡ 1) }
+    ensures handed_on { result ≡ 0 → IsHandedOn (W.held_back output.new) }
     ensures done { result ≡ 0 → HasRun (λ output'. IsRunDone config.now
         (session (R.known reader.old) (R.known reader.new) (W.known output.old) output'))
         (W.known output.new) (F.known fault.old) (F.known fault.new) }
@@ -57,6 +59,7 @@ pub(crate) fn play_status<W: Sink, F: Sink>(
     fault: &mut F,
 ) -> u8
     ensures status { (result ≡ 0) ⊎ (result ≡ 1) }
+    ensures handed_on { result ≡ 0 → IsHandedOn (W.held_back output.new) }
     ensures done { result ≡ 0 → HasRun (IsDoneOver journal config.now script.now (W.known output.old))
         (W.known output.new) (F.known fault.old) (F.known fault.new) }
     ensures not_done { result ≡ 1
@@ -95,6 +98,8 @@ fn play<W: Sink>(
 /// Writes the line `out of memory` after the lines of the events that were done before.
 fn refuse_memory<W: Sink, F: Sink>(output: &mut W, fault: &mut F) -> u8
     ensures status { result ≡ 1 }
+    ensures handed_on { IsHandedOn (W.held_back output.new)
+        ⊎ IsTried (F.known fault.old) (F.known fault.new) (fault_line ScriptFault.WriteFailed) }
     ensures reported { IsReportedAfter (fault_line ScriptFault.NoMemory) (fault_line ScriptFault.WriteFailed)
         (W.known output.old) (W.known output.new) (F.known fault.old) (F.known fault.new) }
 {

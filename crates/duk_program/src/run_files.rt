@@ -1,7 +1,7 @@
 //! The command `run` with its files: reads the configuration and the script, and plays the script.
 
 ghost use Rattle.std.specs.Prelude.{◌≡◌, ◌⊎◌};
-ghost use Rattle.duk_io.specs.Sink.{IsTried};
+ghost use Rattle.duk_io.specs.Sink.{IsHandedOn, IsTried};
 ghost use Rattle.duk_program.specs.RunFiles.{HasRunFiles, HasReportedFault, file_run, script_line};
 
 use crate::configuration::read_configuration;
@@ -30,6 +30,7 @@ pub(crate) fn run_files<S: FileSystem, W: Sink, F: Sink>(
     fault: &mut F,
 ) -> u8
     ensures status { (result ≡ 0) ⊎ (result ≡ 1) }
+    ensures handed_on { result ≡ 0 → IsHandedOn (W.held_back output.new) }
     ensures done { result ≡ 0
         → HasRunFiles (file_run (S.held files.now config.now) (S.held files.now script.now) journal
         (W.known output.old) (W.known output.new) (F.known fault.old) (F.known fault.new)) }

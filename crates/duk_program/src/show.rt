@@ -2,6 +2,7 @@
 
 ghost use Rattle.std.specs.Prelude.{◌≡◌, ◌⊎◌, IfErr, IfOk};
 ghost use Rattle.duk_commands.specs.Answer.{HasWriteFailed, HasWritten, streams};
+ghost use Rattle.duk_io.specs.Sink.{IsHandedOn};
 ghost use Rattle.duk_program.specs.Show.{HasNotShownText, HasShownText, IsJournalFileRefused, IsJournalFileText, IsLogFileRefused, IsLogFileText, IsShowRefused, IsShowText, show_arguments};
 ghost use Rattle.duk_show.specs.Block.{IsBlockRefused, IsBlockText};
 ghost use Rattle.duk_show.specs.Frame.{IsFrameRefused, IsFrameText};
@@ -34,6 +35,7 @@ pub(crate) fn show_text<S: FileSystem, W: Sink, F: Sink>(
     fault: &mut F,
 ) -> u8
     ensures status { (result ≡ 0) ⊎ (result ≡ 1) }
+    ensures handed_on { result ≡ 0 → IsHandedOn (W.held_back output.new) }
     ensures done { result ≡ 0 → HasShownText
         (show_arguments kind.now what.now show (S.held files.now what.now))
         (streams (W.known output.old) (W.known output.new)

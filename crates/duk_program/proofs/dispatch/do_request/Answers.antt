@@ -16,5 +16,6 @@ returns-in_default-2 g c = record {
   not_done = search rules;
   asked = tt;
   quiet = λ run. absurd run;
+  held_back = λ run. absurd run;
   silent = λ run. absurd run;
 }

@@ -21,3 +21,11 @@ returns-clause-reported g c one = inr (record {
   configured = c.in-Ok.ensures.configured;
   failed = search (rules, c.serve_on_journal.ensures.not_done one);
 })
+
+pub returns-in-InLog-clause-handed_on_at_fault : goal.returns-in-InLog-clause-handed_on_at_fault
+returns-in-InLog-clause-handed_on_at_fault g c one before =
+    rw c.in-Ok.ensures.silent at (c.serve_on_file.ensures.handed_on_at_fault one before)
+
+pub returns-clause-handed_on_at_fault : goal.returns-clause-handed_on_at_fault
+returns-clause-handed_on_at_fault g c one before =
+    rw c.in-Ok.ensures.silent at (c.serve_on_journal.ensures.handed_on_at_fault one before)
