@@ -43,12 +43,14 @@ impl OpenFile for File {
 }
 
 /// A disk over a file, which is open and locked as long as the disk lives, and whose bytes are read
-/// ahead. Its restart goes on with the open file. So once a write or a sync of the file has failed, each later step fails, until
-/// the file is opened anew.
+/// ahead. Its restart goes on with the open file. So once a write or a sync of the file has failed,
+/// each later step fails, until the file is opened anew.
 ///
-/// That the file is a disk is a premise: the operating system and the hardware have to keep to the
-/// model. Besides, the opening and the four bodies of `OpenFile` for `File` rest on being read; all
-/// else is proved of a medium over any file, and of a disk over any medium.
+/// By definition it is not honest: a `File` reports no bytes. So no clause on the bytes of a disk,
+/// or on what a store over it keeps, speaks of this type. Those clauses hold of every type of disk
+/// that keeps to the model. That a file acts as such a disk is believed outside the logic: of the
+/// operating system and the hardware, and of the opening and the four bodies of `OpenFile` for
+/// `File`, which rest on being read.
 pub type FileDisk = MediumDisk<FileMedium<ReadAhead<File>>>;
 
 impl MediumDisk<FileMedium<ReadAhead<File>>> {

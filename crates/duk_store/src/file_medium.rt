@@ -10,7 +10,8 @@ use crate::open_file::OpenFile;
 use std::io;
 use std::marker::Model;
 
-/// A medium over an open file. Its bytes are the file's, and it is honest where its file is.
+/// A medium over an open file. Its bytes are the file's, and it is honest where its file is. A
+/// `File` is not, so no clause on bytes speaks of a medium over one.
 ///
 /// It keeps in mind that a write or a sync has failed, and asks nothing more of its file then. A
 /// write and a sync also fail where the file has not the length that it had when the medium was

@@ -7,7 +7,7 @@ ghost use Rattle.duk_store.specs.Medium.{IsInside, MediumState, as_disk};
 use std::io;
 
 /// A medium of bytes, as a file, which may report which bytes it holds. Where it reports none it is
-/// not honest. Places are in bytes and count from 0.
+/// not honest, and no clause on bytes speaks of it. Places are in bytes and count from 0.
 ///
 /// Its calls may fail for any cause. What it reports of its bytes keeps to the model of a disk.
 /// Once a write or a sync has failed, each later call fails, until the medium is opened anew.
