@@ -110,6 +110,9 @@ class Recipes(ProgramCase):
     def test_a_file_of_frames(self) -> None:
         self.run_recipe(10)
 
+    def test_a_lost_terminal(self) -> None:
+        self.run_recipe(11)
+
     def test_there_are_no_others(self) -> None:
         """The last one is of the page, and has no command."""
-        self.assertEqual([bool(commands) for _, commands in recipes()], [True] * 11 + [False])
+        self.assertEqual([bool(commands) for _, commands in recipes()], [True] * 12 + [False])
