@@ -21,6 +21,12 @@ from pathlib import Path
 from statistics import median
 from typing import Callable, Iterator, NamedTuple, Sequence
 
+from timing import ROOT
+
+sys.path.insert(0, ROOT)
+
+from tests.support.journal_file import records_for  # noqa: E402
+
 # The bytes of each request, of the reply to it, and of a record of a log.
 REQUEST, REPLY, LOG_RECORD = 48, 24, 16
 # A frame that is refused, and the bytes of its refusal.
@@ -83,7 +89,8 @@ def services(dukpt: str, peer: str, config: str, folder: str) -> list[Service]:
     def maker(path: str) -> Callable[[int], None]:
         def make_journal(count: int) -> None:
             Path(path).unlink(missing_ok=True)
-            subprocess.run([dukpt, "new-journal", path, str(count)], check=True)
+            # The last part of a journal's room takes no payment.
+            subprocess.run([dukpt, "new-journal", path, str(records_for(count))], check=True)
 
         return make_journal
 
@@ -154,12 +161,12 @@ def end(it: Service, process: subprocess.Popen) -> float:
 
 
 def show_services(
-    folder: str, dukpt: str, peer: str, config: str, requests: str, rounds: int
+    folder: str, dukpt: str, peer: str, config: str, requests: str, rounds: int, one_by_one: int
 ) -> None:
     answers = os.path.join(folder, "answers")
     found = services(dukpt, peer, config, folder)
     whole, pairs = [[] for _ in found], pairs_of(found)
-    some = Path(requests).read_bytes()[: ONE_BY_ONE * REQUEST]
+    some = Path(requests).read_bytes()[: one_by_one * REQUEST]
     for at in range(rounds):
         same_answers, same_journals = set(), set()
         for place, it in list(enumerate(found))[:: -1 if at % 2 else 1]:
