@@ -134,9 +134,13 @@ class Files(BankCase):
 
 # A kit that notes its calls and makes a program that prints its arguments, one that makes nothing,
 # and one that makes a program for a try. That one prints its folder, its arguments and its input,
-# and the kit has it until the pipe is opened that it runs on.
+# and the kit has it until the pipe is opened that it runs on. A proof, which is of `duk_one` first, takes
+# some time, and a source may be edited meanwhile.
 MAKES = """#!/bin/sh
 echo "$*" >>"$NOTED"
+sleep 0.01
+if [ -e "$NOTED.edit" ]; then rm "$NOTED.edit" && touch src/lib.rt; fi
+sleep 0.01
 [ "$1" = run ] || exit 0
 mkdir -p out
 printf '#!/bin/sh\necho "$@"\nexit 3\n' >out/dukpt
@@ -156,7 +160,10 @@ echo proved=no
 exit 1
 """
 SYSTEM = "/usr/bin:/bin"
-WARNING = b"dukpt: not proved: "
+NO_KIT = b"dukpt: the program is not built, and there is no rt on PATH to build it\n"
+# What is said where a build without a proof is made.
+UNPROVED = (rb"\Adukpt: building the program without a proof, .* 800 times slower .*\n"
+            rb"dukpt: \./dukpt --prove proves .*\ndukpt: built, after \d+ s\n\Z")
 
 
 class StartScript(Case):
@@ -203,65 +210,99 @@ class StartScript(Case):
     def noted(self) -> Path:
         return self.home / "noted"
 
+    @property
+    def proved(self) -> Path:
+        return self.home / "crates" / "dukpt" / "out" / "dukpt"
+
+    @property
+    def unproved(self) -> Path:
+        return self.home / "out" / "unproved" / "dukpt"
+
     def test_no_kit(self) -> None:
         self.assertIsNone(shutil.which("rt", path=SYSTEM), "the kit is among the system's programs")
-        fault = b"dukpt: the program is not built, and there is no rt on PATH to build it\n"
-        self.assertEqual(self.run_script("derive"), Ended(125, b"", fault))
+        for words in (("derive",), ("--prove",), ("--unproved", "derive")):
+            self.assertEqual(self.run_script(*words), Ended(125, b"", NO_KIT), words)
 
     def test_not_built(self) -> None:
-        ended = self.run_script("derive", kit=MAKES_NOTHING)
-        self.assertEqual((ended.status, ended.output), (125, b""))
-        self.assertTrue(ended.faults.endswith(b"no proof\ndukpt: the program could not be built\n"))
+        for words in (("derive",), ("--prove", "derive"), ("--unproved", "derive")):
+            ended = self.run_script(*words, kit=MAKES_NOTHING)
+            self.assertEqual((ended.status, ended.output), (125, b""), words)
+            fault = b"no proof\ndukpt: the program could not be built\n"
+            self.assertTrue(ended.faults.endswith(fault), ended)
+        self.assert_clean([])
 
-    def test_built(self) -> None:
+    def test_prove(self) -> None:
         """Once, and again where a source is newer. Arguments and status are the program's."""
-        ended = self.run_script("pin", "a  b", kit=MAKES)
-        self.assertEqual((ended.status, ended.output), (3, b"pin a  b\n"))
+        ended = self.run_script("--prove", kit=MAKES)
+        self.assertEqual((ended.status, ended.output), (0, b""))
         self.assertRegex(ended.faults, rb"(?s)\Adukpt: proving .*\ndukpt: built, after 0 min\n\Z")
         calls = "lib\nrun -- --help\n"
         self.assertEqual(self.noted.read_text(), calls)
-        self.assertEqual(self.run_script("", kit=MAKES), Ended(3, b"\n", b""))
-        self.assertEqual(self.run_script("x"), Ended(3, b"x\n", b""))
+        self.assertEqual(self.run_script("--prove", kit=MAKES), Ended(0, b"", b""))
+        self.assertEqual(self.run_script("--prove", "pin", "a  b"), Ended(3, b"pin a  b\n", b""))
+        self.assertEqual(self.run_script("--prove", ""), Ended(3, b"\n", b""))
         self.assertEqual(self.noted.read_text(), calls)
-        self.make_source_newer(self.home / "crates" / "dukpt" / "out" / "dukpt")
-        self.assertEqual(self.run_script("x", kit=MAKES).output, b"x\n")
+        self.make_source_newer(self.proved)
+        self.assertEqual(self.run_script("--prove", "x", kit=MAKES).output, b"x\n")
         self.assertEqual(self.noted.read_text(), calls * 2)
 
-    def check_unproved(self, ended: Ended, arguments: str, given: bytes) -> None:
+    def test_edited_while_proved(self) -> None:
+        """Whoever edits a source while it is proved has no proof of it."""
+        (self.home / "noted.edit").touch()
+        self.assertEqual(self.run_script("--prove", kit=MAKES).status, 0)
+        self.assertFalse((self.home / "noted.edit").exists())
+        self.check_built(self.run_script("x", kit=TRIES), "x")
+        self.assertEqual(self.run_script("--prove", "x", kit=MAKES).output, b"x\n")
+        self.assertEqual(self.run_script("x"), Ended(3, b"x\n", b""))
+
+    def check_unproved(self, ended: Ended, arguments: str, given: bytes = b"") -> None:
         """That the program ran in the folder and with the streams of the script."""
         output = f"{self.temporary.resolve()}\n{arguments}\n".encode() + given
         self.assertEqual((ended.status, ended.output), (4, output), ended)
-        self.assertTrue(ended.faults.splitlines()[-1].startswith(WARNING), ended)
+
+    def check_built(self, ended: Ended, arguments: str, given: bytes = b"") -> None:
+        """That it was built for this, and that this and the other choice were said."""
+        self.check_unproved(ended, arguments, given)
+        self.assertRegex(ended.faults, UNPROVED)
+
+    def check_silent(self, ended: Ended, arguments: str, given: bytes = b"") -> None:
+        self.check_unproved(ended, arguments, given)
+        self.assertEqual(ended.faults, b"")
 
     def test_unproved(self) -> None:
         """Built once, and again where a source is newer, beside the proved program."""
         given = b"\0\xff\n"
-        ended = self.run_script("--unproved", "pin", "a  b", kit=TRIES, given=given)
-        self.check_unproved(ended, "pin a  b", given)
+        self.check_built(self.run_script("--unproved", "pin", "a  b", kit=TRIES, given=given),
+                         "pin a  b", given)
         self.assertRegex(self.noted.read_text(), r"\Atry -- run (\S+) \1\n\Z")
-        again = self.run_script("--unproved", "--unproved", given=given)
-        self.check_unproved(again, "--unproved", given)
-        self.assertEqual(again.faults.count(b"\n"), 1)
-        self.assertEqual(self.run_script("x", "--unproved", kit=MAKES).output, b"x --unproved\n")
-        self.make_source_newer(self.home / "out" / "unproved" / "dukpt")
-        self.check_unproved(self.run_script("--unproved", kit=TRIES), "", b"")
+        self.check_silent(self.run_script("--unproved", "--unproved", given=given), "--unproved", given)
+        self.assertEqual(self.run_script("--prove", kit=MAKES).status, 0)
+        self.check_silent(self.run_script("--unproved", "x"), "x")
+        self.make_source_newer(self.unproved)
+        self.check_built(self.run_script("--unproved", kit=TRIES), "")
         self.assertEqual(len(re.findall("^try ", self.noted.read_text(), re.M)), 2)
         self.assert_clean(["dukpt"])
 
+    def test_plain(self) -> None:
+        """The proved program, else the one without a proof, which is built where it has to be."""
+        self.check_built(self.run_script("pin", "a  b", kit=TRIES), "pin a  b")
+        self.check_silent(self.run_script("x", "--prove"), "x --prove")
+        self.assertEqual(self.run_script("--prove", kit=MAKES).status, 0)
+        self.assertEqual(self.run_script("x", "--unproved"), Ended(3, b"x --unproved\n", b""))
+        self.make_source_newer(self.proved)
+        later = os.stat(self.proved).st_mtime + 20
+        os.utime(self.unproved, (later, later))
+        self.check_silent(self.run_script(), "")
+        self.make_source_newer(self.unproved)
+        self.check_built(self.run_script("x", kit=TRIES), "x")
+        self.assertEqual(len(re.findall("^try ", self.noted.read_text(), re.M)), 2)
+
     def assert_clean(self, programs: list[str]) -> None:
         self.assertEqual(os.listdir(self.temporary), [], "files for the build are left")
-        self.assertEqual(os.listdir(self.home / "out" / "unproved"), programs)
+        self.assertEqual(os.listdir(self.unproved.parent), programs)
 
     def test_unproved_twice_at_once(self) -> None:
         scripts = [self.start("--unproved", str(at), kit=TRIES) for at in range(4)]
         for at, script in enumerate(scripts):
-            self.check_unproved(self.ended(script), str(at), b"")
+            self.check_built(self.ended(script), str(at))
         self.assert_clean(["dukpt"])
-
-    def test_unproved_not_built(self) -> None:
-        fault = b"dukpt: the program is not built, and there is no rt on PATH to build it\n"
-        self.assertEqual(self.run_script("--unproved", "derive"), Ended(125, b"", fault))
-        ended = self.run_script("--unproved", "derive", kit=MAKES_NOTHING)
-        self.assertEqual((ended.status, ended.output), (125, b""))
-        self.assertTrue(ended.faults.endswith(b"no proof\ndukpt: the program could not be built\n"))
-        self.assert_clean([])

@@ -307,11 +307,11 @@ class Refusals(PackageCase):
             self.refuse(str(self.given / name), "tools/library builds it")
             (self.root / "away").rename(self.given / name)
         self.program.chmod(0o644)
-        self.refuse(str(self.program), "./dukpt builds it")
+        self.refuse(str(self.program), "./dukpt --prove builds it")
         self.program.unlink()
-        self.refuse(str(self.program), "./dukpt builds it")
+        self.refuse(str(self.program), "./dukpt --prove builds it")
         self.program.mkdir()
-        self.refuse(str(self.program), "./dukpt builds it")
+        self.refuse(str(self.program), "./dukpt --prove builds it")
 
     def test_what_is_no_program(self) -> None:
         """A script says the right version, and is compiled for nothing."""

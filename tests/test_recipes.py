@@ -1,14 +1,15 @@
 """The recipes of docs/RECIPES.md.
 
 A recipe is a part of the document below a heading of the second level. Of its indented lines `$ `
-begins a command and `> ` goes on with it, and what stands after a command is what it prints. The
-commands of a recipe are run in one bash, behind those that stand before the first recipe, in a folder
+begins a command and `> ` goes on with it, `< ` is typed behind it, and what stands after that is what it
+prints. The commands of a recipe are run in one bash, behind those that stand before the first recipe, in a folder
 that has the program as `dukpt` beside `tests` and `examples`. Each ends with status 0, and nothing is
 on standard error.
 """
 from __future__ import annotations
 
 import os
+import re
 import subprocess
 from dataclasses import dataclass
 
@@ -16,6 +17,8 @@ from .support.case import ProgramCase
 from .support.program import ROOT, SECONDS
 
 RECIPES = ROOT / "docs" / "RECIPES.md"
+# A key or a PIN that a command writes, or a PAN.
+SECRET = re.compile(r"\b(?:echo|printf)\b[^|]*(?:\b(?:[0-9A-F]{32,}|\d{4,19})|\$KEYS?)\b|<<")
 # Stands after what a command prints, with its status. No command prints it.
 END = "\x1e"
 
@@ -25,7 +28,13 @@ class Command:
     """A command of a recipe, and what it prints."""
 
     text: str
+    typed: str = ""
     printed: str = ""
+
+    def in_bash(self) -> str:
+        """The command for bash, with what is typed as its input, and with what shows its end."""
+        typed = f"{{ {self.text}\n}} <<'END'\n{self.typed}END" if self.typed else self.text
+        return f"{typed}\nprintf '{END}%d{END}' $?\n"
 
 
 def recipes() -> list[tuple[str, list[Command]]]:
@@ -46,6 +55,8 @@ def read_line(commands: list[Command], line: str, number: int) -> None:
         raise ValueError(f"line {number} of docs/RECIPES.md belongs to no command")
     elif line.startswith("> "):
         commands[-1].text += "\n" + line[2:]
+    elif line.startswith("< "):
+        commands[-1].typed += line[2:] + "\n"
     else:
         commands[-1].printed += line + "\n"
 
@@ -72,7 +83,7 @@ class Recipes(ProgramCase):
         (folder / "dukpt").symlink_to(self.program.path)
         for name in ("tests", "examples"):
             (folder / name).symlink_to(ROOT / name)
-        script = "".join(f"{it.text}\nprintf '{END}%d{END}' $?\n" for it in commands)
+        script = "".join(it.in_bash() for it in commands)
         done = subprocess.run(
             ["bash", "-c", script], cwd=folder, stdin=subprocess.DEVNULL, capture_output=True,
             env={**os.environ, "LC_ALL": "C", "TMPDIR": str(folder)}, timeout=SECONDS, check=False)
@@ -116,3 +127,9 @@ class Recipes(ProgramCase):
     def test_there_are_no_others(self) -> None:
         """The last one is of the page, and has no command."""
         self.assertEqual([bool(commands) for _, commands in recipes()], [True] * 12 + [False])
+
+    def test_no_secret_is_written_by_a_command(self) -> None:
+        """Not even by one that is no process: it would stand in the shell's history."""
+        for _, commands in recipes():
+            for it in commands:
+                self.assertIsNone(SECRET.search(it.text), it.text)

@@ -49,7 +49,7 @@ def name_and_address(text: str) -> str:
 def demand_inputs(program: Path, library: Path) -> None:
     """That what is built elsewhere is there."""
     if not os.access(program, os.X_OK) or program.is_dir():
-        raise Refused(f"{program}: no such program: ./dukpt builds it, or --program names it")
+        raise Refused(f"{program}: no such program: ./dukpt --prove builds it, or --program names it")
     for name in OF_LIBRARY:
         read(library / name, MADE_BY_LIBRARY)
 
