@@ -96,6 +96,10 @@ class ManyReads(ServiceCase):
 
     weight = 5
 
+    def test_one_to_spare(self) -> None:
+        """The input ends behind a frame, and the last read but one finds that."""
+        self.try_reads(READS - 2, "")
+
     def test_as_many_as_there_are(self) -> None:
         self.try_reads(READS - 1, IN_A_FRAME)
 
