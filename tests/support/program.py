@@ -7,13 +7,13 @@ import signal
 import subprocess
 from dataclasses import dataclass
 from pathlib import Path
-from typing import Callable, Iterable, Optional, Sequence, Union
+from typing import Callable, Iterable, Optional, Sequence
+
+from .listing import Word, only_own_files
 
 ROOT = Path(__file__).resolve().parents[2]
 COMMANDS = ROOT / "tests" / "commands"
 SECONDS = 120
-
-Word = Union[str, bytes, os.PathLike]
 
 
 @dataclass(frozen=True)
@@ -86,19 +86,20 @@ class Program:
     ) -> Ended:
         """Runs it to its end. `given` is its input, or a file descriptor that is; `output` and
         `faults` may be such too. A run that does not end in so many seconds is an error of the
-        test."""
+        test, and so is one that leaves more in its folder than its own files."""
         feeds = {"input": given} if isinstance(given, bytes) else {"stdin": given}
-        done = subprocess.run(
-            ["dukpt", *map(os.fspath, words)],
-            executable=str(self.path),
-            cwd=folder,
-            stdout=output,
-            stderr=faults,
-            timeout=seconds,
-            check=False,
-            preexec_fn=limits.prepare(),
-            **feeds,
-        )
+        with only_own_files(folder, words) as place:
+            done = subprocess.run(
+                ["dukpt", *map(os.fspath, words)],
+                executable=str(self.path),
+                cwd=place,
+                stdout=output,
+                stderr=faults,
+                timeout=seconds,
+                check=False,
+                preexec_fn=limits.prepare(),
+                **feeds,
+            )
         return Ended(done.returncode, done.stdout or b"", done.stderr or b"")
 
 
@@ -120,6 +121,14 @@ def programs(given: Iterable[str]) -> list[Program]:
 def demand_built(program: Program) -> None:
     if not os.access(program.path, os.X_OK) or program.path.is_dir():
         raise NotBuilt(f"{program.name} is not built: rt ci builds it")
+
+
+def behind_shell(folder: Path, program: Program, way: str) -> Program:
+    """The program, behind a shell that does this first."""
+    script = folder / "program"
+    script.write_text(f"#!/bin/sh\n{way}\nexec {program.path} \"$@\"\n")
+    script.chmod(0o755)
+    return Program(script)
 
 
 def short(value: object, most: int = 200) -> str:

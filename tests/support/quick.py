@@ -1,16 +1,18 @@
 """Thousands of short runs of a program: with less work for each than `Program.run` has.
 
-Output and faults go to files in memory. A run that does not end is killed, and is an error of the
-test.
+Output and faults go to files in memory. The runs are in a new folder. A run that does not end is killed,
+and is an error of the test; and so is one that leaves anything in that folder.
 """
 from __future__ import annotations
 
 import os
 import select
 import signal
+from tempfile import TemporaryDirectory
 from types import TracebackType
 from typing import Optional, Sequence
 
+from .listing import Strayed
 from .program import SECONDS, Ended, Program, Word
 
 IGNORED_BY_PYTHON = (signal.SIGPIPE, signal.SIGXFSZ)
@@ -34,6 +36,8 @@ class QuickRuns:
             self.program.path, ["dukpt", *words], os.environ, file_actions=self.actions,
             setsigdef=IGNORED_BY_PYTHON)
         status = self.wait(process)
+        if os.listdir():
+            raise Strayed(f"`{words}` made {os.listdir()}")
         output, faults = (os.pread(it, os.fstat(it).st_size, 0) for it in self.streams[1:])
         return Ended(status, output, faults)
 
@@ -53,9 +57,13 @@ class QuickRuns:
         return status
 
     def __enter__(self) -> "QuickRuns":
+        self.before, self.folder = os.getcwd(), TemporaryDirectory(prefix="dukpt-runs-")
+        os.chdir(self.folder.name)
         return self
 
     def __exit__(self, kind: Optional[type[BaseException]], why: Optional[BaseException],
                  where: Optional[TracebackType]) -> None:
+        os.chdir(self.before)
+        self.folder.cleanup()
         for stream in self.streams:
             os.close(stream)
