@@ -58,11 +58,13 @@ def seen_at(path: Word) -> tuple:
 
 
 @contextmanager
-def only_own_files(folder: Optional[Word], words: Sequence[Word]) -> Iterator[Word]:
+def only_own_files(
+    folder: Optional[Word], words: Sequence[Word], streams: Sequence[int]
+) -> Iterator[Word]:
     """The folder of a run, which is a new one where none is given. Behind the run, that all in it is as
-    before, but the files that are its own."""
+    before, but the files that are its own, and those that are its streams."""
     if folder is None:
-        with TemporaryDirectory(prefix="dukpt-run-") as made, only_own_files(made, words) as it:
+        with TemporaryDirectory(prefix="dukpt-run-") as made, only_own_files(made, words, streams) as it:
             yield it
         return
     before = listing(folder)
@@ -71,6 +73,7 @@ def only_own_files(folder: Optional[Word], words: Sequence[Word]) -> Iterator[Wo
     if after == before:
         return
     own = {os.path.realpath(os.path.join(os.fspath(folder), it)) for it in own_files(words)}
+    own |= {os.path.realpath(f"/proc/self/fd/{it}") for it in streams if it >= 0}
     strayed = [name for name in sorted({*before, *after}) if before.get(name) != after.get(name)
                and os.path.realpath(os.path.join(os.fspath(folder), name)) not in own]
     if strayed:

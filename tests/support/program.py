@@ -88,7 +88,7 @@ class Program:
         `faults` may be such too. A run that does not end in so many seconds is an error of the
         test, and so is one that leaves more in its folder than its own files."""
         feeds = {"input": given} if isinstance(given, bytes) else {"stdin": given}
-        with only_own_files(folder, words) as place:
+        with only_own_files(folder, words, (output, faults)) as place:
             done = subprocess.run(
                 ["dukpt", *map(os.fspath, words)],
                 executable=str(self.path),

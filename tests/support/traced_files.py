@@ -40,16 +40,17 @@ class Call:
 
 
 def traced(
-    words: Sequence[Word], folder: Path, trace: Path, first: str, changes: Sequence[str] = ()
+    words: Sequence[Word], folder: Path, trace: Path, first: str, changes: Sequence[str] = (),
+    given: int = subprocess.DEVNULL,
 ) -> tuple[Ended, list[Call]]:
     """How a command ends in which strace makes these changes, and its calls from the one that opens a
-    file of this name."""
+    file of this name. `given` is a file descriptor that is its input."""
     strace = shutil.which("strace")
     if strace is None:
         raise AssertionError("strace is not installed: apt-get install strace")
     options = [it for one in (f"trace={','.join(CALLS)}", *changes) for it in ("-e", one)]
-    done = subprocess.run([strace, "-o", trace, *options, *words], cwd=folder, capture_output=True,
-                          timeout=SECONDS, check=False)
+    done = subprocess.run([strace, "-o", trace, *options, *words], cwd=folder, stdin=given,
+                          capture_output=True, timeout=SECONDS, check=False)
     return Ended(done.returncode, done.stdout, done.stderr), [*calls_in(trace.read_text(), first)]
 
 
