@@ -30,8 +30,8 @@ STARTS = ["in order", "every second missing"]
 # What is printed of hosts that share a journal, with the payments that are acknowledged and kept.
 REPLICAS = [
     r"seed \d+",
-    r"200 requests at once: \d+/s over the volume, \d+/s over the disk below it",
-    r"cut 0, idle: host 2 answers after \d+\.\d s; then host 1: 0 answers; .*",
+    r"200 requests at once: [\d,]+/s over the volume, [\d,]+/s over the disk below it",
+    r"cut 0, idle: host 2 answers after \d+\.\d s; then host 1: \d+ answers; .*",
     r"  40 payments acknowledged, 40 kept",
     r"kill 0: host 1, .* host [23] answers after \d+\.\d s; .*",
     r"1 kills, [01] in the midst of answers: 80 payments acknowledged, 80 kept; .*",
@@ -79,7 +79,8 @@ class Benches(Case):
         self.assertEqual(rows(found), STARTS)
 
     def test_replicas(self) -> None:
-        """A host that is cut off, and one that is killed."""
+        """Requests for as many payments as a journal takes, a host that is cut off, and one that is
+        killed."""
         found = self.lines_of("replicas", "--speed", "200", "--cuts", "1", "--kills", "1",
                               "--batch", "40", "--program", path_of("dukpt"),
                               shared=Path(tempfile.gettempdir()) / "dukpt-hosts.lock")

@@ -129,7 +129,8 @@ class Recipes(ProgramCase):
         self.assertEqual([bool(commands) for _, commands in recipes()], [True] * 12 + [False])
 
     def test_no_secret_is_written_by_a_command(self) -> None:
-        """Not even by one that is no process: it would stand in the shell's history."""
-        for _, commands in recipes():
-            for it in commands:
-                self.assertIsNone(SECRET.search(it.text), it.text)
+        """In no document, and not even by a command that is no process: it would stand in the shell's
+        history."""
+        for file in (ROOT / "README.md", *sorted((ROOT / "docs").glob("*.md"))):
+            for number, line in enumerate(file.read_text(encoding="utf-8").splitlines(), 1):
+                self.assertIsNone(SECRET.search(line), f"{file.name}, line {number}: {line}")
