@@ -317,12 +317,12 @@ def of_config(fault: str, facts: Facts) -> Optional[Explanation]:
 
 def line_of(config: bytes, fault: str) -> Optional[int]:
     """The line of a configuration, from 1, that a fault is of."""
-    found = re.fullmatch("config: (unknown|bad) (.*?)( [0-9]+)?", fault, re.S)
+    found = re.fullmatch("config: unknown (.*)|config: bad ([a-z]+)( [0-9]+)?", fault, re.S)
     if not found:
         return None
-    key, place = found[2].encode(), found[3]
+    key, place = (found[1] or found[2] or "").encode(), found[3]
     lines = [it.strip(BLANKS) for it in config.split(b"\n")]
-    if place and found[1] == "bad":
+    if place:
         heads = [at for at, it in enumerate(lines, 1) if is_head(it, key, 2)]
         return heads[int(place) - 1] if int(place) <= len(heads) else None
     return next((at for at, it in enumerate(lines, 1)
