@@ -157,6 +157,10 @@ def read_option(word: str, left: list[str], command: Command, given: Given) -> N
 # Secrets by reference
 
 
+# What refers to standard input.
+INPUTS = ("@-", "@/dev/stdin", "@/dev/fd/0", "@/proc/self/fd/0")
+
+
 class References:
     """Reads what references name; standard input once."""
 
@@ -167,7 +171,7 @@ class References:
     def text(self, name: str, word: str) -> str:
         if not word.startswith("@"):
             return word
-        if word == "@-":
+        if word in INPUTS:
             data, self.given = self.given, None
         else:
             data = self.files.get(word[1:])

@@ -6,7 +6,7 @@ use Rattle.duk_explain.specs.declared.found.Facts.{Facts}
 use Rattle.duk_explain.specs.declared.found.Reason.{Reason}
 use Rattle.duk_explain.specs.declared.found.Reason.TheVariants.{Other}
 use Rattle.duk_service.specs.Files.{FileKnown, HasBytes, IsFileRead}
-use Rattle.duk_program.specs.Secrets.{reference_in, secret_at, secret_line, secrets_of}
+use Rattle.duk_program.specs.Secrets.{RefersToInput, reference_in, secret_at, secret_line, secrets_of}
 use Rattle.duk_program.specs.Show.{longest_log}
 use Rattle.duk_program.specs.WrongLines.{IsWrongLine}
 use Rattle.duk_program.specs.WrongNumbers.{IsWrongRecordIn}
@@ -50,7 +50,7 @@ pub record IsReasonOfSecret (reading : List ℕ → ReasonKnown) (asked : Reques
 pub record IsInputTold (asked : Request) (line : List ℕ) : Type 0 where
   pub place : ℕ
   pub is_told : IsToldUnread asked line place
-  pub input : get_or (secrets_of asked) place [] ≡ codes "@-"
+  pub input : RefersToInput (get_or (secrets_of asked) place [])
 
 -- why a secret of which the line tells is not read: a reason of its file, or another; none is known
 -- of standard input, which was read before

@@ -8,7 +8,7 @@ ghost use Rattle.duk_program.specs.Secrets.{secret_line, secrets_of};
 ghost use Rattle.duk_program.specs.declared.secrets.SecretFault.TheVariants as fault;
 ghost use Rattle.duk_program.specs.declared.secrets.Unread.TheVariants as unread;
 
-use crate::references::path_in;
+use crate::references::{path_in, refers_to_input};
 use crate::request_secrets::{secret_at, secrets_of};
 use crate::secrets::{Secret, SecretFault, Unread};
 use crate::show::LONGEST_LOG;
@@ -89,15 +89,16 @@ fn reason_among<S: FileSystem>(
     let mut input_is_read = false;
     for place in 0..written.len() {
         let text = written[place];
+        let is_input = refers_to_input(text);
         if is_told(secret_at(about, place), line) {
             if let Some(reason) = reference_reason(files, text) {
                 return Some(reason);
             }
-            if input_is_read && text == "@-" {
+            if input_is_read && is_input {
                 return None;
             }
         }
-        input_is_read = input_is_read || text == "@-";
+        input_is_read = input_is_read || is_input;
     }
     Some(Reason::Other)
 }
