@@ -36,6 +36,10 @@ impl FileSystem for EveryFile {
         copy_of(alloc, text.as_bytes())
     }
 
+    fn read_stored(&self, alloc: Global, path: &str, most: usize) -> Result<Vec<u8>, FileFault> {
+        self.read_file(alloc, path, most)
+    }
+
     fn read_front(&self, _alloc: Global, _path: &str, _count: usize) -> Result<Vec<u8>, FileFault> {
         match self.text {
             Some(_) => Err(FileFault::NoMemory),
@@ -124,6 +128,10 @@ impl FileSystem for Banks {
             return Err(FileFault::TooLong);
         }
         copy_of(alloc, BANK.as_bytes())
+    }
+
+    fn read_stored(&self, alloc: Global, path: &str, most: usize) -> Result<Vec<u8>, FileFault> {
+        self.read_file(alloc, path, most)
     }
 
     fn read_front(&self, _alloc: Global, _path: &str, _count: usize) -> Result<Vec<u8>, FileFault> {
