@@ -76,14 +76,14 @@ _dukpt() {
         [[ $word == --*=* ]] && word=${word#*=}
         case ${words[1]}:$(_dukpt_value "${words[@]}") in
             *:COMMAND) offered=${!_dukpt_arguments[*]} ;;
-            *:KIND) offered="frame block image log" ;;
+            *:KIND) offered="frame block image log journal" ;;
             *:CONFIG | *:SCRIPT | *:FILE | *:OLD | *:NEW) _dukpt_files "$word"; return ;;
             unwrap:BLOCK) ;;
             # A secret may stand in a file.
             *:BDK | *:KBPK | *:LOADING | *:PIN | *:PAN | *:ZONE | *:KEY | *:KEY.. | *:BLOCK)
                 [[ $word == @* ]] && _dukpt_files "${word#@}"
                 return ;;
-            # A log is a file too.
+            # A log or a journal is a file too.
             *:WHAT) _dukpt_files "${word#@}"; return ;;
         esac
     fi

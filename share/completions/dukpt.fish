@@ -91,8 +91,8 @@ complete -c dukpt -n '__fish_seen_subcommand_from unwrap' -a '(__dukpt_secret)'
 complete -c dukpt -n '__fish_seen_subcommand_from unwrap' -l explain -d 'Say more of a fault'
 complete -c dukpt -n '__fish_seen_subcommand_from unwrap' -s h -l help -d 'Print help'
 
-complete -c dukpt -n __fish_use_subcommand -a show -d 'KIND WHAT: print the fields of a frame, a key block, an image or a log'
-complete -c dukpt -n '__fish_seen_subcommand_from show' -a 'frame block image log (__dukpt_secret)' -F
+complete -c dukpt -n __fish_use_subcommand -a show -d 'KIND WHAT: print the fields of a frame, a key block, an image, a log or a journal'
+complete -c dukpt -n '__fish_seen_subcommand_from show' -a 'frame block image log journal (__dukpt_secret)' -F
 complete -c dukpt -n '__fish_seen_subcommand_from show' -l show -d 'Print the keys of an image'
 complete -c dukpt -n '__fish_seen_subcommand_from show' -l explain -d 'Say more of a fault'
 complete -c dukpt -n '__fish_seen_subcommand_from show' -s h -l help -d 'Print help'

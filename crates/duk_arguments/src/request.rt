@@ -80,7 +80,7 @@ pub enum Request<'a> {
     NewJournal {
         /// The path of the journal.
         file: &'a str,
-        /// For how many payments it has room, as written.
+        /// How many records it has, as written.
         records: &'a str,
     },
     /// A copy of what a journal keeps, as a new journal.

@@ -65,7 +65,7 @@ pub(super) fn new_journal<'a>() -> Usage<'a>
             ),
             Argument::Needed(
                 "RECORDS",
-                "For how many payments it has room, 1 to 1000000000",
+                "How many records it has, 1 to 1000000000; the last sixteenth is for reversals",
             ),
         ],
     }

@@ -64,8 +64,9 @@ Faults, on standard error with status 1, the first alone; --explain says more:
 
 /// At the end of the help of `new-journal`.
 pub(crate) const NEW_JOURNAL: &str = "\
-A journal takes 32 bytes for each payment. They are zeros at first, and all of them are written, so that
-a device without room for them shows now and not at a payment. FILE and its folder are synced.
+A journal takes a record of 32 bytes for each payment and each reversal; in the last sixteenth of them no
+payment is kept, so that there is room to reverse. They are zeros at first, and all of them are written,
+so that a device without room for them shows now and not at a payment. FILE and its folder are synced.
 
 Example:
   $ dukpt new-journal payments.journal 1000
