@@ -67,7 +67,7 @@ class LittleMemory(MemoryCase):
 
     def test_a_shown_log(self) -> None:
         """All of it is printed, or nothing."""
-        data = log_disk([at % 50 * SPENT + at // 50 for at in range(20_000)], 1)
+        data = log_disk([at % 50 * SPENT + at // 50 + 1 for at in range(20_000)], 1)
         self.write("log", data)
         told = self.try_sizes(("show", "log", "log"), log_ended(data).output, 20)
         self.assertEqual(set(told), {0})

@@ -12,9 +12,9 @@ from typing import Mapping, Optional, Sequence
 
 from . import everyday_words
 from .commands import MOST_COUNT, Refused
-from .everyday_words import COMMANDS, Files, Given, References, resolve
+from .everyday_words import COMMANDS, INPUTS, Files, Given, References, resolve
 from .program import Ended
-from .shown import log_lines
+from .shown import log_numbers
 
 # Why a file is refused.
 MISSING, NO_PERMISSION, A_FOLDER, IN_USE = "no such file", "no permission", "a folder", "in use"
@@ -382,7 +382,7 @@ def of_show(asked: Asked, fault: str) -> Optional[Explanation]:
 def damaged_record(log: bytes) -> Optional[int]:
     """The record at which these bytes are no log, from 0."""
     try:
-        log_lines(log)
+        log_numbers(log)
     except Refused as why:
         return int(str(why).split()[3].rstrip(":"))
     return None
@@ -406,7 +406,7 @@ class Traced(References):
     """References, of which the one that was looked at last is known."""
 
     def text(self, name: str, word: str) -> str:
-        self.facts = Facts(READ_BEFORE if word == "@-" and self.given is None else MISSING)
+        self.facts = Facts(READ_BEFORE if word in INPUTS and self.given is None else MISSING)
         return super().text(name, word)
 
 

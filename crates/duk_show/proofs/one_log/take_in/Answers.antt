@@ -1,7 +1,7 @@
 use Rattle.std.proofs.Common.{subst}
 use Rattle.duk_tree.specs.Path.{IsUsable}
-use Rattle.duk_program.proofs.WrongNumbers.{taken}
-use Rattle.duk_program.proofs.wrong_numbers.take_in.Goals as goal
+use Rattle.duk_show.proofs.OneLog.{taken}
+use Rattle.duk_show.proofs.one_log.take_in.Goals as goal
 
 pub returns : goal.returns
 returns c =
