@@ -1,5 +1,5 @@
 -- The numbers of a log, one after another, up to the first that does not go with those before it.
-use Rattle.std.proofs.Common.{◌≡◌, ◌≢◌, ◌+◌, ◌-◌, ◌*◌, ◌<◌, ◌≤◌, ◌++◌, ◌∷◌, ℕ, zero, suc, Bool, true, false, Result, Ok, Err, IfOk, Option, Some, None, IfSome, List, [], Contains, drop, get_or, length, take, inl, inr, refl, ap, sym, subst, ◌∙◌, length-append, arith}
+use Rattle.std.proofs.Common.{◌≡◌, ◌+◌, ◌-◌, ◌*◌, ◌<◌, ◌≤◌, ◌++◌, ◌∷◌, ℕ, zero, suc, Option, Some, None, IfSome, List, [], drop, get_or, length, take, inl, inr, refl, ap, sym, subst, ◌∙◌, length-append, arith}
 use Rattle.std.proofs.lemmas.Bool.{cases_lt}
 use Rattle.std.proofs.lemmas.List.{append_assoc, append-nil, take_at}
 use Rattle.std.proofs.lemmas.List.Elements.{All-append, All-cons, All-nil}

@@ -1,5 +1,5 @@
 -- What is asked of files after a fault, and what is found (this project's own).
-use Rattle.std.specs.Prelude.{◌≡◌, ◌⊎◌, ◌<◌, ⊤, ℕ, List, Option, Some, None, [], codes, get_or, length}
+use Rattle.std.specs.Prelude.{◌≡◌, ◌⊎◌, ◌<◌, ⊤, ℕ, List, Option, Some, None, [], get_or, length}
 use Rattle.duk_arguments.specs.declared.request.Request.{Request}
 use Rattle.duk_explain.specs.Subject.{IsSubject, Subject, config, lockable, log, makeable, readable, secrets}
 use Rattle.duk_explain.specs.declared.found.Facts.{Facts}

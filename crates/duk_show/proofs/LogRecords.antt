@@ -5,7 +5,7 @@ use Rattle.std.proofs.lemmas.List.{drop_all}
 use Rattle.duk_store.specs.RecordFormat.{HasRecordNumber, IsLog, IsLogSize, KeepsNumbers, number_in, numbers_in, record_at}
 use Rattle.duk_store.specs.SlotFormat.{IsOpen}
 use Rattle.duk_tree.specs.Serial.{Serial}
-use Rattle.duk_show.specs.Log.{AreOfOneLog, BeginsLog, IsFirstOther, IsLogRefused, IsNoLog, IsSomeLog, IsWrongRecord}
+use Rattle.duk_show.specs.Log.{BeginsLog, IsLogRefused, IsNoLog, IsSomeLog, IsWrongRecord}
 use Rattle.duk_show.specs.declared.fault.ShowFault.{ShowFault}
 use Rattle.duk_show.specs.declared.fault.ShowFault.TheVariants.{BlockRefused, FrameRefused, ImageRefused, JournalRefused, JournalTooLong, JournalUnread, KindRefused, LogRefused, LogTooLong, LogUnread, OutOfMemory}
 use Rattle.duk_show.specs.inner.Log.{AreFirstNumbers, IsDamagedLog, IsNextRecord, IsNumberRefused, IsRecordRefused}

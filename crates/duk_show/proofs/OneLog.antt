@@ -1,15 +1,14 @@
 -- Numbers that one log keeps, one after another, up to the first that does not go with those before it.
-use Rattle.std.proofs.Common.{◌≡◌, ◌≢◌, ◌==◌, ◌+◌, ◌<◌, ◌≤◌, ◌^◌, ◌++◌, ◌∷◌, ℕ, zero, suc, Bool, true, false, Result, Ok, Err, IfOk, Option, Some, None, List, [], Contains, get_or, length, map, take, inl, inr, refl, ap, sym, subst, ◌∙◌, length-append, arith}
-use Rattle.std.proofs.lemmas.Bool.{cases_Bool, eqb-true}
-use Rattle.std.proofs.lemmas.List.{map-append, take_more}
+use Rattle.std.proofs.Common.{◌≡◌, ◌≢◌, ◌==◌, ◌+◌, ◌<◌, ◌≤◌, ◌++◌, ◌∷◌, ℕ, zero, suc, Bool, true, false, Result, Ok, Err, IfOk, Option, Some, None, List, [], Contains, get_or, length, map, take, inl, inr, refl, ap, sym, subst, ◌∙◌, length-append, arith}
+use Rattle.std.proofs.lemmas.Bool.{eqb-true}
 use Rattle.std.proofs.lemmas.List.Elements.{All-append, All-cons, All-nil, Contains-append_cases, Contains-append_left, Contains-append_right}
 use Rattle.std.proofs.lemmas.List.Quantifiers.{all_pairs_push}
 use Rattle.std.proofs.lemmas.Nat.{pow_pos}
 use Rattle.std.specs.Bool.{MatchBool}
-use Rattle.std.specs.Prelude.{All, AllPairs, MatchOption, if◌then◌else◌}
+use Rattle.std.specs.Prelude.{MatchOption, if◌then◌else◌}
 use Rattle.duk_host.specs.Used.{AreUsable, IsOneMore, IsUsed, Lists}
 use Rattle.duk_store.specs.Log.{Numbers}
-use Rattle.duk_tree.specs.Path.{IsPath, IsUsable, value_of}
+use Rattle.duk_tree.specs.Path.{IsUsable, value_of}
 use Rattle.duk_tree.specs.Serial.{Serial}
 use Rattle.duk_show.specs.Log.{AreIssued, AreOfOneLog, IsFirstOther, IsTaken}
 use Rattle.duk_show.specs.declared.one_log.Keeps.{Keeps}
@@ -205,11 +204,3 @@ found keeps numbers (Ok None) same are = of_one_log keeps numbers are
 found keeps numbers (Ok (Some place)) same first =
     found_other numbers place (subst (λ (k : Keeps). IsFirstOther (AreUsableAs k) numbers place) same first)
 found keeps numbers (Err why) same all = tt
-
--- ---- one number more
-
-pub next_as : (keeps : Keeps) (numbers : Numbers) (place : ℕ) (d : Serial) → place < length numbers
-    → map (as_used keeps) (take (place + 1) numbers) ≡ map (as_used keeps) (take place numbers) ++ as_used keeps (get_or numbers place d) ∷ []
-next_as keeps numbers place d there =
-    ap (λ (some : Numbers). map (as_used keeps) some) (take_more numbers place d there)
-    ∙ map-append (as_used keeps) (take place numbers) (get_or numbers place d ∷ [])

@@ -1,4 +1,4 @@
-use Rattle.std.proofs.Common.{[], get_or, inl, rules}
+use Rattle.std.proofs.Common.{[], get_or, inl}
 use Rattle.duk_program.specs.Secrets.{RefersToInput}
 use Rattle.duk_program.proofs.ToldSecrets.{input_told, reason_told}
 use Rattle.duk_program.proofs.reasons.reason_among.Goals as goal
