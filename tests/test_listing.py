@@ -19,7 +19,7 @@ PLANTED = (
 )
 # The words of a command, and the files that are its own.
 OWN = (
-    (("derive", "@bdk", "--log"), []),
+    (("derive", "@bdk", "--log", "used"), []),
     (("serve", "bank.toml", "--log", "used"), ["used"]),
     (("serve", "bank.toml", "--journal=used"), ["used"]),
     (("run", "bank.toml", "all.script", "--journal"), []),
