@@ -174,7 +174,7 @@ class DeviceCalls(JournalCase):
             ledger.start_log(0)
             for place in range(3):
                 ledger.use(place)
-            self.check(["issue", BASE, BASE, FIRST, "3", "--ledger", "ledger"], "ledger", steps, what=f"{room}")
+            self.check(["issue", BASE, BASE, FIRST, "3", "--ledger", "ledger"], "ledger", steps)
 
     def test_new_journal(self) -> None:
         for records in (1, 7, 5000):
@@ -190,7 +190,8 @@ class DeviceCalls(JournalCase):
         for kept, room in ((0, 3), (1, 1), (3, 7), (200, 400), (2100, 5000)):
             self.make("journal", b"")
             self.make_journal(room, alone(payments_of_all(payments(kept))))
-            self.check(["copy-journal", "journal", "copy"], "journal", copied(kept, room), what=f"{kept} of {room}")
+            self.check(["copy-journal", "journal", "copy"], "journal", copied(kept, room),
+                       what=f"{kept} of {room}")
 
     def test_shown(self) -> None:
         for kept, room in ((0, 5), (3, 32), (2100, 5000)):
