@@ -1,5 +1,5 @@
 -- What `issue` does is a run.
-use Rattle.std.proofs.Common.{◌≡◌, ◌<◌, ℕ, List, [], ◌∷◌, ◌++◌, inl, inr, get_or, length, refl, sym, ap, ◌∙◌, subst, arith, append-nil, append_assoc, length-append}
+use Rattle.std.proofs.Common.{◌≡◌, ◌<◌, ℕ, List, All, [], ◌∷◌, ◌++◌, inl, inr, get_or, length, refl, sym, ap, ◌∙◌, subst, arith, append-nil, append_assoc, length-append}
 use Rattle.std.proofs.lemmas.List.{get_or-map, get_or_append_left, length-map, map-append}
 use Rattle.duk_store.specs.Log.{LogMeaning, Numbers}
 use Rattle.duk_store.specs.Restart.{Restarted}
@@ -8,7 +8,7 @@ use Rattle.duk_store.specs.declared.fault.StoreFault.TheVariants as store
 use Rattle.duk_issue.specs.Issue.{Ends, HasIssued, IsRefusedBy, IsUnread, IssueFailed, Job, MayIssue, begun_places, iksns_of}
 use Rattle.duk_issue.specs.Ledger.{IsExtended, IsIssued}
 use Rattle.duk_issue.specs.Lifetime.{AreFresh, IsRun}
-use Rattle.duk_issue.specs.Numbers.{iksn_at}
+use Rattle.duk_issue.specs.Numbers.{FitsFrom, iksn_at, key_set}
 use Rattle.duk_issue.specs.declared.fault.IssueFault.{IssueFault}
 use Rattle.duk_issue.specs.declared.fault.IssueFault.TheVariants as fault
 use Rattle.duk_issue.proofs.Members.{member_at}
@@ -42,6 +42,10 @@ fresh_front numbers front rest fresh = record {
 fresh_first : (job : Job) (capacity : ℕ) (numbers : Numbers) (done rest : List ℕ) → MayIssue job capacity numbers (done ++ rest) → AreFresh numbers (iksns_of job done)
 fresh_first job capacity numbers done rest may =
     fresh_front numbers (iksns_of job done) (iksns_of job rest) (subst (λ list. AreFresh numbers list) (map-append (iksn_at job.order.first) done rest) (fresh_places job capacity numbers (done ++ rest) may))
+
+-- a place of an order is of the first's key set
+pub in_set : (first count place : ℕ) → FitsFrom first count → place < count → key_set (iksn_at first place) ≡ key_set first
+in_set first count place fits inside = let same = fits.same_set in omega (arith, same, inside)
 
 module _ {L : Type 0} (meaning : LogMeaning L) (job : Job) where
   -- a ledger that keeps the list that its restart found
@@ -106,5 +110,18 @@ module _ {L : Type 0} (meaning : LogMeaning L) (job : Job) where
   failed_run old new fault.LoadingRefused refused = absurd refused
   failed_run old new fault.IksnRefused refused = absurd refused
   failed_run old new fault.CountRefused refused = absurd refused
+  failed_run old new fault.KcvRefused refused = absurd refused
+  failed_run old new fault.KcvDiffers refused = absurd refused
+  failed_run old new (fault.NotIssued iksn) refused = absurd refused
   failed_run old new fault.PaddingUnread refused = absurd refused
   failed_run old new fault.LedgerUnopened refused = absurd refused
+  failed_run old new fault.OutUnmade refused = absurd refused
+
+  -- all numbers that are printed are of the first's key set
+  pub one_set : (old new : Ends L) → (meaning.state_of old.ledger).honest → (has : HasIssued meaning job old new) → All (λ iksn. key_set iksn ≡ key_set job.order.first) (iksns_of job has.places)
+  one_set old new honest has = λ k d within.
+      let first = job.order.first in
+      let places = has.places in
+      let inside : k < length places = omega (arith, within, length-map places (iksn_at first)) in
+      let is_new = ((has.tested honest).new.members (get_or places k 0)).0 (member_at places k 0 inside) in
+      subst (λ n. key_set n ≡ key_set first) (sym (get_or-map (iksn_at first) places k 0 d inside)) (in_set first job.order.count (get_or places k 0) job.order.fits is_new.0)

@@ -1,6 +1,6 @@
 -- What `issue` does with its ledger and its output (this project's own).
 use Rattle.std.proofs.Common.{inl, inr}
-use Rattle.std.specs.Prelude.{◌≡◌, ◌⊎◌, ◌<◌, ◌≤◌, ◌-◌, ◌++◌, ℕ, Bool, false, List, [], ◌∷◌, map, length}
+use Rattle.std.specs.Prelude.{◌≡◌, ◌⊎◌, ◌<◌, ◌≤◌, ◌+◌, ◌-◌, ◌++◌, ℕ, Bool, false, List, [], ◌∷◌, map, length}
 use Rattle.duk_io.specs.Known.{Known}
 use Rattle.duk_io.specs.Sink.{IsCut, IsWritten}
 use Rattle.duk_store.specs.Log.{AppendStopped, LogMeaning, Numbers}
@@ -62,6 +62,11 @@ pub record HasIssued {L : Type 0} (meaning : LogMeaning L) (job : Job) (old new 
   pub kept : IsExtended meaning old.ledger new.ledger numbers (iksns_of job places)
   pub lines : AreLines job.order job.padding places text
   pub written : IsWritten old.output new.output text
+
+-- all keys are issued, but those of so many terminals that are passed over
+abbrev pub HasIssuedBut : {L : Type 0} → LogMeaning L → Job → Ends L → Ends L → ℕ → Type 0
+HasIssuedBut meaning job old new passed_over =
+    (has : HasIssued meaning job old new) × (passed_over + length has.places ≡ job.order.count)
 
 -- a write failed: the lines before were written, the number of this line stands in the ledger as
 -- well, and none of the later ones
@@ -160,5 +165,9 @@ begun_places meaning job old new fault.BdkRefused failed = []
 begun_places meaning job old new fault.LoadingRefused failed = []
 begun_places meaning job old new fault.IksnRefused failed = []
 begun_places meaning job old new fault.CountRefused failed = []
+begun_places meaning job old new fault.KcvRefused failed = []
+begun_places meaning job old new fault.KcvDiffers failed = []
+begun_places meaning job old new (fault.NotIssued iksn) failed = []
 begun_places meaning job old new fault.PaddingUnread failed = []
 begun_places meaning job old new fault.LedgerUnopened failed = []
+begun_places meaning job old new fault.OutUnmade failed = []

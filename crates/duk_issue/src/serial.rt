@@ -1,7 +1,7 @@
 //! Initial key serial numbers in a row.
 
 ghost use Rattle.std.specs.Prelude.{◌≡◌, ◌≢◌, ◌↔◌, ◌<◌, ◌^◌, ℕ, IsTrue, MatchOption};
-ghost use Rattle.duk_issue.specs.Numbers.{iksn_at};
+ghost use Rattle.duk_issue.specs.Numbers.{iksn_at, key_set};
 ghost use Rattle.duk_tree.specs.Serial.{IsIksn};
 
 use byteorder::{BigEndian, ByteOrder};
@@ -12,6 +12,9 @@ const SPACING: u128 = 1 << 21;
 
 /// One more than the greatest key serial number.
 const END: u128 = 1 << 80;
+
+/// How many key serial numbers have the same prefix.
+const KEY_SET: u128 = 1 << 40;
 
 /// The number that the ten bytes spell.
 #[tactic(auto, using(crate::proofs::SerialNumbers::read_back))]
@@ -33,11 +36,14 @@ pub(crate) fn iksn_at(first: Iksn, place: u32) -> Iksn
     Ksn::from_bytes(bytes).iksn()
 }
 
-/// Whether there is a number at this place after the first.
+/// Whether there is a number at this place after the first, and in its key set.
 pub(crate) fn is_within(first: Iksn, place: u32) -> bool
-    ensures { IsTrue result ↔ (iksn_at first place < 2 ^ 80) }
+    ensures { IsTrue result
+        ↔ ((iksn_at first place < 2 ^ 80) × (key_set (iksn_at first place) ≡ key_set first)) }
 {
-    number_of(first) + u128::from(place) * SPACING < END
+    let first = number_of(first);
+    let number = first + u128::from(place) * SPACING;
+    number < END && number / KEY_SET == first / KEY_SET
 }
 
 /// The place of a number after the first.
