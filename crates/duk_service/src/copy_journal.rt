@@ -15,7 +15,7 @@ use duk_copy::{CopyFault, PIECE_LENGTH, write_copy};
 use duk_host::HostFault;
 use duk_io::{Sink, write_text};
 use duk_journal::{DiskJournal, Journal};
-use duk_line::check_journal;
+use duk_line::{Checked, check_journal};
 use duk_store::Disk;
 use std::alloc::{AllocError, Global};
 
@@ -73,7 +73,8 @@ struct Pieces {
 
 /// Makes a file of the size of a journal's, with what that keeps, and gives the status: 0, or 1 with
 /// a line on `fault`. The journal is checked before the file is made, and the file before its folder
-/// is synced: a journal that is read otherwise the second time is not copied.
+/// is synced: a journal that is read otherwise the second time is not copied, since the file has
+/// another number of entries then, or another check sum.
 ///
 /// The faults, in this order: `journal: cannot open`; `journal: failed`; `journal: cannot make`. In
 /// place of each but the first may stand `out of memory`. A file that was made and cannot be kept is
@@ -129,8 +130,9 @@ fn make_copy<S: LogFiles>(
     make_new(alloc, files, new, size, kept, &mut disk, &mut pieces)
 }
 
-/// Checks a journal as the restart of a host over it does, and gives how many entries it keeps.
-fn check<J: Journal>(alloc: Global, journal: &mut J) -> Result<u64, CopyJournalFault>
+/// Checks a journal as the restart of a host over it does, and gives how many entries it keeps, and
+/// their check sum.
+fn check<J: Journal>(alloc: Global, journal: &mut J) -> Result<Checked, CopyJournalFault>
     ensures checked { IfOk result (IsChecked J.meaning journal.old journal.new) }
     ensures refused { IfErr result (IsNotChecked J.meaning journal.old journal.new) }
     ensures capacity { J.meaning.capacity journal.new ≡ J.meaning.capacity journal.old }
@@ -159,14 +161,14 @@ fn make_new<S: LogFiles>(
     files: &S,
     file: &str,
     size: u64,
-    kept: u64,
+    kept: Checked,
     old: &mut S::Disk,
     pieces: &mut Pieces,
 ) -> Result<(), CopyJournalFault>
     requires zeros { pieces.old.zeros.items ≡ replicate 65536 0 }
     requires piece { length pieces.old.piece.items ≡ 65536 }
-    requires inside { 32 * kept ≤ (S.Disk.meaning.state_of old.old).size }
-    requires room { 32 * kept ≤ size }
+    requires inside { 32 * kept.count ≤ (S.Disk.meaning.state_of old.old).size }
+    requires room { 32 * kept.count ≤ size }
     ensures made { OnOk result (IsCopyMade S.Disk.meaning (S.making files.now file.now) size kept
         (S.Disk.meaning.state_of old.old)) }
     ensures refused { IfErr result (CopyNotMade S.Disk.meaning (S.making files.now file.now) size
@@ -179,7 +181,7 @@ fn make_new<S: LogFiles>(
     let Ok(mut disk) = files.make_disk(file, size) else {
         return Err(CopyJournalFault::Unmade);
     };
-    match write_new(size, kept, old, pieces, &mut disk) {
+    match write_new(size, kept.count, old, pieces, &mut disk) {
         Ok(()) => keep_new(alloc, files, file, kept, disk),
         Err(why) => {
             files.remove_made(file, disk);
@@ -229,13 +231,13 @@ fn write_new<D: Disk>(
     }
 }
 
-/// Checks that a written disk keeps so many entries, and syncs the folder of its path. Where it
-/// cannot be kept it is removed again, if it can be.
+/// Checks that a written disk keeps so many entries with their check sum, and syncs the folder of its
+/// path. Where it cannot be kept it is removed again, if it can be.
 fn keep_new<S: LogFiles>(
     alloc: Global,
     files: &S,
     file: &str,
-    kept: u64,
+    kept: Checked,
     disk: S::Disk,
 ) -> Result<(), CopyJournalFault>
     ensures checked { OnOk result (IsNewChecked S.Disk.meaning kept disk) }
@@ -263,12 +265,13 @@ fn remove_new<S: LogFiles>(files: &S, file: &str) {
     }
 }
 
-/// Checks that a journal keeps so many entries, and then syncs the folder of its path.
+/// Checks that a journal keeps so many entries with their check sum, and then syncs the folder of its
+/// path.
 fn keep_checked<S: LogFiles>(
     alloc: Global,
     files: &S,
     file: &str,
-    kept: u64,
+    kept: Checked,
     journal: &mut DiskJournal<S::Disk>,
 ) -> Result<(), CopyJournalFault>
     ensures checked { OnOk result (IsChecked (disk_journal_meaning S.Disk.meaning)
@@ -289,8 +292,13 @@ fn keep_checked<S: LogFiles>(
     }
 }
 
-/// Checks a journal as the restart of a host over it does, and that it keeps so many entries.
-fn check_new<J: Journal>(alloc: Global, kept: u64, journal: &mut J) -> Result<(), CopyJournalFault>
+/// Checks a journal as the restart of a host over it does, and that it keeps so many entries with
+/// their check sum.
+fn check_new<J: Journal>(
+    alloc: Global,
+    kept: Checked,
+    journal: &mut J,
+) -> Result<(), CopyJournalFault>
     ensures checked { OnOk result (IsChecked J.meaning journal.old journal.new kept) }
     ensures refused { IfErr result (NewNotChecked J.meaning kept journal.old journal.new) }
     ensures read_over { IsReadOver (J.meaning.state_of journal.old)

@@ -1,5 +1,5 @@
 use Rattle.std.proofs.Common.{◌∙◌}
-use Rattle.duk_service.proofs.new_journal.make_journal.Goals as goal
+use Rattle.duk_service.proofs.new_file.make_file.Goals as goal
 
 pub make_blank-requires-clause-zeros : goal.make_blank-requires-clause-zeros
 make_blank-requires-clause-zeros g c =

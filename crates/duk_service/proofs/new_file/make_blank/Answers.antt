@@ -1,4 +1,4 @@
-use Rattle.duk_service.proofs.new_journal.make_blank.Goals as goal
+use Rattle.duk_service.proofs.new_file.make_blank.Goals as goal
 
 pub returns-in-Ok-clause-made : goal.returns-in-Ok-clause-made
 returns-in-Ok-clause-made g c = record {
