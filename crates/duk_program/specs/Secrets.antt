@@ -180,10 +180,10 @@ HasMeaning held (request.MakeReversal bdk ksn reversed initial)
 HasMeaning held (request.CheckReply bdk asked answer initial)
     (request.CheckReply bdk' asked' answer' initial') =
     Means held bdk.now bdk'.now × (asked' ≡ asked) × (answer' ≡ answer) × (initial' ≡ initial)
-HasMeaning held (request.Issue bdk loading iksn count ledger skip)
-    (request.Issue bdk' loading' iksn' count' ledger' skip') =
+HasMeaning held (request.Issue bdk loading iksn count ledger way)
+    (request.Issue bdk' loading' iksn' count' ledger' way') =
     Means held bdk.now bdk'.now × Means held loading.now loading'.now × (iksn' ≡ iksn)
-    × (count' ≡ count) × (ledger' ≡ ledger) × (skip' ≡ skip)
+    × (count' ≡ count) × (ledger' ≡ ledger) × (way' ≡ way)
 HasMeaning held (request.Show kind what show)
     (request.Show kind' what' show') =
     (kind' ≡ kind) × Means held what.now what'.now × (show' ≡ show)
@@ -205,7 +205,7 @@ secrets_of (request.Translate block pan bdk ksn zone initial) = block.now ∷ pa
 secrets_of (request.MakeRequest bdk ksn pan pin amount initial) = bdk.now ∷ pan.now ∷ pin.now ∷ []
 secrets_of (request.MakeReversal bdk ksn reversed initial) = bdk.now ∷ []
 secrets_of (request.CheckReply bdk asked answer initial) = bdk.now ∷ []
-secrets_of (request.Issue bdk loading iksn count ledger skip) = bdk.now ∷ loading.now ∷ []
+secrets_of (request.Issue bdk loading iksn count ledger way) = bdk.now ∷ loading.now ∷ []
 secrets_of (request.Show kind what show) = what.now ∷ []
 secrets_of asked = []
 
@@ -226,7 +226,7 @@ secret_names (request.Translate block pan bdk ksn zone initial) = Block ∷ Pan 
 secret_names (request.MakeRequest bdk ksn pan pin amount initial) = Bdk ∷ Pan ∷ Pin ∷ []
 secret_names (request.MakeReversal bdk ksn reversed initial) = Bdk ∷ []
 secret_names (request.CheckReply bdk asked answer initial) = Bdk ∷ []
-secret_names (request.Issue bdk loading iksn count ledger skip) = Bdk ∷ Loading ∷ []
+secret_names (request.Issue bdk loading iksn count ledger way) = Bdk ∷ Loading ∷ []
 secret_names (request.Show kind what show) = What ∷ []
 secret_names asked = Bdk ∷ []
 
@@ -264,6 +264,7 @@ HasWordsAlone asked = Each IsWord (secrets_of asked)
 abbrev pub IsOverSecrets : Request → Type 0
 IsOverSecrets (request.Run config script journal) = ⊥
 IsOverSecrets (request.Serve config kept) = ⊥
+IsOverSecrets (request.NewLog file records) = ⊥
 IsOverSecrets (request.NewJournal file records) = ⊥
 IsOverSecrets (request.CopyJournal old new) = ⊥
 IsOverSecrets asked = Unit {0}

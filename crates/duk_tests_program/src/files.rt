@@ -74,11 +74,17 @@ fn copy_of(alloc: Global, bytes: &[u8]) -> Result<Vec<u8>, FileFault>
 impl LogFiles for EveryFile {
     type Disk = MemDisk;
 
+    type Lines = Vec<u8>;
+
     ghost disks = { λ _ _. Some None };
 
     ghost opening = { λ _ _. None };
 
-    ghost making = { λ _ _. record { disk = λ _. Some None; folder = Some false } };
+    ghost making = { λ _ _. record {
+      disk = λ _. Some None;
+      folder = Some false;
+      lines = Some None;
+    } };
 
     ghost unmade = { λ _ _. Some (Some There) };
 
@@ -100,9 +106,19 @@ impl LogFiles for EveryFile {
         Err(StoreFault::Device)
     }
 
+    fn make_zeros(&self, path: &str, size: u64) -> Result<MemDisk, StoreFault> {
+        self.make_disk(path, size)
+    }
+
     fn sync_folder(&self, _path: &str) -> Result<(), StoreFault> {
         Err(StoreFault::Device)
     }
+
+    fn make_lines(&self, _path: &str) -> Result<Vec<u8>, StoreFault> {
+        Err(StoreFault::Device)
+    }
+
+    fn remove_empty(&self, _path: &str) {}
 
     fn remove_made(&self, _path: &str, _disk: MemDisk) {}
 
@@ -154,6 +170,8 @@ impl FileSystem for Banks {
 impl LogFiles for Banks {
     type Disk = MemDisk;
 
+    type Lines = Vec<u8>;
+
     ghost disks = { λ _ _. None };
 
     ghost opening = { λ _ _. None };
@@ -180,9 +198,19 @@ impl LogFiles for Banks {
         Err(StoreFault::Device)
     }
 
+    fn make_zeros(&self, path: &str, size: u64) -> Result<MemDisk, StoreFault> {
+        self.make_disk(path, size)
+    }
+
     fn sync_folder(&self, _path: &str) -> Result<(), StoreFault> {
         Ok(())
     }
+
+    fn make_lines(&self, _path: &str) -> Result<Vec<u8>, StoreFault> {
+        Err(StoreFault::Device)
+    }
+
+    fn remove_empty(&self, _path: &str) {}
 
     fn remove_made(&self, _path: &str, _disk: MemDisk) {}
 

@@ -1,6 +1,6 @@
 use Rattle.std.proofs.Common.{length, string_bytes, map, ap, ◌∙◌, sym}
 use Rattle.duk_host.specs.Serve.{supply}
-use Rattle.duk_program.proofs.Told.{each_means_of, meant_explained, meant_heard, told_of, unread_explained}
+use Rattle.duk_program.proofs.Told.{each_means_of, meant_explained, meant_heard, noted_of, told_of, unread_explained}
 use Rattle.duk_program.proofs.Words.{means_length}
 use Rattle.duk_program.specs.Scene.{scene}
 use Rattle.duk_service.specs.Serve.{serving_of}
@@ -29,6 +29,7 @@ returns-clause-done g c zero = meant_heard g.S.Disk.Disk.meaning
     c.in-Ok.ensures.read.taken
     (c.with_secrets-meant.ensures.meaning _ (each_means_of _ _ _ _ (c.in-Some.ensures ∙ ap (map string_bytes) c.as_slice.ensures.value) c.in-Ok.ensures.read.means))
     (c.answer_explained-status.ensures.done (sym c.tell.ensures.status ∙ zero))
+    (noted_of _ _ _ _ c.as_slice-2.ensures.value (c.tell.ensures.noted (sym c.tell.ensures.status ∙ zero)))
 
 pub returns-clause-not_done : goal.returns-clause-not_done
 returns-clause-not_done g c one = meant_explained g.S.Disk.Disk.meaning
