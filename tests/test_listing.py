@@ -24,6 +24,8 @@ OWN = (
     (("serve", "bank.toml", "--journal=used"), ["used"]),
     (("run", "bank.toml", "all.script", "--journal"), []),
     (("issue", "--ledger", "l", "@bdk"), ["l"]),
+    (("issue", "--ledger", "l", "--out=o"), ["l", "o"]),
+    (("new-log", "new", "7"), ["new"]),
     (("new-journal", "--explain", "new", "7"), ["new"]),
     (("copy-journal", b"old", b"new"), ["new"]),
 )

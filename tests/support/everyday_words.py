@@ -62,8 +62,8 @@ COMMANDS = {
     "unpin": Command(unpin_lines, ("BLOCK", "PAN"), ("show",), {"key": "KEY"}),
     "translate": Command(translate_lines, ("BLOCK", "PAN", "BDK", "KSN", "ZONE"), INITIAL),
     # Its lines are random: `issuing` reads them.
-    "issue": Command(no_lines, ("BDK", "LOADING", "IKSN", "COUNT"), ("skip-issued",),
-                     {"ledger": "FILE"}),
+    "issue": Command(no_lines, ("BDK", "LOADING", "IKSN", "COUNT"), ("skip-issued", "again"),
+                     {"ledger": "FILE", "bdk-kcv": "KCV", "out": "FILE"}),
     # A text; the logs are files.
     "show": Command(show_lines, ("KIND", "WHAT"), ("show",)),
     "request": Command(request_lines, ("BDK", "KSN", "PAN", "PIN", "AMOUNT"), INITIAL,

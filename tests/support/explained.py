@@ -30,7 +30,7 @@ ANY = frozenset(range(256))
 ONE_KEY, ANY_KEY = "32 hexadecimal digits", "32 or 48 hexadecimal digits"
 PAIRS = "pairs of hexadecimal digits"
 READABLE = "a file that can be read"
-A_LOG = "a file of zeros, 16 bytes a number, that no other uses"
+A_LOG = "a log, as new-log makes one, that no other uses"
 A_JOURNAL = "a journal, as new-journal makes one, that no other uses"
 A_NEW_FILE = "a name that no file has, in a folder with room"
 BEFORE_16 = "write FFFF before it"
@@ -250,6 +250,7 @@ REASONED = {
     "log: cannot open": ("log", A_LOG),
     "ledger: cannot open": ("ledger", A_LOG),
     "journal: cannot open": ("journal", A_JOURNAL),
+    "log: cannot make": ("log", A_NEW_FILE),
     "journal: cannot make": ("journal", A_NEW_FILE),
 }
 
