@@ -6,9 +6,9 @@ use Rattle.std.specs.Ordering.{nat_cmp}
 use Rattle.std.proofs.lemmas.Bool.{cases_lt}
 use Rattle.duk_tree.specs.Next.{IsLast, IsNextUsable}
 use Rattle.duk_tree.specs.Path.{IsUsable}
-use Rattle.duk_tree.specs.Serial.{Serial, IsSerial}
+use Rattle.duk_tree.specs.Serial.{IsSerial, Serial, serial_number}
 use Rattle.duk_host.specs.declared.ranges.Range.{Range}
-use Rattle.duk_host.specs.inner.Index.{AreApart, AreRanges, BeginsAfter, BeginsAt, BeginsBefore, BeginsWith, EndsWith, HasNoneAfter, HasNoneBefore, HasRange, IsHeld, IsLastBefore, IsLastUpTo, IsNextNumber, IsOfTerminal, IsPut, IsRangeAfter, Ranges, Reaches, counter_of, iksn_of, serial_number}
+use Rattle.duk_host.specs.inner.Index.{AreApart, AreRanges, BeginsAfter, BeginsAt, BeginsBefore, BeginsWith, EndsWith, HasNoneAfter, HasNoneBefore, HasRange, IsHeld, IsLastBefore, IsLastUpTo, IsNextNumber, IsOfTerminal, IsPut, IsRangeAfter, Ranges, Reaches, counter_of, iksn_of}
 use Rattle.duk_host.proofs.NumbersOfRanges.{HaveOnePath, usable_fits}
 use Rattle.duk_host.proofs.RangeNumbers.{before_number, begins_as, counters_in_order, of_one_between, one_end, one_next, same_number, same_terminal, split_at, up_to}
 use Rattle.duk_host.proofs.RangeWithOneMore.{IsJoined}

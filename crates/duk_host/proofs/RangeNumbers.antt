@@ -3,8 +3,8 @@ use Rattle.std.proofs.Common.{◌≡◌, ℕ, ◌+◌, ◌%◌, ◌^◌, ◌<◌
 use Rattle.std.proofs.lemmas.Bool.{cases_lt}
 use Rattle.duk_tree.specs.Next.{IsNextUsable}
 use Rattle.duk_tree.specs.Path.{IsUsable}
-use Rattle.duk_tree.specs.Serial.{Serial, IsSerial}
-use Rattle.duk_host.specs.inner.Index.{BeginsBefore, HasRange, IsInRange, Ranges, counter_of, iksn_of, serial_number}
+use Rattle.duk_tree.specs.Serial.{IsSerial, Serial, serial_number}
+use Rattle.duk_host.specs.inner.Index.{BeginsBefore, HasRange, IsInRange, Ranges, counter_of, iksn_of}
 
 -- a range has one end
 pub one_end : (ranges : Ranges) (first a b : ℕ) → HasRange ranges first a → HasRange ranges first b → a ≡ b

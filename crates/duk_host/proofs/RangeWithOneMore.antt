@@ -3,9 +3,9 @@ use Rattle.std.proofs.Common.{◌≡◌, ◌≢◌, ◌⊎◌, ℕ, ◌<◌, ◌
 use Rattle.std.proofs.lemmas.Bool.{cases_order}
 use Rattle.duk_tree.specs.Next.{IsNextUsable}
 use Rattle.duk_tree.specs.Path.{IsUsable}
-use Rattle.duk_tree.specs.Serial.{Serial, IsSerial}
+use Rattle.duk_tree.specs.Serial.{IsSerial, Serial, serial_number}
 use Rattle.duk_host.specs.declared.ranges.Range.{Range}
-use Rattle.duk_host.specs.inner.Index.{AreApart, AreRanges, BeginsAfter, BeginsBefore, HasNoneAfter, HasRange, HoldsOneMore, IsHeld, IsInRange, IsRange, Ranges, counter_of, iksn_of, serial_number}
+use Rattle.duk_host.specs.inner.Index.{AreApart, AreRanges, BeginsAfter, BeginsBefore, HasNoneAfter, HasRange, HoldsOneMore, IsHeld, IsInRange, IsRange, Ranges, counter_of, iksn_of}
 use Rattle.duk_host.proofs.RangeNumbers.{begins_as, counters_in_order, ending_at, in_order, of_same_terminal, one_end, one_next, same_number, same_serial, same_terminal, split, up_to}
 
 -- what is known of ranges as a key serial number comes, and of those with it

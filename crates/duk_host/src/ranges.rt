@@ -11,9 +11,8 @@ ghost use Rattle.std.specs.Ordering.{nat_cmp};
 ghost use Rattle.duk_tree.specs.Next.{IsLast, IsNextUsable};
 ghost use Rattle.duk_tree.specs.Path.{IsUsable};
 ghost use Rattle.duk_tree.specs.Serial.{IsSerial};
-ghost use Rattle.duk_host.specs.inner.Index.{AreApart, AreRanges, BeginsWith, EndsWith, HasNoneAfter, HasNoneBefore, HasNoneUpTo, HoldsOneMore, IsHeld, IsLastBefore, IsLastUpTo, IsNextNumber, IsOfTerminal, IsPut, IsRangeAfter, Reaches, iksn_of, serial_number};
+ghost use Rattle.duk_host.specs.inner.Index.{AreApart, AreRanges, BeginsWith, EndsWith, HasNoneAfter, HasNoneBefore, HasNoneUpTo, HoldsOneMore, IsHeld, IsLastBefore, IsLastUpTo, IsNextNumber, IsOfTerminal, IsPut, IsRangeAfter, Reaches, iksn_of};
 
-use byteorder::{BigEndian, ByteOrder};
 use duk_tree::{Ksn, next_usable, usable};
 use std::alloc::AllocError;
 use std::collections::BTreeMap;
@@ -94,7 +93,7 @@ fn range_before(ranges: &BTreeMap<u128, u32>, ksn: Ksn) -> Option<Range>
         (HasNoneBefore ranges.now ksn) (IsLastBefore ranges.now ksn) }
     ensures ordered { IsOrdered nat_cmp ranges.now }
 {
-    match last_up_to(ranges, number_of(ksn)) {
+    match last_up_to(ranges, ksn.number()) {
         Some(range) => of_terminal(range, ksn),
         None => None,
     }
@@ -118,7 +117,7 @@ fn of_terminal(range: Range, ksn: Ksn) -> Option<Range>
     ensures { MatchOption result
         (iksn_of range.first ≢ ksn.iksn) (IsOfTerminal range ksn) }
 {
-    if range.first >> COUNTER_BITS == number_of(ksn) >> COUNTER_BITS {
+    if range.first >> COUNTER_BITS == ksn.number() >> COUNTER_BITS {
         Some(range)
     } else {
         None
@@ -142,12 +141,12 @@ fn first_with(ksn: Ksn, before: Option<Range>) -> u128
     ensures { BeginsWith ksn before result }
 {
     let Some(before) = before else {
-        return number_of(ksn);
+        return ksn.number();
     };
     if comes_right_after(before.last, ksn.counter()) {
         before.first
     } else {
-        number_of(ksn)
+        ksn.number()
     }
 }
 
@@ -177,7 +176,7 @@ fn next_number(ksn: Ksn) -> Option<u128>
 {
     duk_tree::laws::bits();
     match next_usable(ksn.counter()) {
-        Some(next) => Some(number_of(ksn.with_counter(next))),
+        Some(next) => Some(ksn.with_counter(next).number()),
         None => None,
     }
 }
@@ -199,13 +198,4 @@ fn put(
         ranges.remove(&after.first);
     }
     Ok(())
-}
-
-/// The number that the ten bytes of a key serial number spell.
-fn number_of(ksn: Ksn) -> u128
-    ensures value { result ≡ serial_number ksn }
-    ensures serial { IsSerial ksn }
-{
-    duk_tree::laws::serials();
-    BigEndian::read_uint128(&ksn.bytes(), 10)
 }

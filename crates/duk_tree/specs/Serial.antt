@@ -22,6 +22,10 @@ pub record IsSerial (serial : Serial) : Type 0 where
   pub iksn_is : IsIksn serial.iksn
   pub counter_fits : serial.counter < 2 ^ 21
 
+-- the number of 80 bits that a key serial number is
+abbrev pub serial_number : Serial → ℕ
+serial_number serial = serial.iksn + serial.counter
+
 -- the ten bytes of a key serial number, the highest first
 unfoldable pub serial_bytes : Serial → List ℕ
 serial_bytes serial = big_bytes 10 (serial.iksn + serial.counter)

@@ -8,7 +8,7 @@ ghost use Rattle.std.specs.Prelude.{◌≡◌, ◌*◌, ◌^◌, ◌<◌, ◌≤
 ghost use Rattle.std.specs.List.{AllPass};
 ghost use Rattle.byteorder.specs.Endian.{big_bytes};
 ghost use Rattle.hex.specs.Hex.{is_hex_digit};
-ghost use Rattle.duk_tree.specs.Serial.{IsIksn, IsSerial, serial_bytes, serial_of_bytes, iksn_bytes, iksn_prefix_of, ksn_of_text, iksn_of_text, low_bytes, prefix_of};
+ghost use Rattle.duk_tree.specs.Serial.{IsIksn, IsSerial, serial_bytes, serial_of_bytes, iksn_bytes, iksn_prefix_of, ksn_of_text, iksn_of_text, low_bytes, prefix_of, serial_number};
 
 use byteorder::{BigEndian, ByteOrder};
 use duk_tdes::array_of;
@@ -59,7 +59,15 @@ impl Iksn {
         ensures bytes { result ≡ iksn_bytes self }
         ensures iksn { IsIksn self }
     {
-        number_bytes((self.number as u128) << COUNTER_BITS)
+        number_bytes(self.number())
+    }
+
+    /// The number that the key serial number with counter zero is, of 80 bits.
+    pub fn number(self) -> u128
+        ensures value { result ≡ self }
+        ensures iksn { IsIksn self }
+    {
+        (self.number as u128) << COUNTER_BITS
     }
 
     /// The first five bytes, which are those of each of its key serial numbers.
@@ -143,8 +151,15 @@ impl Ksn {
         ensures bytes { result ≡ serial_bytes self }
         ensures serial { IsSerial self }
     {
-        let Ksn { iksn, counter } = self;
-        number_bytes(((iksn.number as u128) << COUNTER_BITS) + counter as u128)
+        number_bytes(self.number())
+    }
+
+    /// The number that the ten bytes spell, of 80 bits.
+    pub fn number(self) -> u128
+        ensures value { result ≡ serial_number self }
+        ensures serial { IsSerial self }
+    {
+        self.iksn.number() + u128::from(self.counter)
     }
 
     /// The first five bytes, by which a base derivation key is found.

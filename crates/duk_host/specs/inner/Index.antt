@@ -7,14 +7,10 @@ use Rattle.std.specs.Ordering.{nat_cmp}
 use Rattle.duk_store.specs.Log.{Numbers}
 use Rattle.duk_tree.specs.Next.{IsNextUsable}
 use Rattle.duk_tree.specs.Path.{IsUsable, path_of}
-use Rattle.duk_tree.specs.Serial.{Serial}
+use Rattle.duk_tree.specs.Serial.{Serial, serial_number}
 use Rattle.duk_host.specs.declared.ranges.Range.{Range}
 
--- a key serial number as a number of 80 bits
-abbrev pub serial_number : Serial → ℕ
-serial_number ksn = ksn.iksn + ksn.counter
-
--- the initial key serial number of such a number
+-- the initial key serial number of a number of 80 bits
 abbrev pub iksn_of : ℕ → ℕ
 iksn_of number = number / 2 ^ 21 * 2 ^ 21
 
