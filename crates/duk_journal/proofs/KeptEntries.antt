@@ -33,7 +33,7 @@ one_state NoneStands NoneStands same = refl
 one_state _ _ same = absurd (omega (arith, same))
 
 -- what is written with one kind, one figure and one outcome
-one_decided : (a b : Decided) → kind_of a ≡ kind_of b → figure_of a ≡ figure_of b → outcome_of a ≡ outcome_of b → a ≡ b
+pub one_decided : (a b : Decided) → kind_of a ≡ kind_of b → figure_of a ≡ figure_of b → outcome_of a ≡ outcome_of b → a ≡ b
 one_decided (Payment m c) (Payment n d) kind figure outcome = ap (λ (x : ℕ). Payment x c) figure ∙ ap (λ (x : Code). Payment n x) (one_code c d outcome)
 one_decided (Reversal m s) (Reversal n t) kind figure outcome = ap (λ (x : ℕ). Reversal x s) figure ∙ ap (λ (x : ReversalState). Reversal n x) (one_state s t outcome)
 one_decided _ _ kind figure outcome = absurd (omega (arith, kind))

@@ -1,3 +1,4 @@
+mod CheckSums
 mod EntriesRead
 mod FieldPlaces
 mod GroupWritten

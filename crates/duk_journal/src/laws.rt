@@ -1,10 +1,11 @@
 //! Laws of journals, each the contract of a function that does nothing.
 
-ghost use Rattle.std.specs.Prelude.{◌≡◌, ◌≤◌, ◌*◌, ℕ, List, [], drop};
+ghost use Rattle.std.specs.Prelude.{◌≡◌, ◌<◌, ◌≤◌, ◌*◌, ◌^◌, ◌++◌, ◌∷◌, ℕ, List, [], All, drop};
 ghost use Rattle.duk_store.specs.MemoryDisk.{memory_disk_meaning, new_disk};
 ghost use Rattle.duk_store.specs.StoreState.{IsNew};
 ghost use Rattle.duk_journal.specs.DiskJournal.{disk_journal_meaning, new_disk_journal};
-ghost use Rattle.duk_journal.specs.Entry.{kind_of};
+ghost use Rattle.duk_journal.specs.CheckSum.{check_sum_of};
+ghost use Rattle.duk_journal.specs.Entry.{AreFields, kind_of};
 ghost use Rattle.duk_journal.specs.Groups.{Entries, HasContents, KeepsEntries};
 ghost use Rattle.duk_journal.specs.declared.entry.Entry.{Entry};
 
@@ -31,6 +32,16 @@ pub fn one_kind()
     ensures { (followers others : ℕ) (one two : Entry) (first second : List ℕ)
         → HasContents followers one first → HasContents others two second
         → drop 2 first ≡ drop 2 second → kind_of one.decided ≡ kind_of two.decided }
+{
+    duk_tree::laws::serials();
+}
+
+/// Lists that differ in one entry have different check sums, whatever stands before it and behind.
+pub fn check_sums()
+    ensures { (before after : Entries) (one other : Entry) → AreFields one → AreFields other
+        → All (λ byte. byte < 2 ^ 8) one.mac → All (λ byte. byte < 2 ^ 8) other.mac
+        → check_sum_of (before ++ one ∷ after) ≡ check_sum_of (before ++ other ∷ after)
+        → one ≡ other }
 {
     duk_tree::laws::serials();
 }

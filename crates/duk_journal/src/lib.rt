@@ -5,6 +5,7 @@
 //! a store, as the log of used numbers is, and its meaning is of the same words.
 #![tactic(auto)]
 
+mod check_sum;
 mod disk_journal;
 mod entry;
 mod group_steps;
@@ -15,6 +16,7 @@ mod memory_journal;
 mod reading;
 mod record_format;
 
+pub use check_sum::CheckSum;
 pub use disk_journal::DiskJournal;
 pub use entry::{Decided, Entry};
 pub use journal::Journal;

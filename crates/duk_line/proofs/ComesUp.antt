@@ -1,5 +1,5 @@
 -- Where no restart of a host, and no check, is refused as damaged.
-use Rattle.std.proofs.Common.{ℕ, inl, inr, subst, sym}
+use Rattle.std.proofs.Common.{inl, inr, subst, sym}
 use Rattle.duk_host.specs.declared.fault.HostFault.TheVariants as fault
 use Rattle.duk_journal.specs.Groups.{Entries}
 use Rattle.duk_journal.specs.Journal.{JournalMeaning}
@@ -7,6 +7,7 @@ use Rattle.duk_store.specs.declared.fault.StoreFault.TheVariants.{Damaged}
 use Rattle.duk_line.specs.Check.{CheckRefused, IsChecked}
 use Rattle.duk_line.specs.Latest.{UseNewNumbers}
 use Rattle.duk_line.specs.Restart.{IsUsableJournal}
+use Rattle.duk_line.specs.declared.check.Checked.{Checked}
 
 -- a usable journal is neither unsound, nor does a restart find what a host may not judge by
 pub not_damaged : {J : Type 0} (meaning : JournalMeaning J) (old new : J) → IsUsableJournal (meaning.state_of old) → ¬ CheckRefused meaning old new (fault.Store Damaged)
@@ -15,7 +16,7 @@ not_damaged meaning old new journal (inr (same, bad)) =
     let list = bad.journal.found journal.honest in bad.not_usable journal.honest (journal.usable list.0 list.1.was_found)
 
 -- what a check has passed is usable
-pub usable_once_checked : {J : Type 0} (meaning : JournalMeaning J) (old new : J) (found : ℕ) → IsChecked meaning old new found → (meaning.state_of old).honest → IsUsableJournal (meaning.state_of new)
+pub usable_once_checked : {J : Type 0} (meaning : JournalMeaning J) (old new : J) (found : Checked) → IsChecked meaning old new found → (meaning.state_of old).honest → IsUsableJournal (meaning.state_of new)
 usable_once_checked meaning old new found checked honest =
     let now = checked.journal.settles.nature.honest.0 honest in
     record {

@@ -4,13 +4,17 @@ use Rattle.std.proofs.Math.Seq.{drop-nil}
 use Rattle.std.proofs.lemmas.Bool.{false≢true}
 use Rattle.std.proofs.lemmas.List.{length-take}
 use Rattle.std.proofs.lemmas.List.Elements.{All-nil}
+use Rattle.std.proofs.lemmas.List.Sums.{fold-append}
+use Rattle.std.specs.List.{fold}
 use Rattle.duk_host.specs.Used.{IsUsed}
 use Rattle.duk_host.specs.declared.fault.HostFault.{HostFault}
 use Rattle.duk_host.specs.declared.fault.HostFault.TheVariants as fault
 use Rattle.duk_frame.specs.declared.code.Code.TheVariants.{Approved}
 use Rattle.duk_journal.specs.Entry.{MayStandUnder}
+use Rattle.duk_journal.specs.CheckSum.{check_sum_of, with_entry}
 use Rattle.duk_journal.specs.Groups.{Entries}
 use Rattle.duk_journal.specs.Journal.{AreEntriesRead, IsReadStopped, JournalMeaning, EntriesUnread}
+use Rattle.duk_journal.specs.declared.check_sum.CheckSum.{CheckSum}
 use Rattle.duk_journal.specs.declared.entry.Entry.{Entry}
 use Rattle.duk_store.specs.Log.{Numbers}
 use Rattle.duk_store.specs.StoreState.{FindsAsBefore, PreservesNature, Stays, StoreState}
@@ -126,9 +130,9 @@ no_sets index unused no_others unreversed = record {
 
 -- before the first piece
 pub none_read :
-    {J : Type 0} (meaning : JournalMeaning J) (start : J) (kept : ℕ) (index : IndexOf) → (meaning.state_of start).running ≡ true → meaning.count start ≡ kept → index.used ≡ [] → index.others ≡ [] → index.reversed ≡ [] → index.latest ≡ []
-    → IsReadSoFar meaning start start 0 kept index
-none_read meaning start kept index runs counted unused no_others unreversed unanswered = record {
+    {J : Type 0} (meaning : JournalMeaning J) (start : J) (kept : ℕ) (index : IndexOf) (sum : CheckSum) → (meaning.state_of start).running ≡ true → meaning.count start ≡ kept → index.used ≡ [] → index.others ≡ [] → index.reversed ≡ [] → index.latest ≡ [] → sum ≡ check_sum_of []
+    → IsReadSoFar meaning start start 0 kept index sum
+none_read meaning start kept index sum runs counted unused no_others unreversed unanswered sum_is = record {
   seen = [];
   read = record { stays = stays_same (meaning.state_of start); first = λ honest entries found. refl };
   counted = refl;
@@ -136,6 +140,7 @@ none_read meaning start kept index runs counted unused no_others unreversed unan
     sets = no_sets index unused no_others unreversed;
     latest_are = unanswered ∙ sym (drop-nil (kept - most_latest));
   };
+  sum_is = sum_is;
   place_in = omega arith;
   kept_are = counted;
   capacity = refl;
@@ -145,14 +150,15 @@ none_read meaning start kept index runs counted unused no_others unreversed unan
 
 -- one piece more
 pub piece_read :
-    {J : Type 0} (meaning : JournalMeaning J) (start mid now : J) (place count kept : ℕ) (piece : Entries) (index more : IndexOf) → IsReadSoFar meaning start mid place kept index → length piece ≡ count → place + count ≤ kept
+    {J : Type 0} (meaning : JournalMeaning J) (start mid now : J) (place count kept : ℕ) (piece : Entries) (index more : IndexOf) (sum all : CheckSum) → IsReadSoFar meaning start mid place kept index sum → length piece ≡ count → place + count ≤ kept
     → AreEntriesRead meaning mid now place piece → meaning.count now ≡ meaning.count mid → meaning.capacity now ≡ meaning.capacity mid → (meaning.disarmed mid → meaning.disarmed now)
-    → TakesEntries (kept - place) piece index more → IsReadSoFar meaning start now (place + count) kept more
-piece_read meaning start mid now place count kept piece index more so_far counted within read as_many capacity disarmed takes = record {
+    → TakesEntries (kept - place) piece index more → all ≡ fold with_entry sum piece → IsReadSoFar meaning start now (place + count) kept more all
+piece_read meaning start mid now place count kept piece index more sum all so_far counted within read as_many capacity disarmed takes sums = record {
   seen = so_far.seen ++ piece;
   read = first_more meaning start mid now so_far.seen piece so_far.read (subst (λ place. AreEntriesRead meaning mid now place piece) (sym so_far.counted) read);
   counted = omega (arith, length-append so_far.seen piece, so_far.counted, counted);
   index_is = takes kept so_far.seen (omega (arith, so_far.counted, so_far.place_in)) so_far.index_is;
+  sum_is = sums ∙ ap (λ (sum : CheckSum). fold with_entry sum piece) so_far.sum_is ∙ sym (fold-append with_entry _ so_far.seen piece);
   place_in = within;
   kept_are = as_many ∙ so_far.kept_are;
   capacity = capacity ∙ so_far.capacity;
@@ -162,11 +168,11 @@ piece_read meaning start mid now place count kept piece index more so_far counte
 
 -- a piece with an entry that is not taken
 pub piece_refused :
-    {J : Type 0} (meaning : JournalMeaning J) (start mid now : J) (place kept : ℕ) (piece : Entries) (index : IndexOf) (why : HostFault) → IsReadSoFar meaning start mid place kept index → place + length piece ≤ kept
+    {J : Type 0} (meaning : JournalMeaning J) (start mid now : J) (place kept : ℕ) (piece : Entries) (index : IndexOf) (sum : CheckSum) (why : HostFault) → IsReadSoFar meaning start mid place kept index sum → place + length piece ≤ kept
     → AreEntriesRead meaning mid now place piece → TakeRefused (kept - place) piece index why → ReadRefused meaning start now kept why
-piece_refused meaning start mid now place kept piece index fault.NoMemory so_far within read refused =
+piece_refused meaning start mid now place kept piece index sum fault.NoMemory so_far within read refused =
     stays_on (meaning.state_of start) (meaning.state_of mid) (meaning.state_of now) so_far.read.stays read.stays
-piece_refused meaning start mid now place kept piece index (fault.Store why) so_far within read refused = inr (
+piece_refused meaning start mid now place kept piece index sum (fault.Store why) so_far within read refused = inr (
   refused.0,
   record {
     seen = so_far.seen ++ piece;
@@ -175,21 +181,21 @@ piece_refused meaning start mid now place kept piece index (fault.Store why) so_
     not_usable = refused.1 kept so_far.seen (omega (arith, so_far.counted, so_far.place_in)) so_far.index_is;
   },
 )
-piece_refused meaning start mid now place kept piece index fault.Stopped so_far within read refused = absurd refused
-piece_refused meaning start mid now place kept piece index fault.Read so_far within read refused = absurd refused
-piece_refused meaning start mid now place kept piece index fault.Write so_far within read refused = absurd refused
-piece_refused meaning start mid now place kept piece index fault.Truncated so_far within read refused = absurd refused
-piece_refused meaning start mid now place kept piece index fault.TooLong so_far within read refused = absurd refused
+piece_refused meaning start mid now place kept piece index sum fault.Stopped so_far within read refused = absurd refused
+piece_refused meaning start mid now place kept piece index sum fault.Read so_far within read refused = absurd refused
+piece_refused meaning start mid now place kept piece index sum fault.Write so_far within read refused = absurd refused
+piece_refused meaning start mid now place kept piece index sum fault.Truncated so_far within read refused = absurd refused
+piece_refused meaning start mid now place kept piece index sum fault.TooLong so_far within read refused = absurd refused
 
 -- a piece that is not read
 pub piece_unread :
-    {J : Type 0} (meaning : JournalMeaning J) (start mid now : J) (place kept : ℕ) (index : IndexOf) (why : StoreFault) → IsReadSoFar meaning start mid place kept index → EntriesUnread meaning mid now why
+    {J : Type 0} (meaning : JournalMeaning J) (start mid now : J) (place kept : ℕ) (index : IndexOf) (sum : CheckSum) (why : StoreFault) → IsReadSoFar meaning start mid place kept index sum → EntriesUnread meaning mid now why
     → ReadRefused meaning start now kept (fault.Store why)
-piece_unread meaning start mid now place kept index why so_far unread = inl (unread_on meaning start mid now why so_far.runs so_far.read.stays unread)
+piece_unread meaning start mid now place kept index sum why so_far unread = inl (unread_on meaning start mid now why so_far.runs so_far.read.stays unread)
 
 -- all pieces
-pub all_read : {J : Type 0} (meaning : JournalMeaning J) (start now : J) (place kept : ℕ) (index : IndexOf) → IsReadSoFar meaning start now place kept index → kept ≤ place → AreRead meaning start now kept index
-all_read meaning start now place kept index so_far past =
+pub all_read : {J : Type 0} (meaning : JournalMeaning J) (start now : J) (place kept : ℕ) (index : IndexOf) (sum : CheckSum) → IsReadSoFar meaning start now place kept index sum → kept ≤ place → AreRead meaning start now kept index sum
+all_read meaning start now place kept index sum so_far past =
     let all : length so_far.seen ≡ kept = omega (arith, so_far.counted, so_far.place_in, past) in
     record {
       seen = so_far.seen;
@@ -199,6 +205,7 @@ all_read meaning start now place kept index so_far past =
         sets = so_far.index_is.sets;
         latest_are = so_far.index_is.latest_are ∙ ap (λ total. drop (total - most_latest) so_far.seen) (sym all);
       };
+      sum_is = so_far.sum_is;
     }
 
 -- a vector whose first items are written keeps its length

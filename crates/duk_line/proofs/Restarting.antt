@@ -4,7 +4,9 @@ use Rattle.std.proofs.lemmas.Bool.{false≢true}
 use Rattle.std.proofs.lemmas.List.{take-append-drop}
 use Rattle.duk_host.specs.declared.fault.HostFault.{HostFault}
 use Rattle.duk_host.specs.declared.fault.HostFault.TheVariants as fault
+use Rattle.duk_journal.specs.CheckSum.{check_sum_of}
 use Rattle.duk_journal.specs.Groups.{Entries}
+use Rattle.duk_journal.specs.declared.check_sum.CheckSum.{CheckSum}
 use Rattle.duk_journal.specs.Journal.{IsReadStopped, JournalMeaning, JournalRestarted, EntriesUnread}
 use Rattle.duk_store.specs.Restart.{Restarted, RestartFailed}
 use Rattle.duk_store.specs.StoreState.{FindsOnly, Stays, Stops, StoreState}
@@ -16,6 +18,7 @@ use Rattle.duk_line.specs.Latest.{UseNewNumbers}
 use Rattle.duk_line.specs.Restart.{HostRestartRefused, IsHostRestarted, PreservesEnds}
 use Rattle.duk_line.specs.inner.Host.{HoldsIndex}
 use Rattle.duk_line.specs.inner.Reading.{AreRead, ReadRefused}
+use Rattle.duk_line.specs.declared.check.Checked.{Checked}
 use Rattle.duk_line.proofs.Answering.{take_all}
 use Rattle.duk_line.proofs.FirstRead.{new_front}
 use Rattle.duk_line.proofs.PiecesRead.{nature_on}
@@ -45,9 +48,16 @@ restarted_on meaning old mid new count restarted stays = record {
       );
 }
 
+-- what is told of entries
+told : ℕ → CheckSum → Checked
+told count sum = record { count = count; sum = sum }
+
+told_as : (count other : ℕ) (sum another : CheckSum) → count ≡ other → sum ≡ another → told count sum ≡ told other another
+told_as count other sum another counts sums = ap (λ count. told count sum) counts ∙ ap (λ sum. told other sum) sums
+
 -- ---- all entries are read
 
-module _ {J : Type 0} (meaning : JournalMeaning J) (old mid new : J) (count : ℕ) (index : IndexOf) (restarted : JournalRestarted meaning old mid count) (read : AreRead meaning mid new count index) where
+module _ {J : Type 0} (meaning : JournalMeaning J) (old mid new : J) (count : ℕ) (index : IndexOf) (sum : CheckSum) (restarted : JournalRestarted meaning old mid count) (read : AreRead meaning mid new count index sum) where
   -- they are those that the restart found
   all_seen : (honest : (meaning.state_of old).honest) → (restarted.found honest).0 ≡ read.seen
   all_seen honest =
@@ -80,29 +90,30 @@ module _ {J : Type 0} (meaning : JournalMeaning J) (old mid new : J) (count : �
   pub holds_read : meaning.count new ≡ count → HoldsIndex meaning new index
   holds_read counted = record { entries = read.seen; index_is = read.index_is; kept = keeps_read counted }
 
-  pub is_checked : meaning.count new ≡ count → IsChecked meaning old new count
+  pub is_checked : meaning.count new ≡ count → IsChecked meaning old new (record { count = count; sum = sum })
+  unfolding told
   is_checked counted = record {
     entries = read.seen;
     journal = journal_read;
     sound = sound_on meaning old mid new count restarted read.read.stays;
-    counted = read.counted;
+    told = told_as (length read.seen) count (check_sum_of read.seen) sum read.counted (sym read.sum_is);
     kept = keeps_read counted;
     new_numbers = read.index_is.sets.new_numbers;
   }
 
 pub is_restarted :
-    {J I : Type 0} (meaning : HostMeaning J I) (old new : HostOf J I) (mid : J) (count : ℕ) (index : IndexOf) → JournalRestarted meaning.journal old.journal mid count → AreRead meaning.journal mid new.journal count index
+    {J I : Type 0} (meaning : HostMeaning J I) (old new : HostOf J I) (mid : J) (count : ℕ) (index : IndexOf) (sum : CheckSum) → JournalRestarted meaning.journal old.journal mid count → AreRead meaning.journal mid new.journal count index sum
     → PreservesEnds old new → new.state ≡ Some index → meaning.journal.count new.journal ≡ count → IsHostRestarted meaning old new count
-is_restarted meaning old new mid count index restarted read ends runs counted = record {
+is_restarted meaning old new mid count index sum restarted read ends runs counted = record {
   entries = read.seen;
   ends = ends;
-  journal = journal_read meaning.journal old.journal mid new.journal count index restarted read;
+  journal = journal_read meaning.journal old.journal mid new.journal count index sum restarted read;
   counted = read.counted;
   judges = record {
     index = index;
     runs = runs;
     index_is = read.index_is;
-    kept = keeps_read meaning.journal old.journal mid new.journal count index restarted read counted;
+    kept = keeps_read meaning.journal old.journal mid new.journal count index sum restarted read counted;
   };
 }
 

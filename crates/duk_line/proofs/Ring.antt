@@ -11,12 +11,12 @@ use Rattle.indexmap.proofs.CallerLemmas.{insert_entry-new}
 use Rattle.duk_journal.specs.Groups.{Entries}
 use Rattle.duk_journal.specs.declared.entry.Decided.{Decided}
 use Rattle.duk_journal.specs.declared.entry.Entry.{Entry}
-use Rattle.duk_tree.specs.Serial.{IsSerial, Serial}
+use Rattle.duk_tree.specs.Serial.{IsSerial, Serial, serial_number}
 use Rattle.duk_line.specs.declared.latest.Kept.{Kept}
 use Rattle.duk_line.specs.Latest.{most_latest}
 use Rattle.std.proofs.lemmas.Bool.Decides.{eqb_tells}
 use Rattle.duk_line.proofs.Members.{front_or, none_in}
-use Rattle.duk_line.specs.inner.Latest.{HasNoNumber, IsRing, entries_in, entry_at, entry_under, kept_of, numbered, serial_number, with_latest}
+use Rattle.duk_line.specs.inner.Latest.{HasNoNumber, IsRing, entries_in, entry_at, entry_under, kept_of, numbered, with_latest}
 
 pub on_ok : {T E P : Type 0} (result : Result T E) → IsOk result → OnOk result P → P
 on_ok (Ok value) is holds = holds

@@ -2,6 +2,7 @@
 use Rattle.std.specs.Prelude.{◌≡◌, ◌⊎◌, ℕ, length}
 use Rattle.duk_host.specs.declared.fault.HostFault.{HostFault}
 use Rattle.duk_host.specs.declared.fault.HostFault.TheVariants as fault
+use Rattle.duk_journal.specs.CheckSum.{check_sum_of}
 use Rattle.duk_journal.specs.Groups.{Entries}
 use Rattle.duk_journal.specs.Journal.{JournalMeaning, JournalRestarted}
 use Rattle.duk_store.specs.Restart.{Restarted, RestartFailed}
@@ -9,15 +10,21 @@ use Rattle.duk_store.specs.declared.fault.StoreFault.TheVariants.{Damaged}
 use Rattle.duk_line.specs.Host.{KeepsAlone}
 use Rattle.duk_line.specs.Latest.{UseNewNumbers}
 use Rattle.duk_line.specs.Restart.{FoundUnusable}
+use Rattle.duk_line.specs.declared.check.Checked.{Checked}
 
--- a journal's restart found so many entries, it keeps them and nothing else, and a host may judge by
--- them: each uses a new number. An honest journal is sound then, so that no restart of a host over it
--- is refused as damaged
-pub record IsChecked {J : Type 0} (meaning : JournalMeaning J) (old new : J) (found : ℕ) : Type 0 where
+-- how many entries these are, and their check sum
+abbrev pub checked_of : Entries → Checked
+checked_of entries = record { count = length entries; sum = check_sum_of entries }
+
+-- a journal's restart found entries of which this is told, it keeps them and nothing else, and a host
+-- may judge by them: each uses a new number. An honest journal is sound then, so that no restart of a
+-- host over it is refused as damaged
+pub record IsChecked {J : Type 0} (meaning : JournalMeaning J) (old new : J) (found : Checked)
+    : Type 0 where
   pub entries : Entries
   pub journal : Restarted (meaning.state_of old) (meaning.state_of new) entries
   pub sound : (meaning.state_of old).honest → (meaning.state_of new).sound
-  pub counted : length entries ≡ found
+  pub told : checked_of entries ≡ found
   pub kept : KeepsAlone meaning new entries
   pub new_numbers : UseNewNumbers entries
 

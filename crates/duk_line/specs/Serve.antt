@@ -1,6 +1,6 @@
 -- A host over a journal that serves a stream of frames: this project's own. How the frames were
 -- grouped does not show.
-use Rattle.std.specs.Prelude.{◌<◌, ◌≤◌, ◌⊎◌, ◌+◌, ◌++◌, ℕ, List, All, length}
+use Rattle.std.specs.Prelude.{◌<◌, ◌≤◌, ◌⊎◌, ◌+◌, ◌++◌, [], ℕ, List, All, length}
 use Rattle.std.specs.List.{concat}
 use Rattle.std.specs.Io.KnownBytes.{IsAtEnd}
 use Rattle.duk_frame.specs.Stream.{BeginsTooLong, BeginsWith, IsFrame, IsPart}
@@ -151,3 +151,7 @@ ServiceFailed meaning old new input left why = IsUnserved meaning old new input 
 pub record WorkspaceOf : Type 0 where
   pub frames : List (List ℕ)
   pub group : GroupOf
+
+-- no frame is in it, no answer and no entry
+abbrev pub empty_workspace : WorkspaceOf
+empty_workspace = record { frames = []; group = record { answers = []; entries = [] } }

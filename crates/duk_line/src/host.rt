@@ -78,7 +78,8 @@ impl<const N: usize, J: Journal, I: Issuer> JournalHost<N, J, I> {
             Ok(kept) => kept,
             Err(fault) => return Err(HostFault::Store(fault)),
         };
-        self.state = Some(index_of(self.alloc, &mut self.journal, kept)?);
+        let (index, _sum) = index_of(self.alloc, &mut self.journal, kept)?;
+        self.state = Some(index);
         Ok(kept)
     }
 

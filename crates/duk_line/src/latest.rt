@@ -6,10 +6,9 @@
 ghost use Rattle.std.specs.Prelude.{◌≡◌, ◌<◌, ◌+◌, nat_eq, Contains, IfSome, Some, length};
 ghost use Rattle.indexmap.specs.IndexMap.{IsUnique, spare};
 ghost use Rattle.duk_journal.specs.declared.entry.Decided.{Decided};
-ghost use Rattle.duk_tree.specs.Serial.{IsSerial};
-ghost use Rattle.duk_line.specs.inner.Latest.{HasNoNumber, IsRing, entries_in, entry_under, kept_of, serial_number, with_latest};
+ghost use Rattle.duk_tree.specs.Serial.{IsSerial, serial_number};
+ghost use Rattle.duk_line.specs.inner.Latest.{HasNoNumber, IsRing, entries_in, entry_under, kept_of, with_latest};
 
-use byteorder::{BigEndian, ByteOrder};
 use duk_journal::{Decided, Entry};
 use duk_tree::Ksn;
 use indexmap::IndexMap;
@@ -37,7 +36,7 @@ pub(crate) fn decided(
     ensures every { (decided : Decided) → Contains (entries_in oldest map.now.entries)
         (entry_under ksn mac decided) → result ≡ Some decided }
 {
-    let kept = map.get(&number_of(ksn))?;
+    let kept = map.get(&ksn.number())?;
     if kept.mac == mac {
         Some(kept.decided)
     } else {
@@ -57,7 +56,7 @@ pub(crate) fn push(map: &mut IndexMap<u128, Kept>, oldest: usize, entry: &Entry)
     ensures last { entries_in result map.new.entries
         ≡ with_latest (entries_in oldest map.old.entries) entry.now }
 {
-    map.insert(number_of(entry.number), kept_of(entry)).unwrap();
+    map.insert(entry.number.number(), kept_of(entry)).unwrap();
     if map.len() <= MOST_LATEST {
         return oldest;
     }
@@ -87,13 +86,4 @@ fn place_after(place: usize) -> usize
     } else {
         place + 1
     }
-}
-
-/// The number that the ten bytes of a key serial number spell.
-fn number_of(ksn: Ksn) -> u128
-    ensures value { result ≡ serial_number ksn }
-    ensures serial { IsSerial ksn }
-{
-    duk_tree::laws::serials();
-    BigEndian::read_uint128(&ksn.bytes(), 10)
 }

@@ -35,6 +35,7 @@ ghost use Rattle.duk_line.specs.Lifetime.{AreWrittenTo, IsLifetime, IsMadeOver, 
 ghost use Rattle.duk_line.specs.Restart.{HostRestartRefused, IsHostRestarted, IsUsableJournal};
 ghost use Rattle.duk_line.specs.Serve.{IsReadToEnd, Service, ServiceFailed};
 ghost use Rattle.duk_line.specs.View.{HaveOneRing, host_view};
+ghost use Rattle.duk_line.specs.declared.check.Checked.{Checked};
 ghost use Rattle.duk_line.specs.declared.group.Group.TheInside as group;
 ghost use Rattle.duk_line.specs.declared.host.JournalHost.TheInside as host;
 ghost use Rattle.duk_line.specs.declared.index.Index.TheInside as index;
@@ -235,7 +236,7 @@ pub fn comes_up<J: Journal, I: Issuer>()
         → ¬ HostRestartRefused J.meaning old new (fault.Store Damaged) }
     ensures check { (old new : J) → IsUsableJournal (J.meaning.state_of old)
         → ¬ CheckRefused J.meaning old new (fault.Store Damaged) }
-    ensures checked { (old : J) (made new : HostOf J I) (found : ℕ)
+    ensures checked { (old : J) (made new : HostOf J I) (found : Checked)
         → IsChecked J.meaning old made.journal found → (J.meaning.state_of old).honest
         → ¬ HostRestartRefused J.meaning made new (fault.Store Damaged) }
     ensures served { (made last : HostOf J I) (answers : List (List ℕ))

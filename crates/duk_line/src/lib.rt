@@ -22,7 +22,7 @@ mod service;
 mod sets;
 mod workspace;
 
-pub use check::check_journal;
+pub use check::{Checked, check_journal};
 pub use group::{Group, MOST_FRAMES};
 pub use host::JournalHost;
 pub use service::serve;

@@ -1,6 +1,6 @@
 //! How the index of a host is read from its journal.
 
-ghost use Rattle.std.specs.Prelude.{◌≡◌, ◌≤◌, ◌↔◌, ◌∷◌, [], true, IfErr, IfOk, IsTrue, OnOk, length};
+ghost use Rattle.std.specs.Prelude.{◌≡◌, ◌≤◌, ◌∷◌, [], true, IfErr, IfOk, OnOk, length};
 ghost use Rattle.std.specs.Bool.{MatchBool};
 ghost use Rattle.duk_host.specs.Used.{IsUsed};
 ghost use Rattle.duk_journal.specs.Entry.{MayStandUnder};
@@ -11,7 +11,7 @@ use crate::index::Index;
 use crate::latest::MOST_LATEST;
 use duk_frame::Code;
 use duk_host::HostFault;
-use duk_journal::{Decided, Entry, Journal};
+use duk_journal::{CheckSum, Decided, Entry, Journal};
 use duk_store::StoreFault;
 use duk_tree::{Ksn, usable};
 use std::alloc::{AllocError, Global};
@@ -19,7 +19,7 @@ use std::alloc::{AllocError, Global};
 /// How many entries are read at a time, at most: a piece of 64 KiB of a journal on a disk.
 const PIECE: usize = 2048;
 
-/// The index of the entries that a journal keeps, as many as its restart found.
+/// The index of the entries that a journal keeps, as many as its restart found, and their check sum.
 ///
 /// Refused with `Store`: of the journal's fault, or with `Damaged` where the number of an entry
 /// numbers no transaction, was used before or cannot have what was decided; and with `NoMemory`.
@@ -27,16 +27,17 @@ pub(crate) fn index_of<J: Journal>(
     alloc: Global,
     journal: &mut J,
     kept: u64,
-) -> Result<Index, HostFault>
+) -> Result<(Index, CheckSum), HostFault>
     requires runs { (J.meaning.state_of journal.old).running ≡ true }
     requires kept { J.meaning.count journal.old ≡ kept }
-    ensures read { IfOk result (AreRead J.meaning journal.old journal.new kept) }
+    ensures read { IfOk result (λ read. AreRead J.meaning journal.old journal.new kept read.0 read.1) }
     ensures counted { IfOk result (λ _. J.meaning.count journal.new ≡ J.meaning.count journal.old) }
     ensures capacity { J.meaning.capacity journal.new ≡ J.meaning.capacity journal.old }
     ensures disarmed { J.meaning.disarmed journal.old → J.meaning.disarmed journal.new }
     ensures refused { IfErr result (ReadRefused J.meaning journal.old journal.new kept) }
 {
     let mut index = Index::new(alloc);
+    let mut sum = CheckSum::new();
     let mut piece = vec![in alloc; no_entry(); PIECE]?;
     let mut place = 0;
     while place < kept {
@@ -48,9 +49,10 @@ pub(crate) fn index_of<J: Journal>(
         if let Err(fault) = take_piece(&mut index, entries, kept - place) {
             return Err(fault);
         }
+        sum.take_in(entries);
         place += count;
     }
-    Ok(index)
+    Ok((index, sum))
 }
 
 /// What a place holds before it is read into.
@@ -94,24 +96,13 @@ fn take_one(index: &mut Index, entry: &Entry, left: u64) -> Result<(), HostFault
     if !usable(entry.number.counter()) {
         return Err(HostFault::Store(StoreFault::Damaged));
     }
-    if !may_stand(entry) {
+    if !entry.decided.may_stand_under(entry.number) {
         return Err(HostFault::Store(StoreFault::Damaged));
     }
     if take_into(index, entry, left)? {
         Ok(())
     } else {
         Err(HostFault::Store(StoreFault::Damaged))
-    }
-}
-
-/// Whether what was decided may stand under the number of an entry: a payment under any, a reversal
-/// where the number that it is of is usable, and another.
-fn may_stand(entry: &Entry) -> bool
-    ensures { IsTrue result ↔ MayStandUnder entry.now.number entry.now.decided }
-{
-    match entry.decided {
-        Decided::Payment { .. } => true,
-        Decided::Reversal { counter, .. } => usable(counter) && counter != entry.number.counter(),
     }
 }
 

@@ -8,7 +8,7 @@ ghost use Rattle.duk_host.specs.declared.fault.HostFault.TheVariants as fault;
 ghost use Rattle.duk_io.specs.Sink.{IsCut, IsWritten};
 ghost use Rattle.duk_line.specs.Group.{most_frames};
 ghost use Rattle.duk_line.specs.Host.{host_meaning_of};
-ghost use Rattle.duk_line.specs.Serve.{BytesFailed, GroupFailed, IsReadToEnd, IsServed, ServiceFailed, service};
+ghost use Rattle.duk_line.specs.Serve.{BytesFailed, GroupFailed, IsReadToEnd, IsServed, ServiceFailed, empty_workspace, service};
 ghost use Rattle.duk_line.specs.inner.Serve.{AreAnswered, AreBeforeTooLong, AreCollected, HasRoomForFrames};
 
 use crate::group::MOST_FRAMES;
@@ -41,6 +41,9 @@ const FEW_ANSWERS: usize = 1_024;
 /// memory is refused; with `Write`, where a write of answers failed or took no byte; and with
 /// `TooLong`, where a length above 62 stands in the place of a frame, after the group before it. A
 /// run makes 2^64 - 1 reads at most, and gives `Read` after them.
+///
+/// Once a group is answered, or is not, zeros are written over its frames and over what was read of
+/// them, since that has PANs and enciphered PIN blocks.
 pub fn serve<const N: usize, J: Journal, I: Issuer, R: Source, W: Sink>(
     host: &mut JournalHost<N, J, I>,
     work: &mut Workspace,
@@ -55,9 +58,11 @@ pub fn serve<const N: usize, J: Journal, I: Issuer, R: Source, W: Sink>(
         (service host.old (W.known writer.old)) (service host.new (W.known writer.new))
         (supply (R.known reader.old) (R.reads reader.old))
         (supply (R.known reader.new) (R.reads reader.new))) }
+    ensures cleared { work.new ≡ empty_workspace }
 {
     duk_io::laws::reads();
     duk_io::laws::writes();
+    work.clear();
     let mut piece = [0; PIECE];
     let mut feeder = Feeder::new();
     for _ in 0..u64::MAX {
@@ -67,7 +72,9 @@ pub fn serve<const N: usize, J: Journal, I: Issuer, R: Source, W: Sink>(
         if count == 0 {
             return at_end(&feeder);
         }
-        serve_piece(host, work, &mut feeder, &piece[..count], writer)?;
+        let served = serve_piece(host, work, &mut feeder, &piece[..count], writer);
+        piece[..count].fill(0);
+        served?;
     }
     Err(HostFault::Read)
 }
@@ -102,6 +109,7 @@ fn serve_piece<const N: usize, J: Journal, I: Issuer, W: Sink>(
     ensures refused { IfErr result (BytesFailed (host_meaning_of J.meaning I.decides)
         (service host.old (W.known writer.old)) (service host.new (W.known writer.new))
         (feeder.old.rest ++ piece.now)) }
+    ensures cleared { work.new ≡ empty_workspace }
 {
     duk_io::laws::writes();
     let mut done = 0;
@@ -132,10 +140,13 @@ fn serve_group<const N: usize, J: Journal, I: Issuer, W: Sink>(
     ensures refused { IfErr result (BytesFailed (host_meaning_of J.meaning I.decides)
         (service host.old (W.known writer.old)) (service host.new (W.known writer.new))
         (feeder.old.rest ++ piece.now)) }
+    ensures cleared { work.new ≡ empty_workspace }
 {
     duk_io::laws::writes();
     let collected = collect(&mut work.frames, feeder, piece);
-    answer_group(host, work, writer)?;
+    let answered = answer_group(host, work, writer);
+    work.clear();
+    answered?;
     match collected {
         Ok(taken) => Ok(taken),
         Err(FrameFault::TooLong) => Err(HostFault::TooLong),

@@ -1,6 +1,7 @@
 //! The memory of a service.
 
-ghost use Rattle.std.specs.Prelude.{◌≡◌, [], IfOk};
+ghost use Rattle.std.specs.Prelude.{◌≡◌, [], All, IfOk, replicate};
+ghost use Rattle.duk_line.specs.Serve.{empty_workspace};
 
 use crate::group::{Group, MOST_FRAMES};
 use duk_frame::Frame;
@@ -40,5 +41,24 @@ impl Workspace {
         let frames = Vec::with_capacity(alloc, MOST_FRAMES)?;
         let group = Group::new(alloc)?;
         Ok(Workspace { frames, group })
+    }
+
+    /// Empties the workspace, and writes zeros over the frames, since these have PANs and enciphered
+    /// PIN blocks.
+    pub(crate) fn clear(&mut self)
+        ensures { self.new ≡ empty_workspace }
+    {
+        wipe(&mut self.frames);
+        self.frames.clear();
+        self.group.clear();
+    }
+}
+
+/// Writes zeros over all bytes of frames.
+fn wipe(frames: &mut [Frame])
+    ensures { All (λ frame. frame.items ≡ replicate 64 0) frames.new }
+{
+    for index in 0..frames.len() {
+        frames[index] = Frame::from([0; 64]);
     }
 }

@@ -8,10 +8,7 @@ use Rattle.duk_tree.specs.Serial.{Serial}
 use Rattle.duk_line.specs.Latest.{latest_entries, most_latest}
 use Rattle.duk_line.specs.declared.latest.Kept.{Kept}
 
--- a key serial number as a number of 80 bits, and back
-abbrev pub serial_number : Serial → ℕ
-serial_number ksn = ksn.iksn + ksn.counter
-
+-- the key serial number of a number of 80 bits
 abbrev pub numbered : ℕ → Serial
 numbered number = record { iksn = number / 2 ^ 21 * 2 ^ 21; counter = number % 2 ^ 21 }
 

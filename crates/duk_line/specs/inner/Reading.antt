@@ -2,8 +2,10 @@
 use Rattle.std.specs.Prelude.{◌≡◌, ◌≤◌, ◌+◌, ◌-◌, ◌++◌, ◌⊎◌, ℕ, true, drop, length, take}
 use Rattle.duk_host.specs.declared.fault.HostFault.{HostFault}
 use Rattle.duk_host.specs.declared.fault.HostFault.TheVariants as fault
+use Rattle.duk_journal.specs.CheckSum.{check_sum_of}
 use Rattle.duk_journal.specs.Groups.{Entries}
 use Rattle.duk_journal.specs.Journal.{JournalMeaning, EntriesUnread}
+use Rattle.duk_journal.specs.declared.check_sum.CheckSum.{CheckSum}
 use Rattle.duk_store.specs.StoreState.{Stays}
 use Rattle.duk_store.specs.declared.fault.StoreFault.TheVariants.{Damaged}
 use Rattle.duk_line.specs.Host.{HasSets, IndexOf, IsIndexOf}
@@ -39,14 +41,15 @@ pub record AreFirst {J : Type 0} (meaning : JournalMeaning J) (old new : J) (see
   pub first : (meaning.state_of old).honest → (entries : Entries)
       → (meaning.state_of old).found entries → take (length seen) entries ≡ seen
 
--- so many entries of the journal are read, and the index is theirs
+-- so many entries of the journal are read, and the index and the check sum are theirs
 pub record AreRead
     {J : Type 0} (meaning : JournalMeaning J) (old new : J) (count : ℕ) (index : IndexOf)
-    : Type 0 where
+    (sum : CheckSum) : Type 0 where
   pub seen : Entries
   pub read : AreFirst meaning old new seen
   pub counted : length seen ≡ count
   pub index_is : IsIndexOf seen index
+  pub sum_is : sum ≡ check_sum_of seen
 
 -- of the first entries of the journal, at most so many, one could not be appended where it stands
 pub record AreBad {J : Type 0} (meaning : JournalMeaning J) (old new : J) (count : ℕ) : Type 0 where
@@ -66,11 +69,12 @@ ReadRefused meaning old new count _ = ⊥
 -- the entries before a place are read
 pub record IsReadSoFar
     {J : Type 0} (meaning : JournalMeaning J) (old new : J) (place kept : ℕ) (index : IndexOf)
-    : Type 0 where
+    (sum : CheckSum) : Type 0 where
   pub seen : Entries
   pub read : AreFirst meaning old new seen
   pub counted : length seen ≡ place
   pub index_is : IsIndexOfFirst kept seen index
+  pub sum_is : sum ≡ check_sum_of seen
   pub place_in : place ≤ kept
   pub kept_are : meaning.count new ≡ kept
   pub capacity : meaning.capacity new ≡ meaning.capacity old

@@ -14,10 +14,10 @@ returns-then-not-usable-clause-refused c = (
       not_usable seen c.args.entry.now (λ usable. false≢true (sym c.if-not-usable.true ∙ c.usable.ensures.usable.1 (subst IsUsable (sym c.counter.ensures.value) usable))),
 )
 
-pub returns-then-not-may_stand-clause-refused : goal.returns-then-not-may_stand-clause-refused
-returns-then-not-may_stand-clause-refused c = (
+pub returns-then-not-may_stand_under-clause-refused : goal.returns-then-not-may_stand_under-clause-refused
+returns-then-not-may_stand_under-clause-refused c = (
   refl,
-  λ total seen total_is is. not_standing seen c.args.entry.now (λ stands. false≢true (sym c.if-not-may_stand.true ∙ c.may_stand.ensures.1 stands)),
+  λ total seen total_is is. not_standing seen c.args.entry.now (λ stands. false≢true (sym c.if-not-may_stand_under.true ∙ c.may_stand_under.ensures.1 stands)),
 )
 
 pub returns-else-branch-clause-refused : goal.returns-else-branch-clause-refused

@@ -15,19 +15,19 @@ loop-init g c =
     let reads : ReadLaws = record { none = c.reads.ensures.none; next = c.reads.ensures.then; broken = c.reads.ensures.broken_later; no_reads = c.reads.ensures.no_reads; more_reads = c.reads.ensures.more_reads } in
     let now = service c.args.host.now (g.W.Sink.known c.args.writer.now) in
     let input = supply (g.R.Source.known c.args.reader.now) (g.R.Source.reads c.args.reader.now) in
-    rw c.new-feeder.ensures (record { goes_on = refl; serving = start_serving meaning writes reads now input })
+    rw c.new-feeder.ensures (record { goes_on = refl; cleared = c.clear.ensures; serving = start_serving meaning writes reads now input })
 
-pub returns-in_err-serve_piece-clause-refused : goal.returns-in_err-serve_piece-clause-refused
-returns-in_err-serve_piece-clause-refused g c =
+pub returns-in_err-served-clause-refused : goal.returns-in_err-served-clause-refused
+returns-in_err-served-clause-refused g c =
     let meaning = host_meaning_of g.J.Journal.meaning g.I.Issuer.decides in
     let writes : WriteLaws = record { none = c.writes.ensures.none; next = c.writes.ensures.then } in
     let reads : ReadLaws = record { none = c.reads.ensures.none; next = c.reads.ensures.then; broken = c.reads.ensures.broken_later; no_reads = c.reads.ensures.no_reads; more_reads = c.reads.ensures.more_reads } in
     let known = g.W.Sink.known in
     let refused =
-    piece_failed meaning writes reads (service c.args.host.now (known c.args.writer.now)) (service c.loop.host (known c.loop.writer)) (service c.serve_piece.new.host (known c.serve_piece.new.writer))
+    piece_failed meaning writes reads (service c.args.host.now (known c.args.writer.now)) (service c.loop.host (known c.loop.writer)) (service c.serve_piece-served.new.host (known c.serve_piece-served.new.writer))
     (supply (g.R.Source.known c.args.reader.now) (g.R.Source.reads c.args.reader.now)) (supply (g.R.Source.known c.loop.reader) (g.R.Source.reads c.loop.reader)) (supply (g.R.Source.known c.get.new.self) (g.R.Source.reads c.get.new.self))
     c.loop.feeder.rest (take c.in-Ok.count c.get.new.buffer) c.loop.counter _ c.loop.invariant.serving
-    (record { given = c.in-Ok.ensures.bytes.0; unfailed = c.in-Ok.ensures.counted }) c.in_err-serve_piece.ensures.refused in
+    (record { given = c.in-Ok.ensures.bytes.0; unfailed = c.in-Ok.ensures.counted }) c.in_err-served.ensures.refused in
     let p = err_from_is_err_and c.from_residual.result c.from_residual.ensures.1 in
     rw (p.1, p.2) refused
 
@@ -39,12 +39,13 @@ loop-preserved g c =
     let known = g.W.Sink.known in
     let given : length (take c.in-Ok.count c.get.new.buffer) ≡ c.in-Ok.count = omega (arith, length-take c.in-Ok.count c.get.new.buffer, c.in-Ok.ensures.bound) in
     record {
-      goes_on = c.in_ok-serve_piece.ensures.goes_on;
+      goes_on = c.in_ok-served.ensures.goes_on;
+      cleared = c.serve_piece-served.ensures.cleared;
       serving =
-          next_piece meaning writes reads (service c.args.host.now (known c.args.writer.now)) (service c.loop.host (known c.loop.writer)) (service c.serve_piece.new.host (known c.serve_piece.new.writer))
+          next_piece meaning writes reads (service c.args.host.now (known c.args.writer.now)) (service c.loop.host (known c.loop.writer)) (service c.serve_piece-served.new.host (known c.serve_piece-served.new.writer))
           (supply (g.R.Source.known c.args.reader.now) (g.R.Source.reads c.args.reader.now)) (supply (g.R.Source.known c.loop.reader) (g.R.Source.reads c.loop.reader)) (supply (g.R.Source.known c.get.new.self) (g.R.Source.reads c.get.new.self))
-          c.loop.feeder.rest (take c.in-Ok.count c.get.new.buffer) c.serve_piece.new.feeder.rest c.loop.counter c.loop.invariant.serving
-          (record { given = c.in-Ok.ensures.bytes.0; unfailed = c.in-Ok.ensures.counted }) c.get.ensures.one_read (grind (arith, given)) c.in_ok-serve_piece.ensures.served c.in_ok-serve_piece.ensures.part;
+          c.loop.feeder.rest (take c.in-Ok.count c.get.new.buffer) c.serve_piece-served.new.feeder.rest c.loop.counter c.loop.invariant.serving
+          (record { given = c.in-Ok.ensures.bytes.0; unfailed = c.in-Ok.ensures.counted }) c.get.ensures.one_read (grind (arith, given)) c.in_ok-served.ensures.served c.in_ok-served.ensures.part;
     }
 
 pub returns-in_default-clause-refused : goal.returns-in_default-clause-refused

@@ -14,6 +14,7 @@ loop-done-init g c =
       within = omega arith;
       goes_on = c.requires.goes_on;
       part = λ none. absurd (omega (arith, none));
+      cleared = λ none. absurd (omega (arith, none));
       served = start_piece meaning laws (service c.args.host.now (g.W.Sink.known c.args.writer.now)) c.args.feeder.now.rest;
     }
 
@@ -40,6 +41,7 @@ loop-done-preserved g c =
       within = omega (arith, within, length-drop c.loop-done.done c.args.piece.now, c.loop-done.invariant.within);
       goes_on = c.in_ok-done.ensures.goes_on;
       part = λ _. c.in_ok-done.ensures.part;
+      cleared = λ _. c.serve_group.ensures.cleared;
       served =
           next_group meaning laws (service c.args.host.now (known c.args.writer.now)) (service c.loop-done.host (known c.loop-done.writer)) (service c.serve_group.new.host (known c.serve_group.new.writer))
           c.args.feeder.now.rest c.loop-done.feeder.rest c.serve_group.new.feeder.rest c.args.piece.now c.loop-done.done c.in_ok-done.field-0 c.loop-done.invariant.served one;

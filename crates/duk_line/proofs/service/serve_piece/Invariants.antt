@@ -1,7 +1,7 @@
 use Rattle.std.proofs.Common.{◌≡◌, ◌<◌, ◌≤◌, ◌-◌, ◌++◌, false, length, take}
 use Rattle.duk_frame.specs.Stream.{IsPart}
 use Rattle.duk_line.specs.Host.{host_meaning_of}
-use Rattle.duk_line.specs.Serve.{IsServed, service}
+use Rattle.duk_line.specs.Serve.{IsServed, empty_workspace, service}
 use Rattle.duk_line.proofs.service.serve_piece.Given as goal
 
 abbrev pub invariant-loop-done : goal.invariant-loop-done
@@ -9,6 +9,7 @@ invariant-loop-done g l = record {
   within : l.done ≤ length l.piece;
   goes_on : l.feeder.failed ≡ false;
   part : 0 < l.done → IsPart l.feeder.rest;
+  cleared : 0 < l.done → l.work ≡ empty_workspace;
   served : IsServed (host_meaning_of g.J.Journal.meaning g.I.Issuer.decides) (service l.fn.host (g.W.Sink.known l.fn.writer)) (service l.host (g.W.Sink.known l.writer)) (l.fn.feeder.rest ++ take l.done l.piece) l.feeder.rest;
 }
 
