@@ -1,5 +1,5 @@
 -- Ends over stores in which nothing was ever kept, and the restarts that bring them up.
-use Rattle.std.proofs.Common.{◌≡◌, ◌≢◌, ◌+◌, ◌≤◌, ◌<◌, ◌∷◌, [], ℕ, zero, suc, List, Option, Some, None, length, replicate, inl, inr, refl, sym, ap, subst, ◌∙◌, arith}
+use Rattle.std.proofs.Common.{◌≡◌, ◌≢◌, ◌+◌, ◌≤◌, ◌<◌, ◌∷◌, [], ℕ, zero, suc, List, Some, None, length, replicate, inl, inr, refl, sym, ap, subst, ◌∙◌, arith}
 use Rattle.std.specs.List.{All, slice_set}
 use Rattle.std.proofs.lemmas.List.{length-replicate}
 use Rattle.std.proofs.lemmas.List.Elements.{All-cons, All-get_or, All-head, All-nil, All-push, All-set, All-tail, All-weaker}
@@ -31,16 +31,11 @@ use Rattle.duk_term.specs.Restart.{TerminalRestartRefused}
 use Rattle.duk_term.specs.Terminal.{TerminalOf}
 use Rattle.duk_term.specs.declared.fault.TermFault.{TermFault}
 use Rattle.duk_term.specs.declared.fault.TermFault.TheVariants as term_fault
-use Rattle.duk_term.specs.declared.state.State.{State}
-use Rattle.duk_tree.specs.Serial.{Serial}
 use Rattle.duk_till.specs.Image.{kept_of}
 use Rattle.duk_till.specs.Restart.{BookRestartFailed, IsTillRestarted, TillRestartRefused}
-use Rattle.duk_till.specs.Till.{IsOpen, TillOf}
+use Rattle.duk_till.specs.Till.{TillOf}
 use Rattle.duk_till.specs.declared.fault.TillFault.{TillFault}
 use Rattle.duk_till.specs.declared.fault.TillFault.TheVariants as till_fault
-use Rattle.duk_till.specs.declared.last.Last.{Last}
-use Rattle.duk_till.specs.declared.state.TillState.{TillState}
-use Rattle.duk_till.specs.declared.state.TillState.TheVariants.{Running}
 use Rattle.duk_play.specs.Opening.{AreEndsBroughtUp, IsCalmTill, ReportsBroughtUp, StartsCalm, new_host_over, opening}
 use Rattle.duk_play.specs.inner.Opening.{HasNewCells}
 
@@ -83,11 +78,6 @@ pub record IsCalmNew {C B : Type 0} (cell : CellMeaning C) (book : CellMeaning B
 never_some : {A : Type 0} (old new : StoreState Kept) (bytes : List ℕ) → KeepsCalm old None → Restarted old new (Some bytes) → A
 never_some old new bytes keeps done = let same = (restarted old new None (Some bytes) keeps done).0 in absurd (cc same)
 
--- where nothing is kept there was no purchase, so none is open
-none_open : {A : Type 0} (last : Option Last) (ksn : Serial) (amount : ℕ) → kept_of last ≡ None → IsOpen (Running last) ksn amount → A
-none_open None ksn amount nothing is = absurd (cc is)
-none_open (Some last) ksn amount nothing is = absurd (cc nothing)
-
 -- the terminal's restart is not refused
 terminal_never : {A C : Type 0} (cell : CellMeaning C) (before after : TerminalOf C) (why : TermFault) → KeepsCalm (cell.state_of before.cell) None
     → TerminalRestartRefused cell before after why → A
@@ -98,28 +88,21 @@ terminal_never cell before after (term_fault.Store why) keeps refused = elim ref
 terminal_never cell before after _ keeps refused = absurd refused
 
 -- nor is the book's
-book_never : {A B : Type 0} (book : CellMeaning B) (terminal : State) (old new : B) (state : TillState) (why : StoreFault) → KeepsCalm (book.state_of old) None
-    → BookRestartFailed book terminal old new state why → A
-book_never book terminal old new state why keeps (inl failed) = never_fails (book.state_of old) (book.state_of new) None why keeps failed.cell
-book_never book terminal old new state why keeps (inr (inl (damaged, none))) = never_some (book.state_of old) (book.state_of new) none.bytes keeps none.cell
-book_never book terminal old new state why keeps (inr (inr not_closed)) =
-    none_open not_closed.before not_closed.ksn not_closed.unsent.0.0 (restarted (book.state_of old) (book.state_of not_closed.between) None (kept_of not_closed.before) keeps not_closed.found.cell).0 not_closed.unsent.0.1
+book_never : {A B : Type 0} (book : CellMeaning B) (old new : B) (why : StoreFault) → KeepsCalm (book.state_of old) None → BookRestartFailed book old new why → A
+book_never book old new why keeps (inl failed) = never_fails (book.state_of old) (book.state_of new) None why keeps failed.cell
+book_never book old new why keeps (inr (damaged, none)) = never_some (book.state_of old) (book.state_of new) none.bytes keeps none.cell
 
 -- a restart leaves the till so
 till_stays : {C B : Type 0} (cell : CellMeaning C) (book : CellMeaning B) (old new : TillOf C B) → IsCalmNew cell book old → IsTillRestarted cell book old new → IsCalmNew cell book new
 till_stays cell book old new calm done = record {
   cell_is = (restarted (cell.state_of old.terminal.cell) (cell.state_of new.terminal.cell) None done.terminal.kept calm.cell_is done.terminal.cell).1;
-  book_is = elim done.book_is [
-    | inl found ↦ (restarted (book.state_of old.book) (book.state_of new.book) None (kept_of done.last) calm.book_is found.found.cell).1
-    | inr closed ↦ none_open closed.before closed.ksn closed.unsent.0.0
-        (restarted (book.state_of old.book) (book.state_of closed.between) None (kept_of closed.before) calm.book_is closed.found.cell).0 closed.unsent.0.1
-  ];
+  book_is = (restarted (book.state_of old.book) (book.state_of new.book) None (kept_of done.last) calm.book_is done.found.cell).1;
 }
 
 -- and is not refused
 till_never : {A C B : Type 0} (cell : CellMeaning C) (book : CellMeaning B) (old new : TillOf C B) (why : TillFault) → IsCalmNew cell book old → TillRestartRefused cell book old new why → A
 till_never cell book old new (till_fault.Terminal why) calm (refused, same, stopped) = terminal_never cell old.terminal new.terminal why calm.cell_is refused
-till_never cell book old new (till_fault.Store why) calm (done, refused, stopped) = book_never book new.terminal.state old.book new.book new.state why calm.book_is refused
+till_never cell book old new (till_fault.Store why) calm (done, refused, stopped) = book_never book old.book new.book why calm.book_is refused
 till_never cell book old new _ calm refused = absurd refused
 
 -- so a till's restart brings it up

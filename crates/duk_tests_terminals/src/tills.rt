@@ -1,5 +1,6 @@
-//! Tills: a purchase whose reply is lost is undone, and where a cell fails at a device step of a
-//! call, a restart tells what was before the call or what is after it.
+//! Tills: a purchase whose reply is lost is undone; where a cell fails at a device step of a call, a
+//! restart tells what was before the call or what is after it; where the terminal's cell lost its
+//! last put, the purchase stays open.
 
 use crate::loading::purchase;
 use duk_reversal::ReversalState;
@@ -101,6 +102,34 @@ fn a_lost_reply(rt: HostRuntime) -> Result<(), Fail> {
     assert!(rt; is_reversed(&mut again));
     assert!(rt; again.state() == undone());
     assert!(rt; begin(&mut again) == Ok(ksn(3)));
+    Ok(())
+}
+
+/// A till with an open purchase, whose terminal's cell lost the put of its begin.
+fn till_with_lost_put() -> Result<Till<MemCell, MemCell>, TillFault> {
+    let mut till = loaded_till(MemCell::new())?;
+    begin(&mut till)?;
+    let (_kept, book) = till.into_cells();
+    let (cell, _empty) = loaded_till(MemCell::new())?.into_cells();
+    Ok(Till::new(cell, book))
+}
+
+/// Whether a restart finds the purchase open, though its number comes next, and refuses its reversal
+/// and another purchase.
+fn stays_open(till: &mut Till<MemCell, MemCell>) -> bool {
+    till.restart() == Ok(open())
+        && till.next() == Next::At(ksn(1))
+        && matches!(
+            &till.reverse(),
+            Err(TillFault::Terminal(TermFault::NotMine))
+        )
+        && begin(till) == Err(TillFault::Open)
+}
+
+#[test]
+fn a_cell_that_lost_its_last_put(rt: HostRuntime) -> Result<(), Fail> {
+    let mut till = till_with_lost_put()?;
+    assert!(rt; stays_open(&mut till));
     Ok(())
 }
 

@@ -24,7 +24,7 @@ use Rattle.duk_till.specs.Last.{AreLastFields, outcome_of}
 use Rattle.duk_till.specs.Lifetime.{ArmBook, ArmTerminal, Begin, Call, IsCalled, IsLifetime, Load, Reply, Restart, Reverse, ReversalReply, Stop, begun_at, last_told, outcome_told, undone_told, written}
 use Rattle.duk_till.specs.Load.{TillLoadRefused}
 use Rattle.duk_till.specs.Reply.{IsOutcomeKept, IsOutcomeLost, TillReplyRefused}
-use Rattle.duk_till.specs.Restart.{BookRestartFailed, FoundLast, IsClosedUnsent, IsNotClosed, IsTillRestarted, TillRestartRefused}
+use Rattle.duk_till.specs.Restart.{BookRestartFailed, FoundLast, IsTillRestarted, TillRestartRefused}
 use Rattle.duk_till.specs.Reversal.{IsUndoneKept, IsUndoneLost, TillReversalReplyRefused, TillReverseRefused}
 use Rattle.duk_till.specs.Till.{IsAtRest, IsLastNotKept, SameBook, TillOf}
 use Rattle.duk_till.specs.declared.fault.TillFault.{TillFault}
@@ -283,52 +283,20 @@ module _ {C J : Type 0} (laws : TillLaws) (cell : CellMeaning C) (book : CellMea
       is_running (last_told (Running last) ++ history) new last (is.cell.settles.nature.honest.0 sound.honest) (λ kept found. (is.cell.settles.finds sound.honest kept).0 found) state
       (told_by_restart history last (found_is_known history old new.book last sound is)) is.fields
 
-  -- an open purchase was found
-  open_found : (history : List Entry) (old : TillOf C J) (new : J) (before : Option Last) (ksn : Serial) (amount : ℕ) → IsSound history old → FoundLast book old.book new before
-      → Running before ≡ Running (Some (Open ksn amount)) → NothingElseToldOf history (Open ksn amount) × IsSerial ksn
-  open_found history old new before ksn amount sound is open_is =
-      let same : before ≡ Some (Open ksn amount) = cc in
-      let both = subst (λ (it : Option Last). NothingElseTold history it × IfSome it AreLastFields) same (found_is_known history old new before sound is, is.fields) in
-      (both.0, both.1.0)
-
-  closed_unsent : (history : List Entry) (old new : TillOf C J) (last : Option Last) → IsSound history old → IsClosedUnsent book new.terminal.state old.book new.book last → new.state ≡ Running last
-      → IsSound (last_told (Running last) ++ history) new
-  closed_unsent history old new last sound is state =
-      let was = open_found history old is.between is.before is.ksn is.unsent.0.0 sound is.found is.unsent.0.1 in
-      let undone : Last = Undone is.ksn in
-      subst (λ (it : Option Last). IsSound (last_told (Running it) ++ history) new) (sym is.last_is)
-      (is_kept (Told undone ∷ history) is.between new undone (is.found.cell.settles.nature.honest.0 sound.honest) is.kept (state ∙ ap Running is.last_is)
-      (undone_told_as history is.ksn is.unsent.0.0 was.0) was.1)
-
   restarted : (history : List Entry) (told : TillState) (old new : TillOf C J) → IsSound history old → IsTillRestarted cell book old new → told ≡ new.state → IsSound (last_told told ++ history) new
   restarted history told old new sound is told_is =
-      subst (λ (it : TillState). IsSound (last_told it ++ history) new) (sym (told_is ∙ is.state_is))
-      (elim is.book_is [
-        | inl kept ↦ found_as_kept history old new is.last sound kept.found is.state_is
-        | inr closed ↦ closed_unsent history old new is.last sound closed is.state_is
-      ])
+      subst (λ (it : TillState). IsSound (last_told it ++ history) new) (sym (told_is ∙ is.state_is)) (found_as_kept history old new is.last sound is.found is.state_is)
 
-  not_closed : (history : List Entry) (old new : TillOf C J) (why : StoreFault) → IsSound history old → IsNotClosed book new.terminal.state old.book new.book new.state why → IsSound history new
-  not_closed history old new why sound is =
-      let was = open_found history old is.between is.before is.ksn is.unsent.0.0 sound is.found is.unsent.0.1 in
-      is_not_kept history (Undone is.ksn) is.before is.between new why (is.found.cell.settles.nature.honest.0 sound.honest) is.not_kept
-      (record { last = is.before; kept_is = refl; fields = is.found.fields; told = found_is_known history old is.between is.before sound is.found })
-      (record { last = Some (Undone is.ksn); kept_is = refl; fields = was.1; told = undone_not_told history is.ksn is.unsent.0.0 was.0 })
-
-  book_failed : (history : List Entry) (old new : TillOf C J) (why : StoreFault) → IsSound history old → BookRestartFailed book new.terminal.state old.book new.book new.state why → new.state ≡ Stopped
-      → IsSound history new
+  book_failed : (history : List Entry) (old new : TillOf C J) (why : StoreFault) → IsSound history old → BookRestartFailed book old.book new.book why → new.state ≡ Stopped → IsSound history new
   book_failed history old new why sound is stopped = elim is [
     | inl failed ↦
         let stops = failed.cell.stops in
         is_stopped history new (stops.nature.honest.0 sound.honest) (λ kept found. sound.found kept (stops.within sound.honest kept found)) stopped
-    | inr other ↦ elim other [
-      | inl none ↦
-          let cell = none.1.cell in
-          is_stopped history new (cell.settles.nature.honest.0 sound.honest)
-          (λ kept found. subst (IsFoundIn history) (sym ((cell.settles.finds sound.honest kept).0 found)) (sound.found (Some none.1.bytes) (cell.was_found sound.honest)))
-          stopped
-      | inr not ↦ not_closed history old new why sound not
-    ]
+    | inr none ↦
+        let cell = none.1.cell in
+        is_stopped history new (cell.settles.nature.honest.0 sound.honest)
+        (λ kept found. subst (IsFoundIn history) (sym ((cell.settles.finds sound.honest kept).0 found)) (sound.found (Some none.1.bytes) (cell.was_found sound.honest)))
+        stopped
   ]
 
   restart_refused : (history : List Entry) (why : TillFault) (old new : TillOf C J) → IsSound history old → TillRestartRefused cell book old new why → IsSound history new

@@ -1,11 +1,10 @@
 -- What a till tells, and what is lost where its book fails.
-use Rattle.std.proofs.Common.{◌≡◌, ℕ, List, Option, Some, ap, inl, inr, subst, sym, ◌∙◌}
+use Rattle.std.proofs.Common.{◌≡◌, ℕ, List, Some, ap, subst, sym, ◌∙◌}
 use Rattle.duk_frame.specs.Answer.{IsRefusal}
 use Rattle.duk_frame.specs.declared.code.Code.{Code}
 use Rattle.duk_store.specs.Cell.{CellMeaning, IsPut}
 use Rattle.duk_term.specs.Begin.{IsBegunUnder}
 use Rattle.duk_term.specs.Reply.{ReportsAnswer, after_answer, completed}
-use Rattle.duk_term.specs.Restart.{IsTerminalRestarted}
 use Rattle.duk_term.specs.Terminal.{TerminalOf}
 use Rattle.duk_term.specs.declared.answer.Answer.{Answer}
 use Rattle.duk_term.specs.declared.answer.Answer.TheVariants.{Done, Refused}
@@ -16,12 +15,11 @@ use Rattle.duk_till.specs.Begin.{TillBeginRefused, opened}
 use Rattle.duk_till.specs.Image.{last_bytes}
 use Rattle.duk_till.specs.Last.{outcome_of}
 use Rattle.duk_till.specs.Reply.{IsOutcomeKept, IsPurchaseRefused, IsReplyTo, TillReplyRefused, WaitsForNoOther}
-use Rattle.duk_till.specs.Restart.{FoundLast, IsTillRestarted, IsUnsent, TillRestartRefused}
 use Rattle.duk_till.specs.Till.{IsAtRest, IsLastNotKept, IsOpen, TillOf}
 use Rattle.duk_till.specs.declared.fault.TillFault.{TillFault}
 use Rattle.duk_till.specs.declared.fault.TillFault.TheVariants as fault
 use Rattle.duk_till.specs.declared.last.Last.{Last}
-use Rattle.duk_till.specs.declared.last.Last.TheVariants.{Open, Undone}
+use Rattle.duk_till.specs.declared.last.Last.TheVariants.{Open}
 use Rattle.duk_till.specs.declared.state.TillState.{TillState}
 use Rattle.duk_till.specs.declared.state.TillState.TheVariants.{Running}
 use Rattle.duk_till.specs.inner.Till.{IsNotKept}
@@ -121,43 +119,3 @@ purchase_refused bytes terminal after book state ksn amount answer reason open_i
       refusal = subst (λ (ksn : Serial). IsRefusal bytes ksn reason) number report.2;
       same = same_till after terminal book state same;
     }
-
--- ---- restart
-
--- what was not sent by the terminal then was not sent by it now
-unsent_by : (one other : State) (before after : TillState) (ksn : Serial) → one ≡ other → before ≡ after → IsUnsent one before ksn → IsUnsent other after ksn
-unsent_by one other before after ksn same state unsent =
-    subst (λ (it : TillState). IsUnsent other it ksn) state (subst (λ (it : State). IsUnsent it before ksn) same unsent)
-
-pub not_closed :
-    {C J : Type 0} (cell : CellMeaning C) (book : CellMeaning J) (old mid new : TillOf C J) (terminal : TerminalOf C) (last : Option Last) (ksn : Serial) (why : TillFault)
-    → IsTerminalRestarted cell old.terminal terminal → mid.terminal ≡ terminal → FoundLast book old.book mid.book last → mid.state ≡ Running last
-    → IsUnsent mid.terminal.state mid.state ksn → new.terminal ≡ mid.terminal → IsNotKept book (Undone ksn) mid new why → TillRestartRefused cell book old new why
-not_closed cell book old mid new terminal last ksn (fault.Store why) restarted mid_is found runs unsent same not =
-    let not_kept = not last runs in (
-      subst (IsTerminalRestarted cell old.terminal) (sym (same ∙ mid_is)) restarted,
-      inr (inr (record {
-        before = last;
-        ksn = ksn;
-        between = mid.book;
-        found = found;
-        unsent = unsent_by _ _ _ _ ksn (ap (λ (terminal : TerminalOf _). terminal.state) (sym same)) runs unsent;
-        not_kept = not_kept;
-      })),
-      not_kept.stopped,
-    )
-not_closed cell book old mid new terminal last ksn fault.Stopped restarted mid_is found runs unsent same not = absurd not
-not_closed cell book old mid new terminal last ksn fault.Open restarted mid_is found runs unsent same not = absurd not
-not_closed cell book old mid new terminal last ksn fault.NothingOpen restarted mid_is found runs unsent same not = absurd not
-not_closed cell book old mid new terminal last ksn (fault.Terminal why) restarted mid_is found runs unsent same not = absurd not
-
-pub restarted_as_kept :
-    {C J : Type 0} (cell : CellMeaning C) (book : CellMeaning J) (old mid : TillOf C J) (terminal : TerminalOf C) (last : Option Last) → IsTerminalRestarted cell old.terminal terminal
-    → mid.terminal ≡ terminal → FoundLast book old.book mid.book last → mid.state ≡ Running last → ((ksn : Serial) → ¬ IsUnsent mid.terminal.state mid.state ksn)
-    → IsTillRestarted cell book old mid
-restarted_as_kept cell book old mid terminal last restarted mid_is found runs sent = record {
-  last = last;
-  terminal = subst (IsTerminalRestarted cell old.terminal) (sym mid_is) restarted;
-  book_is = inl (record { found = found; sent = λ ksn unsent. sent ksn (subst (λ (it : TillState). IsUnsent mid.terminal.state it ksn) (sym runs) unsent) });
-  state_is = runs;
-}

@@ -1,17 +1,12 @@
 //! What a till asks of its terminal before it goes on.
 
-ghost use Rattle.std.specs.Prelude.{◌≡◌, ◌↔◌, IsTrue, IfOk, IfErr, MatchOption};
-ghost use Rattle.duk_tree.specs.Serial.{Serial};
+ghost use Rattle.std.specs.Prelude.{◌≡◌, ◌↔◌, IsTrue, IfOk, IfErr};
 ghost use Rattle.duk_till.specs.Reply.{IsReversing, WaitsForNoOther};
-ghost use Rattle.duk_till.specs.Restart.{IsUnsent};
 ghost use Rattle.duk_till.specs.Till.{HasOneAfter, HasTwoAfter, IsKeptForReversals};
 ghost use Rattle.duk_till.specs.declared.fault.TillFault.TheVariants as till_fault;
-ghost use Rattle.duk_term.specs.Terminal.{next_of};
-ghost use Rattle.duk_term.specs.declared.answer.Next.TheVariants as next_variant;
 ghost use Rattle.duk_term.specs.declared.fault.TermFault.TheVariants as term_fault;
 
 use crate::fault::TillFault;
-use crate::state::TillState;
 use duk_store::Cell;
 use duk_term::{Next, TermFault, Terminal};
 use duk_tree::{Ksn, next_usable};
@@ -67,33 +62,5 @@ pub(crate) fn check_waits<C: Cell>(terminal: &Terminal<C>, ksn: Ksn) -> Result<(
             }
         }
         None => Ok(()),
-    }
-}
-
-/// The number of an open purchase that is still the terminal's next one, so that nothing was sent.
-pub(crate) fn unsent<C: Cell>(terminal: &Terminal<C>, state: &TillState) -> Option<Ksn>
-    ensures { MatchOption result
-        ((ksn : Serial) → ¬ IsUnsent terminal.now.state state.now ksn)
-        (IsUnsent terminal.now.state state.now) }
-{
-    match state.open_purchase() {
-        Ok((ksn, _)) => {
-            if comes_next(terminal, ksn) {
-                Some(ksn)
-            } else {
-                None
-            }
-        }
-        Err(_) => None,
-    }
-}
-
-/// Whether this is the terminal's next number.
-fn comes_next<C: Cell>(terminal: &Terminal<C>, ksn: Ksn) -> bool
-    ensures { IsTrue result ↔ (next_of terminal.now.state ≡ next_variant.At ksn) }
-{
-    match terminal.next() {
-        Next::At(next) => next == ksn,
-        _ => false,
     }
 }

@@ -16,9 +16,9 @@ ghost use Rattle.duk_till.specs.Reversal.{IsTillReversing, TellsReversal, TillRe
 ghost use Rattle.duk_till.specs.Till.{KeepsLast, PromisesLast, SameBook};
 ghost use Rattle.duk_till.specs.declared.last.Last.{Last as LastValue};
 ghost use Rattle.duk_till.specs.declared.state.TillState.TheVariants as state;
-ghost use Rattle.duk_till.specs.inner.Till.{IsBookFound, IsBookNotFound, IsNotKept};
+ghost use Rattle.duk_till.specs.inner.Till.{IsNotKept};
 
-use crate::checks::{check_spare, check_waits, unsent};
+use crate::checks::{check_spare, check_waits};
 use crate::fault::TillFault;
 use crate::image::{body_of, last_of};
 use crate::last::Last;
@@ -97,15 +97,16 @@ impl<C: Cell, J: Cell> Till<C, J> {
         let _state = &self.state;
     }
 
-    /// Brings the terminal up, and then the book, and tells the last purchase that it keeps. An
-    /// open one whose number is still the terminal's next was never sent: it is closed as undone.
+    /// Brings the terminal up, and then the book, and tells the last purchase that it keeps. An open
+    /// one stays open, whatever number comes next: whether its request went out, the till cannot
+    /// know.
     ///
     /// The restart of a cell disarms it. That of the terminal's is always made, and that of the book
-    /// where the terminal comes up.
+    /// where the terminal comes up; nothing is put into either.
     ///
     /// Refused with, in this order: `Terminal`, where the terminal's restart fails; `Store`, where
-    /// the book's does, or keeps bytes that are no last purchase (`Damaged`), or does not keep that
-    /// a purchase is undone. The till is stopped then.
+    /// the book's does, or keeps bytes that are no last purchase (`Damaged`). The till is stopped
+    /// then.
     pub fn restart(&mut self) -> Result<TillState, TillFault>
         ensures restarted { IfOk result
             (λ _. IsTillRestarted C.meaning J.meaning self.old self.new) }
@@ -116,29 +117,12 @@ impl<C: Cell, J: Cell> Till<C, J> {
     {
         self.state = TillState::Stopped;
         self.terminal.restart()?;
-        self.restart_book()?;
-        match unsent(&self.terminal, &self.state) {
-            Some(ksn) => {
-                self.keep(Last::Undone { ksn })?;
-                Ok(self.state)
-            }
-            None => Ok(self.state),
-        }
-    }
-
-    /// Brings the book up, with the last purchase that it keeps.
-    fn restart_book(&mut self) -> Result<(), TillFault>
-        ensures found { IfOk result (λ _. IsBookFound J.meaning self.old self.new) }
-        ensures refused { IfErr result (IsBookNotFound J.meaning self.old self.new) }
-        ensures terminal { self.new.terminal ≡ self.old.terminal }
-    {
-        self.state = TillState::Stopped;
         let kept = match self.book.restart() {
             Ok(kept) => kept,
             Err(fault) => return Err(TillFault::Store(fault)),
         };
         self.state = TillState::Running(last_of(&kept)?);
-        Ok(())
+        Ok(self.state)
     }
 
     /// Loads the terminal, as its own `load` does. The book stays.

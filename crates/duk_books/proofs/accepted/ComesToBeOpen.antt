@@ -20,7 +20,7 @@ use Rattle.duk_till.specs.Last.{AreLastFields, outcome_of}
 use Rattle.duk_till.specs.Lifetime.{ArmBook, ArmTerminal, Begin, Call, IsCalled, Load, Reply, Restart, Reverse, ReversalReply as ReversalReplyCall, Stop}
 use Rattle.duk_till.specs.Load.{TillLoadRefused}
 use Rattle.duk_till.specs.Reply.{IsOutcomeKept, TillReplyRefused}
-use Rattle.duk_till.specs.Restart.{BookRestartFailed, FoundLast, IsClosedUnsent, IsTillRestarted, TillRestartRefused}
+use Rattle.duk_till.specs.Restart.{BookRestartFailed, FoundLast, IsTillRestarted, TillRestartRefused}
 use Rattle.duk_till.specs.Reversal.{IsUndoneKept, TillReversalReplyRefused, TillReverseRefused}
 use Rattle.duk_till.specs.Till.{IsOpen, SameBook, TillOf}
 use Rattle.duk_till.specs.declared.fault.TillFault.{TillFault}
@@ -121,9 +121,6 @@ module _ {B : Type 0} (book : CellMeaning B) (old new : B) (honest : (book.state
   -- what may be found after a restart was found in it
   found_again : (last : Option Last) → FoundLast book old new last → (ksn : Serial) → MayFindOpen book new ksn → MayFindOpen book old ksn
   found_again last is = found_before (λ kept found. subst (book.state_of old).found (sym ((is.cell.settles.finds honest kept).0 found)) (is.cell.was_found honest))
-
-  still_honest : (last : Option Last) → FoundLast book old new last → (book.state_of new).honest
-  still_honest last is = is.cell.settles.nature.honest.0 honest
 
 module _ {C B J I : Type 0} (m : Meanings C B J I) (numbers : NumberLaws) (reading : OneReading) (old new : TillOf C B) (honest : (m.book.state_of old.book).honest) where
   -- what may be open was before, or begins
@@ -235,23 +232,13 @@ module _ {C B J I : Type 0} (m : Meanings C B J I) (numbers : NumberLaws) (readi
       inl (inr (found_there m.book old.book new.book honest last is.fields (is.cell.was_found honest) ksn is_open.0 (same_last new.state last (Some (Open ksn is_open.0)) runs is_open.1)))
   restart_finds last is runs ksn (inr found) = inl (inr (found_again m.book old.book new.book honest last is ksn found))
 
-  restart_closes : (last : Option Last) → IsClosedUnsent m.book new.terminal.state old.book new.book last → new.state ≡ Running last → CameToBeOpen
-  restart_closes last is runs ksn is_open =
-      absurd (closes m.book is.between new.book (still_honest m.book old.book is.between honest is.before is.found) (Undone is.ksn) new.state (undone_closed is.ksn) is.kept (runs ∙ ap Running is.last_is) ksn is_open)
-
   restart_done : IsTillRestarted m.cell m.book old new → CameToBeOpen
-  restart_done is = elim is.book_is [
-    | inl found ↦ restart_finds is.last found.found is.state_is
-    | inr closed ↦ restart_closes is.last closed is.state_is
-  ]
+  restart_done is = restart_finds is.last is.found is.state_is
 
-  book_failed : (why : StoreFault) → BookRestartFailed m.book new.terminal.state old.book new.book new.state why → (ksn : Serial) → MayFindOpen m.book new.book ksn → MayFindOpen m.book old.book ksn
+  book_failed : (why : StoreFault) → BookRestartFailed m.book old.book new.book why → (ksn : Serial) → MayFindOpen m.book new.book ksn → MayFindOpen m.book old.book ksn
   book_failed why (inl failed) ksn found = found_before m.book old.book new.book honest (λ kept finds. failed.cell.stops.within honest kept finds) ksn found
-  book_failed why (inr (inl (damaged, none))) ksn found =
+  book_failed why (inr (damaged, none)) ksn found =
       found_before m.book old.book new.book honest (λ kept finds. subst (m.book.state_of old.book).found (sym ((none.cell.settles.finds honest kept).0 finds)) (none.cell.was_found honest)) ksn found
-  book_failed why (inr (inr is)) ksn found =
-      let between = still_honest m.book old.book is.between honest is.before is.found in
-      found_again m.book old.book is.between honest is.before is.found ksn (not_opened m.book is.between new.book between (Undone is.ksn) why (undone_closed is.ksn) is.not_kept.not_kept ksn found)
 
   restart_refused : (why : TillFault) → TillRestartRefused m.cell m.book old new why → CameToBeOpen
   restart_refused (fault.Terminal why) is = goes_on (same_found is.1) (inr is.2)

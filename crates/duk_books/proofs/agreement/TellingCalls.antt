@@ -1,5 +1,5 @@
 -- What holds of a till still holds after a call that may tell something.
-use Rattle.std.proofs.Common.{◌≡◌, ◌≢◌, ◌⊎◌, ◌<◌, ◌^◌, inl, inr, ℕ, List, [], ◌∷◌, Option, Some, None, Ok, Err, IfSome, Contains, ap, arith, refl, subst, sym, ◌∙◌}
+use Rattle.std.proofs.Common.{◌≡◌, ◌≢◌, ◌⊎◌, ◌<◌, ◌^◌, inl, inr, ℕ, List, [], ◌∷◌, Option, Some, None, Ok, Err, IfSome, Contains, ap, refl, subst, sym, ◌∙◌}
 use Rattle.std.proofs.lemmas.List.Elements.{Contains-append_left, Contains-push}
 use Rattle.duk_frame.specs.declared.code.Code.{Code}
 use Rattle.duk_frame.specs.declared.code.Code.TheVariants as code
@@ -11,20 +11,18 @@ use Rattle.duk_store.specs.declared.fault.StoreFault.{StoreFault}
 use Rattle.duk_term.specs.Reply.{IsPending}
 use Rattle.duk_term.specs.Restart.{IsTerminalRestarted, Opens}
 use Rattle.duk_regs.specs.Registers.{RegisterSet}
-use Rattle.duk_term.specs.Terminal.{TerminalOf, next_of, serial_of}
+use Rattle.duk_term.specs.Terminal.{TerminalOf}
 use Rattle.duk_term.specs.declared.answer.Answer.TheVariants as answer
-use Rattle.duk_term.specs.declared.answer.Next.TheVariants as next
 use Rattle.duk_term.specs.declared.answer.ReversalAnswer.TheVariants as reversal
 use Rattle.duk_term.specs.declared.state.Pending.{Pending}
 use Rattle.duk_term.specs.declared.state.State.{State}
-use Rattle.duk_term.specs.declared.state.State.TheVariants as term_state
 use Rattle.duk_till.specs.History.{IsOf, payment_of}
 use Rattle.duk_till.specs.Image.{kept_of, last_bytes}
 use Rattle.duk_till.specs.Last.{AreLastFields, outcome_of}
 use Rattle.duk_till.specs.Lifetime.{Call, IsCalled, Reply, Restart, ReversalReply as ReversalReplyCall}
 use Rattle.duk_term.specs.Reversal.{ReportsReversal}
 use Rattle.duk_till.specs.Reply.{IsOutcomeKept, IsOutcomeLost, IsReplyTo, TillReplyRefused}
-use Rattle.duk_till.specs.Restart.{FoundLast, IsTillRestarted, IsUnsent, TillRestartRefused}
+use Rattle.duk_till.specs.Restart.{FoundLast, IsTillRestarted, TillRestartRefused}
 use Rattle.duk_till.specs.Reversal.{IsUndoneKept, IsUndoneLost, TillReversalReplyRefused}
 use Rattle.duk_till.specs.Till.{TillOf, approved_in}
 use Rattle.duk_till.specs.declared.fault.TillFault.{TillFault}
@@ -36,13 +34,12 @@ use Rattle.duk_till.specs.declared.state.TillState.{TillState}
 use Rattle.duk_till.specs.declared.state.TillState.TheVariants.{Stopped, Running}
 use Rattle.duk_tree.specs.Serial.{IsSerial, Serial}
 use Rattle.duk_books.specs.Books.{Frame, Meanings}
-use Rattle.duk_books.specs.Owner.{IsOwner}
 use Rattle.duk_books.specs.Sales.{TakesSale, sale_of}
 use Rattle.duk_books.specs.declared.sales.Sale.{Sale}
 use Rattle.duk_books.proofs.agreement.Facts.{IsRepliedTo, IsSold, IsUndoneBy, Lists}
 use Rattle.duk_books.proofs.agreement.QuietCalls.{CallLaws, loaded_pends_nothing}
-use Rattle.duk_books.proofs.agreement.Registers.{RegistersHold, SetHolds, is_new}
-use Rattle.duk_books.proofs.agreement.Terminals.{StateHas, TerminalHas, completes, restart_refused, restarted, terminal_as}
+use Rattle.duk_books.proofs.agreement.Registers.{RegistersHold}
+use Rattle.duk_books.proofs.agreement.Terminals.{TerminalHas, completes, restart_refused, restarted, terminal_as}
 use Rattle.duk_books.proofs.agreement.Tills.{Fits, IsAwaited, IsInDoubt, IsKeptOf, IsSettled, TillHolds, book_has, book_lost, book_put, book_stays, doubt_lost, doubt_stays, found_fits, one_last, same_last, stopped_is_not_running}
 use Rattle.duk_books.proofs.moves.StepChanges.{IsTelling}
 
@@ -141,11 +138,6 @@ some_open last ksn amount state is runs = cc
 after_restart : (kept : Kept) (state : State) (pending : Pending) → Opens kept state → ¬ IsPending state pending
 after_restart None state pending opens (set, is) = absurd (cc)
 after_restart (Some body) state pending opens waits = loaded_pends_nothing state _ pending opens.1 waits
-
-spent_or_at : (state : State) (ksn : Serial) → next_of state ≡ next.At ksn → (set : _) × (pending : Option Pending) × (state ≡ term_state.Loaded set pending) × (serial_of set ≡ ksn)
-spent_or_at term_state.Stopped ksn is = absurd (cc)
-spent_or_at term_state.Empty ksn is = absurd (cc)
-spent_or_at (term_state.Loaded set pending) ksn is = (set, pending, refl, grind (arith, is))
 
 none_is_kept : (last : Last) → kept_of None ≡ Some (last_bytes last) → ⊥
 none_is_kept last same = absurd (cc)
@@ -298,19 +290,6 @@ module _ {C B J I : Type 0} (laws : CallLaws) (m : Meanings C B J I) (t : ℕ) (
 
   -- ---- restarts
 
-  -- a restart finds no purchase whose number is the terminal's next one: each that it may find has begun
-  pub none_unsent : (old : TillOf C B) (terminal : TerminalOf C) (between : B) (before : Option Last) (ksn : Serial) → TillHolds m lists t old → IsTerminalRestarted m.cell old.terminal terminal
-      → FoundLast m.book old.book between before → ¬ IsUnsent terminal.state (Running before) ksn
-  none_unsent old terminal between before ksn holds is found unsent =
-      let up = restarted laws.registers m.cell (RegistersHold lists t) old.terminal terminal holds.terminal is in
-      let fits = found_fits laws.reading m.book t lists old (record old { book = between }) before holds.book found in
-      let at = spent_or_at terminal.state ksn unsent.1 in
-      let set : SetHolds lists t at.0 = subst (StateHas (RegistersHold lists t)) at.2 up.state in
-      let opens_on : before ≡ Some (Open ksn unsent.0.0) = same_last (Running before) before (Some (Open ksn unsent.0.0)) refl unsent.0.1 in
-      let fits_open : Fits lists t (Open ksn unsent.0.0) = subst (λ (it : Option Last). IfSome it (Fits lists t)) opens_on fits in
-      let owned : IsOwner lists.owners ksn.iksn t = subst (λ (it : Serial). IsOwner lists.owners it.iksn t) at.3 set.owned in
-      is_new at.0 ksn set.is_set (set.behind ksn fits_open.0 owned) (sym at.3)
-
   -- what a restart found fits by the new sales
   found_fits_after : (last : Option Last) → TakesSale lists.sales t (approved_in (Running last)) sales → IfSome last (Fits lists t) → IfSome last (Fits After t)
   found_fits_after None takes fits = tt
@@ -369,10 +348,7 @@ module _ {C B J I : Type 0} (laws : CallLaws) (m : Meanings C B J I) (t : ℕ) (
   terminal_up old new holds is = restarted laws.registers m.cell (RegistersHold lists t) old.terminal new.terminal holds.terminal is
 
   restart_done : (old new : TillOf C B) → TillHolds m lists t old → TakesSale lists.sales t (approved_in new.state) sales → IsTillRestarted m.cell m.book old new → TillHolds m After t new
-  restart_done old new holds takes is = elim is.book_is [
-    | inl found ↦ restart_finds old new is.last holds takes is.terminal found.found is.state_is
-    | inr closed ↦ absurd (none_unsent old new.terminal closed.between closed.before closed.ksn holds is.terminal closed.found closed.unsent)
-  ]
+  restart_done old new holds takes is = restart_finds old new is.last holds takes is.terminal is.found is.state_is
 
   pub restart_refused_so : (old new : TillOf C B) (why : TillFault) → TillHolds m lists t old → TakesSale lists.sales t (approved_in new.state) sales → TillRestartRefused m.cell m.book old new why → TillHolds m After t new
   restart_refused_so old new (fault.Terminal why) holds takes is =
@@ -384,13 +360,10 @@ module _ {C B J I : Type 0} (laws : CallLaws) (m : Meanings C B J I) (t : ℕ) (
         | inl failed ↦
             let stops = failed.cell.stops in
             stopped_till old new holds takes terminal (stops.nature.honest.0 holds.book.honest) (λ kept found. stops.within holds.book.honest kept found) is.2
-        | inr other ↦ elim other [
-          | inl damaged ↦
-              let restart = damaged.1.cell in
-              stopped_till old new holds takes terminal (restart.settles.nature.honest.0 holds.book.honest)
-              (λ kept found. subst (λ it. (m.book.state_of old.book).found it) (sym ((restart.settles.finds holds.book.honest kept).0 found)) (restart.was_found holds.book.honest)) is.2
-          | inr closing ↦ absurd (none_unsent old new.terminal closing.between closing.before closing.ksn holds is.0 closing.found closing.unsent)
-        ]
+        | inr damaged ↦
+            let restart = damaged.1.cell in
+            stopped_till old new holds takes terminal (restart.settles.nature.honest.0 holds.book.honest)
+            (λ kept found. subst (λ it. (m.book.state_of old.book).found it) (sym ((restart.settles.finds holds.book.honest kept).0 found)) (restart.was_found holds.book.honest)) is.2
       ]
   restart_refused_so old new fault.Stopped holds takes is = absurd is
   restart_refused_so old new fault.Open holds takes is = absurd is

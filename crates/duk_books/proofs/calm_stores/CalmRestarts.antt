@@ -67,8 +67,7 @@ module _ {C B J I : Type 0} (m : Meanings C B J I) (before after : TillOf C B) (
   -- that of the book is one of the two of the book
   book_reports : (why : StoreFault) → TillRestartRefused m.cell m.book before after (fault.Store why) → (why ≡ store_fault.Device) ⊎ (why ≡ store_fault.Damaged)
   book_reports why (terminal, inl failed, stopped) = two_faults (m.book.state_of before.book) (m.book.state_of after.book) why failed.cell.fault_is
-  book_reports why (terminal, inr (inl (damaged, none)), stopped) = inr damaged
-  book_reports why (terminal, inr (inr closing), stopped) = absurd (known.sent after.terminal closing.between closing.before closing.ksn terminal closing.found closing.unsent)
+  book_reports why (terminal, inr (damaged, none), stopped) = inr damaged
 
   -- a till's refusal to restart is one of those of its two cells
   till_reports : (why : TillFault) → TillRestartRefused m.cell m.book before after why

@@ -179,9 +179,9 @@ module _ {C B : Type 0} (cell : CellMeaning C) (book : CellMeaning B) (t : ℕ) 
 
 restart_facts : {C B J I : Type 0} (m : Meanings C B J I) (t : ℕ) (before after : TillOf C B) (outcome : Outcome) → KnownTill m before → TakesRestart m.cell m.book t outcome before after → TillFacts m.cell m.book t outcome before after
 restart_facts m t before after (came.TillNext u next state) known takes =
-    plainly m.cell m.book t before after (came.TillNext u next state) (λ end fault reports. reports) (restarted m.cell m.book before after known.bodies known.lasts known.sent takes.2.0)
+    plainly m.cell m.book t before after (came.TillNext u next state) (λ end fault reports. reports) (restarted m.cell m.book before after takes.2.0)
 restart_facts m t before after (came.TillFaulted u why) known takes =
-    refused m.cell m.book t before after u why takes.0 (restart_refused m.cell m.book before after known.bodies known.lasts known.sent why takes.1)
+    refused m.cell m.book t before after u why takes.0 (restart_refused m.cell m.book before after known.bodies known.lasts why takes.1)
 restart_facts m t before after _ known takes = absurd takes
 
 terminal_facts : {C B J I : Type 0} (m : Meanings C B J I) (t steps passed : ℕ) (armed : End) (before after : TillOf C B) → armed ≡ ends.Terminal t → ArmsTerminalCell m steps before after

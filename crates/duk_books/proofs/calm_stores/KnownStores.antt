@@ -9,20 +9,18 @@ use Rattle.duk_books.specs.Images.{FindLast, FindsLast}
 use Rattle.duk_books.specs.NoUsedKey.{InEachTill, NoUsedKey}
 use Rattle.duk_books.specs.Reached.{Reached}
 use Rattle.duk_books.proofs.accepted.EndsOnce.{reached_hold}
-use Rattle.duk_books.proofs.agreement.BooksHold.{BookLaws, lists_of}
-use Rattle.duk_books.proofs.agreement.TellingCalls.{none_unsent}
-use Rattle.duk_books.proofs.calm_stores.TillCalls.{FindsBodies, FindsLasts, FindsNoneUnsent}
+use Rattle.duk_books.proofs.agreement.BooksHold.{BookLaws}
+use Rattle.duk_books.proofs.calm_stores.TillCalls.{FindsBodies, FindsLasts}
 use Rattle.duk_books.proofs.moves.HostFinds.{HostFinds}
 use Rattle.duk_books.proofs.moves.StepChanges.{at_contains}
 
 -- the cells of a till are honest, the terminal's finds only bodies of a terminal, and the book only
--- bodies of last purchases, none of which has the terminal's next number
+-- bodies of last purchases
 pub record KnownTill {C B J I : Type 0} (m : Meanings C B J I) (till : TillOf C B) : Type 0 where
   pub cell_honest : (m.cell.state_of till.terminal.cell).honest
   pub book_honest : (m.book.state_of till.book).honest
   pub bodies : FindsBodies m.cell till.terminal.cell
   pub lasts : FindsLasts m.book till.book
-  pub sent : FindsNoneUnsent m.cell m.book till
 
 -- so are all stores, and each entry that the journal may find used a new number
 pub record KnownStores {C B J I : Type 0} (m : Meanings C B J I) (books : BooksOf C B J I) : Type 0 where
@@ -45,7 +43,6 @@ module _ {C B J I : Type 0} (m : Meanings C B J I) (laws : StoreLaws m) (books :
         book_honest = here.book.honest;
         bodies = λ bytes found. ((laws.images books reached t till at).images (Some bytes) found).is_body;
         lasts = λ bytes found. All-contains (λ (it : TillOf C B). FindsLast m it) books.tills till (laws.lasts books reached) (at_contains books.tills t till at) (Some bytes) found;
-        sent = λ terminal between last ksn up found. none_unsent laws.books.calls m t (lists_of books holds.0) books.sales till terminal between last ksn here up found;
       }
 
   pub reached_stores : KnownStores m books

@@ -1,13 +1,13 @@
 -- What the calls of a till leave of the soundness and calm of its two cells, and which faults of these
 -- they report.
-use Rattle.std.proofs.Common.{◌≡◌, ℕ, List, Option, Some, inl, inr}
+use Rattle.std.proofs.Common.{◌≡◌, ℕ, List, Some, inl, inr}
 use Rattle.duk_store.specs.Cell.{CellMeaning}
 use Rattle.duk_store.specs.declared.fault.StoreFault.{StoreFault}
 use Rattle.duk_term.specs.Begin.{BeginRefused}
 use Rattle.duk_term.specs.Body.{IsTerminalBody}
 use Rattle.duk_term.specs.Load.{LoadRefused, Loading}
 use Rattle.duk_term.specs.Reply.{ReplyRefused}
-use Rattle.duk_term.specs.Restart.{IsTerminalRestarted, TerminalRestartRefused}
+use Rattle.duk_term.specs.Restart.{TerminalRestartRefused}
 use Rattle.duk_term.specs.Reversal.{ReversalRefused, ReversalReplyRefused}
 use Rattle.duk_term.specs.Terminal.{TerminalOf}
 use Rattle.duk_term.specs.declared.answer.Answer.{Answer}
@@ -23,13 +23,12 @@ use Rattle.duk_till.specs.Image.{IsLastBody}
 use Rattle.duk_till.specs.Lifetime.{IsBookArmed, IsTerminalArmed}
 use Rattle.duk_till.specs.Load.{IsTillLoaded, TillLoadRefused}
 use Rattle.duk_till.specs.Reply.{TellsOutcome, TillReplyRefused}
-use Rattle.duk_till.specs.Restart.{BookRestartFailed, FoundLast, IsTillRestarted, IsUnsent, TillRestartRefused}
+use Rattle.duk_till.specs.Restart.{BookRestartFailed, IsTillRestarted, TillRestartRefused}
 use Rattle.duk_till.specs.Reversal.{IsTillReversing, TellsReversal, TillReversalReplyRefused, TillReverseRefused}
 use Rattle.duk_till.specs.Till.{SameBook, TillOf}
 use Rattle.duk_till.specs.declared.fault.TillFault.{TillFault}
 use Rattle.duk_till.specs.declared.fault.TillFault.TheVariants as fault
 use Rattle.duk_till.specs.declared.last.Last.{Last}
-use Rattle.duk_till.specs.declared.state.TillState.TheVariants.{Running}
 use Rattle.duk_tree.specs.Serial.{Serial}
 use Rattle.duk_books.specs.Calm.{IsBookFault, IsCellFault, IsTerminalFault}
 use Rattle.duk_books.proofs.calm_stores.StoreFaults.{FailsSpared, PreservesCalm, Spares, found_wrong, nature_kept, none_reported, put_failed, restart_failed, same_kept}
@@ -116,12 +115,6 @@ pub record RefusesTill {C B : Type 0} (cell : CellMeaning C) (book : CellMeaning
 -- a book finds no bytes but bodies of last purchases
 abbrev pub FindsLasts : {B : Type 0} → CellMeaning B → B → Type 0
 FindsLasts book at = (bytes : List ℕ) → (book.state_of at).found (Some bytes) → (last : Last) × IsLastBody bytes last
-
--- no restart of the till finds a purchase of which nothing was sent
-abbrev pub FindsNoneUnsent : {C B : Type 0} → CellMeaning C → CellMeaning B → TillOf C B → Type 0
-FindsNoneUnsent {C} {B} cell book till =
-    (terminal : TerminalOf C) (between : B) (last : Option Last) (ksn : Serial) → IsTerminalRestarted cell till.terminal terminal → FoundLast book till.book between last
-    → ¬ IsUnsent terminal.state (Running last) ksn
 
 module _ {C B : Type 0} (cell : CellMeaning C) (book : CellMeaning B) (before after : TillOf C B) where
   abbrev Keeps : Type 0
@@ -235,28 +228,20 @@ module _ {C B : Type 0} (cell : CellMeaning C) (book : CellMeaning B) (before af
 
   -- ---- restarts
 
-  module _ (bodies : FindsBodies cell before.terminal.cell) (lasts : FindsLasts book before.book) (sent : FindsNoneUnsent cell book before) where
-    pub restarted : IsTillRestarted cell book before after → Keeps
-    restarted is = record {
-      of_terminal = nature_kept _ _ is.terminal.cell.settles.nature;
-      of_book = elim is.book_is [
-        | inl kept ↦ nature_kept _ _ kept.found.cell.settles.nature
-        | inr closed ↦ absurd (sent after.terminal closed.between closed.before closed.ksn is.terminal closed.found closed.unsent)
-      ];
-    }
+  pub restarted : IsTillRestarted cell book before after → Keeps
+  restarted is = record { of_terminal = nature_kept _ _ is.terminal.cell.settles.nature; of_book = nature_kept _ _ is.found.cell.settles.nature }
 
-    book_fails : (why : StoreFault) → IsTerminalRestarted cell before.terminal after.terminal → BookRestartFailed book after.terminal.state before.book after.book after.state why
-        → FailsSpared (book.state_of before.book) (book.state_of after.book) why
-    book_fails why terminal (inl failed) = restart_failed _ _ why failed.cell
-    book_fails why terminal (inr (inl (damaged, none))) =
+  module _ (bodies : FindsBodies cell before.terminal.cell) (lasts : FindsLasts book before.book) where
+    book_fails : (why : StoreFault) → BookRestartFailed book before.book after.book why → FailsSpared (book.state_of before.book) (book.state_of after.book) why
+    book_fails why (inl failed) = restart_failed _ _ why failed.cell
+    book_fails why (inr (damaged, none)) =
         found_wrong (book.state_of before.book) (book.state_of after.book) why damaged none.cell.settles.nature
         (λ honest. let body = lasts none.bytes (none.cell.was_found honest) in none.no_body body.0 body.1)
-    book_fails why terminal (inr (inr closing)) = absurd (sent after.terminal closing.between closing.before closing.ksn terminal closing.found closing.unsent)
 
     pub restart_refused : (why : TillFault) → TillRestartRefused cell book before after why → Refuses why
     restart_refused (fault.Terminal why) is =
         terminal_refuses why (terminal_restart_refused cell before.terminal after.terminal why bodies is.0) (rw is.1 (same_kept (book.state_of before.book)))
-    restart_refused (fault.Store why) is = book_refuses why (nature_kept _ _ is.0.cell.settles.nature) (book_fails why is.0 is.1)
+    restart_refused (fault.Store why) is = book_refuses why (nature_kept _ _ is.0.cell.settles.nature) (book_fails why is.1)
     restart_refused _ is = absurd is
 
   -- ---- arming

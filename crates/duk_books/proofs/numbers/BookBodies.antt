@@ -1,5 +1,5 @@
 -- A till's book keeps nothing but last purchases, whatever is called.
-use Rattle.std.proofs.Common.{◌≡◌, ◌⊎◌, inl, inr, ℕ, List, Option, Some, None, IfSome, Ok, Err, ap, refl, subst, sym, ◌∙◌}
+use Rattle.std.proofs.Common.{◌≡◌, ◌⊎◌, inl, inr, ℕ, List, Option, Some, None, IfSome, Ok, Err, refl, subst, sym, ◌∙◌}
 use Rattle.duk_store.specs.Cell.{CellMeaning, IsPut, Kept, PutFailed}
 use Rattle.duk_store.specs.declared.fault.StoreFault.{StoreFault}
 use Rattle.duk_term.specs.declared.answer.Answer.TheVariants as answer
@@ -11,7 +11,7 @@ use Rattle.duk_till.specs.Last.{AreLastFields, outcome_of}
 use Rattle.duk_till.specs.Lifetime.{ArmBook, ArmTerminal, Begin, Call, IsCalled, Load, Reply, Restart, Reverse, ReversalReply, Stop}
 use Rattle.duk_till.specs.Load.{TillLoadRefused}
 use Rattle.duk_till.specs.Reply.{TillReplyRefused}
-use Rattle.duk_till.specs.Restart.{BookRestartFailed, FoundLast, IsTillRestarted, TillRestartRefused}
+use Rattle.duk_till.specs.Restart.{BookRestartFailed, IsTillRestarted, TillRestartRefused}
 use Rattle.duk_till.specs.Reversal.{TillReversalReplyRefused, TillReverseRefused}
 use Rattle.duk_till.specs.Till.{SameBook, TillOf}
 use Rattle.duk_till.specs.declared.fault.TillFault.{TillFault}
@@ -127,39 +127,22 @@ module _ {C B : Type 0} (laws : NumberLaws) (cell : CellMeaning C) (book : CellM
   reversal_reply_fails bytes (fault.Store why) old new has is =
       is_not_put old.book new (Undone is.reversed) why has.honest has.found is.not_kept.not_kept is.not_kept.stopped (has.runs (Some (Open is.reversed is.amount)) is.was_open).0
 
-  -- what a restart found
-  found_alone : (old new : B) (last : Option Last) → (book.state_of old).honest → FoundLast book old new last → (kept : Kept) → (book.state_of new).found kept → kept ≡ kept_of last
-  found_alone old new last honest found kept finds = (found.cell.settles.finds honest kept).0 finds
-
-  -- an open purchase that was found has a number
-  open_fields : (before : Option Last) (ksn : _) (amount : ℕ) → Running before ≡ Running (Some (Open ksn amount)) → IfSome before AreLastFields → AreLastFields (Undone ksn)
-  open_fields before ksn amount is fields =
-      (subst (λ (it : Option Last). IfSome it AreLastFields) (same_last (Running before) before (Some (Open ksn amount)) refl is) fields).0
-
   restart_done : (old new : TillOf C B) → Has old → IsTillRestarted cell book old new → Has new
-  restart_done old new has is = elim is.book_is [
-    | inl found ↦ keeps_alone new is.last (found.found.cell.settles.nature.honest.0 has.honest) (found_alone old.book new.book is.last has.honest found.found) is.state_is found.found.fields
-    | inr closed ↦ is_put closed.between new (Undone closed.ksn) (closed.found.cell.settles.nature.honest.0 has.honest) closed.kept (is.state_is ∙ ap Running closed.last_is)
-        (open_fields closed.before closed.ksn closed.unsent.0.0 closed.unsent.0.1 closed.found.fields)
-  ]
+  restart_done old new has is =
+      keeps_alone new is.last (is.found.cell.settles.nature.honest.0 has.honest) (λ kept finds. (is.found.cell.settles.finds has.honest kept).0 finds) is.state_is is.found.fields
 
-  book_fails : (terminal : _) (why : StoreFault) (old new : TillOf C B) → Has old → BookRestartFailed book terminal old.book new.book new.state why → new.state ≡ Stopped → Has new
-  book_fails terminal why old new has is stopped = elim is [
+  book_fails : (why : StoreFault) (old new : TillOf C B) → Has old → BookRestartFailed book old.book new.book why → new.state ≡ Stopped → Has new
+  book_fails why old new has is stopped = elim is [
     | inl failed ↦ no_more old new has (failed.cell.stops.nature.honest.0 has.honest) (λ kept found. failed.cell.stops.within has.honest kept found) (inr stopped)
-    | inr other ↦ elim other [
-      | inl damaged ↦
-          let restart = damaged.1.cell in
-          no_more old new has (restart.settles.nature.honest.0 has.honest)
-          (λ kept found. subst (λ (it : Kept). (book.state_of old.book).found it) (sym ((restart.settles.finds has.honest kept).0 found)) (restart.was_found has.honest)) (inr stopped)
-      | inr not_closed ↦ is_not_put not_closed.between new (Undone not_closed.ksn) why (not_closed.found.cell.settles.nature.honest.0 has.honest)
-          (λ kept found. subst IsNothingOrLast (sym (found_alone old.book not_closed.between not_closed.before has.honest not_closed.found kept found)) (of_last not_closed.before not_closed.found.fields))
-          not_closed.not_kept.not_kept stopped (open_fields not_closed.before not_closed.ksn not_closed.unsent.0.0 not_closed.unsent.0.1 not_closed.found.fields)
-    ]
+    | inr damaged ↦
+        let restart = damaged.1.cell in
+        no_more old new has (restart.settles.nature.honest.0 has.honest)
+        (λ kept found. subst (λ (it : Kept). (book.state_of old.book).found it) (sym ((restart.settles.finds has.honest kept).0 found)) (restart.was_found has.honest)) (inr stopped)
   ]
 
   restart_fails : (why : TillFault) (old new : TillOf C B) → Has old → TillRestartRefused cell book old new why → Has new
   restart_fails (fault.Terminal why) old new has is = with_book old new has is.1 (inr is.2)
-  restart_fails (fault.Store why) old new has is = book_fails new.terminal.state why old new has is.1 is.2
+  restart_fails (fault.Store why) old new has is = book_fails why old new has is.1 is.2
   restart_fails fault.Stopped old new has is = absurd is
   restart_fails fault.Open old new has is = absurd is
   restart_fails fault.NothingOpen old new has is = absurd is

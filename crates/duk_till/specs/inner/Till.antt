@@ -1,11 +1,10 @@
 -- What only private functions and proofs say beside `Till.antt`: this project's own.
-use Rattle.std.specs.Prelude.{◌≡◌, ◌⊎◌, true, ℕ, List, Option, Some}
+use Rattle.std.specs.Prelude.{◌≡◌, true, ℕ, List, Option, Some}
 use Rattle.duk_store.specs.Cell.{CellMeaning, Kept}
 use Rattle.duk_store.specs.StoreState.{StoreState}
 use Rattle.duk_store.specs.declared.fault.StoreFault.TheVariants.{Damaged}
 use Rattle.duk_tree.specs.Serial.{Serial}
 use Rattle.duk_till.specs.Image.{IsLastBody}
-use Rattle.duk_till.specs.Restart.{BookFailed, FoundLast, FoundNoLast}
 use Rattle.duk_till.specs.Till.{IsAtRest, IsLastNotKept, IsOpen, KeepsLast, TillOf}
 use Rattle.duk_till.specs.declared.fault.TillFault.{TillFault}
 use Rattle.duk_till.specs.declared.fault.TillFault.TheVariants as fault
@@ -36,21 +35,6 @@ IsNoLast kept (fault.Store why) =
     (why ≡ Damaged)
     × ((bytes : List ℕ) × (kept ≡ Some bytes) × ((last : Last) → ¬ IsLastBody bytes last))
 IsNoLast kept _ = ⊥
-
--- a book that is brought up, with the last purchase that it keeps
-abbrev pub IsBookFound : {C J : Type 0} → CellMeaning J → TillOf C J → TillOf C J → Type 0
-IsBookFound meaning old new =
-    (last : Option Last) × FoundLast meaning old.book new.book last
-    × (new.state ≡ Running last)
-
--- a book that is not brought up
-abbrev pub IsBookNotFound : {C J : Type 0} → CellMeaning J → TillOf C J → TillOf C J
-    → TillFault → Type 0
-IsBookNotFound meaning old new (fault.Store why) =
-    (new.state ≡ Stopped)
-    × (BookFailed meaning old.book new.book why
-    ⊎ ((why ≡ Damaged) × FoundNoLast meaning old.book new.book))
-IsBookNotFound meaning old new _ = ⊥
 
 -- why nothing may be begun in a state
 abbrev pub IsNotAtRest : TillState → TillFault → Type 0
