@@ -1,5 +1,5 @@
 -- The names in a table, beside the keys of the map that holds it.
-use Rattle.std.proofs.Common.{◌≡◌, ◌≢◌, ℕ, zero, suc, ◌<◌, Bool, true, false, not, List, [], ◌∷◌, Some, None, String, Global, map, length, get_or, option_map, string_bytes, inl, inr, refl, ap, sym, ◌∙◌, subst, arith}
+use Rattle.std.proofs.Common.{◌≡◌, ◌≢◌, ℕ, zero, suc, ◌<◌, Bool, true, false, not, List, [], ◌∷◌, Some, None, String, Global, map, filter, length, get_or, option_map, string_bytes, inl, inr, refl, ap, sym, ◌∙◌, subst, arith}
 use Rattle.std.proofs.lemmas.Bool.{cases_Bool}
 use Rattle.std.proofs.lemmas.Cmp.{nat_list_cmp_total}
 use Rattle.std.proofs.lemmas.Option.{same_Some}
@@ -15,6 +15,7 @@ use Rattle.std.specs.String.{string_cmp}
 use Rattle.toml.specs.View.{members_view, table_view}
 use Rattle.toml.specs.declared.value.Value.{Value}
 use Rattle.duk_config.specs.Names.{IsFirstUnknown, has_only, names}
+use Rattle.duk_config.specs.ShownKey.{is_up_to, place_of}
 
 names_of_entries : (entries : List (String Global × Value)) → names (members_view entries) ≡ map string_bytes (keys_of entries)
 names_of_entries [] = refl
@@ -27,6 +28,18 @@ list_all_map test f (x ∷ xs) = rw (list_all_map test f xs)
 pub has_only_keys : (is_known : List ℕ → Bool) (table : BTreeMap (String Global) Value)
     → has_only is_known (table_view table) ≡ list_all (λ name. is_known (string_bytes name)) (keys table)
 has_only_keys is_known table = rw (names_of_entries table.entries) (list_all_map is_known string_bytes (keys_of table.entries))
+
+length_filter_map : {A B : Type 0} (test : B → Bool) (f : A → B) (xs : List A) → length (filter test (map f xs)) ≡ length (filter (λ x. test (f x)) xs)
+length_filter_map test f [] = refl
+length_filter_map test f (x ∷ xs) =
+    elim (cases_Bool (test (f x))) [
+      | inl here ↦ rw here (ap suc (length_filter_map test f xs))
+      | inr other ↦ rw other (length_filter_map test f xs)
+    ]
+
+pub place_of_keys : (name : List ℕ) (table : BTreeMap (String Global) Value)
+    → place_of name (table_view table) ≡ length (filter (λ other. is_up_to name (string_bytes other)) (keys table))
+place_of_keys name table = rw (names_of_entries table.entries) (length_filter_map (is_up_to name) string_bytes (keys_of table.entries))
 
 find_map : {A B : Type 0} (test : B → Bool) (f : A → B) (xs : List A) → find test (map f xs) ≡ option_map f (find (λ x. test (f x)) xs)
 find_map test f [] = refl

@@ -1,5 +1,5 @@
 -- A table states one configuration at most, and none where it has a fault.
-use Rattle.std.proofs.Common.{true, false, ◌≡◌, ◌≢◌, ℕ, zero, suc, ◌<◌, Bool, List, [], ◌∷◌, ◌++◌, Option, Some, None, length, get_or, string_bytes, inl, inr, refl, ap, sym, subst, ◌∙◌, arith, length-append}
+use Rattle.std.proofs.Common.{true, false, ◌≡◌, ◌≢◌, ℕ, zero, suc, ◌<◌, Bool, List, [], ◌∷◌, ◌++◌, Option, Some, None, length, get_or, inl, inr, refl, ap, sym, subst, ◌∙◌, arith, length-append}
 use Rattle.std.proofs.lemmas.Bool.{and_parts}
 use Rattle.std.proofs.lemmas.List.{get_or_append_left}
 use Rattle.std.proofs.Math.Seq.{get_or-append_seam}
@@ -188,7 +188,7 @@ no_bad_entry document config key.Stores place is bad = bad
 
 -- a table that states a configuration is refused as out of memory alone
 pub no_fault : (document : Members) (config : Settings) (why : ScriptFault) → IsConfigOf document config → IsFirstTableFault document why → why ≡ fault.NoMemory
-no_fault document config (fault.UnknownKey name) is first = absurd (none_unknown _ document (string_bytes name) is.no_other_key first)
+no_fault document config (fault.UnknownKey text) is first = absurd (none_unknown _ document first.name is.no_other_key first.first)
 no_fault document config (fault.BadKey k) is first = absurd (none_wrong document config k is first.1)
 no_fault document config (fault.BadEntry k place) is first = absurd (no_bad_entry document config k place is first.1)
 no_fault document config fault.NoMemory is first = refl

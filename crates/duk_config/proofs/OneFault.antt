@@ -16,6 +16,7 @@ use Rattle.duk_config.specs.ConfigFile.{HasTableFault, IsConfigFault, IsToml, lo
 use Rattle.duk_config.specs.ConfigKeys.{is_config_key}
 use Rattle.duk_config.specs.Entries.{HaveOnePan, HaveOnePrefix, IsFirstBadEntry, StatesBaseKey, StatesCard}
 use Rattle.duk_config.specs.Names.{IsFirstUnknown}
+use Rattle.duk_config.specs.ShownKey.{ShowsUnknown, shown_key}
 use Rattle.duk_config.proofs.OneConfiguration.{no_value, none_bad, none_unknown, one_base_key, one_card, one_value}
 use Rattle.duk_config.proofs.KeysInOrder.{rank_once}
 
@@ -34,6 +35,13 @@ neither_less Greater Greater same first second = cc
 one_unknown : (is_known : List ℕ → Bool) (document : Members) (a b : List ℕ) → IsFirstUnknown is_known document a → IsFirstUnknown is_known document b → a ≡ b
 one_unknown is_known document a b first second =
     exact_bytes a b (neither_less (slice_cmp nat_cmp a b) (slice_cmp nat_cmp b a) (nat_list_cmp_total.antisymm a b) (second.first a first.there first.unknown) (first.first b second.there second.unknown))
+
+-- and one text that shows it
+one_shown : (document : Members) (a b : List ℕ) → ShowsUnknown document a → ShowsUnknown document b → a ≡ b
+one_shown document a b first second =
+    first.text_is
+    ∙ (ap (λ name. shown_key name document) (one_unknown is_config_key document first.name second.name first.first second.first)
+    ∙ sym second.text_is)
 
 -- of two cuts of one list, the one further back has the other in front
 cut : {A : Type 0} (xs : List A) (x : A) (ys zs : List A) (z : A) (ws : List A) → xs ++ x ∷ ys ≡ zs ++ z ∷ ws → length xs < length zs
@@ -172,7 +180,7 @@ one_of_key document why other k first second =
 -- the fault is an unknown key, or of a key after right ones
 abbrev IsOfTable : Members → ScriptFault → Type 0
 IsOfTable document why =
-    ((name : String Global) × (why ≡ fault.UnknownKey name) × IsFirstUnknown is_config_key document (string_bytes name))
+    ((name : String Global) × (why ≡ fault.UnknownKey name) × ShowsUnknown document (string_bytes name))
     ⊎ ((k : ConfigKey) × IsRightBefore document k × IsOfKey document why k)
 
 of_table : (document : Members) (why : ScriptFault) → IsFirstTableFault document why → why ≢ fault.NoMemory → IsOfTable document why
@@ -192,11 +200,11 @@ one_of_table : (document : Members) (why other : ScriptFault) → IsOfTable docu
 one_of_table document why other first second =
     elim first [
       | inl unknown ↦ elim second [
-        | inl unknown_too ↦ rw unknown.1 (rw unknown_too.1 (one_unknown is_config_key document _ _ unknown.2 unknown_too.2))
-        | inr keyed ↦ absurd (none_unknown is_config_key document _ keyed.1.no_other_key unknown.2)
+        | inl unknown_too ↦ rw unknown.1 (rw unknown_too.1 (one_shown document _ _ unknown.2 unknown_too.2))
+        | inr keyed ↦ absurd (none_unknown is_config_key document unknown.2.name keyed.1.no_other_key unknown.2.first)
       ]
       | inr keyed ↦ elim second [
-        | inl unknown ↦ absurd (none_unknown is_config_key document _ keyed.1.no_other_key unknown.2)
+        | inl unknown ↦ absurd (none_unknown is_config_key document unknown.2.name keyed.1.no_other_key unknown.2.first)
         | inr keyed_too ↦
             let same : keyed.0 ≡ keyed_too.0 = one_key document why other keyed.0 keyed_too.0 keyed.1 keyed_too.1 keyed.2 keyed_too.2 in
             one_of_key document why other keyed_too.0 (subst (IsOfKey document why) same keyed.2) keyed_too.2

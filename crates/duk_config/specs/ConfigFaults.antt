@@ -11,7 +11,8 @@ use Rattle.duk_config.specs.ConfigKeys.{is_config_key}
 use Rattle.duk_config.specs.ConfigTable.{HasBaseKeys, HasCards, bdk_values, card_values, disk_in}
 use Rattle.duk_config.specs.Entries.{HaveOnePan, HaveOnePrefix, IsFirstBadEntry, StatesBaseKey, StatesCard}
 use Rattle.duk_io.specs.FirstFault.{AllBefore}
-use Rattle.duk_config.specs.Names.{IsFirstUnknown, has_only}
+use Rattle.duk_config.specs.Names.{has_only}
+use Rattle.duk_config.specs.ShownKey.{ShowsUnknown}
 use Rattle.duk_config.specs.Values.{double_key_at, number_at, tdes_key_at}
 
 -- the key has a right value, and right entries
@@ -65,15 +66,14 @@ pub record IsRightBefore (document : Members) (key : ConfigKey) : Type 0 where
 
 -- the first fault of a table; any may be refused as out of memory
 abbrev pub IsFirstTableFault : Members → ScriptFault → Type 0
-IsFirstTableFault document (fault.UnknownKey name) =
-    IsFirstUnknown is_config_key document (string_bytes name)
+IsFirstTableFault document (fault.UnknownKey text) = ShowsUnknown document (string_bytes text)
 IsFirstTableFault document (fault.BadKey key) = IsRightBefore document key × IsWrong document key
 IsFirstTableFault document (fault.BadEntry key place) =
     IsRightBefore document key × HasBadEntry document key place
 IsFirstTableFault document fault.NoMemory = Unit {0}
 IsFirstTableFault document _ = ⊥
 
--- the two are one fault; of the name of an unknown key only its bytes count
+-- the two are one fault; of the text of an unknown key only its bytes count
 abbrev pub AreOneFault : ScriptFault → ScriptFault → Type 0
 AreOneFault (fault.UnknownKey a) (fault.UnknownKey b) = string_bytes a ≡ string_bytes b
 AreOneFault a b = a ≡ b

@@ -3,6 +3,7 @@ pub mod ConfigKeys
 pub mod Settings
 pub mod Values
 pub mod Names
+pub mod ShownKey
 pub mod Entries
 pub mod ConfigTable
 pub mod ConfigFaults

@@ -65,7 +65,8 @@ pub enum ScriptFault {
     ConfigTooLong,
     /// The configuration is no UTF-8 or no TOML.
     NotToml,
-    /// The configuration has a key that is none of its keys: the first such key in byte order.
+    /// The configuration has a key that is none of its keys: the first such key in byte order, by
+    /// its name where that is plain, else by its place.
     UnknownKey(String),
     /// The value of a key is missing or wrong, or has a wrong number of entries.
     BadKey(ConfigKey),

@@ -10,6 +10,7 @@ mod entries;
 mod entry;
 mod keys;
 mod names;
+mod shown_key;
 mod table;
 mod value;
 
@@ -25,7 +26,8 @@ pub const LONGEST_FILE: usize = 1_048_576;
 /// Reads a configuration.
 ///
 /// Refused with the first of these: `ConfigTooLong`, above 1,048,576 bytes; `NotToml`, for what is
-/// no UTF-8 or no TOML; `UnknownKey`, the first in byte order; then, in the order lmk, zone,
+/// no UTF-8 or no TOML; `UnknownKey`, the first in byte order, by its name where that has at most
+/// 16 bytes of `a` to `z`, `_` and `-`, else as `key` and its place among the keys in byte order; then, in the order lmk, zone,
 /// loading, terminals, log, stores, bdk, card, `BadKey` for a key that is missing or has a wrong
 /// value or a wrong number of entries, and `BadEntry` for its first entry, counted from 1, with a
 /// missing, unknown, wrong or repeated value. `stores` and `card` may be missing. `NoMemory` where

@@ -11,6 +11,7 @@ mod JournalRecords
 mod JournalTallies
 mod LinesAppended
 mod LogRecords
+mod OneLog
 mod StandingPayments
 mod TerminalTallies
 mod Texts

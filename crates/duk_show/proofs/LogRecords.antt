@@ -5,10 +5,10 @@ use Rattle.std.proofs.lemmas.List.{drop_all}
 use Rattle.duk_store.specs.RecordFormat.{HasRecordNumber, IsLog, IsLogSize, KeepsNumbers, number_in, numbers_in, record_at}
 use Rattle.duk_store.specs.SlotFormat.{IsOpen}
 use Rattle.duk_tree.specs.Serial.{Serial}
-use Rattle.duk_show.specs.Log.{BeginsLog, IsLogRefused, IsSomeLog, IsWrongRecord}
+use Rattle.duk_show.specs.Log.{BeginsLog, IsLogRefused, IsNoLog, IsSomeLog, IsWrongRecord}
 use Rattle.duk_show.specs.declared.fault.ShowFault.{ShowFault}
 use Rattle.duk_show.specs.declared.fault.ShowFault.TheVariants.{BlockRefused, FrameRefused, ImageRefused, JournalRefused, JournalTooLong, JournalUnread, KindRefused, LogRefused, LogTooLong, LogUnread, OutOfMemory}
-use Rattle.duk_show.specs.inner.Log.{AreFirstNumbers, IsNextRecord, IsRecordRefused}
+use Rattle.duk_show.specs.inner.Log.{AreFirstNumbers, IsDamagedLog, IsNextRecord, IsNumberRefused, IsRecordRefused}
 
 -- no log has a record that is wrong
 no_log : (bytes : List ℕ) (place count : ℕ) → BeginsLog place count bytes → IsWrongRecord place count bytes
@@ -25,12 +25,12 @@ no_log bytes place count begins wrong numbers size keeps =
 
 -- why a record is refused is why the bytes are
 pub refused : {T : Type 0} (bytes : List ℕ) (place : ℕ) (numbers : List Serial) (read : Result T ShowFault) → AreFirstNumbers place bytes numbers
-    → IfErr read (IsRecordRefused (record_at place bytes) place (length numbers)) → IfErr read (IsLogRefused bytes)
+    → IfErr read (IsRecordRefused (record_at place bytes) place (length numbers)) → IfErr read (IsDamagedLog bytes)
 refused bytes place numbers (Ok done) first why = tt
 refused bytes place numbers (Err (LogRefused other)) first why =
     let wrong : IsWrongRecord place (length numbers) bytes = record { is_open = why.1; why = why.2 } in
-    subst (λ (n : ℕ). IsLogRefused bytes (LogRefused n)) (sym why.0)
-    (record { count = length numbers; begins = first.begins; wrong = inr wrong }, no_log bytes place (length numbers) first.begins wrong)
+    subst (λ (n : ℕ). IsNoLog bytes n) (sym why.0)
+    (record { damaged = record { count = length numbers; begins = first.begins; wrong = inr wrong }; no_numbers = no_log bytes place (length numbers) first.begins wrong })
 refused bytes place numbers (Err OutOfMemory) first why = tt
 refused bytes place numbers (Err KindRefused) first why = absurd why
 refused bytes place numbers (Err JournalUnread) first why = absurd why
@@ -119,3 +119,24 @@ some_log bytes count size begins =
       numbers_are = ap (λ (n : ℕ). numbers_in n bytes) (sym same);
     } in
     record { numbers = numbers; size = size; keeps = whole bytes numbers size first }
+
+-- bytes whose numbers are not of one log are refused
+number_refused : (bytes : List ℕ) (numbers : List Serial) (why : ShowFault) → IsLogSize (length bytes) → KeepsNumbers bytes numbers
+    → IsNumberRefused numbers why → IsLogRefused bytes why
+number_refused bytes numbers (LogRefused place) size keeps cause =
+    inr (record { numbers = numbers; size = size; keeps = keeps; first = cause })
+number_refused bytes numbers OutOfMemory size keeps cause = tt
+number_refused bytes numbers KindRefused size keeps cause = absurd cause
+number_refused bytes numbers JournalUnread size keeps cause = absurd cause
+number_refused bytes numbers JournalTooLong size keeps cause = absurd cause
+number_refused bytes numbers (JournalRefused place) size keeps cause = absurd cause
+number_refused bytes numbers LogUnread size keeps cause = absurd cause
+number_refused bytes numbers LogTooLong size keeps cause = absurd cause
+number_refused bytes numbers (FrameRefused place fault) size keeps cause = absurd cause
+number_refused bytes numbers (BlockRefused place fault) size keeps cause = absurd cause
+number_refused bytes numbers (ImageRefused place fault) size keeps cause = absurd cause
+
+pub numbers_refused : {T : Type 0} (bytes : List ℕ) (numbers : List Serial) (tested : Result T ShowFault) → IsLogSize (length bytes) → KeepsNumbers bytes numbers
+    → IfErr tested (IsNumberRefused numbers) → IfErr tested (IsLogRefused bytes)
+numbers_refused bytes numbers (Ok done) size keeps why = tt
+numbers_refused bytes numbers (Err why) size keeps cause = number_refused bytes numbers why size keeps cause

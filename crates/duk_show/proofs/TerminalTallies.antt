@@ -7,18 +7,11 @@ use Rattle.std.proofs.lemmas.List.Folds.{list_any-append}
 use Rattle.std.proofs.lemmas.Map.Keys.{IsDistinct-head, IsDistinct-tail}
 use Rattle.std.specs.List.{AllByRecursion, IsDistinct, filter}
 use Rattle.std.specs.Map.{keys_of, lookup, values_of}
-use Rattle.byteorder.specs.Endian.{big_number}
-use Rattle.byteorder.specs.Numbers.{big_number-reads_back}
 use Rattle.indexmap.specs.IndexMap.{insert_entry}
-use Rattle.duk_tree.specs.Serial.{IsIksn, Serial, iksn_bytes, serial_bytes}
+use Rattle.duk_tree.specs.Serial.{Serial}
 use Rattle.duk_show.specs.Log.{is_of, last_after, lines_if_first, terminal_line, terminal_lines}
 use Rattle.duk_show.specs.declared.tallies.Tally.{Tally}
 use Rattle.duk_show.specs.inner.Tallies.{AreTallies, line_with, next_tally, tally_line, with_own}
-
--- the number that ten bytes spell is found again
-pub read_back : (iksn : ℕ) → IsIksn iksn → big_number 10 (iksn_bytes iksn) ≡ iksn
-unfolding serial_bytes
-read_back iksn is = let fits = is.fits in let same : iksn + 0 ≡ iksn = omega arith in rw same (big_number-reads_back 10 iksn [] (omega arith))
 
 -- a number of another terminal than these leaves their lines
 other_lines : (number : Serial) (more : List Serial) (entries : List (ℕ × Tally)) → AllByRecursion (λ key. nat_eq number.iksn key ≡ false) (keys_of entries)

@@ -125,9 +125,21 @@ IsBlockStop block place fault.OptionalBlock = IsAfterOptionalBlocks block place
 IsBlockStop block place fault.Hex = IsSealedStop block place
 IsBlockStop block place why = ⊥
 
--- why a text is not shown as a key block: its first fault, whatever the key is, and the place of it
-abbrev pub IsBlockRefused : List ℕ → ShowFault → Type 0
-IsBlockRefused block (BlockRefused place why) =
+-- the first fault of a text, whatever the key is, and the place of it
+abbrev pub IsFirstBlockFault : List ℕ → ShowFault → Type 0
+IsFirstBlockFault block (BlockRefused place why) =
     ((protection_key : List ℕ) → IsFirstFault block protection_key why)
     × IsBlockStop block place why
-IsBlockRefused block why = ⊥
+IsFirstBlockFault block why = ⊥
+
+-- a text begins as a key block of another version does: with A (65), C, D or E
+abbrev pub IsOfOtherVersion : List ℕ → Type 0
+IsOfOtherVersion [] = ⊥
+IsOfOtherVersion (first ∷ rest) = (first ≡ 65) ⊎ (first ≡ 67) ⊎ (first ≡ 68) ⊎ (first ≡ 69)
+
+-- why a text is not shown as a key block: it is one of another version, which has other lengths; or
+-- its first fault
+abbrev pub IsBlockRefused : List ℕ → ShowFault → Type 0
+IsBlockRefused block why =
+    (IsOfOtherVersion block × (why ≡ BlockRefused 0 fault.Version))
+    ⊎ (¬ IsOfOtherVersion block × IsFirstBlockFault block why)

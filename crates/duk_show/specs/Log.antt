@@ -1,9 +1,12 @@
 -- What `show` prints of the log of used numbers, and where the reading of one stops (this project's
 -- own, over its format).
-use Rattle.std.specs.Prelude.{◌≡◌, ◌⊎◌, ◌<◌, ◌≤◌, ◌+◌, ◌-◌, ◌*◌, ◌/◌, ⊤, if◌then◌else◌, ℕ, Bool, List, [], ◌∷◌, ◌++◌, codes, decimal, length, nat_eq, replicate}
+use Rattle.std.specs.Prelude.{◌≡◌, ◌≢◌, ◌⊎◌, ◌<◌, ◌≤◌, ◌+◌, ◌-◌, ◌*◌, ◌/◌, ⊤, if◌then◌else◌, ℕ, Bool, List, [], ◌∷◌, ◌++◌, All, AllPairs, codes, decimal, length, nat_eq, replicate, take}
+use Rattle.std.specs.Bool.{MatchBool}
 use Rattle.std.specs.List.{filter, list_any}
 use Rattle.hex.specs.Hex.{encode_upper}
 use Rattle.duk_commands.specs.Lines.{text_line}
+use Rattle.duk_host.specs.Used.{AreUsable, Lists}
+use Rattle.duk_store.specs.Log.{Numbers}
 use Rattle.duk_store.specs.RecordFormat.{HasRecordNumber, IsLogSize, KeepsNumbers, after_number, record_at, record_length}
 use Rattle.duk_store.specs.SlotFormat.{IsOpen}
 use Rattle.duk_tree.specs.Serial.{Serial, iksn_bytes, serial_bytes}
@@ -49,11 +52,35 @@ log_lines records numbers =
     ++ text_line (codes "room") (decimal (records - length numbers))
     ++ terminal_lines [] numbers
 
--- the bytes are those of a log, and these are its lines
+-- the used numbers are those of a list, and with one more they are those of the list with it; or
+-- that list is not one of usable numbers
+abbrev pub IsTaken : Numbers → Serial → Numbers → Bool → Type 0
+IsTaken used ksn more goes =
+    (numbers : Numbers) → Lists numbers used
+    → MatchBool goes (Lists (numbers ++ ksn ∷ []) more) (¬ AreUsable (numbers ++ ksn ∷ []))
+
+-- numbers that a ledger keeps: initial key serial numbers, and none of them twice
+pub record AreIssued (numbers : List Serial) : Type 0 where
+  pub initial : All (λ number. number.counter ≡ 0) numbers
+  pub once : AllPairs (λ earlier later. earlier ≢ later) numbers
+
+-- numbers that one log keeps: those with which a host comes up, or those of a ledger
+abbrev pub AreOfOneLog : List Serial → Type 0
+AreOfOneLog numbers = AreUsable numbers ⊎ AreIssued numbers
+
+-- the numbers before this place are such, and with the one at this place they are not
+pub record IsFirstOther (Are : List Serial → Type 0) (numbers : List Serial) (place : ℕ)
+    : Type 0 where
+  pub there : place < length numbers
+  pub before : Are (take place numbers)
+  pub with_it : ¬ Are (take (place + 1) numbers)
+
+-- the bytes are those of a log of a host or of a ledger, and these are its lines
 pub record IsLogText (bytes text : List ℕ) : Type 0 where
   pub numbers : List Serial
   pub size : IsLogSize (length bytes)
   pub keeps : KeepsNumbers bytes numbers
+  pub of_one_log : AreOfOneLog numbers
   pub text_is : text ≡ log_lines (length bytes / record_length) numbers
 
 -- the first records are those of a log that keeps so many numbers
@@ -85,10 +112,23 @@ pub record IsSomeLog (bytes : List ℕ) : Type 0 where
   pub size : IsLogSize (length bytes)
   pub keeps : KeepsNumbers bytes numbers
 
--- why bytes are not shown as a log: the first record that is in none; memory may be refused
+-- the bytes are those of a log, and the number at this place is the first that is not of one log
+-- with those before it
+pub record HasOtherAt (bytes : List ℕ) (place : ℕ) : Type 0 where
+  pub numbers : List Serial
+  pub size : IsLogSize (length bytes)
+  pub keeps : KeepsNumbers bytes numbers
+  pub first : IsFirstOther AreOfOneLog numbers place
+
+-- the bytes are those of no log, since this record is in none
+pub record IsNoLog (bytes : List ℕ) (place : ℕ) : Type 0 where
+  pub damaged : IsDamagedAt bytes place
+  pub no_numbers : (numbers : List Serial) → IsLogSize (length bytes)
+      → ¬ KeepsNumbers bytes numbers
+
+-- why bytes are not shown as a log: the first record that is in none, or else the first whose number
+-- is not of one log with those before it; memory may be refused
 abbrev pub IsLogRefused : List ℕ → ShowFault → Type 0
-IsLogRefused bytes (LogRefused place) =
-    IsDamagedAt bytes place
-    × ((numbers : List Serial) → IsLogSize (length bytes) → ¬ KeepsNumbers bytes numbers)
+IsLogRefused bytes (LogRefused place) = IsNoLog bytes place ⊎ HasOtherAt bytes place
 IsLogRefused bytes OutOfMemory = ⊤
 IsLogRefused bytes why = ⊥

@@ -4,4 +4,5 @@ pub mod Image
 pub mod Journal
 pub mod JournalTallies
 pub mod Log
+pub mod OneLog
 pub mod Tallies

@@ -1,6 +1,6 @@
 //! The command `show block`.
 
-ghost use Rattle.std.specs.Prelude.{◌≡◌, ◌<◌, ◌≤◌, ◌+◌, ◌*◌, ◌++◌, ◌∷◌, [], ℕ, List, IfErr, IfOk, MatchBool, MatchOption, OnOk, decimal, drop, length, slice_index};
+ghost use Rattle.std.specs.Prelude.{◌≡◌, ◌↔◌, ◌<◌, ◌≤◌, ◌+◌, ◌*◌, ◌++◌, ◌∷◌, [], ℕ, List, IfErr, IfOk, IsTrue, MatchBool, MatchOption, OnOk, decimal, drop, length, slice_index};
 ghost use Rattle.std.specs.List.{AllPass};
 ghost use Rattle.arrayvec.specs.ArrayVec.{array_vec_len};
 ghost use Rattle.duk_block.specs.Digits.{four_digits};
@@ -9,7 +9,7 @@ ghost use Rattle.duk_block.specs.HeaderText.{fields};
 ghost use Rattle.duk_block.specs.Hexadecimal.{IsHexadecimal};
 ghost use Rattle.duk_block.specs.Optional.{Leaves};
 ghost use Rattle.hex.specs.Hex.{is_hex_digit};
-ghost use Rattle.duk_show.specs.Block.{IsBlockRefused, IsBlockText, IsFieldCharacter, IsWrongCharacterAt, header_lines, sealed_lines, worded_line};
+ghost use Rattle.duk_show.specs.Block.{IsBlockRefused, IsBlockText, IsFieldCharacter, IsFirstBlockFault, IsOfOtherVersion, IsWrongCharacterAt, header_lines, sealed_lines, worded_line};
 ghost use Rattle.duk_show.specs.inner.Block.{ArePassed, BeginsWithBlock, HasPushedParts, IsSealedFault, IsSealedPart, MetBefore, StopsAfterBlocks, front_lines};
 
 use crate::decimal::push_number_line;
@@ -44,19 +44,31 @@ enum SealedFault {
 /// and the MAC as they stand. No key is needed, and so the MAC is not tested. Bytes of the reserved
 /// field and of optional blocks that are no printable characters are escaped.
 ///
-/// Refused with `BlockRefused`: the first fault from `Length` to `Hex` that the text has, whatever
-/// the key is, and its place.
+/// Refused with `BlockRefused`: `Version` of a text that begins as a key block of version A, C, D or
+/// E does, which have other lengths; else the first fault from `Length` to `Hex` that the text has,
+/// whatever the key is, and its place.
 pub fn block_lines(text: &str) -> Result<Lines, ShowFault>
     ensures lines { IfOk result (λ lines. IsBlockText text.now lines.items) }
     ensures refused { IfErr result (IsBlockRefused text.now) }
 {
+    if is_of_other_version(text.as_bytes()) {
+        let why = BlockFault::Version;
+        return Err(ShowFault::BlockRefused { place: 0, why });
+    }
     lines_of_text(text.as_bytes())
+}
+
+/// Whether a text begins as a key block of another version does.
+fn is_of_other_version(text: &[u8]) -> bool
+    ensures { IsTrue result ↔ IsOfOtherVersion text.now }
+{
+    matches!(text, [b'A' | b'C' | b'D' | b'E', ..])
 }
 
 /// The lines of the key block that the characters are.
 fn lines_of_text(text: &[u8]) -> Result<Lines, ShowFault>
     ensures lines { IfOk result (λ lines. IsBlockText text.now lines.items) }
-    ensures refused { IfErr result (IsBlockRefused text.now) }
+    ensures refused { IfErr result (IsFirstBlockFault text.now) }
 {
     let count = read_header(text)?;
     let header = Header::from_fields(array_of(&text[5..12]));
@@ -73,7 +85,7 @@ fn read_header(text: &[u8]) -> Result<u8, ShowFault>
     ensures count { IfOk result (HasCount text.now) }
     ensures length { OnOk result (HasLength text.now) }
     ensures met { OnOk result (MetBefore text.now BlockFault.OptionalBlock) }
-    ensures refused { IfErr result (IsBlockRefused text.now) }
+    ensures refused { IfErr result (IsFirstBlockFault text.now) }
 {
     if !has_length(text) {
         let why = BlockFault::Length;
@@ -115,7 +127,7 @@ fn push_parts(lines: &mut Lines, text: &[u8], count: u8) -> Result<(), ShowFault
     requires room { array_vec_len lines.old + 3570 ≤ LINES_ROOM }
     ensures parts { OnOk result (HasPushedParts text.now count lines.old.items lines.new.items) }
     ensures met { OnOk result (MetBefore text.now BlockFault.Mac) }
-    ensures refused { IfErr result (IsBlockRefused text.now) }
+    ensures refused { IfErr result (IsFirstBlockFault text.now) }
 {
     let place = match push_optional(lines, text, count) {
         Ok(place) => place,

@@ -10,7 +10,6 @@ ghost use Rattle.indexmap.specs.IndexMap.{IsUnique, Updates, get, insert_entry, 
 
 use crate::fault::ShowFault;
 use crate::standing::share_of;
-use crate::tallies::number_of;
 use duk_host::UsedNumbers;
 use duk_journal::Entry;
 use duk_tree::Ksn;
@@ -78,7 +77,7 @@ fn count_entry(payers: &mut Payers, number: Ksn, share: Share) -> Result<(), Sho
     ensures unique { OnOk result (IsUnique nat_eq payers.new) }
     ensures refused { IfErr result (λ why. why ≡ OutOfMemory) }
 {
-    let key = number_of(number.iksn());
+    let key = number.iksn().number();
     let payer = match payers.get(&key) {
         Some(payer) => one_more(payer, number, share),
         None => Payer {

@@ -2,14 +2,15 @@
 
 ghost use Rattle.std.specs.Prelude.{◌≡◌, ◌<◌, ◌≤◌, ◌/◌, ◌^◌, ◌++◌, [], IfErr, IfOk, MatchOption, OnOk, codes, decimal, flat_map, length};
 ghost use Rattle.duk_commands.specs.Lines.{text_line};
-ghost use Rattle.duk_show.specs.Log.{IsDamagedAt, IsLogRefused, IsLogText, IsSomeLog, terminal_lines};
+ghost use Rattle.duk_show.specs.Log.{AreOfOneLog, IsDamagedAt, IsLogRefused, IsLogText, IsSomeLog, terminal_lines};
 ghost use Rattle.duk_show.specs.declared.fault.ShowFault.TheVariants.{OutOfMemory};
-ghost use Rattle.duk_show.specs.inner.Log.{AreFirstNumbers, CountsRecord, IsNextRecord, IsOutOfPlace, IsRecordRefused};
+ghost use Rattle.duk_show.specs.inner.Log.{AreFirstNumbers, CountsRecord, IsDamagedLog, IsNextRecord, IsNumberRefused, IsOutOfPlace, IsRecordRefused};
 ghost use Rattle.duk_show.specs.inner.Tallies.{tally_line};
 ghost use Rattle.duk_store.specs.RecordFormat.{IsLogSize};
 
 use crate::decimal::{push_decimal, push_number_line};
 use crate::fault::ShowFault;
+use crate::one_log::first_other;
 use crate::tallies::{Tally, tallies_of};
 use duk_commands::{Lines, push_end, push_text};
 use duk_io::append_hex;
@@ -19,20 +20,35 @@ use duk_tdes::array_of;
 use duk_tree::Ksn;
 use std::alloc::Global;
 
-/// The lines of the bytes of a log of used numbers: how many it keeps, for how many more it has
+/// The lines of the bytes of a log of used numbers or of a ledger: how many numbers it keeps, for how many more it has
 /// room, and for each initial key serial number, in the order of their first records, how many
 /// numbers it has, the first and the last. The time grows with the numbers alone, however many
 /// terminals they are of.
 ///
 /// Refused with `LogRefused` and the place of the first record that is in no log, counted in
-/// records. Memory for numbers and lines may be refused.
+/// records, or else of the first whose number a host or a ledger does not keep with those before it:
+/// it stands before, or it has the counter of neither, or of the other one. Memory for numbers and
+/// lines may be refused.
 pub fn log_lines(alloc: Global, bytes: &[u8]) -> Result<Vec<u8>, ShowFault>
     ensures lines { IfOk result (λ text. IsLogText bytes.now text.items) }
     ensures refused { IfErr result (IsLogRefused bytes.now) }
 {
     let numbers = read_numbers(alloc, bytes)?;
+    test_numbers(alloc, numbers.as_slice())?;
     let room = bytes.len() / RECORD_LENGTH - numbers.len();
     lines_of_numbers(alloc, numbers.as_slice(), room)
+}
+
+/// Refuses numbers that no log of a host or of a ledger keeps.
+fn test_numbers(alloc: Global, numbers: &[Ksn]) -> Result<(), ShowFault>
+    ensures of_one_log { OnOk result (AreOfOneLog numbers.now) }
+    ensures refused { IfErr result (IsNumberRefused numbers.now) }
+{
+    match first_other(alloc, numbers) {
+        Ok(None) => Ok(()),
+        Ok(Some(place)) => Err(ShowFault::LogRefused { place }),
+        Err(_) => Err(ShowFault::OutOfMemory),
+    }
 }
 
 /// The place of the first record that is in no log, counted in records; `None` where the bytes are
@@ -78,7 +94,7 @@ fn read_numbers(alloc: Global, bytes: &[u8]) -> Result<Vec<Ksn>, ShowFault>
     ensures size { OnOk result (IsLogSize (length bytes.now)) }
     ensures numbers { IfOk result
         (λ numbers. AreFirstNumbers (length bytes.now / 16) bytes.now numbers.items) }
-    ensures refused { IfErr result (IsLogRefused bytes.now) }
+    ensures refused { IfErr result (IsDamagedLog bytes.now) }
 {
     let mut numbers = Vec::new(alloc);
     let records = bytes.len() / RECORD_LENGTH;

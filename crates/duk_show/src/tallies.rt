@@ -4,12 +4,10 @@ ghost use Rattle.std.specs.Prelude.{◌≡◌, ◌<◌, ◌^◌, [], IfErr, IfOk
 ghost use Rattle.duk_show.specs.Log.{terminal_lines};
 ghost use Rattle.duk_show.specs.declared.fault.ShowFault.TheVariants.{OutOfMemory};
 ghost use Rattle.duk_show.specs.inner.Tallies.{next_tally, tally_line};
-ghost use Rattle.duk_tree.specs.Serial.{IsIksn};
 ghost use Rattle.indexmap.specs.IndexMap.{IsUnique, Updates, get, insert_entry, values};
 
 use crate::fault::ShowFault;
-use byteorder::{BigEndian, ByteOrder};
-use duk_tree::{Iksn, Ksn};
+use duk_tree::Ksn;
 use indexmap::IndexMap;
 use std::alloc::Global;
 
@@ -51,7 +49,7 @@ fn count_number(tallies: &mut Tallies, number: Ksn) -> Result<(), ShowFault>
     ensures unique { OnOk result (IsUnique nat_eq tallies.new) }
     ensures refused { IfErr result (λ why. why ≡ OutOfMemory) }
 {
-    let key = number_of(number.iksn());
+    let key = number.iksn().number();
     let tally = match tallies.get(&key) {
         Some(tally) => one_more(tally, number),
         None => Tally {
@@ -76,11 +74,4 @@ fn one_more(tally: &Tally, number: Ksn) -> Tally
         count: tally.count + 1,
         last: number,
     }
-}
-
-/// The number that an initial key serial number is.
-pub(crate) fn number_of(iksn: Iksn) -> u128
-    ensures { result ≡ iksn }
-{
-    BigEndian::read_uint128(&iksn.bytes(), 10)
 }

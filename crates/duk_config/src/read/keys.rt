@@ -12,6 +12,7 @@ ghost use Rattle.duk_config.specs.Values.{double_key_at, number_at, tdes_key_at}
 use super::arrays::{disk_in, values_at};
 use super::entries::read_entries;
 use super::names::unknown_key;
+use super::shown_key::shown_key;
 use super::value::{double_key_at, number_at, tdes_key_at};
 use crate::fault::{ConfigKey, ScriptFault};
 use duk_pin::Card;
@@ -28,7 +29,7 @@ pub(crate) fn refuse_unknown(alloc: Global, table: &Table) -> Result<(), ScriptF
     let Some(name) = unknown_key(table) else {
         return Ok(());
     };
-    Err(ScriptFault::UnknownKey(String::from_str(alloc, name)?))
+    Err(ScriptFault::UnknownKey(shown_key(alloc, table, name)?))
 }
 
 /// The local master key.

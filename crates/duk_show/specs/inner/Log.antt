@@ -3,7 +3,7 @@ use Rattle.std.specs.Prelude.{◌≡◌, ◌⊎◌, ◌<◌, ◌+◌, ℕ, List,
 use Rattle.duk_store.specs.RecordFormat.{HasRecordNumber, after_number, number_in, numbers_in}
 use Rattle.duk_store.specs.SlotFormat.{IsOpen}
 use Rattle.duk_tree.specs.Serial.{Serial}
-use Rattle.duk_show.specs.Log.{BeginsLog}
+use Rattle.duk_show.specs.Log.{AreOfOneLog, BeginsLog, IsFirstOther, IsNoLog}
 use Rattle.duk_show.specs.declared.fault.ShowFault.{ShowFault}
 use Rattle.duk_show.specs.declared.fault.ShowFault.TheVariants.{LogRefused, OutOfMemory}
 
@@ -36,3 +36,16 @@ CountsRecord bytes place count next =
 pub record AreFirstNumbers (records : ℕ) (bytes : List ℕ) (numbers : List Serial) : Type 0 where
   pub begins : BeginsLog records (length numbers) bytes
   pub numbers_are : numbers ≡ numbers_in (length numbers) bytes
+
+-- why no numbers are read: the first record that is in no log; memory may be refused
+abbrev pub IsDamagedLog : List ℕ → ShowFault → Type 0
+IsDamagedLog bytes (LogRefused place) = IsNoLog bytes place
+IsDamagedLog bytes OutOfMemory = ⊤
+IsDamagedLog bytes why = ⊥
+
+-- why numbers are not shown: the first that is not of one log with those before it; memory may be
+-- refused
+abbrev pub IsNumberRefused : List Serial → ShowFault → Type 0
+IsNumberRefused numbers (LogRefused place) = IsFirstOther AreOfOneLog numbers place
+IsNumberRefused numbers OutOfMemory = ⊤
+IsNumberRefused numbers why = ⊥

@@ -1,7 +1,6 @@
 use Rattle.std.proofs.Common.{◌≡◌, ◌+◌, ◌-◌, ◌*◌, ℕ, List, IfErr, drop, length, take, ap, subst, arith, rules}
 use Rattle.duk_store.specs.RecordFormat.{record_at}
-use Rattle.duk_show.specs.Log.{IsLogRefused}
-use Rattle.duk_show.specs.inner.Log.{IsNextRecord, IsRecordRefused}
+use Rattle.duk_show.specs.inner.Log.{IsDamagedLog, IsNextRecord, IsRecordRefused}
 use Rattle.duk_show.proofs.LogRecords.{next, refused}
 use Rattle.duk_show.proofs.log.read_numbers.Goals as goal
 
@@ -17,7 +16,7 @@ returns-in_err-push_number-clause-refused c =
     let place = c.loop-place.place in
     let numbers = c.loop-place.numbers.items in
     let why = subst (λ (bytes : List ℕ). IfErr c.push_number.result (IsRecordRefused bytes place (length numbers))) (same_record bytes place) c.push_number.ensures.refused in
-    let all : IfErr c.push_number.result (IsLogRefused bytes) = refused bytes place numbers c.push_number.result c.loop-place.invariant why in
+    let all : IfErr c.push_number.result (IsDamagedLog bytes) = refused bytes place numbers c.push_number.result c.loop-place.invariant why in
     search (rules, all)
 
 pub loop-place-preserved : goal.loop-place-preserved
