@@ -1,5 +1,5 @@
 -- Marks of the numbers that are issued.
-use Rattle.std.proofs.Common.{◌≡◌, ◌≢◌, ◌⊎◌, inl, inr, ◌+◌, ◌<◌, ◌≤◌, ℕ, zero, suc, Bool, true, false, List, [], ◌∷◌, Contains, length, get_or, drop, refl, sym, ap, subst, ◌∙◌, arith, drop-cons}
+use Rattle.std.proofs.Common.{◌≡◌, ◌≢◌, ◌⊎◌, inl, inr, ◌+◌, ◌<◌, ◌≤◌, ℕ, zero, suc, Bool, true, false, List, [], ◌∷◌, All, Contains, length, get_or, drop, refl, sym, ap, subst, ◌∙◌, arith, drop-cons}
 use Rattle.std.specs.List.{AllPairs}
 use Rattle.std.specs.Prelude.{slice_set}
 use Rattle.std.proofs.lemmas.Bool.{cases_eq}
@@ -102,7 +102,12 @@ in_order (false ∷ marks) start =
     (all_members (λ later. start < later) (unmarked marks (suc start)) (λ later is_in. let is = clear_of marks (suc start) later is_in in omega (arith, is.place_is)))
     (in_order marks (suc start))
 
--- they are those of the order's places whose numbers are not issued
+-- they are places of the order
+pub inside_order : (count : ℕ) (marks : List Bool) → length marks ≡ count → All (λ place. place < count) (unmarked marks 0)
+inside_order count marks size =
+    all_members (λ place. place < count) (unmarked marks 0) (λ place is_in. let is = clear_of marks 0 place is_in in omega (arith, is.place_is, is.inside, size))
+
+-- and those whose numbers are not issued
 pub new_places : (numbers : Numbers) (first count : ℕ) (marks : List Bool) → length marks ≡ count → AreMarked numbers first marks → AreNew numbers first count (unmarked marks 0)
 new_places numbers first count marks size marked = record {
   members = λ place. (

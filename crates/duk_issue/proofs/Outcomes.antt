@@ -3,15 +3,15 @@ use Rattle.std.proofs.Common.{◌≡◌, ◌-◌, ◌<◌, ◌≤◌, ℕ, true,
 use Rattle.duk_io.specs.Known.{Known}
 use Rattle.duk_io.specs.Sink.{IsWritten}
 use Rattle.duk_store.specs.Log.{LogMeaning, room_of}
-use Rattle.duk_issue.specs.Issue.{Ends, HasIssued, IsFree, IssueFailed, MayIssue, ends, iksns_of, job}
+use Rattle.duk_issue.specs.Issue.{AreOfOrder, Ends, HasIssued, HasIssuedBut, IsFree, IssueFailed, MayIssue, ends, iksns_of, job}
 use Rattle.duk_issue.specs.declared.fault.IssueFault.{IssueFault}
 use Rattle.duk_issue.specs.declared.fault.IssueFault.TheVariants as fault
 use Rattle.duk_issue.specs.declared.order.Order.{Order}
 use Rattle.duk_issue.specs.inner.Ledger.{IsLedgerRead, LedgerUnread}
 use Rattle.duk_issue.specs.inner.Lines.{AreIssued, IsUnmarked, PassesTests, StopsAtPlace, TestsRefuse}
-use Rattle.duk_issue.specs.inner.Marks.{unmarked}
+use Rattle.duk_issue.specs.inner.Marks.{HasMarks, unmarked}
 use Rattle.duk_issue.proofs.Appended.{appended_at, extended}
-use Rattle.duk_issue.proofs.Marked.{new_places}
+use Rattle.duk_issue.proofs.Marked.{inside_order, new_places}
 
 module _ {L : Type 0} (meaning : LogMeaning L) (order : Order) (skip : Bool) (padding : List ℕ) where
   -- the room of a running ledger
@@ -26,10 +26,14 @@ module _ {L : Type 0} (meaning : LogMeaning L) (order : Order) (skip : Bool) (pa
   unread old new output fault.OutOfMemory same = ap (λ ledger. ends ledger output) same
   unread old new output fault.PaddingUnread refused = absurd refused
   unread old new output fault.LedgerUnopened refused = absurd refused
+  unread old new output fault.OutUnmade refused = absurd refused
   unread old new output fault.BdkRefused refused = absurd refused
   unread old new output fault.LoadingRefused refused = absurd refused
   unread old new output fault.IksnRefused refused = absurd refused
   unread old new output fault.CountRefused refused = absurd refused
+  unread old new output fault.KcvRefused refused = absurd refused
+  unread old new output fault.KcvDiffers refused = absurd refused
+  unread old new output (fault.NotIssued iksn) refused = absurd refused
   unread old new output (fault.Issued iksn) refused = absurd refused
   unread old new output fault.LedgerFull refused = absurd refused
   unread old new output fault.WriteFailed refused = absurd refused
@@ -92,28 +96,40 @@ module _ {L : Type 0} (meaning : LogMeaning L) (order : Order) (skip : Bool) (pa
     refused output fault.OutOfMemory runs why = absurd why
     refused output fault.PaddingUnread runs why = absurd why
     refused output fault.LedgerUnopened runs why = absurd why
+    refused output fault.OutUnmade runs why = absurd why
     refused output fault.BdkRefused runs why = absurd why
     refused output fault.LoadingRefused runs why = absurd why
     refused output fault.IksnRefused runs why = absurd why
     refused output fault.CountRefused runs why = absurd why
+    refused output fault.KcvRefused runs why = absurd why
+    refused output fault.KcvDiffers runs why = absurd why
+    refused output (fault.NotIssued iksn) runs why = absurd why
     refused output fault.WriteFailed runs why = absurd why
 
     module _ (runs : (meaning.state_of mid).running ≡ true) (passed : PassesTests skip (room_of meaning mid) marks) (output : Known) where
       -- all keys are issued
-      pub has_issued : (new : Ends L) → AreIssued meaning order padding (ends mid output) new (unmarked marks 0) → HasIssued meaning (job order skip padding) (ends old output) new
+      has_issued : (new : Ends L) → AreIssued meaning order padding (ends mid output) new (unmarked marks 0) → HasIssued meaning (job order skip padding) (ends old output) new
       has_issued new issued = record {
         numbers = read.numbers;
         places = unmarked marks 0;
         text = issued.text;
+        inside = inside_order order.count marks read.size;
         tested = may_issue runs passed;
         kept = extended meaning old mid new.ledger read.numbers (iksns_of (job order skip padding) (unmarked marks 0)) read.restarted issued.appended;
         lines = issued.lines;
         written = issued.written;
       }
 
+      pub has_issued_but : (new : Ends L) → AreIssued meaning order padding (ends mid output) new (unmarked marks 0) → (passed_over : ℕ) → HasMarks marks passed_over → HasIssuedBut meaning (job order skip padding) (ends old output) new passed_over
+      unfolding has_issued
+      has_issued_but new issued passed_over counted = (has_issued new issued, counted.all ∙ read.size)
+
       -- not all are
       tested_split : (places : List ℕ) → unmarked marks 0 ≡ places → (meaning.state_of old).honest → MayIssue (job order skip padding) (meaning.capacity old) read.numbers places
       tested_split places split honest = subst (λ list. MayIssue (job order skip padding) (meaning.capacity old) read.numbers list) split (may_issue runs passed honest)
+
+      inside_split : (places : List ℕ) → unmarked marks 0 ≡ places → AreOfOrder (job order skip padding) places
+      inside_split places split = subst (λ list. AreOfOrder (job order skip padding) list) split (inside_order order.count marks read.size)
 
       pub not_issued : (new : Ends L) (why : IssueFault) → StopsAtPlace meaning order padding (ends mid output) new (unmarked marks 0) why → IssueFailed meaning (job order skip padding) (ends old output) new why
       not_issued new fault.LedgerFailed stops = inr (record {
@@ -123,6 +139,7 @@ module _ {L : Type 0} (meaning : LogMeaning L) (order : Order) (skip : Bool) (pa
         later = stops.later;
         text = stops.issued.text;
         mid = stops.mid.ledger;
+        inside = inside_split (stops.done ++ stops.last ∷ stops.later) stops.split;
         tested = tested_split (stops.done ++ stops.last ∷ stops.later) stops.split;
         kept = extended meaning old mid stops.mid.ledger read.numbers (iksns_of (job order skip padding) stops.done) read.restarted stops.issued.appended;
         failed = stops.failed.failed;
@@ -137,6 +154,7 @@ module _ {L : Type 0} (meaning : LogMeaning L) (order : Order) (skip : Bool) (pa
         text = stops.issued.text;
         line = stops.failed.line;
         mid = stops.mid.output;
+        inside = inside_split (stops.done ++ stops.last ∷ stops.later) stops.split;
         tested = tested_split (stops.done ++ stops.last ∷ stops.later) stops.split;
         kept = extended meaning old mid new.ledger read.numbers (iksns_of (job order skip padding) (stops.done ++ stops.last ∷ [])) read.restarted
             (appended_at meaning order mid stops.mid.ledger new.ledger stops.done stops.last stops.issued.appended stops.failed.appended);
@@ -149,9 +167,13 @@ module _ {L : Type 0} (meaning : LogMeaning L) (order : Order) (skip : Bool) (pa
       not_issued new fault.OutOfMemory stops = absurd stops.failed
       not_issued new fault.PaddingUnread stops = absurd stops.failed
       not_issued new fault.LedgerUnopened stops = absurd stops.failed
+      not_issued new fault.OutUnmade stops = absurd stops.failed
       not_issued new fault.BdkRefused stops = absurd stops.failed
       not_issued new fault.LoadingRefused stops = absurd stops.failed
       not_issued new fault.IksnRefused stops = absurd stops.failed
       not_issued new fault.CountRefused stops = absurd stops.failed
+      not_issued new fault.KcvRefused stops = absurd stops.failed
+      not_issued new fault.KcvDiffers stops = absurd stops.failed
+      not_issued new (fault.NotIssued iksn) stops = absurd stops.failed
       not_issued new (fault.Issued iksn) stops = absurd stops.failed
       not_issued new fault.LedgerFull stops = absurd stops.failed

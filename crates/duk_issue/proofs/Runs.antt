@@ -1,14 +1,14 @@
 -- What `issue` does is a run.
-use Rattle.std.proofs.Common.{◌≡◌, ◌<◌, ℕ, List, [], ◌∷◌, ◌++◌, inl, inr, get_or, length, refl, sym, ap, ◌∙◌, subst, arith, append-nil, append_assoc, length-append}
+use Rattle.std.proofs.Common.{◌≡◌, ◌<◌, ℕ, List, All, [], ◌∷◌, ◌++◌, inl, inr, get_or, length, refl, sym, ap, ◌∙◌, subst, arith, append-nil, append_assoc, length-append}
 use Rattle.std.proofs.lemmas.List.{get_or-map, get_or_append_left, length-map, map-append}
 use Rattle.duk_store.specs.Log.{LogMeaning, Numbers}
 use Rattle.duk_store.specs.Restart.{Restarted}
 use Rattle.duk_store.specs.declared.fault.StoreFault.{StoreFault}
 use Rattle.duk_store.specs.declared.fault.StoreFault.TheVariants as store
-use Rattle.duk_issue.specs.Issue.{Ends, HasIssued, IsRefusedBy, IsUnread, IssueFailed, Job, MayIssue, begun_places, iksns_of}
+use Rattle.duk_issue.specs.Issue.{AreOfOrder, Ends, HasIssued, IsRefusedBy, IsUnread, IssueFailed, Job, MayIssue, begun_places, iksns_of}
 use Rattle.duk_issue.specs.Ledger.{IsExtended, IsIssued}
 use Rattle.duk_issue.specs.Lifetime.{AreFresh, IsRun}
-use Rattle.duk_issue.specs.Numbers.{iksn_at}
+use Rattle.duk_issue.specs.Numbers.{FitsFrom, iksn_at, key_set}
 use Rattle.duk_issue.specs.declared.fault.IssueFault.{IssueFault}
 use Rattle.duk_issue.specs.declared.fault.IssueFault.TheVariants as fault
 use Rattle.duk_issue.proofs.Members.{member_at}
@@ -42,6 +42,10 @@ fresh_front numbers front rest fresh = record {
 fresh_first : (job : Job) (capacity : ℕ) (numbers : Numbers) (done rest : List ℕ) → MayIssue job capacity numbers (done ++ rest) → AreFresh numbers (iksns_of job done)
 fresh_first job capacity numbers done rest may =
     fresh_front numbers (iksns_of job done) (iksns_of job rest) (subst (λ list. AreFresh numbers list) (map-append (iksn_at job.order.first) done rest) (fresh_places job capacity numbers (done ++ rest) may))
+
+-- a place of an order is of the first's key set
+pub in_set : (first count place : ℕ) → FitsFrom first count → place < count → key_set (iksn_at first place) ≡ key_set first
+in_set first count place fits inside = let same = fits.same_set in omega (arith, same, inside)
 
 module _ {L : Type 0} (meaning : LogMeaning L) (job : Job) where
   -- a ledger that keeps the list that its restart found
@@ -106,5 +110,49 @@ module _ {L : Type 0} (meaning : LogMeaning L) (job : Job) where
   failed_run old new fault.LoadingRefused refused = absurd refused
   failed_run old new fault.IksnRefused refused = absurd refused
   failed_run old new fault.CountRefused refused = absurd refused
+  failed_run old new fault.KcvRefused refused = absurd refused
+  failed_run old new fault.KcvDiffers refused = absurd refused
+  failed_run old new (fault.NotIssued iksn) refused = absurd refused
   failed_run old new fault.PaddingUnread refused = absurd refused
   failed_run old new fault.LedgerUnopened refused = absurd refused
+  failed_run old new fault.OutUnmade refused = absurd refused
+
+  -- all numbers that are printed are of the first's key set
+  abbrev of_one_set : List ℕ → Type 0
+  of_one_set places = All (λ iksn. key_set iksn ≡ key_set job.order.first) (iksns_of job places)
+
+  places_set : (places : List ℕ) → AreOfOrder job places → of_one_set places
+  places_set places are = λ k d within.
+      let first = job.order.first in
+      let inside : k < length places = omega (arith, within, length-map places (iksn_at first)) in
+      subst (λ n. key_set n ≡ key_set first) (sym (get_or-map (iksn_at first) places k 0 d inside)) (in_set first job.order.count (get_or places k 0) job.order.fits (are k 0 inside))
+
+  first_places : (front rest : List ℕ) → AreOfOrder job (front ++ rest) → AreOfOrder job front
+  first_places front rest are = λ k d within. subst (λ place. place < job.order.count) (get_or_append_left front rest d k within) (are k d (omega (arith, within, length-append front rest)))
+
+  none_printed : of_one_set []
+  none_printed = λ k d within. absurd (omega (arith, within))
+
+  pub issued_set : (old new : Ends L) → (has : HasIssued meaning job old new) → of_one_set has.places
+  issued_set old new has = places_set has.places has.inside
+
+  pub failed_set : (old new : Ends L) (why : IssueFault) (failed : IssueFailed meaning job old new why) → of_one_set (begun_places meaning job old new why failed)
+  failed_set old new fault.LedgerFailed (inl unread) = none_printed
+  failed_set old new fault.LedgerFailed (inr not) = places_set not.done (first_places not.done (not.last ∷ not.later) not.inside)
+  failed_set old new fault.LedgerDamaged failed = none_printed
+  failed_set old new (fault.Issued iksn) failed = none_printed
+  failed_set old new fault.LedgerFull failed = none_printed
+  failed_set old new fault.OutOfMemory failed = none_printed
+  failed_set old new fault.WriteFailed cut =
+      places_set (cut.done ++ cut.last ∷ [])
+      (first_places (cut.done ++ cut.last ∷ []) cut.later (subst (λ list. AreOfOrder job list) (sym (append_assoc cut.done (cut.last ∷ []) cut.later)) cut.inside))
+  failed_set old new fault.BdkRefused refused = absurd refused
+  failed_set old new fault.LoadingRefused refused = absurd refused
+  failed_set old new fault.IksnRefused refused = absurd refused
+  failed_set old new fault.CountRefused refused = absurd refused
+  failed_set old new fault.KcvRefused refused = absurd refused
+  failed_set old new fault.KcvDiffers refused = absurd refused
+  failed_set old new (fault.NotIssued iksn) refused = absurd refused
+  failed_set old new fault.PaddingUnread refused = absurd refused
+  failed_set old new fault.LedgerUnopened refused = absurd refused
+  failed_set old new fault.OutUnmade refused = absurd refused

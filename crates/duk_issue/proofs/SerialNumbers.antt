@@ -2,13 +2,8 @@
 use Rattle.std.proofs.Common.{◌≡◌, ◌+◌, ◌*◌, ◌/◌, ◌<◌, ◌^◌, ◌++◌, ℕ, List, [], arith, ◌∙◌, ap}
 use Rattle.byteorder.specs.Endian.{big_bytes, big_number}
 use Rattle.byteorder.specs.Numbers.{big_number-reads_back}
-use Rattle.duk_tree.specs.Serial.{IsIksn, iksn_bytes, serial_bytes, serial_of_bytes}
+use Rattle.duk_tree.specs.Serial.{IsIksn, serial_of_bytes}
 use Rattle.duk_issue.specs.Numbers.{iksn_at}
-
--- the number is found again
-pub read_back : (iksn : ℕ) → IsIksn iksn → big_number 10 (iksn_bytes iksn) ≡ iksn
-unfolding serial_bytes
-read_back iksn is = let fits = is.fits in let same : iksn + 0 ≡ iksn = omega arith in rw same (big_number-reads_back 10 iksn [] (omega arith))
 
 -- the initial key serial number of ten bytes that spell one
 pub iksn_written : (number first place : ℕ) (bytes rest : List ℕ) → number ≡ iksn_at first place → IsIksn first → iksn_at first place < 2 ^ 80

@@ -6,24 +6,20 @@ use Rattle.duk_tree.specs.Serial.{iksn_bytes}
 use Rattle.duk_issue.specs.declared.fault.IssueFault.{IssueFault}
 use Rattle.duk_issue.specs.declared.fault.IssueFault.TheVariants as fault
 
--- the order in which they are reported
+-- the order in which the faults of the arguments are reported; all others stand behind them
 abbrev pub issue_rank : IssueFault → ℕ
 issue_rank fault.BdkRefused = 0
 issue_rank fault.LoadingRefused = 1
 issue_rank fault.IksnRefused = 2
 issue_rank fault.CountRefused = 3
-issue_rank fault.PaddingUnread = 4
-issue_rank fault.LedgerUnopened = 5
-issue_rank fault.LedgerFailed = 6
-issue_rank fault.LedgerDamaged = 7
-issue_rank (fault.Issued iksn) = 8
-issue_rank fault.LedgerFull = 9
-issue_rank fault.OutOfMemory = 10
-issue_rank fault.WriteFailed = 11
+issue_rank fault.KcvRefused = 4
+issue_rank fault.KcvDiffers = 5
+issue_rank fault = 6
 
 -- the number that a fault names
 abbrev pub issue_number : IssueFault → List ℕ
 issue_number (fault.Issued iksn) = encode_upper (iksn_bytes iksn)
+issue_number (fault.NotIssued iksn) = encode_upper (iksn_bytes iksn)
 issue_number fault = []
 
 -- what is reported of a fault
@@ -32,11 +28,15 @@ issue_text fault.BdkRefused = codes "BDK refused"
 issue_text fault.LoadingRefused = codes "loading refused"
 issue_text fault.IksnRefused = codes "IKSN refused"
 issue_text fault.CountRefused = codes "count refused"
+issue_text fault.KcvRefused = codes "KCV refused"
+issue_text fault.KcvDiffers = codes "KCV differs"
 issue_text fault.PaddingUnread = codes "padding: cannot read"
 issue_text fault.LedgerUnopened = codes "ledger: cannot open"
+issue_text fault.OutUnmade = codes "out: cannot make"
 issue_text fault.LedgerFailed = codes "ledger: failed"
 issue_text fault.LedgerDamaged = codes "ledger: damaged"
 issue_text (fault.Issued iksn) = codes ": issued"
+issue_text (fault.NotIssued iksn) = codes ": not issued"
 issue_text fault.LedgerFull = codes "ledger: full"
 issue_text fault.OutOfMemory = codes "out of memory"
 issue_text fault.WriteFailed = codes "write failed"

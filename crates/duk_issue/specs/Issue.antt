@@ -1,6 +1,6 @@
 -- What `issue` does with its ledger and its output (this project's own).
 use Rattle.std.proofs.Common.{inl, inr}
-use Rattle.std.specs.Prelude.{◌≡◌, ◌⊎◌, ◌<◌, ◌≤◌, ◌-◌, ◌++◌, ℕ, Bool, false, List, [], ◌∷◌, map, length}
+use Rattle.std.specs.Prelude.{◌≡◌, ◌⊎◌, ◌<◌, ◌≤◌, ◌+◌, ◌-◌, ◌++◌, ℕ, Bool, false, List, [], ◌∷◌, All, map, length}
 use Rattle.duk_io.specs.Known.{Known}
 use Rattle.duk_io.specs.Sink.{IsCut, IsWritten}
 use Rattle.duk_store.specs.Log.{AppendStopped, LogMeaning, Numbers}
@@ -37,6 +37,10 @@ ends ledger output = record { ledger = ledger; output = output }
 abbrev pub iksns_of : Job → List ℕ → List ℕ
 iksns_of job places = map (iksn_at job.order.first) places
 
+-- these are places of the order
+abbrev pub AreOfOrder : Job → List ℕ → Type 0
+AreOfOrder job places = All (λ place. place < job.order.count) places
+
 -- a list is that of a ledger, and none of the order's numbers stands in it, if none may be passed
 -- over
 pub record IsFree (job : Job) (numbers : Numbers) : Type 0 where
@@ -57,11 +61,17 @@ pub record HasIssued {L : Type 0} (meaning : LogMeaning L) (job : Job) (old new 
   pub numbers : Numbers
   pub places : List ℕ
   pub text : List ℕ
+  pub inside : AreOfOrder job places
   pub tested : (meaning.state_of old.ledger).honest
       → MayIssue job (meaning.capacity old.ledger) numbers places
   pub kept : IsExtended meaning old.ledger new.ledger numbers (iksns_of job places)
   pub lines : AreLines job.order job.padding places text
   pub written : IsWritten old.output new.output text
+
+-- all keys are issued, but those of so many terminals that are passed over
+abbrev pub HasIssuedBut : {L : Type 0} → LogMeaning L → Job → Ends L → Ends L → ℕ → Type 0
+HasIssuedBut meaning job old new passed_over =
+    (has : HasIssued meaning job old new) × (passed_over + length has.places ≡ job.order.count)
 
 -- a write failed: the lines before were written, the number of this line stands in the ledger as
 -- well, and none of the later ones
@@ -74,6 +84,7 @@ pub record IsCutShort {L : Type 0} (meaning : LogMeaning L) (job : Job) (old new
   pub text : List ℕ
   pub line : List ℕ
   pub mid : Known
+  pub inside : AreOfOrder job (done ++ last ∷ later)
   pub tested : (meaning.state_of old.ledger).honest
       → MayIssue job (meaning.capacity old.ledger) numbers (done ++ last ∷ later)
   pub kept : IsExtended meaning old.ledger new.ledger numbers (iksns_of job (done ++ last ∷ []))
@@ -92,6 +103,7 @@ pub record IsNotAppended {L : Type 0} (meaning : LogMeaning L) (job : Job) (old 
   pub later : List ℕ
   pub text : List ℕ
   pub mid : L
+  pub inside : AreOfOrder job (done ++ last ∷ later)
   pub tested : (meaning.state_of old.ledger).honest
       → MayIssue job (meaning.capacity old.ledger) numbers (done ++ last ∷ later)
   pub kept : IsExtended meaning old.ledger mid numbers (iksns_of job done)
@@ -160,5 +172,9 @@ begun_places meaning job old new fault.BdkRefused failed = []
 begun_places meaning job old new fault.LoadingRefused failed = []
 begun_places meaning job old new fault.IksnRefused failed = []
 begun_places meaning job old new fault.CountRefused failed = []
+begun_places meaning job old new fault.KcvRefused failed = []
+begun_places meaning job old new fault.KcvDiffers failed = []
+begun_places meaning job old new (fault.NotIssued iksn) failed = []
 begun_places meaning job old new fault.PaddingUnread failed = []
 begun_places meaning job old new fault.LedgerUnopened failed = []
+begun_places meaning job old new fault.OutUnmade failed = []

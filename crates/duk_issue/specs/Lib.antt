@@ -4,5 +4,6 @@ pub mod Order
 pub mod Ledger
 pub mod Lines
 pub mod Issue
+pub mod Again
 pub mod Lifetime
 pub mod inner

@@ -1,6 +1,6 @@
 -- The lines that `issue` writes (this project's own, over key blocks of ANSI X9.143 and check
 -- values of ANSI X9.24-1:2017 annex A).
-use Rattle.std.specs.Prelude.{◌≡◌, ◌*◌, ◌++◌, ℕ, List, [], ◌∷◌, codes, take, drop}
+use Rattle.std.specs.Prelude.{◌≡◌, ◌*◌, ◌++◌, ℕ, List, [], ◌∷◌, codes, decimal, take, drop}
 use Rattle.hex.specs.Hex.{encode_upper}
 use Rattle.duk_block.specs.KeyBlock.{IsWrittenKeyBlock}
 use Rattle.duk_block.specs.KeyUse.{header_for}
@@ -22,6 +22,10 @@ abbrev pub issued_line : ℕ → List ℕ → List ℕ → List ℕ
 issued_line iksn block key =
     codes "issued " ++ encode_upper (iksn_bytes iksn) ++ codes " " ++ block ++ codes " "
     ++ encode_upper (check_value_of key) ++ line_end
+
+-- how many numbers were passed over
+abbrev pub passed_over_line : ℕ → List ℕ
+passed_over_line count = codes "passed over " ++ decimal count ++ line_end
 
 -- this is the line of the terminal at a place: its key block, under the protection key, says of the
 -- terminal's own initial key what B1TX00N says

@@ -1,6 +1,6 @@
 -- Initial key serial numbers in a row (this project's own, over the key serial numbers of
 -- ANSI X9.24-1:2009 annex A).
-use Rattle.std.specs.Prelude.{◌<◌, ◌≤◌, ◌+◌, ◌-◌, ◌*◌, ◌^◌, ℕ}
+use Rattle.std.specs.Prelude.{◌≡◌, ◌<◌, ◌≤◌, ◌+◌, ◌-◌, ◌*◌, ◌/◌, ◌^◌, ℕ}
 use Rattle.duk_tree.specs.Serial.{Serial}
 
 -- the number at a place after the first, which is counted from 0: each lies 2^21, as many as there
@@ -8,16 +8,23 @@ use Rattle.duk_tree.specs.Serial.{Serial}
 abbrev pub iksn_at : ℕ → ℕ → ℕ
 iksn_at first place = first + place * 2 ^ 21
 
+-- the key set of an initial key serial number: the first 40 of its 80 bits, the prefix by which a
+-- host chooses the base derivation key
+abbrev pub key_set : ℕ → ℕ
+key_set iksn = iksn / 2 ^ 40
+
 -- an initial key serial number as a ledger keeps it: the key serial number with counter zero
 abbrev pub with_counter_zero : ℕ → Serial
 with_counter_zero iksn = record { iksn = iksn; counter = 0 }
 
--- for how many terminals keys may be issued at once
+-- for how many terminals keys may be issued at once: as many as a key set has
 abbrev pub most_terminals : ℕ
-most_terminals = 1048576
+most_terminals = 524288
 
--- keys may be issued for so many terminals at once, and the last of their numbers has 80 bits
+-- keys may be issued for so many terminals at once, and the last of their numbers has 80 bits and
+-- the key set of the first
 pub record FitsFrom (first count : ℕ) : Type 0 where
   pub some : 1 ≤ count
   pub most : count ≤ most_terminals
   pub last : iksn_at first (count - 1) < 2 ^ 80
+  pub same_set : key_set (iksn_at first (count - 1)) ≡ key_set first

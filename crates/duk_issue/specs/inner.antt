@@ -1,3 +1,5 @@
+pub mod Again
+pub mod CheckValue
 pub mod Ledger
 pub mod Lines
 pub mod Marks

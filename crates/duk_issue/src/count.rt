@@ -7,10 +7,10 @@ use crate::serial::is_within;
 use duk_commands::read_decimal;
 use duk_tree::Iksn;
 
-/// For how many terminals keys may be issued at once.
-const MOST_TERMINALS: u32 = 1_048_576;
+/// For how many terminals keys may be issued at once: as many as a key set has.
+const MOST_TERMINALS: u32 = 524_288;
 
-/// Reads for how many terminals, from the first number on.
+/// Reads for how many terminals, from the first number on, as far as its key set goes.
 pub(crate) fn read_count(first: Iksn, text: &str) -> Option<u32>
     ensures found { IfSome result (IsCountFrom first text.now) }
     ensures none { IfNone result ((count : ℕ) → ¬ IsCountFrom first text.now count) }

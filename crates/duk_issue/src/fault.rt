@@ -19,18 +19,27 @@ pub enum IssueFault {
     LoadingRefused,
     /// The initial key serial number is not 20 hexadecimal digits with a counter of zero.
     IksnRefused,
-    /// COUNT is not one or more decimal digits, is zero or too great, or goes past the last number.
+    /// COUNT is not one or more decimal digits, is zero or too great, or goes past the last number
+    /// with the prefix of the first.
     CountRefused,
+    /// The check value that the base derivation key is to have is not 6 hexadecimal digits.
+    KcvRefused,
+    /// The base derivation key has another check value.
+    KcvDiffers,
     /// The system gives no random bytes for the key blocks.
     PaddingUnread,
     /// The ledger's file cannot be opened, or is in use.
     LedgerUnopened,
+    /// The file of the lines cannot be made.
+    OutUnmade,
     /// A device step of the ledger failed.
     LedgerFailed,
     /// The ledger's medium holds what no ledger leaves on it.
     LedgerDamaged,
     /// The key of this terminal was issued before.
     Issued(Iksn),
+    /// The key of this terminal was not issued before.
+    NotIssued(Iksn),
     /// The ledger has no room for all that are to be issued.
     LedgerFull,
     /// Memory was refused.
@@ -45,7 +54,7 @@ impl IssueFault {
         ensures { result.items ≡ issue_line self }
     {
         let mut line = Lines::new();
-        if let IssueFault::Issued(iksn) = self {
+        if let IssueFault::Issued(iksn) | IssueFault::NotIssued(iksn) = self {
             append_hex(&mut line, &iksn.bytes());
         }
         push_text(&mut line, self.text().as_bytes());
@@ -63,11 +72,15 @@ impl IssueFault {
             IssueFault::LoadingRefused => "loading refused",
             IssueFault::IksnRefused => "IKSN refused",
             IssueFault::CountRefused => "count refused",
+            IssueFault::KcvRefused => "KCV refused",
+            IssueFault::KcvDiffers => "KCV differs",
             IssueFault::PaddingUnread => "padding: cannot read",
             IssueFault::LedgerUnopened => "ledger: cannot open",
+            IssueFault::OutUnmade => "out: cannot make",
             IssueFault::LedgerFailed => "ledger: failed",
             IssueFault::LedgerDamaged => "ledger: damaged",
             IssueFault::Issued(_) => ": issued",
+            IssueFault::NotIssued(_) => ": not issued",
             IssueFault::LedgerFull => "ledger: full",
             IssueFault::OutOfMemory => "out of memory",
             IssueFault::WriteFailed => "write failed",

@@ -1,14 +1,14 @@
 //! The command `issue`: initial keys of terminals, each once.
 
 ghost use Rattle.std.specs.Prelude.{◌≡◌, ◌*◌, ◌<◌, ◌≤◌, ◌+◌, ◌-◌, true, IfErr, IfOk, length};
-ghost use Rattle.duk_issue.specs.Issue.{HasIssued, IssueFailed, ends, job};
+ghost use Rattle.duk_issue.specs.Issue.{HasIssuedBut, IssueFailed, ends, job};
 ghost use Rattle.duk_issue.specs.inner.Lines.{AreIssued, IsIssuedAt, IssueAtFailed, PassesTests, StopsAtPlace, TestsRefuse};
 ghost use Rattle.duk_issue.specs.inner.Marks.{unmarked};
 
 use crate::fault::IssueFault;
 use crate::ledger::read_ledger;
 use crate::line::line_at;
-use crate::marks::{count_unmarked, first_marked};
+use crate::marks::{count_marked, count_unmarked, first_marked};
 use crate::order::{Order, PADDING_LENGTH};
 use crate::serial::iksn_at;
 use duk_io::{Sink, write_text};
@@ -20,9 +20,9 @@ use std::alloc::Global;
 /// key block of its initial key (ANSI X9.143, header `B1TX00N`) and the key's check value.
 ///
 /// The ledger may be stopped; it is restarted and read once. All numbers are tested before any is
-/// issued. With `skip_issued` those that stand in the ledger are passed over. `padding` has six
-/// bytes for each terminal of the order, which are to be random; those of a terminal that is passed
-/// over are not used.
+/// issued. With `skip_issued` those that stand in the ledger are passed over, and it gives how many.
+/// `padding` has six bytes for each terminal of the order, which are to be random; those of a
+/// terminal that is passed over are not used.
 ///
 /// The faults, in this order: `OutOfMemory`, where all is as it was; `LedgerFailed` where a device
 /// step failed, and `LedgerDamaged`, also where the ledger keeps a number with a counter; `Issued`
@@ -36,18 +36,22 @@ pub fn issue<L: UsedLog, W: Sink>(
     padding: &[u8],
     ledger: &mut L,
     output: &mut W,
-) -> Result<(), IssueFault>
+) -> Result<u32, IssueFault>
     requires padding { PADDING_LENGTH * order.now.count ≤ length padding.now }
-    ensures issued { IfOk result (λ _. HasIssued
+    ensures issued { IfOk result (HasIssuedBut
         L.meaning (job order.now skip_issued padding.now)
         (ends ledger.old (W.known output.old)) (ends ledger.new (W.known output.new))) }
     ensures failed { IfErr result (IssueFailed
         L.meaning (job order.now skip_issued padding.now)
         (ends ledger.old (W.known output.old)) (ends ledger.new (W.known output.new))) }
 {
-    let marks = read_ledger(alloc, order, ledger)?;
-    test_marks(order, skip_issued, marks.as_slice(), ledger.room())?;
-    issue_unmarked(order, marks.as_slice(), padding, ledger, output)
+    let marked = read_ledger(alloc, order, ledger)?;
+    let marks = marked.as_slice();
+    test_marks(order, skip_issued, marks, ledger.room())?;
+    match issue_unmarked(order, marks, padding, ledger, output) {
+        Ok(()) => Ok(count_marked(marks)),
+        Err(why) => Err(why),
+    }
 }
 
 /// Tests all numbers of an order, and the room for those that are to be issued.

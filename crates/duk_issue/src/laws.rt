@@ -1,11 +1,12 @@
 //! Laws of issuing, each the contract of a function that does nothing.
 
-ghost use Rattle.std.specs.Prelude.{ℕ, List, Contains};
+ghost use Rattle.std.specs.Prelude.{◌≡◌, ℕ, List, All, Contains};
 ghost use Rattle.std.specs.List.{concat};
 ghost use Rattle.duk_store.specs.Log.{Numbers};
 ghost use Rattle.duk_issue.specs.Issue.{Ends, HasIssued, IssueFailed, Job, begun_places, iksns_of};
 ghost use Rattle.duk_issue.specs.Ledger.{IsIssued};
 ghost use Rattle.duk_issue.specs.Lifetime.{ArePrintedOnce, IsLifetime, IsRun, StandInEach};
+ghost use Rattle.duk_issue.specs.Numbers.{key_set};
 ghost use Rattle.duk_issue.specs.declared.fault.IssueFault.{IssueFault};
 
 use duk_store::UsedLog;
@@ -35,4 +36,15 @@ pub fn each_run<L: UsedLog>()
         → (failed : IssueFailed L.meaning job old new why)
         → IsRun L.meaning old.ledger
         (iksns_of job (begun_places L.meaning job old new why failed)) new.ledger }
+{}
+
+/// All initial key serial numbers that `issue` prints are of one key set, that of the first, however
+/// it ends and whatever its ledger is: none belongs to another base derivation key.
+pub fn one_key_set<L: UsedLog>()
+    ensures issued { (job : Job) (old new : Ends L) → (has : HasIssued L.meaning job old new)
+        → All (λ iksn. key_set iksn ≡ key_set job.order.first) (iksns_of job has.places) }
+    ensures failed { (job : Job) (old new : Ends L) (why : IssueFault)
+        → (failed : IssueFailed L.meaning job old new why)
+        → All (λ iksn. key_set iksn ≡ key_set job.order.first)
+        (iksns_of job (begun_places L.meaning job old new why failed)) }
 {}

@@ -1,5 +1,5 @@
 -- Marks of the numbers that are issued, one for each place: this project's own.
-use Rattle.std.specs.Prelude.{◌≡◌, ◌⊎◌, ◌↔◌, ◌<◌, ℕ, suc, Bool, true, false, List, [], ◌∷◌, length, get_or}
+use Rattle.std.specs.Prelude.{◌≡◌, ◌⊎◌, ◌↔◌, ◌<◌, ◌+◌, ℕ, suc, Bool, true, false, List, [], ◌∷◌, length, get_or}
 use Rattle.duk_store.specs.Log.{Numbers}
 use Rattle.duk_issue.specs.Ledger.{IsIssued}
 use Rattle.duk_issue.specs.Numbers.{iksn_at}
@@ -34,3 +34,17 @@ pub record IsFirstMarked (marks : List Bool) (place : ℕ) : Type 0 where
   pub inside : place < length marks
   pub marked : IsMarked marks place
   pub none_before : IsUnmarkedBefore marks place
+
+-- all places have marks before this one
+abbrev pub AreMarkedBefore : List Bool → ℕ → Type 0
+AreMarkedBefore marks place = (earlier : ℕ) → earlier < place → IsMarked marks earlier
+
+-- the first place without a mark
+pub record IsFirstUnmarked (marks : List Bool) (place : ℕ) : Type 0 where
+  pub inside : place < length marks
+  pub unmarked : ¬ IsMarked marks place
+  pub all_before : AreMarkedBefore marks place
+
+-- so many places have a mark: all but those without one
+pub record HasMarks (marks : List Bool) (count : ℕ) : Type 0 where
+  pub all : count + length (unmarked marks 0) ≡ length marks
