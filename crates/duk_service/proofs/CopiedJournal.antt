@@ -6,20 +6,23 @@ use Rattle.duk_journal.specs.DiskJournal.{DiskJournalOf, MayFindEntries, disk_jo
 use Rattle.duk_journal.specs.Groups.{Entries, KeepsEntries}
 use Rattle.duk_journal.specs.Journal.{JournalMeaning}
 use Rattle.duk_line.specs.Check.{IsChecked}
+use Rattle.duk_line.specs.declared.check.Checked.{Checked}
 use Rattle.duk_service.specs.CopyJournal.{HasCopiedJournal, HasKept, IsCopyJournalRefused, IsNoneOrCopy, IsOldChecked, IsOtherJournal, Keeps}
 use Rattle.duk_service.specs.LogFiles.{DiskKnown, FolderKnown, IsDisk, MakingKnown}
-use Rattle.duk_service.specs.NewJournal.{IsUnmade}
+use Rattle.duk_service.specs.NewFile.{IsUnmade}
+use Rattle.duk_service.specs.OwnFiles.{IsOwnDisk}
 use Rattle.duk_service.proofs.LeftDisks.{left_read_over}
 use Rattle.duk_service.specs.declared.copy_journal.CopyJournalFault.{CopyJournalFault}
 use Rattle.duk_service.specs.declared.copy_journal.CopyJournalFault.TheVariants as fault
-use Rattle.duk_service.specs.inner.CopyJournal.{CheckedNotKept, CopyNotMade, CopyNotWritten, IsCopyMade, IsNoneOrKept, IsNotChecked, NewNotChecked, NewNotKept}
+use Rattle.duk_service.specs.declared.left_records.RecordFormat.TheVariants.{Journal}
+use Rattle.duk_service.specs.inner.CopyJournal.{CheckedNotKept, CopyNotMade, CopyNotWritten, IsCopyMade, IsNoneOrKept, IsNotChecked, IsOldUnopened, NewNotChecked, NewNotKept}
 use Rattle.duk_store.specs.Disk.{DiskMeaning, DiskState, HasFailed, LeavesReads, PreservesBytes, PreservesDisk}
 use Rattle.duk_store.specs.declared.fault.StoreFault.TheVariants.{Device}
 
 -- why a made disk is not written, or what was copied not read
-pub not_made : {D : Type 0} (meaning : DiskMeaning D) (making : MakingKnown D) (size kept : ℕ) (old old' : DiskState) (made last : D) (why : CopyJournalFault)
+pub not_made : {D : Type 0} (meaning : DiskMeaning D) (making : MakingKnown D) (size : ℕ) (kept : Checked) (old old' : DiskState) (made last : D) (why : CopyJournalFault)
     → IsDisk (making.disk size) made → CopyNotWritten size old old' (meaning.state_of made) (meaning.state_of last) why
-    → IsNoneOrKept kept old (meaning.state_of made) (meaning.state_of last)
+    → IsNoneOrKept kept.count old (meaning.state_of made) (meaning.state_of last)
     → CopyNotMade meaning making size kept old old' why
 not_made meaning making size kept old old' made last fault.Failed is_made failed left =
     record { made = made; last = last; is_made = is_made; failed = failed; left_is = left }
@@ -31,13 +34,13 @@ not_made meaning making size kept old old' made last fault.OutOfMemory is_made f
 not_made meaning making size kept old old' made last fault.Unopened is_made failed left = absurd failed
 
 -- why a written disk is not kept
-pub not_kept : {D : Type 0} (meaning : DiskMeaning D) (making : MakingKnown D) (size kept : ℕ) (old old' : DiskState) (made filled : D) (why : CopyJournalFault)
-    → IsDisk (making.disk size) made → IsCopied kept old (meaning.state_of made) (meaning.state_of filled)
+pub not_kept : {D : Type 0} (meaning : DiskMeaning D) (making : MakingKnown D) (size : ℕ) (kept : Checked) (old old' : DiskState) (made filled : D) (why : CopyJournalFault)
+    → IsDisk (making.disk size) made → IsCopied kept.count old (meaning.state_of made) (meaning.state_of filled)
     → NewNotKept meaning making.folder kept filled why → CopyNotMade meaning making size kept old old' why
 not_kept meaning making size kept old old' made filled fault.OutOfMemory is_made written refused =
-    record { made = made; filled = filled; last = refused.last.disk; is_made = is_made; written = written; left_is = left_read_over kept old (meaning.state_of made) (meaning.state_of filled) (meaning.state_of refused.last.disk) None refused.last.kept written refused.read_over }
+    record { made = made; filled = filled; last = refused.last.disk; is_made = is_made; written = written; left_is = left_read_over kept.count old (meaning.state_of made) (meaning.state_of filled) (meaning.state_of refused.last.disk) None refused.last.kept written refused.read_over }
 not_kept meaning making size kept old old' made filled fault.Unmade is_made written refused =
-    let left = left_read_over kept old (meaning.state_of made) (meaning.state_of filled) (meaning.state_of refused.last.disk) None refused.last.kept written refused.read_over in
+    let left = left_read_over kept.count old (meaning.state_of made) (meaning.state_of filled) (meaning.state_of refused.last.disk) None refused.last.kept written refused.read_over in
     elim refused.cause [
       | inl other ↦ inr (record { made = made; filled = filled; last = refused.last; is_made = is_made; written = written; other = other; left_is = left })
       | inr unsynced ↦ inl (inr (record { made = made; last = refused.last.disk; is_made = is_made; failed = inr (inr unsynced); left_is = left }))
@@ -46,7 +49,7 @@ not_kept meaning making size kept old old' made filled fault.Failed is_made writ
 not_kept meaning making size kept old old' made filled fault.Unopened is_made written refused = absurd refused.cause
 
 -- why a journal is not kept that is not checked
-pub checked_not_kept : {J : Type 0} (meaning : JournalMeaning J) (folder : FolderKnown) (kept : ℕ) (old new : J) (why : CopyJournalFault)
+pub checked_not_kept : {J : Type 0} (meaning : JournalMeaning J) (folder : FolderKnown) (kept : Checked) (old new : J) (why : CopyJournalFault)
     → NewNotChecked meaning kept old new why → CheckedNotKept meaning folder kept old new why
 checked_not_kept meaning folder kept old new fault.OutOfMemory refused = tt
 checked_not_kept meaning folder kept old new fault.Unmade refused = inl refused
@@ -65,15 +68,19 @@ copied_from kept old later before after nature bytes copied = record {
 }
 
 -- a checked disk finds what it found before its check, and nothing else
-still_finds : {D : Type 0} (meaning : DiskMeaning D) (filled : D) (last : DiskJournalOf D) (found : ℕ)
+still_finds : {D : Type 0} (meaning : DiskMeaning D) (filled : D) (last : DiskJournalOf D) (found : Checked)
     → IsChecked (disk_journal_meaning meaning) (new_disk_journal filled) last found → (meaning.state_of filled).honest
     → (entries : Entries) → Keeps meaning filled entries → Keeps meaning last.disk entries
 still_finds meaning filled last found checked honest entries keeps =
     subst (λ (it : Entries). Keeps meaning last.disk it) ((keeps checked.entries).0 (checked.journal.was_found honest)) (checked.journal.settles.finds honest)
 
 module _ {D : Type 0} (meaning : DiskMeaning D) (known : DiskKnown D) (making : MakingKnown D) (opened : D) (journal : DiskJournalOf D)
-    (disk last : D) (found : ℕ) (is_opened : IsDisk known opened)
+    (disk last : D) (found : Checked) (is_opened : IsOwnDisk Journal meaning known opened)
     (checked : IsChecked (disk_journal_meaning meaning) (new_disk_journal opened) journal found) (disk_is : disk ≡ journal.disk) where
+  -- how many entries are found
+  counted : length checked.entries ≡ found.count
+  counted = ap (λ (found : Checked). found.count) checked.told
+
   -- the disk of the checked journal keeps what is found
   disk_finds : (meaning.state_of opened).honest → (other : Entries) → MayFindEntries (meaning.state_of disk) other → other ≡ checked.entries
   disk_finds honest other may = (checked.journal.settles.finds honest other).0 (subst (λ (d : D). MayFindEntries (meaning.state_of d) other) disk_is may)
@@ -119,11 +126,11 @@ module _ {D : Type 0} (meaning : DiskMeaning D) (known : DiskKnown D) (making : 
 
   -- what is copied of it is copied of it as it was read last
   copied_since : PreservesDisk (meaning.state_of disk) (meaning.state_of last) → PreservesBytes (meaning.state_of disk) (meaning.state_of last)
-      → (made filled : D) → IsCopied found (meaning.state_of disk) (meaning.state_of made) (meaning.state_of filled)
+      → (made filled : D) → IsCopied found.count (meaning.state_of disk) (meaning.state_of made) (meaning.state_of filled)
       → IsCopied (length checked.entries) (meaning.state_of last) (meaning.state_of made) (meaning.state_of filled)
   copied_since nature bytes made filled copied =
-      subst (λ (kept : ℕ). IsCopied kept (meaning.state_of last) (meaning.state_of made) (meaning.state_of filled)) (sym checked.counted)
-      (copied_from found (meaning.state_of disk) (meaning.state_of last) (meaning.state_of made) (meaning.state_of filled) nature bytes copied)
+      subst (λ (kept : ℕ). IsCopied kept (meaning.state_of last) (meaning.state_of made) (meaning.state_of filled)) (sym counted)
+      (copied_from found.count (meaning.state_of disk) (meaning.state_of last) (meaning.state_of made) (meaning.state_of filled) nature bytes copied)
 
   pub has_copied : PreservesDisk (meaning.state_of disk) (meaning.state_of last) → PreservesBytes (meaning.state_of disk) (meaning.state_of last)
       → (is_journal_running journal.kept ≡ true → (meaning.state_of disk).honest → LeavesReads (meaning.state_of disk))
@@ -138,10 +145,10 @@ module _ {D : Type 0} (meaning : DiskMeaning D) (known : DiskKnown D) (making : 
     is_made = copy.is_made;
     size_is = copy.written.size_is;
     written = copied_since nature bytes copy.made copy.filled copy.written.copied;
-    checked = subst (λ (kept : ℕ). IsChecked (disk_journal_meaning meaning) (new_disk_journal copy.filled) copy.kept_is.last kept) (sym checked.counted) copy.kept_is.checked;
+    checked = subst (λ (kept : Checked). IsChecked (disk_journal_meaning meaning) (new_disk_journal copy.filled) copy.kept_is.last kept) (sym checked.told) copy.kept_is.checked;
     finds = λ old_honest new_honest. still_finds meaning copy.filled copy.kept_is.last found copy.kept_is.checked
         (copy.written.copied.nature.honest.0 new_honest) checked.entries
-        (copy.written.copied.keeps (disk_honest old_honest) new_honest checked.entries (reads_keep one old_honest) checked.counted);
+        (copy.written.copied.keeps (disk_honest old_honest) new_honest checked.entries (reads_keep one old_honest) counted);
     sound = λ new_honest. copy.kept_is.checked.sound (copy.written.copied.nature.honest.0 new_honest);
     folder = copy.synced;
   }
@@ -157,15 +164,15 @@ module _ {D : Type 0} (meaning : DiskMeaning D) (known : DiskKnown D) (making : 
   -- what is left of a disk that was made, by what was read
   left_copy : (nature : PreservesDisk (meaning.state_of disk) (meaning.state_of last)) (bytes : PreservesBytes (meaning.state_of disk) (meaning.state_of last))
       → (is_journal_running journal.kept ≡ true → (meaning.state_of disk).honest → LeavesReads (meaning.state_of disk))
-      → (made left : DiskState) → IsNoneOrKept found (meaning.state_of disk) made left
+      → (made left : DiskState) → IsNoneOrKept found.count (meaning.state_of disk) made left
       → IsNoneOrCopy meaning known (old_checked nature bytes) made left
   unfolding old_checked
-  left_copy nature bytes one made left is = λ honest. is (disk_honest honest) checked.entries (reads_keep one honest) checked.counted
+  left_copy nature bytes one made left is = λ honest. is (disk_honest honest) checked.entries (reads_keep one honest) counted
 
   -- a file is made in part
   part_copied : (nature : PreservesDisk (meaning.state_of disk) (meaning.state_of last)) (bytes : PreservesBytes (meaning.state_of disk) (meaning.state_of last))
       → (is_journal_running journal.kept ≡ true → (meaning.state_of disk).honest → LeavesReads (meaning.state_of disk))
-      → (size : ℕ) → IsUnmade meaning making size (IsNoneOrKept found (meaning.state_of disk))
+      → (size : ℕ) → IsUnmade meaning making size (IsNoneOrKept found.count (meaning.state_of disk))
       → IsUnmade meaning making size (IsNoneOrCopy meaning known (old_checked nature bytes))
   part_copied nature bytes one size (inl none) = inl none
   part_copied nature bytes one size (inr part) = inr (record {
@@ -194,14 +201,14 @@ module _ {D : Type 0} (meaning : DiskMeaning D) (known : DiskKnown D) (making : 
     };
   })
   not_copied fault.Unopened bytes nature one refused = absurd refused
-  not_copied fault.Failed bytes nature one refused = inr (record {
+  not_copied fault.Failed bytes nature one refused = inr (inr (record {
     old = old_checked nature bytes;
     made = refused.made;
     last = refused.last;
     is_made = refused.is_made;
     failed = failed_since refused.failed;
     left_is = left_copy nature bytes one (meaning.state_of refused.made) (meaning.state_of refused.last) refused.left_is;
-  })
+  }))
   not_copied fault.Unmade bytes nature one (inl unmade) =
       record { old = old_checked nature bytes; unmade = inl (part_copied nature bytes one (meaning.state_of opened).size unmade) }
   not_copied fault.Unmade bytes nature one (inr refused) = record {
@@ -212,17 +219,25 @@ module _ {D : Type 0} (meaning : DiskMeaning D) (known : DiskKnown D) (making : 
       last = refused.last;
       is_made = refused.is_made;
       written = copied_since nature bytes refused.made refused.filled refused.written;
-      other = subst (λ (kept : ℕ). IsOtherJournal (disk_journal_meaning meaning) kept (new_disk_journal refused.filled) refused.last) (sym checked.counted) refused.other;
+      other = subst (λ (kept : Checked). IsOtherJournal (disk_journal_meaning meaning) kept (new_disk_journal refused.filled) refused.last) (sym checked.told) refused.other;
       left_is = left_copy nature bytes one (meaning.state_of refused.made) (meaning.state_of refused.last.disk) refused.left_is;
     });
   }
 
 -- a journal that is not checked
 pub not_checked : {D : Type 0} (meaning : DiskMeaning D) (known : DiskKnown D) (making : MakingKnown D) (opened : D) (journal : DiskJournalOf D) (why : CopyJournalFault)
-    → IsDisk known opened → IsNotChecked (disk_journal_meaning meaning) (new_disk_journal opened) journal why
+    → IsOwnDisk Journal meaning known opened → IsNotChecked (disk_journal_meaning meaning) (new_disk_journal opened) journal why
     → IsCopyJournalRefused meaning known making why
 not_checked meaning known making opened journal fault.OutOfMemory is_opened refused = inl (opened, is_opened)
 not_checked meaning known making opened journal fault.Failed is_opened refused =
-    inl (record { opened = opened; last = journal; why = refused.0; is_opened = is_opened; refused = refused.1 })
+    inr (inl (record { opened = opened; last = journal; why = refused.0; is_opened = is_opened; refused = refused.1 }))
 not_checked meaning known making opened journal fault.Unopened is_opened refused = absurd refused
 not_checked meaning known making opened journal fault.Unmade is_opened refused = absurd refused
+
+-- one that is not opened
+pub not_opened : {D : Type 0} (meaning : DiskMeaning D) (known : DiskKnown D) (making : MakingKnown D) (why : CopyJournalFault)
+    → IsOldUnopened meaning known why → IsCopyJournalRefused meaning known making why
+not_opened meaning known making fault.Unopened refused = refused
+not_opened meaning known making fault.Failed refused = inl refused
+not_opened meaning known making fault.OutOfMemory refused = absurd refused
+not_opened meaning known making fault.Unmade refused = absurd refused

@@ -9,8 +9,9 @@ use Rattle.duk_journal.specs.DiskJournal.{disk_journal_state}
 use Rattle.duk_journal.specs.Groups.{Entries, KeepsEntries}
 use Rattle.duk_journal.specs.Journal.{JournalMeaning, JournalRestarted}
 use Rattle.duk_line.specs.Check.{CheckRefused, IsChecked}
+use Rattle.duk_line.specs.declared.check.Checked.{Checked}
 use Rattle.duk_service.specs.LogFiles.{BeginsUnfinished}
-use Rattle.duk_service.specs.NewJournal.{IsNoneOrWhole}
+use Rattle.duk_service.specs.NewFile.{IsNoneOrWhole}
 use Rattle.duk_service.specs.inner.CopyJournal.{IsNoneOrKept, IsReadOver}
 use Rattle.duk_store.specs.Disk.{DiskState}
 use Rattle.duk_store.specs.StoreState.{StoreState}
@@ -48,7 +49,7 @@ restart_reads meaning old new count restarted = record {
 }
 
 -- one that is checked
-pub check_reads : {J : Type 0} (meaning : JournalMeaning J) (old new : J) (found : ℕ) → IsChecked meaning old new found → IsReadOver (meaning.state_of old) (meaning.state_of new)
+pub check_reads : {J : Type 0} (meaning : JournalMeaning J) (old new : J) (found : Checked) → IsChecked meaning old new found → IsReadOver (meaning.state_of old) (meaning.state_of new)
 check_reads meaning old new found checked = record {
   sound = λ honest sound. checked.sound honest;
   within = λ honest entries may.

@@ -1,3 +1,5 @@
 mod CopiedJournal
 mod LeftDisks
+mod Losses
+mod LeftRecords
 mod Results

@@ -7,15 +7,19 @@ use Rattle.duk_io.specs.Sink.{IsTried}
 use Rattle.duk_journal.specs.DiskJournal.{DiskJournalOf, MayFindEntries, disk_journal_meaning, disk_journal_state, new_disk_journal}
 use Rattle.duk_journal.specs.Groups.{Entries}
 use Rattle.duk_journal.specs.Journal.{JournalMeaning}
-use Rattle.duk_line.specs.Check.{CheckRefused, IsChecked}
+use Rattle.duk_line.specs.Check.{CheckRefused, IsChecked, checked_of}
 use Rattle.duk_line.specs.Latest.{UseNewNumbers}
+use Rattle.duk_line.specs.declared.check.Checked.{Checked}
 use Rattle.duk_service.specs.LogFiles.{DiskKnown, IsDisk, IsFolderSynced, IsNoDisk, MakingKnown}
-use Rattle.duk_service.specs.NewJournal.{IsNoneOrWhole, IsUnmade, new_journal_line}
+use Rattle.duk_service.specs.NewFile.{IsNoneOrWhole, IsUnmade, new_file_line}
+use Rattle.duk_service.specs.OwnFiles.{IsNoOwnDisk, IsOwnDisk}
 use Rattle.duk_service.specs.ServeJournal.{journal_line}
 use Rattle.duk_service.specs.ServeJournalFiles.{unopened_journal_line}
 use Rattle.duk_service.specs.declared.copy_journal.CopyJournalFault.{CopyJournalFault}
 use Rattle.duk_service.specs.declared.copy_journal.CopyJournalFault.TheVariants as fault
-use Rattle.duk_service.specs.declared.new_journal.NewJournalFault.TheVariants.{OutOfMemory, Unmade}
+use Rattle.duk_service.specs.declared.left_records.RecordFormat.TheVariants.{Journal}
+use Rattle.duk_service.specs.declared.new_file.NewFileFault.TheVariants.{OutOfMemory, Unmade}
+use Rattle.duk_service.specs.declared.own_files.OpenFault.TheVariants as open_fault
 use Rattle.duk_store.specs.Disk.{DiskMeaning, DiskState, HasFailed}
 use Rattle.duk_store.specs.StoreState.{FindsOnly}
 use Rattle.duk_store.specs.declared.fault.StoreFault.{StoreFault}
@@ -35,19 +39,20 @@ pub record HasKept {D : Type 0} (meaning : DiskMeaning D) (opened last : D) (ent
   pub finds : (meaning.state_of opened).honest → Keeps meaning last entries
   pub new_numbers : UseNewNumbers entries
 
--- the journal OLD is checked: its disk is opened, and what it keeps no host would call damaged
+-- the journal OLD is checked: its disk is opened, its bytes are such as a journal leaves, and what it
+-- keeps no host would call damaged
 pub record IsOldChecked {D : Type 0} (meaning : DiskMeaning D) (known : DiskKnown D) : Type 0 where
   pub opened : D
   pub last : D
   pub entries : Entries
-  pub is_opened : IsDisk known opened
+  pub is_opened : IsOwnDisk Journal meaning known opened
   pub kept : HasKept meaning opened last entries
 
 -- status 0 of `copy-journal`: OLD is checked, a file of its size is made, what OLD keeps is written
 -- over all of its disk and synced, that disk is checked, and its folder is synced. Where the disk of
--- the file is honest, no host over it is refused as damaged, and it has as many entries as OLD keeps,
--- whatever OLD is; and where that of OLD is too, a journal over it finds what OLD keeps, and nothing
--- else
+-- the file is honest, no host over it is refused as damaged, and it has as many entries as OLD keeps
+-- and their check sum, whatever OLD is; and where that of OLD is too, a journal over it finds what OLD
+-- keeps, and nothing else
 pub record HasCopiedJournal {D : Type 0} (meaning : DiskMeaning D) (known : DiskKnown D)
     (making : MakingKnown D) : Type 0 where
   pub old : IsOldChecked meaning known
@@ -59,19 +64,26 @@ pub record HasCopiedJournal {D : Type 0} (meaning : DiskMeaning D) (known : Disk
   pub written : IsCopied (length old.entries) (meaning.state_of old.last)
       (meaning.state_of made) (meaning.state_of filled)
   pub checked : IsChecked (disk_journal_meaning meaning) (new_disk_journal filled) last
-      (length old.entries)
+      (checked_of old.entries)
   pub finds : (meaning.state_of old.opened).honest → (meaning.state_of made).honest
       → Keeps meaning last.disk old.entries
   pub sound : (meaning.state_of made).honest
       → (disk_journal_state (meaning.state_of last.disk) None).sound
   pub folder : IsFolderSynced making.folder
 
--- OLD's disk is opened, and no host would come up over it: no file is made
+-- a device step failed where OLD was looked at, or no journal leaves its bytes: no file is made
+abbrev pub IsNoOwnJournal : {D : Type 0} → DiskMeaning D → DiskKnown D → Type 0
+IsNoOwnJournal meaning known =
+    IsNoOwnDisk Journal meaning known open_fault.Failed
+    ⊎ IsNoOwnDisk Journal meaning known open_fault.Foreign
+
+-- OLD's disk is opened, and a journal left its bytes, and no host would come up over it: no file is
+-- made
 pub record IsOldRefused {D : Type 0} (meaning : DiskMeaning D) (known : DiskKnown D) : Type 0 where
   pub opened : D
   pub last : DiskJournalOf D
   pub why : StoreFault
-  pub is_opened : IsDisk known opened
+  pub is_opened : IsOwnDisk Journal meaning known opened
   pub refused : CheckRefused (disk_journal_meaning meaning) (new_disk_journal opened) last (Store why)
 
 -- whenever the disk that was made is stopped, it is no journal, or keeps what an honest OLD keeps
@@ -91,11 +103,11 @@ pub record IsOldUnread {D : Type 0} (meaning : DiskMeaning D) (known : DiskKnown
   pub left_is : IsNoneOrCopy meaning known old (meaning.state_of made) (meaning.state_of last)
 
 -- why a journal that is written with so many entries is no copy: its check is refused, or finds
--- another number
-abbrev pub IsOtherJournal : {J : Type 0} → JournalMeaning J → ℕ → J → J → Type 0
+-- another number of them, or another check sum
+abbrev pub IsOtherJournal : {J : Type 0} → JournalMeaning J → Checked → J → J → Type 0
 IsOtherJournal meaning kept old new =
     ((why : StoreFault) × CheckRefused meaning old new (Store why))
-    ⊎ ((found : ℕ) × IsChecked meaning old new found × (found ≢ kept))
+    ⊎ ((found : Checked) × IsChecked meaning old new found × (found ≢ kept))
 
 -- a disk is made, so many entries of OLD are written over it and synced, and memory for the check of
 -- it is refused
@@ -109,13 +121,13 @@ pub record IsFilledUnchecked {D : Type 0} (meaning : DiskMeaning D) (known : Dis
   pub left_is : left (meaning.state_of made) (meaning.state_of last)
 
 -- or it is checked, and is no copy
-pub record IsCopyRefused {D : Type 0} (meaning : DiskMeaning D) (known : DiskKnown D) (kept : ℕ)
-    (old : DiskState) (left : DiskState → DiskState → Type 0) : Type 0 where
+pub record IsCopyRefused {D : Type 0} (meaning : DiskMeaning D) (known : DiskKnown D)
+    (kept : Checked) (old : DiskState) (left : DiskState → DiskState → Type 0) : Type 0 where
   pub made : D
   pub filled : D
   pub last : DiskJournalOf D
   pub is_made : IsDisk known made
-  pub written : IsCopied kept old (meaning.state_of made) (meaning.state_of filled)
+  pub written : IsCopied kept.count old (meaning.state_of made) (meaning.state_of filled)
   pub other : IsOtherJournal (disk_journal_meaning meaning) kept (new_disk_journal filled) last
   pub left_is : left (meaning.state_of made) (meaning.state_of last.disk)
 
@@ -126,7 +138,7 @@ pub record IsCopyUnmade {D : Type 0} (meaning : DiskMeaning D) (known : DiskKnow
   pub unmade : IsUnmade meaning making (meaning.state_of old.opened).size
       (IsNoneOrCopy meaning known old)
       ⊎ IsCopyRefused meaning (making.disk (meaning.state_of old.opened).size)
-      (length old.entries) (meaning.state_of old.last) (IsNoneOrCopy meaning known old)
+      (checked_of old.entries) (meaning.state_of old.last) (IsNoneOrCopy meaning known old)
 
 -- OLD is checked, and its copy is written, and not checked
 pub record IsCopyUnchecked {D : Type 0} (meaning : DiskMeaning D) (known : DiskKnown D)
@@ -140,18 +152,18 @@ pub record IsCopyUnchecked {D : Type 0} (meaning : DiskMeaning D) (known : DiskK
 abbrev pub IsCopyJournalRefused : {D : Type 0} → DiskMeaning D → DiskKnown D → MakingKnown D
     → CopyJournalFault → Type 0
 IsCopyJournalRefused {D} meaning known making fault.OutOfMemory =
-    ((opened : D) × IsDisk known opened) ⊎ IsCopyUnchecked meaning known making
+    ((opened : D) × IsOwnDisk Journal meaning known opened) ⊎ IsCopyUnchecked meaning known making
 IsCopyJournalRefused meaning known making fault.Unopened = IsNoDisk known
 IsCopyJournalRefused meaning known making fault.Failed =
-    IsOldRefused meaning known ⊎ IsOldUnread meaning known making
+    IsNoOwnJournal meaning known ⊎ IsOldRefused meaning known ⊎ IsOldUnread meaning known making
 IsCopyJournalRefused meaning known making fault.Unmade = IsCopyUnmade meaning known making
 
 -- the line of a fault, LF at its end
 abbrev pub copy_journal_line : CopyJournalFault → List ℕ
-copy_journal_line fault.OutOfMemory = new_journal_line OutOfMemory
+copy_journal_line fault.OutOfMemory = new_file_line Journal OutOfMemory
 copy_journal_line fault.Unopened = unopened_journal_line
 copy_journal_line fault.Failed = journal_line (Store Device)
-copy_journal_line fault.Unmade = new_journal_line Unmade
+copy_journal_line fault.Unmade = new_file_line Journal Unmade
 
 -- status 1 of `copy-journal`: that is reported
 pub record HasNotCopiedJournal {D : Type 0} (meaning : DiskMeaning D) (known : DiskKnown D)

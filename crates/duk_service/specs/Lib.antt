@@ -2,8 +2,10 @@ pub mod CopyJournal
 pub mod Files
 pub mod HandedOn
 pub mod HostSize
+pub mod LeftRecords
 pub mod LogFiles
-pub mod NewJournal
+pub mod NewFile
+pub mod OwnFiles
 pub mod Reasons
 pub mod Serve
 pub mod ServeJournal

@@ -1,5 +1,5 @@
 -- What `serve` answers (this project's own, over what a host does with a stream of frames).
-use Rattle.std.specs.Prelude.{◌≡◌, ◌⊎◌, ℕ, List, [], codes, Option}
+use Rattle.std.specs.Prelude.{◌≡◌, ◌⊎◌, ℕ, Bool, List, [], codes, Option, true, false}
 use Rattle.duk_host.specs.Host.{HostMeaning, HostOf, host_meaning_of}
 use Rattle.duk_host.specs.Restart.{HostRestartRefused, IsHostRestarted}
 use Rattle.duk_host.specs.Serve.{IsReadToEnd, ServiceFailed, Supply, service, supply}
@@ -8,7 +8,7 @@ use Rattle.duk_host.specs.declared.fault.HostFault.{HostFault}
 use Rattle.duk_host.specs.declared.fault.HostFault.TheVariants as fault
 use Rattle.duk_io.specs.Known.{Known}
 use Rattle.duk_io.specs.Sink.{IsUntouched}
-use Rattle.duk_service.specs.HandedOn.{IsFlushReported, IsReportedAfter}
+use Rattle.duk_service.specs.HandedOn.{IsFlushReported, IsHostReported}
 use Rattle.duk_store.specs.Log.{LogMeaning}
 
 -- what a log and the issuer of a configuration mean
@@ -114,18 +114,26 @@ serve_line fault.Write = codes "serve: write failed\n"
 serve_line fault.Truncated = codes "serve: input ends in a frame\n"
 serve_line fault.TooLong = codes "serve: frame too long\n"
 
+-- a fault of a host is one of its store
+abbrev pub is_of_store : HostFault → Bool
+is_of_store (fault.Store why) = true
+is_of_store fault.Stopped = true
+is_of_store _ = false
+
 -- the line where the answers cannot be handed on
 abbrev pub lost_answers_line : List ℕ
 lost_answers_line = serve_line fault.Write
 
--- serving was refused, and that is reported after the answers, or that they could not be handed on
+-- serving was refused, and that is reported after the answers, or that they could not be handed on,
+-- or, of a fault of the log, both
 pub record HasRefusedService
     {L I : Type 0} (meaning : HostMeaning L I) (made : HostOf L I) (s : Serving)
     (reported reported' : Known) : Type 0 where
   pub why : HostFault
   pub written : Known
   pub refused : ServeRefused meaning made (answered_at s written) why
-  pub reports : IsReportedAfter (serve_line why) lost_answers_line written s.output_after reported reported'
+  pub reports : IsHostReported (is_of_store why) (serve_line why) lost_answers_line written
+      s.output_after reported reported'
 
 -- the input was served to its end, and then the answers could not be handed on, and that is
 -- reported

@@ -12,8 +12,8 @@ use Rattle.duk_journal.specs.Journal.{JournalMeaning}
 use Rattle.duk_line.specs.Host.{HostMeaning, HostOf, host_meaning_of}
 use Rattle.duk_line.specs.Restart.{HostRestartRefused, IsHostRestarted}
 use Rattle.duk_line.specs.Serve.{IsReadToEnd, ServiceFailed, service}
-use Rattle.duk_service.specs.HandedOn.{IsFlushReported, IsReportedAfter}
-use Rattle.duk_service.specs.Serve.{HasNothingServed, IsNotMade, Serving, answered_at, serve_line}
+use Rattle.duk_service.specs.HandedOn.{IsFlushReported, IsHostReported}
+use Rattle.duk_service.specs.Serve.{HasNothingServed, IsNotMade, Serving, answered_at, is_of_store, serve_line}
 use Rattle.duk_tdes.specs.KeyBytes.{bytes_of}
 
 -- what a journal and the issuer of a configuration mean
@@ -82,15 +82,16 @@ journal_line (fault.Store why) = codes "journal: failed\n"
 journal_line fault.Stopped = codes "journal: failed\n"
 journal_line why = serve_line why
 
--- serving was refused, and that is reported after the answers, or that they could not be handed on
+-- serving was refused, and that is reported after the answers, or that they could not be handed on,
+-- or, of a fault of the journal, both
 pub record HasRefusedJournalService
     {J I : Type 0} (meaning : HostMeaning J I) (made : HostOf J I) (s : Serving)
     (reported reported' : Known) : Type 0 where
   pub why : HostFault
   pub written : Known
   pub refused : JournalServiceRefused meaning made (answered_at s written) why
-  pub reports : IsReportedAfter (journal_line why) (journal_line fault.Write) written s.output_after
-      reported reported'
+  pub reports : IsHostReported (is_of_store why) (journal_line why) (journal_line fault.Write)
+      written s.output_after reported reported'
 
 -- the input was served to its end, and then the answers could not be handed on, and that is
 -- reported

@@ -1,2 +1,3 @@
 pub mod CopyJournal
-pub mod NewJournal
+pub mod LeftRecords
+pub mod NewFile

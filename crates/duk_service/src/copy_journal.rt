@@ -6,16 +6,20 @@ ghost use Rattle.duk_journal.specs.DiskJournal.{disk_journal_meaning};
 ghost use Rattle.duk_line.specs.Check.{IsChecked};
 ghost use Rattle.duk_service.specs.CopyJournal.{HasCopiedJournal, HasNotCopiedJournal, IsCopyJournalRefused, copy_journal_line};
 ghost use Rattle.duk_service.specs.LogFiles.{BeginsUnfinished, IsFolderSynced};
-ghost use Rattle.duk_service.specs.inner.CopyJournal.{CheckedNotKept, CopyNotMade, CopyNotWritten, IsCopyMade, IsCopyWritten, IsNewChecked, IsNoneOrKept, IsNotChecked, IsReadOver, NewNotChecked, NewNotKept};
+ghost use Rattle.duk_service.specs.OwnFiles.{IsOwnDisk};
+ghost use Rattle.duk_service.specs.declared.left_records.RecordFormat.TheVariants.{Journal};
+ghost use Rattle.duk_service.specs.inner.CopyJournal.{CheckedNotKept, CopyNotMade, CopyNotWritten, IsCopyMade, IsCopyWritten, IsNewChecked, IsNoneOrKept, IsNotChecked, IsOldUnopened, IsReadOver, NewNotChecked, NewNotKept};
 ghost use Rattle.duk_store.specs.Disk.{PreservesBytes, PreservesDisk};
 
 use crate::ending::EndingFault;
+use crate::left_records::RecordFormat;
 use crate::log_files::LogFiles;
+use crate::own_files::{Access, OpenFault, open_own};
 use duk_copy::{CopyFault, PIECE_LENGTH, write_copy};
 use duk_host::HostFault;
 use duk_io::{Sink, write_text};
 use duk_journal::{DiskJournal, Journal};
-use duk_line::check_journal;
+use duk_line::{Checked, check_journal};
 use duk_store::Disk;
 use std::alloc::{AllocError, Global};
 
@@ -72,8 +76,10 @@ struct Pieces {
 }
 
 /// Makes a file of the size of a journal's, with what that keeps, and gives the status: 0, or 1 with
-/// a line on `fault`. The journal is checked before the file is made, and the file before its folder
-/// is synced: a journal that is read otherwise the second time is not copied.
+/// a line on `fault`. The journal's bytes are such as a journal leaves, and what it keeps is checked,
+/// as at a start of a service, before the file is made, and the file before its folder
+/// is synced: a journal that is read otherwise the second time is not copied, since the file has
+/// another number of entries then, or another check sum.
 ///
 /// The faults, in this order: `journal: cannot open`; `journal: failed`; `journal: cannot make`. In
 /// place of each but the first may stand `out of memory`. A file that was made and cannot be kept is
@@ -111,8 +117,9 @@ fn make_copy<S: LogFiles>(
     ensures refused { IfErr result (IsCopyJournalRefused S.Disk.meaning
         (S.disks files.now old.now) (S.making files.now new.now)) }
 {
-    let Ok(disk) = files.open_to_read(old) else {
-        return Err(CopyJournalFault::Unopened);
+    let disk = match open_old(files, old) {
+        Ok(disk) => disk,
+        Err(why) => return Err(why),
     };
     let size = disk.size();
     let Ok(mut journal) = DiskJournal::new(alloc, disk) else {
@@ -129,8 +136,22 @@ fn make_copy<S: LogFiles>(
     make_new(alloc, files, new, size, kept, &mut disk, &mut pieces)
 }
 
-/// Checks a journal as the restart of a host over it does, and gives how many entries it keeps.
-fn check<J: Journal>(alloc: Global, journal: &mut J) -> Result<u64, CopyJournalFault>
+/// The disk of a journal, which is opened to be read alone.
+fn open_old<S: LogFiles>(files: &S, old: &str) -> Result<S::Disk, CopyJournalFault>
+    ensures opened { IfOk result (IsOwnDisk Journal S.Disk.meaning (S.disks files.now old.now)) }
+    ensures refused { IfErr result (IsOldUnopened S.Disk.meaning (S.disks files.now old.now)) }
+{
+    match open_own(files, old, RecordFormat::Journal, Access::Read) {
+        Ok(disk) => Ok(disk),
+        Err(OpenFault::Unopened) => Err(CopyJournalFault::Unopened),
+        Err(OpenFault::Failed) => Err(CopyJournalFault::Failed),
+        Err(OpenFault::Foreign) => Err(CopyJournalFault::Failed),
+    }
+}
+
+/// Checks a journal as the restart of a host over it does, and gives how many entries it keeps, and
+/// their check sum.
+fn check<J: Journal>(alloc: Global, journal: &mut J) -> Result<Checked, CopyJournalFault>
     ensures checked { IfOk result (IsChecked J.meaning journal.old journal.new) }
     ensures refused { IfErr result (IsNotChecked J.meaning journal.old journal.new) }
     ensures capacity { J.meaning.capacity journal.new ≡ J.meaning.capacity journal.old }
@@ -159,14 +180,14 @@ fn make_new<S: LogFiles>(
     files: &S,
     file: &str,
     size: u64,
-    kept: u64,
+    kept: Checked,
     old: &mut S::Disk,
     pieces: &mut Pieces,
 ) -> Result<(), CopyJournalFault>
     requires zeros { pieces.old.zeros.items ≡ replicate 65536 0 }
     requires piece { length pieces.old.piece.items ≡ 65536 }
-    requires inside { 32 * kept ≤ (S.Disk.meaning.state_of old.old).size }
-    requires room { 32 * kept ≤ size }
+    requires inside { 32 * kept.count ≤ (S.Disk.meaning.state_of old.old).size }
+    requires room { 32 * kept.count ≤ size }
     ensures made { OnOk result (IsCopyMade S.Disk.meaning (S.making files.now file.now) size kept
         (S.Disk.meaning.state_of old.old)) }
     ensures refused { IfErr result (CopyNotMade S.Disk.meaning (S.making files.now file.now) size
@@ -179,7 +200,7 @@ fn make_new<S: LogFiles>(
     let Ok(mut disk) = files.make_disk(file, size) else {
         return Err(CopyJournalFault::Unmade);
     };
-    match write_new(size, kept, old, pieces, &mut disk) {
+    match write_new(size, kept.count, old, pieces, &mut disk) {
         Ok(()) => keep_new(alloc, files, file, kept, disk),
         Err(why) => {
             files.remove_made(file, disk);
@@ -229,13 +250,13 @@ fn write_new<D: Disk>(
     }
 }
 
-/// Checks that a written disk keeps so many entries, and syncs the folder of its path. Where it
-/// cannot be kept it is removed again, if it can be.
+/// Checks that a written disk keeps so many entries with their check sum, and syncs the folder of its
+/// path. Where it cannot be kept it is removed again, if it can be.
 fn keep_new<S: LogFiles>(
     alloc: Global,
     files: &S,
     file: &str,
-    kept: u64,
+    kept: Checked,
     disk: S::Disk,
 ) -> Result<(), CopyJournalFault>
     ensures checked { OnOk result (IsNewChecked S.Disk.meaning kept disk) }
@@ -263,12 +284,13 @@ fn remove_new<S: LogFiles>(files: &S, file: &str) {
     }
 }
 
-/// Checks that a journal keeps so many entries, and then syncs the folder of its path.
+/// Checks that a journal keeps so many entries with their check sum, and then syncs the folder of its
+/// path.
 fn keep_checked<S: LogFiles>(
     alloc: Global,
     files: &S,
     file: &str,
-    kept: u64,
+    kept: Checked,
     journal: &mut DiskJournal<S::Disk>,
 ) -> Result<(), CopyJournalFault>
     ensures checked { OnOk result (IsChecked (disk_journal_meaning S.Disk.meaning)
@@ -289,8 +311,13 @@ fn keep_checked<S: LogFiles>(
     }
 }
 
-/// Checks a journal as the restart of a host over it does, and that it keeps so many entries.
-fn check_new<J: Journal>(alloc: Global, kept: u64, journal: &mut J) -> Result<(), CopyJournalFault>
+/// Checks a journal as the restart of a host over it does, and that it keeps so many entries with
+/// their check sum.
+fn check_new<J: Journal>(
+    alloc: Global,
+    kept: Checked,
+    journal: &mut J,
+) -> Result<(), CopyJournalFault>
     ensures checked { OnOk result (IsChecked J.meaning journal.old journal.new kept) }
     ensures refused { IfErr result (NewNotChecked J.meaning kept journal.old journal.new) }
     ensures read_over { IsReadOver (J.meaning.state_of journal.old)

@@ -3,8 +3,8 @@
 ghost use Rattle.std.specs.Prelude.{◌≡◌, ◌⊎◌, ℕ, List};
 ghost use Rattle.duk_commands.specs.Fault.{report_line};
 ghost use Rattle.duk_io.specs.Sink.{IsHandedOn, IsTried, IsUntouched};
-ghost use Rattle.duk_service.specs.HandedOn.{IsFlushReported, IsReportedAfter};
-ghost use Rattle.duk_service.specs.Serve.{serve_line};
+ghost use Rattle.duk_service.specs.HandedOn.{AreTried, IsFlushReported, IsReportedAfter, IsReportedBeside};
+ghost use Rattle.duk_service.specs.Serve.{is_of_store, serve_line};
 ghost use Rattle.duk_service.specs.ServeJournal.{journal_line};
 
 use duk_commands::{Fault, report};
@@ -53,6 +53,20 @@ fn host_line(why: HostFault) -> &'static str
         HostFault::Write => "serve: write failed\n",
         HostFault::Truncated => "serve: input ends in a frame\n",
         HostFault::TooLong => "serve: frame too long\n",
+    }
+}
+
+/// Whether a host's fault is one of its log or journal.
+pub(crate) fn is_of_store(why: HostFault) -> bool
+    ensures { result ≡ is_of_store why }
+{
+    match why {
+        HostFault::Store(_) | HostFault::Stopped => true,
+        HostFault::NoMemory
+        | HostFault::Read
+        | HostFault::Write
+        | HostFault::Truncated
+        | HostFault::TooLong => false,
     }
 }
 
@@ -117,4 +131,34 @@ pub fn report_after<T: EndingFault, W: Sink, F: Sink>(
         Ok(()) => why.report(fault),
         Err(_) => lost.report(fault),
     }
+}
+
+/// Hands on what was written before a fault of a store, and gives the status 1: with the line of that
+/// fault, and behind it that of `lost` where it cannot be handed on.
+pub fn report_beside<T: EndingFault, W: Sink, F: Sink>(
+    why: &T,
+    lost: &T,
+    output: &mut W,
+    fault: &mut F,
+) -> u8
+    ensures status { result ≡ 1 }
+    ensures handed_on { IsHandedOn (W.held_back output.new)
+        ⊎ AreTried (T.line why.now) (T.line lost.now) (F.known fault.old) (F.known fault.new) }
+    ensures reported { IsReportedBeside (T.line why.now) (T.line lost.now)
+        (W.known output.old) (W.known output.new) (F.known fault.old) (F.known fault.new) }
+{
+    if output.flush().is_ok() {
+        return why.report(fault);
+    }
+    report_both(why, lost, fault)
+}
+
+/// Writes the lines of two faults, and gives the status 1.
+fn report_both<T: EndingFault, F: Sink>(first: &T, second: &T, fault: &mut F) -> u8
+    ensures status { result ≡ 1 }
+    ensures lines { AreTried (T.line first.now) (T.line second.now)
+        (F.known fault.old) (F.known fault.new) }
+{
+    let _ = first.report(fault);
+    second.report(fault)
 }

@@ -2,11 +2,12 @@
 //! say what a file holds.
 
 ghost use Rattle.std.specs.Prelude.{◌≡◌, ℕ, List, None, IfOk, IfErr, IfSome};
-ghost use Rattle.duk_service.specs.Files.{FileKnown, IsFileRead, IsFileUnread, IsFrontRead, IsFrontUnread, IsLineRead, IsLineUnread, without_return};
+ghost use Rattle.duk_service.specs.Files.{FileKnown, HasBytes, IsFileRead, IsFileUnread, IsFrontRead, IsFrontUnread, IsLineRead, IsLineUnread, without_return};
 ghost use Rattle.duk_service.specs.Reasons.{IsReason, ReasonKnown};
 
 use duk_explain::Reason;
 use std::alloc::Global;
+use std::fs::OpenFile;
 use std::io::{ErrorKind, Read};
 use std::rt::Files;
 use std::{fs, io};
@@ -40,6 +41,12 @@ pub trait FileSystem {
             (λ bytes. IsFileRead (held self.now path.now) most bytes.items) }
         ensures refused { IfErr result (IsFileUnread (held self.now path.now) most) };
 
+    /// All bytes of the file under a path, however many; of a pipe or a device, which does not tell
+    /// its size before it is read, where they are at most so many.
+    fn read_stored(&self, alloc: Global, path: &str, most: usize) -> Result<Vec<u8>, FileFault>
+        ensures read { IfOk result (λ bytes. HasBytes (held self.now path.now) bytes.items) }
+        ensures refused { IfErr result (IsFileUnread (held self.now path.now) most) };
+
     /// The first bytes of the file under a path, exactly so many.
     fn read_front(&self, alloc: Global, path: &str, count: usize) -> Result<Vec<u8>, FileFault>
         ensures read { IfOk result
@@ -70,9 +77,18 @@ impl<R: Files> FileSystem for R {
     ghost reading = { λ _ _. None };
 
     fn read_file(&self, alloc: Global, path: &str, most: usize) -> Result<Vec<u8>, FileFault> {
-        match read_at_most(self, alloc, path, (most as u64).saturating_add(1)) {
-            Ok(bytes) if bytes.len() <= most => Ok(bytes),
+        match read_sized(self, alloc, path, most as u64, most as u64) {
+            Ok(Some(bytes)) if bytes.len() <= most => Ok(bytes),
             Ok(_) => Err(FileFault::TooLong),
+            Err(error) if error.kind() == ErrorKind::OutOfMemory => Err(FileFault::NoMemory),
+            Err(_) => Err(FileFault::CannotRead),
+        }
+    }
+
+    fn read_stored(&self, alloc: Global, path: &str, most: usize) -> Result<Vec<u8>, FileFault> {
+        match read_sized(self, alloc, path, u64::MAX, most as u64) {
+            Ok(Some(bytes)) => Ok(bytes),
+            Ok(None) => Err(FileFault::TooLong),
             Err(error) if error.kind() == ErrorKind::OutOfMemory => Err(FileFault::NoMemory),
             Err(_) => Err(FileFault::CannotRead),
         }
@@ -120,6 +136,37 @@ pub(crate) fn reason_of(error: &io::Error) -> Reason {
         ErrorKind::IsADirectory => Reason::Folder,
         _ => Reason::Other,
     }
+}
+
+/// All bytes of a file; none where it has more than so many, or, as a pipe or a device, more than so
+/// many others. A file that is too long is not read, and one that is not takes the memory of its
+/// bytes, and of one behind them at which its end is seen.
+fn read_sized<R: Files>(
+    files: &R,
+    alloc: Global,
+    path: &str,
+    most_stored: u64,
+    most_others: u64,
+) -> io::Result<Option<Vec<u8>>> {
+    let file = fs::open(files, path)?;
+    let metadata = file.metadata()?;
+    let (size, most) = if metadata.is_file() {
+        (metadata.len(), most_stored)
+    } else {
+        (0, most_others)
+    };
+    if size > most {
+        return Ok(None);
+    }
+    let mut bytes = Vec::new(alloc);
+    if size > 0 {
+        bytes.reserve_exact((size as usize).saturating_add(1))?;
+    }
+    file.take(most.saturating_add(1)).read_to_end(&mut bytes)?;
+    if bytes.len() as u64 > most {
+        return Ok(None);
+    }
+    Ok(Some(bytes))
 }
 
 /// The first bytes of a file, so many at most.

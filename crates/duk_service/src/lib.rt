@@ -1,21 +1,26 @@
-//! The service of a host over a log or a journal, the commands that make journals, and the files
-//! that they stand on.
+//! The service of a host over a log or a journal, the commands that make these, and the files that
+//! they stand on.
 #![tactic(auto)]
 
 pub mod copy_journal;
 mod ending;
 mod file_system;
+mod left_records;
+mod line_file;
 mod log_files;
+pub mod new_file;
 mod new_files;
-pub mod new_journal;
+mod own_files;
 mod serve;
 mod serve_journal;
 mod serve_journal_files;
 mod serve_log_files;
 
-pub use ending::{EndingFault, hand_on, report_after};
+pub use ending::{EndingFault, hand_on, report_after, report_beside};
 pub use file_system::{FileFault, FileSystem, strip_return};
+pub use left_records::RecordFormat;
 pub use log_files::LogFiles;
+pub use own_files::{Access, OpenFault, open_own, strange_in};
 pub use serve::serve_with;
 pub use serve_journal::serve_with_journal;
 pub use serve_journal_files::serve_on_journal;

@@ -3,13 +3,16 @@
 
 ghost use Rattle.std.proofs.Common.{rules};
 ghost use Rattle.std.specs.Prelude.{ℕ, List, None, Some, IfOk, OnErr, OnOk};
+ghost use Rattle.duk_io.specs.Sink.{IsHandedOn};
 ghost use Rattle.duk_service.specs.HostSize.{IsSmall};
-ghost use Rattle.duk_service.specs.LogFiles.{BeginsUnfinished, DiskKnown, IsDisk, IsFolderSynced, IsFolderUnsynced, IsNoDisk, MakingKnown, unknown_making};
+ghost use Rattle.duk_service.specs.LogFiles.{AreLinesMade, AreNoLines, BeginsUnfinished, BeginsZero, DiskKnown, IsDisk, IsFolderSynced, IsFolderUnsynced, IsNoDisk, MakingKnown, unknown_making};
 ghost use Rattle.duk_service.specs.Reasons.{IsReason, ReasonKnown};
 
 use crate::file_system::{is_regular, reason_of};
-use crate::new_files::{make_file, making_reason, open_file, remove_file, sync_folder_of};
+use crate::line_file::{LineFile, make_line_file, remove_empty_file};
+use crate::new_files::{Begin, make_file, making_reason, open_file, remove_file, sync_folder_of};
 use duk_explain::Reason;
+use duk_io::Sink;
 use duk_store::{Disk, FileDisk, StoreFault};
 use std::fs::{File, OpenOptions, TryLockError};
 use std::rt::Files;
@@ -22,6 +25,9 @@ use std::rt::Files;
 pub trait LogFiles {
     /// The disks over these files.
     type Disk: Disk;
+
+    /// The writers of lines to new files.
+    type Lines: Sink + Drop;
 
     /// What there is under a path, where the files make it known: a disk, or none that can be
     /// opened.
@@ -63,12 +69,33 @@ pub trait LogFiles {
             (λ disk. BeginsUnfinished (Self.Disk.meaning.state_of disk)) }
         ensures refused { OnErr result (IsNoDisk ((making self.now path.now).disk size)) };
 
+    /// The same over a new file of zeros, which a log begins with.
+    fn make_zeros(&self, path: &str, size: u64) -> Result<Self::Disk, StoreFault>
+        ensures made { IfOk result (IsDisk ((making self.now path.now).disk size)) }
+        ensures zeros { IfOk result (λ disk. BeginsZero (Self.Disk.meaning.state_of disk)) }
+        ensures refused { OnErr result (IsNoDisk ((making self.now path.now).disk size)) };
+
     /// Syncs the folder of a path, so that a file which was made there is found after a stop.
     ///
     /// Refused with `Device` where it cannot be synced.
     fn sync_folder(&self, path: &str) -> Result<(), StoreFault>
         ensures synced { OnOk result (IsFolderSynced (making self.now path.now).folder) }
         ensures refused { OnErr result (IsFolderUnsynced (making self.now path.now).folder) };
+
+    /// A writer of lines to a new file under a path, whose folder is synced. Each write to it is on
+    /// the medium when it ends.
+    ///
+    /// Refused with `Device` where no file can be made, or its folder cannot be synced. One that is
+    /// there is never opened.
+    fn make_lines(&self, path: &str) -> Result<Self::Lines, StoreFault>
+        ensures made { IfOk result (λ lines.
+            AreLinesMade (making self.now path.now).lines (Self.Lines.known lines)) }
+        ensures handed_on { IfOk result (λ lines. IsHandedOn (Self.Lines.held_back lines)) }
+        ensures refused { OnErr result (AreNoLines (making self.now path.now).lines) };
+
+    /// Ends the writer of lines to a file that was made under a path, and removes the file where it
+    /// has no bytes, if it can be removed. That it does rests on being read.
+    fn remove_empty(&self, path: &str, lines: Self::Lines);
 
     /// Removes a file that was made under a path, with the disk over it, if it can be removed. That
     /// it does rests on being read.
@@ -84,6 +111,8 @@ pub trait LogFiles {
 
 impl<R: Files<File = File>> LogFiles for R {
     type Disk = FileDisk;
+
+    type Lines = LineFile;
 
     ghost disks = { λ _ _. None };
 
@@ -104,11 +133,23 @@ impl<R: Files<File = File>> LogFiles for R {
     }
 
     fn make_disk(&self, path: &str, size: u64) -> Result<FileDisk, StoreFault> {
-        make_file(self, path, size).map_err(|_| StoreFault::Device)
+        make_file(self, path, size, Begin::Unfinished).map_err(|_| StoreFault::Device)
+    }
+
+    fn make_zeros(&self, path: &str, size: u64) -> Result<FileDisk, StoreFault> {
+        make_file(self, path, size, Begin::Zeros).map_err(|_| StoreFault::Device)
     }
 
     fn sync_folder(&self, path: &str) -> Result<(), StoreFault> {
         sync_folder_of(self, path).map_err(|_| StoreFault::Device)
+    }
+
+    fn make_lines(&self, path: &str) -> Result<LineFile, StoreFault> {
+        make_line_file(self, path).map_err(|_| StoreFault::Device)
+    }
+
+    fn remove_empty(&self, path: &str, _lines: LineFile) {
+        remove_empty_file(self, path);
     }
 
     fn remove_made(&self, path: &str, _disk: FileDisk) {

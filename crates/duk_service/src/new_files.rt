@@ -32,15 +32,25 @@ fn disk_over(file: File, size: u64) -> FileDisk {
     MediumDisk::over(FileMedium::over(ahead, size), size)
 }
 
+/// How the bytes of a new file begin.
+#[derive(Clone, Copy)]
+pub(crate) enum Begin {
+    /// As those of no journal.
+    Unfinished,
+    /// With zeros, as all of them are: a log that keeps nothing.
+    Zeros,
+}
+
 /// A disk over a new file of so many bytes, which this process alone has locked. Where a file is
 /// there already it stays as it is.
 pub(crate) fn make_file<R: Files<File = File>>(
     files: &R,
     path: &str,
     size: u64,
+    begin: Begin,
 ) -> io::Result<FileDisk> {
     let file = open_new(files, path)?;
-    match lock_sized(&file, size) {
+    match lock_sized(&file, size, begin) {
         Ok(()) => Ok(disk_over(file, size)),
         Err(error) => {
             remove_file(files, path);
@@ -51,7 +61,7 @@ pub(crate) fn make_file<R: Files<File = File>>(
 
 /// A file under a path where there is none, not even a link. Its owner alone may read and write it:
 /// a journal has amounts and MACs.
-fn open_new<R: Files<File = File>>(files: &R, path: &str) -> io::Result<File> {
+pub(crate) fn open_new<R: Files<File = File>>(files: &R, path: &str) -> io::Result<File> {
     OpenOptions::new()
         .read(true)
         .write(true)
@@ -60,13 +70,15 @@ fn open_new<R: Files<File = File>>(files: &R, path: &str) -> io::Result<File> {
         .open(files, path)
 }
 
-/// Locks a new file, and gives it so many bytes, which are synced. The first of them is 1, and on the
-/// medium before there are more, which are zeros: a file that begins so is no journal
+/// Locks a new file, and gives it so many bytes, which are synced. The first byte of an unfinished one
+/// is 1, and on the medium before there are more, which are zeros: a file that begins so is no journal
 /// (`duk_copy::laws::unfinished`), however soon its writer is stopped.
-fn lock_sized(file: &File, size: u64) -> io::Result<()> {
+fn lock_sized(file: &File, size: u64, begin: Begin) -> io::Result<()> {
     file.try_lock()?;
-    file.write_all_at(&[1], 0)?;
-    file.sync_data()?;
+    if let Begin::Unfinished = begin {
+        file.write_all_at(&[1], 0)?;
+        file.sync_data()?;
+    }
     file.set_len(size)?;
     file.sync_data()
 }

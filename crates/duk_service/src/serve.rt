@@ -9,13 +9,14 @@ ghost use Rattle.std.specs.Prelude.{◌≡◌, ◌⊎◌, IfErr, IfOk};
 ghost use Rattle.duk_host.specs.Host.{host_meaning_of};
 ghost use Rattle.duk_config.specs.NewHost.{new_host_of};
 ghost use Rattle.duk_host.specs.declared.fault.HostFault.{HostFault};
-ghost use Rattle.duk_io.specs.Sink.{IsHandedOn, IsTried, IsUntouched};
+ghost use Rattle.duk_io.specs.Sink.{IsHandedOn, IsUntouched};
+ghost use Rattle.duk_service.specs.HandedOn.{IsLossTold};
 ghost use Rattle.duk_service.specs.HostSize.{HostFits, HostsFit};
 ghost use Rattle.duk_service.specs.Serve.{HasNotServed, HasServed, HostRefused, IsServedUp, ServeRefused, over_log, serve_line, serving_of};
 ghost use Rattle.duk_tdes.specs.KeyBytes.{bytes_of};
 ghost use Rattle.duk_tdes.specs.Tdes.{IsTdesLength};
 
-use crate::ending::{hand_on, report_after};
+use crate::ending::{hand_on, is_of_store, report_after, report_beside};
 use duk_config::{Config, new_host};
 use duk_host::{Host, HostFault, Issuer, serve};
 use duk_io::{Sink, Source};
@@ -33,7 +34,8 @@ use std::alloc::{AllocError, Global};
 /// they come, `serve: read failed`, also after 1,000,000 reads, `serve: input ends in a frame`,
 /// `serve: frame too long`, `log: failed`, and `serve: write failed`. Where memory is refused,
 /// `out of memory` stands in place of any. At the end `output` is flushed; where it cannot hand on
-/// what it holds back, `serve: write failed` stands in place of any.
+/// what it holds back, `serve: write failed` stands in place of any but `log: failed`, and behind
+/// that.
 pub fn serve_with<L: UsedLog, R: Source, W: Sink, F: Sink>(
     alloc: Global,
     config: &Config,
@@ -49,7 +51,8 @@ pub fn serve_with<L: UsedLog, R: Source, W: Sink, F: Sink>(
     ensures no_fault { result ≡ 0 → IsUntouched (F.known fault.old) (F.known fault.new) }
     ensures handed_on { result ≡ 0 → IsHandedOn (W.held_back output.new) }
     ensures handed_on_at_fault { result ≡ 1 → IsHandedOn (W.held_back output.new)
-        ⊎ IsTried (F.known fault.old) (F.known fault.new) (serve_line HostFault.Write) }
+        ⊎ IsLossTold (serve_line HostFault.Stopped) (serve_line HostFault.Write)
+        (F.known fault.old) (F.known fault.new) }
     ensures not_done { result ≡ 1 → HasNotServed (over_log L.meaning) (new_host_of config.now log)
         (serving_of R.known R.reads W.known input.old input.new output.old output.new)
         (F.known fault.old) (F.known fault.new) }
@@ -57,6 +60,7 @@ pub fn serve_with<L: UsedLog, R: Source, W: Sink, F: Sink>(
     duk_io::laws::writes();
     match serve_config(alloc, config, log, input, output) {
         Ok(_) => hand_on(&HostFault::Write, output, fault),
+        Err(why) if is_of_store(why) => report_beside(&why, &HostFault::Write, output, fault),
         Err(why) => report_after(&why, &HostFault::Write, output, fault),
     }
 }

@@ -5,15 +5,16 @@
 
 ghost use Rattle.std.specs.Prelude.{◌≡◌, ◌⊎◌, IfErr, IfOk, OnOk};
 ghost use Rattle.duk_host.specs.declared.fault.HostFault.{HostFault};
-ghost use Rattle.duk_io.specs.Sink.{IsHandedOn, IsTried, IsUntouched};
+ghost use Rattle.duk_io.specs.Sink.{IsHandedOn, IsUntouched};
 ghost use Rattle.duk_line.specs.Host.{host_meaning_of};
+ghost use Rattle.duk_service.specs.HandedOn.{IsLossTold};
 ghost use Rattle.duk_service.specs.HostSize.{JournalHostFits, JournalHostsFit};
 ghost use Rattle.duk_service.specs.Serve.{serving_of};
 ghost use Rattle.duk_service.specs.ServeJournal.{HasNotServedJournal, HasServedJournal, IsJournalServed, JournalServiceRefused, journal_host_of, journal_line, over_journal};
 ghost use Rattle.duk_tdes.specs.KeyBytes.{bytes_of};
 ghost use Rattle.duk_tdes.specs.Tdes.{IsTdesLength};
 
-use crate::ending::{JournalFault, hand_on, report_after};
+use crate::ending::{JournalFault, hand_on, is_of_store, report_after, report_beside};
 use duk_config::{Config, open_hsm};
 use duk_host::{HostFault, Issuer, TableIssuer};
 use duk_io::{Sink, Source};
@@ -30,9 +31,10 @@ use std::alloc::{AllocError, Global};
 ///
 /// The faults: `journal: failed` where the journal does not come up, and then nothing is read; then,
 /// as they come, `serve: read failed`, `serve: input ends in a frame`, `serve: frame too long`,
-/// `journal: failed`, and `serve: write failed`. Where memory is refused, `out of memory` stands in
-/// place of any. At the end `output` is flushed; where it cannot hand on what it holds back,
-/// `serve: write failed` stands in place of any.
+/// `journal: failed`, and `serve: write failed`. Where memory is refused, the line is `out of memory`;
+/// but where that is at a frame, and the answers to those before it cannot be written, it is `serve:
+/// write failed`. At the end `output` is flushed; where it cannot hand on what it holds back, `serve:
+/// write failed` stands in place of any but `journal: failed`, and behind that.
 pub fn serve_with_journal<J: Journal, R: Source, W: Sink, F: Sink>(
     alloc: Global,
     config: &Config,
@@ -49,7 +51,8 @@ pub fn serve_with_journal<J: Journal, R: Source, W: Sink, F: Sink>(
     ensures no_fault { result ≡ 0 → IsUntouched (F.known fault.old) (F.known fault.new) }
     ensures handed_on { result ≡ 0 → IsHandedOn (W.held_back output.new) }
     ensures handed_on_at_fault { result ≡ 1 → IsHandedOn (W.held_back output.new)
-        ⊎ IsTried (F.known fault.old) (F.known fault.new) (journal_line HostFault.Write) }
+        ⊎ IsLossTold (journal_line HostFault.Stopped) (journal_line HostFault.Write)
+        (F.known fault.old) (F.known fault.new) }
     ensures not_done { result ≡ 1 → HasNotServedJournal (over_journal J.meaning)
         (journal_host_of config.now journal)
         (serving_of R.known R.reads W.known input.old input.new output.old output.new)
@@ -61,6 +64,7 @@ pub fn serve_with_journal<J: Journal, R: Source, W: Sink, F: Sink>(
     };
     match serve_config(alloc, config, journal, input, output) {
         Ok(()) => hand_on(&lost, output, fault),
+        Err(why) if is_of_store(why) => report_beside(&JournalFault { why }, &lost, output, fault),
         Err(why) => report_after(&JournalFault { why }, &lost, output, fault),
     }
 }

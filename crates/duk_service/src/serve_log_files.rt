@@ -4,17 +4,20 @@ ghost use Rattle.std.specs.Prelude.{◌≡◌, ◌⊎◌};
 ghost use Rattle.duk_config.specs.NewHost.{new_host_of};
 ghost use Rattle.duk_host.specs.declared.fault.HostFault.{HostFault};
 ghost use Rattle.duk_io.specs.Sink.{IsHandedOn, IsTried, IsUntouched};
+ghost use Rattle.duk_service.specs.HandedOn.{IsLossTold};
 ghost use Rattle.duk_service.specs.Serve.{HasNotServed, HasServed, over_log, serve_line, serving_of};
-ghost use Rattle.duk_service.specs.ServeLogFiles.{IsServedOnDisk, IsUnservedOnDisk, unopened_line};
+ghost use Rattle.duk_service.specs.ServeLogFiles.{IsServedOnDisk, IsUnservedOnDisk, log_open_line};
 ghost use Rattle.duk_store.specs.MemoryLog.{memory_log_meaning, new_log};
 
 use crate::ending::EndingFault;
+use crate::left_records::RecordFormat;
 use crate::log_files::LogFiles;
+use crate::own_files::{Access, OpenFault, open_own};
 use crate::serve::serve_with;
 use duk_config::Config;
 use duk_host::HostFault;
 use duk_io::{Sink, Source, write_text};
-use duk_store::{Disk, DiskLog, MemLog};
+use duk_store::{Disk, DiskLog, MemLog, StoreFault};
 use std::alloc::Global;
 
 /// Serves over a log in memory, which has the room that the configuration says.
@@ -33,7 +36,8 @@ pub fn serve_in_memory<R: Source, W: Sink, F: Sink>(
     ensures handed_on { result ≡ 0 → IsHandedOn (W.held_back output.new) }
     ensures handed_on_at_fault { result ≡ 1 → IsHandedOn (W.held_back output.old)
         → IsHandedOn (W.held_back output.new)
-        ⊎ IsTried (F.known fault.old) (F.known fault.new) (serve_line HostFault.Write) }
+        ⊎ IsLossTold (serve_line HostFault.Stopped) (serve_line HostFault.Write)
+        (F.known fault.old) (F.known fault.new) }
     ensures not_done { result ≡ 1 → HasNotServed (over_log memory_log_meaning)
         (new_host_of config.now (new_log config.now.log))
         (serving_of R.known R.reads W.known input.old input.new output.old output.new)
@@ -46,8 +50,8 @@ pub fn serve_in_memory<R: Source, W: Sink, F: Sink>(
     }
 }
 
-/// Serves over a log in the file under a path. What the configuration says of the log's room is not
-/// used.
+/// Serves over a log in the file under a path, which is opened where a log left it. What the
+/// configuration says of the log's room is not used.
 pub fn serve_on_file<S: LogFiles, R: Source, W: Sink, F: Sink>(
     alloc: Global,
     files: &S,
@@ -64,22 +68,29 @@ pub fn serve_on_file<S: LogFiles, R: Source, W: Sink, F: Sink>(
     ensures handed_on { result ≡ 0 → IsHandedOn (W.held_back output.new) }
     ensures handed_on_at_fault { result ≡ 1 → IsHandedOn (W.held_back output.old)
         → IsHandedOn (W.held_back output.new)
-        ⊎ IsTried (F.known fault.old) (F.known fault.new) (serve_line HostFault.Write) }
+        ⊎ IsLossTold (serve_line HostFault.Stopped) (serve_line HostFault.Write)
+        (F.known fault.old) (F.known fault.new) }
     ensures not_done { result ≡ 1 → IsUnservedOnDisk S.Disk.meaning (S.disks files.now path.now)
         config.now (serving_of R.known R.reads W.known input.old input.new output.old output.new)
         (F.known fault.old) (F.known fault.new) }
 {
-    match files.open_disk(path) {
+    match open_own(files, path, RecordFormat::Log, Access::Write) {
         Ok(disk) => serve_with(alloc, config, DiskLog::new(disk), input, output, fault),
-        Err(_) => refuse_log(fault),
+        Err(why) => refuse_log(why, fault),
     }
 }
 
-/// Reports that the file of a log cannot be opened, and gives the status 1.
-fn refuse_log<F: Sink>(fault: &mut F) -> u8
+/// Reports that the file of a log is not opened, and gives the status 1.
+fn refuse_log<F: Sink>(why: OpenFault, fault: &mut F) -> u8
     ensures status { result ≡ 1 }
-    ensures line { IsTried (F.known fault.old) (F.known fault.new) unopened_line }
+    ensures line { IsTried (F.known fault.old) (F.known fault.new) (log_open_line why) }
 {
-    let _ = write_text(fault, b"log: cannot open\n");
-    1
+    match why {
+        OpenFault::Unopened => {
+            let _ = write_text(fault, b"log: cannot open\n");
+            1
+        }
+        OpenFault::Failed => HostFault::Store(StoreFault::Device).report(fault),
+        OpenFault::Foreign => HostFault::Store(StoreFault::Damaged).report(fault),
+    }
 }

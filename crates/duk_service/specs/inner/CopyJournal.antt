@@ -6,15 +6,22 @@ use Rattle.duk_journal.specs.DiskJournal.{DiskJournalOf, disk_journal_meaning, n
 use Rattle.duk_journal.specs.Groups.{Entries, KeepsEntries}
 use Rattle.duk_journal.specs.Journal.{JournalMeaning}
 use Rattle.duk_line.specs.Check.{CheckRefused, IsChecked}
-use Rattle.duk_service.specs.CopyJournal.{IsCopyRefused, IsFilledUnchecked, IsOtherJournal}
-use Rattle.duk_service.specs.LogFiles.{FolderKnown, IsDisk, IsFolderSynced, IsFolderUnsynced, MakingKnown}
-use Rattle.duk_service.specs.NewJournal.{IsNoneOrWhole, IsUnmade}
+use Rattle.duk_line.specs.declared.check.Checked.{Checked}
+use Rattle.duk_service.specs.CopyJournal.{IsCopyRefused, IsFilledUnchecked, IsNoOwnJournal, IsOtherJournal}
+use Rattle.duk_service.specs.LogFiles.{DiskKnown, FolderKnown, IsDisk, IsFolderSynced, IsFolderUnsynced, IsNoDisk, MakingKnown}
+use Rattle.duk_service.specs.NewFile.{IsNoneOrWhole, IsUnmade}
 use Rattle.duk_service.specs.declared.copy_journal.CopyJournalFault.{CopyJournalFault}
 use Rattle.duk_service.specs.declared.copy_journal.CopyJournalFault.TheVariants as fault
 use Rattle.duk_store.specs.Disk.{DiskMeaning, DiskState, HasFailed}
 use Rattle.duk_store.specs.StoreState.{FindsWithin, StoreState}
 use Rattle.duk_store.specs.declared.fault.StoreFault.{StoreFault}
 use Rattle.duk_store.specs.declared.fault.StoreFault.TheVariants.{Device}
+
+-- why OLD's disk is not opened
+abbrev pub IsOldUnopened : {D : Type 0} → DiskMeaning D → DiskKnown D → CopyJournalFault → Type 0
+IsOldUnopened meaning known fault.Unopened = IsNoDisk known
+IsOldUnopened meaning known fault.Failed = IsNoOwnJournal meaning known
+IsOldUnopened meaning known _ = ⊥
 
 -- why a journal is not checked
 abbrev pub IsNotChecked : {J : Type 0} → JournalMeaning J → J → J → CopyJournalFault → Type 0
@@ -47,28 +54,29 @@ pub record IsReadOver (old new : StoreState Entries) : Type 0 where
   pub sound : old.honest → old.sound → new.sound
   pub within : old.honest → FindsWithin new old.found
 
--- why a journal is not checked, with so many entries
-abbrev pub NewNotChecked : {J : Type 0} → JournalMeaning J → ℕ → J → J → CopyJournalFault → Type 0
+-- why a journal is not checked, with so many entries and their check sum
+abbrev pub NewNotChecked : {J : Type 0} → JournalMeaning J → Checked → J → J → CopyJournalFault
+    → Type 0
 NewNotChecked meaning kept old new fault.OutOfMemory = ⊤
 NewNotChecked meaning kept old new fault.Unmade = IsOtherJournal meaning kept old new
 NewNotChecked meaning kept old new _ = ⊥
 
 -- why a journal is not checked, or its folder not synced
-abbrev pub CheckedNotKept : {J : Type 0} → JournalMeaning J → FolderKnown → ℕ → J → J
+abbrev pub CheckedNotKept : {J : Type 0} → JournalMeaning J → FolderKnown → Checked → J → J
     → CopyJournalFault → Type 0
 CheckedNotKept meaning folder kept old new fault.OutOfMemory = ⊤
 CheckedNotKept meaning folder kept old new fault.Unmade =
     IsOtherJournal meaning kept old new ⊎ IsFolderUnsynced folder
 CheckedNotKept meaning folder kept old new _ = ⊥
 
--- a written disk is checked, with so many entries
-pub record IsNewChecked {D : Type 0} (meaning : DiskMeaning D) (kept : ℕ) (filled : D)
+-- a written disk is checked, with so many entries and their check sum
+pub record IsNewChecked {D : Type 0} (meaning : DiskMeaning D) (kept : Checked) (filled : D)
     : Type 0 where
   pub last : DiskJournalOf D
   pub checked : IsChecked (disk_journal_meaning meaning) (new_disk_journal filled) last kept
 
 -- why a written disk is not kept, over which a journal was read
-pub record NewNotKept {D : Type 0} (meaning : DiskMeaning D) (folder : FolderKnown) (kept : ℕ)
+pub record NewNotKept {D : Type 0} (meaning : DiskMeaning D) (folder : FolderKnown) (kept : Checked)
     (filled : D) (why : CopyJournalFault) : Type 0 where
   pub last : DiskJournalOf D
   pub read_over : IsReadOver ((disk_journal_meaning meaning).state_of (new_disk_journal filled))
@@ -78,11 +86,11 @@ pub record NewNotKept {D : Type 0} (meaning : DiskMeaning D) (folder : FolderKno
 
 -- a file of this size is made, with so many entries of a disk, and checked
 pub record IsCopyMade {D : Type 0} (meaning : DiskMeaning D) (making : MakingKnown D)
-    (size kept : ℕ) (old : DiskState) : Type 0 where
+    (size : ℕ) (kept : Checked) (old : DiskState) : Type 0 where
   pub made : D
   pub filled : D
   pub is_made : IsDisk (making.disk size) made
-  pub written : IsCopyWritten size kept old (meaning.state_of made) (meaning.state_of filled)
+  pub written : IsCopyWritten size kept.count old (meaning.state_of made) (meaning.state_of filled)
   pub kept_is : IsNewChecked meaning kept filled
   pub synced : IsFolderSynced making.folder
 
@@ -96,13 +104,13 @@ pub record IsCopyUnread {D : Type 0} (meaning : DiskMeaning D) (making : MakingK
   pub left_is : IsNoneOrKept kept old (meaning.state_of made) (meaning.state_of last)
 
 -- why none is
-abbrev pub CopyNotMade : {D : Type 0} → DiskMeaning D → MakingKnown D → ℕ → ℕ → DiskState
+abbrev pub CopyNotMade : {D : Type 0} → DiskMeaning D → MakingKnown D → ℕ → Checked → DiskState
     → DiskState → CopyJournalFault → Type 0
 CopyNotMade meaning making size kept old old' fault.OutOfMemory =
-    IsFilledUnchecked meaning (making.disk size) kept old (IsNoneOrKept kept old)
+    IsFilledUnchecked meaning (making.disk size) kept.count old (IsNoneOrKept kept.count old)
 CopyNotMade meaning making size kept old old' fault.Failed =
-    IsCopyUnread meaning making size kept old old'
+    IsCopyUnread meaning making size kept.count old old'
 CopyNotMade meaning making size kept old old' fault.Unmade =
-    IsUnmade meaning making size (IsNoneOrKept kept old)
-    ⊎ IsCopyRefused meaning (making.disk size) kept old (IsNoneOrKept kept old)
+    IsUnmade meaning making size (IsNoneOrKept kept.count old)
+    ⊎ IsCopyRefused meaning (making.disk size) kept old (IsNoneOrKept kept.count old)
 CopyNotMade meaning making size kept old old' _ = ⊥

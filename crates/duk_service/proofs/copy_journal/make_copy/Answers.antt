@@ -2,15 +2,19 @@ use Rattle.std.proofs.Common.{subst}
 use Rattle.duk_journal.specs.DiskJournal.{disk_journal_meaning}
 use Rattle.duk_line.specs.Check.{IsChecked}
 use Rattle.duk_service.specs.inner.CopyJournal.{CopyNotMade, IsCopyMade, IsNotChecked}
-use Rattle.duk_service.proofs.CopiedJournal.{has_copied, not_checked, not_copied}
+use Rattle.duk_service.proofs.CopiedJournal.{has_copied, not_checked, not_copied, not_opened}
 use Rattle.duk_service.proofs.Results.{if_err, on_ok}
 use Rattle.duk_service.proofs.copy_journal.make_copy.Goals as goal
 
 pub returns-in-Err-clause-refused : goal.returns-in-Err-clause-refused
 returns-in-Err-clause-refused g c =
+    not_opened g.S.Disk.Disk.meaning (g.S.LogFiles.disks c.args.files.now c.args.old.now) (g.S.LogFiles.making c.args.files.now c.args.new.now) c.in-Err.why c.in-Err.ensures.refused
+
+pub returns-in-Err-check-clause-refused : goal.returns-in-Err-check-clause-refused
+returns-in-Err-check-clause-refused g c =
     let meaning = g.S.Disk.Disk.meaning in
-    not_checked meaning _ _ c.in-Ok.disk c.check.new.journal c.in-Err.why c.in-Ok.ensures.opened
-    (subst (λ journal. IsNotChecked (disk_journal_meaning meaning) journal c.check.new.journal c.in-Err.why) c.in-Ok-new.ensures.journal c.in-Err.ensures.refused)
+    not_checked meaning _ _ c.in-Ok.disk c.check.new.journal c.in-Err-check.why c.in-Ok.ensures.opened
+    (subst (λ journal. IsNotChecked (disk_journal_meaning meaning) journal c.check.new.journal c.in-Err-check.why) c.in-Ok-new.ensures.journal c.in-Err-check.ensures.refused)
 
 pub returns-clause-made : goal.returns-clause-made
 returns-clause-made g c =

@@ -1,0 +1,59 @@
+use Rattle.std.proofs.Common.{◌≡◌, ◌∙◌, ◌+◌, ◌*◌, ◌<◌, List, ℕ, true, false, arith, length, subst, sym}
+use Rattle.duk_service.specs.LeftRecords.{AreClosedFrom, AreInGroups, record_length}
+use Rattle.duk_service.specs.inner.LeftRecords.{HasLast}
+use Rattle.duk_service.specs.declared.left_records.Mark.TheVariants.{Used}
+use Rattle.duk_service.proofs.LeftRecords.{blank_seen, foreign_seen, last_used, used_left}
+use Rattle.duk_service.proofs.left_records.look_at_records.Goals as goal
+use Rattle.duk_service.proofs.left_records.look_at_records.Goals.{else-last-kept-via-then-last-kept+else-may_stand, else-last-kept-via-else-last-kept}
+
+pub returns-in-None-clause-seen : goal.returns-in-None-clause-seen
+returns-in-None-clause-seen g c honest =
+    let disk = c.find_last.new.disk in
+    let d = g.D.Disk.meaning.state_of disk in
+    let size : length d.reads ≡ record_length c.args.format * c.args.records =
+    g.D.Disk.leaves_its_size disk honest d.reads (g.D.Disk.reads_may_stay disk honest) ∙ c.in_ok-find_last.ensures.nature.size ∙ c.requires.size in
+    blank_seen c.args.format c.args.records d.reads c.in_ok-find_last.field-0 c.in-None.is c.requires.some size (c.in_ok-find_last.ensures.found honest)
+
+pub returns-then-may_stand-clause-seen : goal.returns-then-may_stand-clause-seen
+returns-then-may_stand-clause-seen g c honest =
+    let disk = c.find_last-2.new.disk in
+    let d = g.D.Disk.meaning.state_of disk in
+    let one = c.in_ok-find_last.ensures in
+    let two = c.in_ok-kept.ensures in
+    let three = c.in_ok-gated.ensures in
+    let honest_two = three.nature.honest.1 honest in
+    let honest_one = two.nature.honest.1 honest_two in
+    let size : length d.reads ≡ record_length c.args.format * c.args.records =
+    g.D.Disk.leaves_its_size disk honest d.reads (g.D.Disk.reads_may_stay disk honest) ∙ three.nature.size ∙ two.nature.size ∙ one.nature.size ∙ c.requires.size in
+    let used : HasLast c.args.format Used 0 c.args.records d.reads c.in-Some.last =
+    last_used c.args.format c.args.records c.in-Some.last _ d.reads c.in_ok-find_last.field-0 c.in-Some.is (sym (three.bytes.reads ∙ two.bytes.reads)) (one.found honest_one) in
+    let counted : AreClosedFrom c.args.format (c.in-Some.last + 1) d.reads → AreInGroups c.args.format c.in_ok-kept.kept d.reads =
+    subst (λ (b : List ℕ). AreClosedFrom c.args.format (c.in-Some.last + 1) b → AreInGroups c.args.format c.in_ok-kept.kept b) (sym three.bytes.reads) (two.counted honest_two) in
+    used_left c.args.format c.args.records c.in-Some.last c.in_ok-kept.kept c.in_ok-gated.gated d.reads size used counted (three.found honest)
+    (subst (λ (n : ℕ). c.in-Some.last < c.in_ok-kept.kept + n) c.most_of_group.ensures c.if-last-kept.true)
+    (c.may_stand.ensures.0 c.if-may_stand.true)
+
+pub returns-else-last-kept-clause-seen : goal.returns-else-last-kept-clause-seen
+returns-else-last-kept-clause-seen g c honest =
+    let disk = c.find_last-2.new.disk in
+    let d = g.D.Disk.meaning.state_of disk in
+    let one = c.in_ok-find_last.ensures in
+    let two = c.in_ok-kept.ensures in
+    let three = c.in_ok-gated.ensures in
+    let honest_two = three.nature.honest.1 honest in
+    let honest_one = two.nature.honest.1 honest_two in
+    let size : length d.reads ≡ record_length c.args.format * c.args.records =
+    g.D.Disk.leaves_its_size disk honest d.reads (g.D.Disk.reads_may_stay disk honest) ∙ three.nature.size ∙ two.nature.size ∙ one.nature.size ∙ c.requires.size in
+    let used : HasLast c.args.format Used 0 c.args.records d.reads c.in-Some.last =
+    last_used c.args.format c.args.records c.in-Some.last _ d.reads c.in_ok-find_last.field-0 c.in-Some.is (sym (three.bytes.reads ∙ two.bytes.reads)) (one.found honest_one) in
+    let counted : AreClosedFrom c.args.format (c.in-Some.last + 1) d.reads → AreInGroups c.args.format c.in_ok-kept.kept d.reads =
+    subst (λ (b : List ℕ). AreClosedFrom c.args.format (c.in-Some.last + 1) b → AreInGroups c.args.format c.in_ok-kept.kept b) (sym three.bytes.reads) (two.counted honest_two) in
+    foreign_seen c.args.format c.args.records c.in-Some.last c.in_ok-kept.kept c.in_ok-gated.gated d.reads size used counted (three.found honest)
+    (λ so. elim c.else-last-kept.branch [
+      | else-last-kept-via-then-last-kept+else-may_stand w ↦
+          let never : true ≡ false = sym (w.may_stand.ensures.1 so.1) ∙ w.if-may_stand.false in cc
+      | else-last-kept-via-else-last-kept w ↦
+          let far = w.if-last-kept.false in
+          let near = subst (λ (n : ℕ). c.in-Some.last < c.in_ok-kept.kept + n) (sym c.most_of_group.ensures) so.0 in
+          omega (arith, far, near)
+    ])

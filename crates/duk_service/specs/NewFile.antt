@@ -1,0 +1,117 @@
+-- What `new-log` and `new-journal` make (this project's own).
+use Rattle.std.specs.Prelude.{⊤, ◌≢◌, ◌≡◌, ◌≤◌, ◌*◌, ◌⊎◌, ℕ, List, [], codes}
+use Rattle.duk_commands.specs.Decimal.{IsDecimal}
+use Rattle.duk_copy.specs.Blank.{IsBlankWritten}
+use Rattle.duk_copy.specs.InPart.{IsNoJournal}
+use Rattle.duk_io.specs.Known.{Known}
+use Rattle.duk_io.specs.Sink.{IsTried}
+use Rattle.duk_journal.specs.DiskJournal.{IsZeroJournalDisk}
+use Rattle.duk_journal.specs.Groups.{Entries, KeepsEntries}
+use Rattle.duk_journal.specs.RecordFormat.{IsJournalSize}
+use Rattle.duk_service.specs.LeftRecords.{record_length}
+use Rattle.duk_service.specs.LogFiles.{IsDisk, IsFolderSynced, IsFolderUnsynced, IsNoDisk, MakingKnown}
+use Rattle.duk_service.specs.declared.left_records.RecordFormat.{RecordFormat}
+use Rattle.duk_service.specs.declared.left_records.RecordFormat.TheVariants.{Journal, Log}
+use Rattle.duk_service.specs.declared.new_file.NewFileFault.{NewFileFault}
+use Rattle.duk_service.specs.declared.new_file.NewFileFault.TheVariants as fault
+use Rattle.duk_store.specs.Disk.{DiskMeaning, DiskState, HasFailed}
+use Rattle.duk_store.specs.DiskLog.{IsZeroLogDisk}
+use Rattle.duk_store.specs.declared.fault.StoreFault.TheVariants.{Device}
+
+-- the most records of which a log or a journal may be made
+abbrev pub most_records : ℕ
+most_records = 1000000000
+
+-- a text that says for how many numbers or entries there is room: a decimal number of 1 to 1000000000
+pub record IsRecordCount (text : List ℕ) (records : ℕ) : Type 0 where
+  pub decimal : IsDecimal most_records text records
+  pub some : 1 ≤ records
+
+-- the bytes of a log or a journal with room for so many
+abbrev pub file_size : RecordFormat → ℕ → ℕ
+file_size format records = record_length format * records
+
+-- a disk on which a log keeps nothing, or a journal
+abbrev pub IsZeroDisk : RecordFormat → DiskState → Type 0
+IsZeroDisk Log disk = IsZeroLogDisk disk
+IsZeroDisk Journal disk = IsZeroJournalDisk disk
+
+-- a file of this size is made, zeros are written over all of its disk and synced, and its folder is
+-- synced; where the disk is honest, nothing is kept there
+pub record IsBlankMade (format : RecordFormat) {D : Type 0} (meaning : DiskMeaning D)
+    (known : MakingKnown D) (size : ℕ) : Type 0 where
+  pub made : D
+  pub last : D
+  pub is_made : IsDisk (known.disk size) made
+  pub size_is : (meaning.state_of made).size ≡ size
+  pub written : IsBlankWritten (meaning.state_of made) (meaning.state_of last)
+  pub blank : (meaning.state_of made).honest → IsZeroDisk format (meaning.state_of last)
+  pub folder : IsFolderSynced known.folder
+
+-- status 0 of `new-log` and `new-journal`
+pub record HasMadeFile (format : RecordFormat) {D : Type 0} (meaning : DiskMeaning D)
+    (known : MakingKnown D) (text : List ℕ) : Type 0 where
+  pub records : ℕ
+  pub asked : IsRecordCount text records
+  pub made : IsBlankMade format meaning known (file_size format records)
+
+-- these entries were to be written over a disk that was made for a journal: whenever it is stopped,
+-- what is left of it is no journal, or keeps them
+abbrev pub IsNoneOrWhole : Entries → DiskState → DiskState → Type 0
+IsNoneOrWhole entries made last =
+    made.honest → IsJournalSize made.size → (bytes : List ℕ) → last.may_leave bytes
+    → IsNoJournal bytes ⊎ KeepsEntries bytes entries
+
+-- what may be left of a disk that is made in part: of a journal's no journal, or one that keeps
+-- nothing. A log's is zeros from its making on, which zeros are written over: nothing is said of it
+abbrev pub IsLeftInPart : RecordFormat → DiskState → DiskState → Type 0
+IsLeftInPart Log made last = ⊤
+IsLeftInPart Journal made last = IsNoneOrWhole [] made last
+
+-- a file is made, and has another size, or a step of it failed, or its folder cannot be synced; what
+-- may be left of it is as this says of its disk, as it was made and as it was last
+pub record IsMadeInPart {D : Type 0} (meaning : DiskMeaning D) (known : MakingKnown D) (size : ℕ)
+    (left : DiskState → DiskState → Type 0) : Type 0 where
+  pub made : D
+  pub last : D
+  pub is_made : IsDisk (known.disk size) made
+  pub failed : ((meaning.state_of made).size ≢ size)
+      ⊎ HasFailed (meaning.state_of made) (meaning.state_of last) Device
+      ⊎ IsFolderUnsynced known.folder
+  pub left_is : left (meaning.state_of made) (meaning.state_of last)
+
+-- why no file of this size is made: it cannot be, or not whole
+abbrev pub IsUnmade : {D : Type 0} → DiskMeaning D → MakingKnown D → ℕ
+    → (DiskState → DiskState → Type 0) → Type 0
+IsUnmade meaning known size left =
+    IsNoDisk (known.disk size) ⊎ IsMadeInPart meaning known size left
+
+-- a log or a journal of so many records as a text says is not made
+pub record IsFileUnmade (format : RecordFormat) {D : Type 0} (meaning : DiskMeaning D)
+    (known : MakingKnown D) (text : List ℕ) : Type 0 where
+  pub records : ℕ
+  pub asked : IsRecordCount text records
+  pub unmade : IsUnmade meaning known (file_size format records) (IsLeftInPart format)
+
+-- why none is made; memory may be refused at any time once the number is read
+abbrev pub IsNewFileRefused : RecordFormat → {D : Type 0} → DiskMeaning D → MakingKnown D → List ℕ
+    → NewFileFault → Type 0
+IsNewFileRefused format meaning known text fault.RecordsRefused =
+    (records : ℕ) → ¬ IsRecordCount text records
+IsNewFileRefused format meaning known text fault.Unmade = IsFileUnmade format meaning known text
+IsNewFileRefused format meaning known text fault.OutOfMemory =
+    (records : ℕ) × IsRecordCount text records
+
+-- the line of a fault, LF at its end
+abbrev pub new_file_line : RecordFormat → NewFileFault → List ℕ
+new_file_line format fault.RecordsRefused = codes "records refused\n"
+new_file_line Log fault.Unmade = codes "log: cannot make\n"
+new_file_line Journal fault.Unmade = codes "journal: cannot make\n"
+new_file_line format fault.OutOfMemory = codes "out of memory\n"
+
+-- status 1 of `new-log` and `new-journal`: that is reported
+pub record HasNotMadeFile (format : RecordFormat) {D : Type 0} (meaning : DiskMeaning D)
+    (known : MakingKnown D) (text : List ℕ) (reported reported' : Known) : Type 0 where
+  pub why : NewFileFault
+  pub cause : IsNewFileRefused format meaning known text why
+  pub line : IsTried reported reported' (new_file_line format why)
