@@ -39,6 +39,7 @@ are_found rows (request.Wrap kbpk fields key pad) f = (some f.0, (some f.1.0, (s
 are_found rows (request.Unwrap kbpk block) f = (some f.0, (some f.1.0, tt))
 are_found rows (request.Run config script journal) f = (some f.0, (some f.1.0, (tt, tt)))
 are_found rows (request.Serve config keeping) f = (some f.0, (tt, (tt, tt)))
+are_found rows (request.NewLog file records) f = (some f.0, (some f.1.0, tt))
 are_found rows (request.NewJournal file records) f = (some f.0, (some f.1.0, tt))
 are_found rows (request.CopyJournal old new) f = (some f.0, (some f.1.0, tt))
 are_found rows (request.Initial bdk iksn) f = (some f.0, (some f.1.0, tt))
@@ -51,7 +52,7 @@ are_found rows (request.MakeRequest bdk ksn pan pin amount initial) f = (some f.
 are_found rows (request.MakeReversal bdk ksn reversed initial) f = (some f.0, (some f.1.0, (tt, (tt, (tt, (tt, (tt, tt)))))))
 are_found rows (request.CheckReply bdk asked answer initial) f = (some f.0, (some f.1.0, (some f.1.1.0, (tt, tt))))
 are_found rows (request.Show kind what show) f = (some f.0, (some f.1.0, (tt, tt)))
-are_found rows (request.Issue bdk loading iksn count ledger skip_issued) f = (some f.0, (some f.1.0, (some f.1.1.0, (some f.1.1.1.0, (some f.1.1.1.1.0, (tt, tt))))))
+are_found rows (request.Issue bdk loading iksn count ledger way) f = (some f.0, (some f.1.0, (some f.1.1.0, (some f.1.1.1.0, (some f.1.1.1.1.0, (tt, (tt, (tt, (tt, tt)))))))))
 
 -- a command is the one of its name
 found_by_name : (command : CommandName) → shape_named command ≡ command_named (shape_named command).name
@@ -72,6 +73,7 @@ found_by_name command_name.Request = refl
 found_by_name command_name.Reply = refl
 found_by_name command_name.Run = refl
 found_by_name command_name.Serve = refl
+found_by_name command_name.NewLog = refl
 found_by_name command_name.NewJournal = refl
 found_by_name command_name.CopyJournal = refl
 

@@ -70,6 +70,10 @@ pub enters_serve : Enters (codes "serve") (leaf_of (codes "serve"))
 unfolding clap_on_literals
 enters_serve = record { met = refl; turn = refl; finds = refl }
 
+pub enters_new_log : Enters (codes "new-log") (leaf_of (codes "new-log"))
+unfolding clap_on_literals
+enters_new_log = record { met = refl; turn = refl; finds = refl }
+
 pub enters_new_journal : Enters (codes "new-journal") (leaf_of (codes "new-journal"))
 unfolding clap_on_literals
 enters_new_journal = record { met = refl; turn = refl; finds = refl }

@@ -44,6 +44,7 @@ keys_are (request.Wrap kbpk fields key pad) = refl
 keys_are (request.Unwrap kbpk block) = refl
 keys_are (request.Run config script journal) = refl
 keys_are (request.Serve config keeping) = refl
+keys_are (request.NewLog file records) = refl
 keys_are (request.NewJournal file records) = refl
 keys_are (request.CopyJournal old new) = refl
 keys_are (request.Initial bdk iksn) = refl
@@ -56,7 +57,7 @@ keys_are (request.MakeRequest bdk ksn pan pin amount initial) = refl
 keys_are (request.MakeReversal bdk ksn reversed initial) = refl
 keys_are (request.CheckReply bdk asked answer initial) = refl
 keys_are (request.Show kind what show) = refl
-keys_are (request.Issue bdk loading iksn count ledger skip_issued) = refl
+keys_are (request.Issue bdk loading iksn count ledger way) = refl
 
 -- a flag was found, or none was
 abbrev pub HasFlag : List Row → Given → Type 0

@@ -57,6 +57,19 @@ reads_serve config (kept.InJournal journal) plain = record {
   shown = (refl, (refl, (refl, tt)));
 }
 
+pub reads_new_log : (file records : Bor Text)
+    → IsPlainRequest (request.NewLog file records)
+    → IsRead (leaf_of (codes "new-log")) (all_marked (request.NewLog file records))
+    (request.NewLog file records)
+unfolding clap_on_literals
+reads_new_log file records plain = record {
+  goes = (plain.0, refl, refl, (plain.1.0, refl, refl, tt));
+  quiet = refl;
+  ends = refl;
+  named = refl;
+  shown = (refl, (refl, tt));
+}
+
 pub reads_new_journal : (file records : Bor Text)
     → IsPlainRequest (request.NewJournal file records)
     → IsRead (leaf_of (codes "new-journal")) (all_marked (request.NewJournal file records))

@@ -4,6 +4,7 @@ use Rattle.std.specs.Borrow.{Bor}
 use Rattle.clap.specs.Walk.{Text}
 use Rattle.clap.proofs.OnLiterals.{clap_on_literals}
 use Rattle.duk_arguments.specs.Written.{IsPlainRequest}
+use Rattle.duk_arguments.specs.declared.request.IssueWay.{IssueWay}
 use Rattle.duk_arguments.specs.declared.request.Request.TheVariants as request
 use Rattle.duk_arguments.proofs.Entered.{leaf_of}
 use Rattle.duk_arguments.proofs.TopLevel.{IsRead, all_marked}
@@ -165,22 +166,123 @@ reads_registers bdk ksn true plain = record {
   shown = (refl, (refl, (refl, tt)));
 }
 
-pub reads_issue : (bdk loading iksn count ledger : Bor Text) (skip_issued : Bool)
-    → IsPlainRequest (request.Issue bdk loading iksn count ledger skip_issued)
-    → IsRead (leaf_of (codes "issue")) (all_marked (request.Issue bdk loading iksn count ledger skip_issued))
-    (request.Issue bdk loading iksn count ledger skip_issued)
+abbrev pub issued : Option (Bor Text) → Option (Bor Text) → Bool → Bool → IssueWay
+issued kcv out skip_issued again = record { kcv = kcv; out = out; skip_issued = skip_issued; again = again }
+
+pub reads_issue : (bdk loading iksn count ledger : Bor Text) (kcv out : Option (Bor Text)) (skip_issued again : Bool)
+    → IsPlainRequest (request.Issue bdk loading iksn count ledger (issued kcv out skip_issued again))
+    → IsRead (leaf_of (codes "issue")) (all_marked (request.Issue bdk loading iksn count ledger (issued kcv out skip_issued again)))
+    (request.Issue bdk loading iksn count ledger (issued kcv out skip_issued again))
 unfolding clap_on_literals
-reads_issue bdk loading iksn count ledger false plain = record {
+reads_issue bdk loading iksn count ledger None None false false plain = record {
   goes = (plain.0, refl, refl, (plain.1.0, refl, refl, (plain.1.1.0, refl, refl, (plain.1.1.1.0, refl, refl, (plain.1.1.1.1.0, refl, refl, tt)))));
   quiet = refl;
   ends = refl;
   named = refl;
-  shown = (refl, (refl, (refl, (refl, (refl, (refl, tt))))));
+  shown = (refl, (refl, (refl, (refl, (refl, (refl, (refl, (refl, (refl, tt)))))))));
 }
-reads_issue bdk loading iksn count ledger true plain = record {
+reads_issue bdk loading iksn count ledger None None false true plain = record {
   goes = (plain.0, refl, refl, (plain.1.0, refl, refl, (plain.1.1.0, refl, refl, (plain.1.1.1.0, refl, refl, (plain.1.1.1.1.0, refl, refl, tt)))));
   quiet = refl;
   ends = refl;
   named = refl;
-  shown = (refl, (refl, (refl, (refl, (refl, (refl, tt))))));
+  shown = (refl, (refl, (refl, (refl, (refl, (refl, (refl, (refl, (refl, tt)))))))));
+}
+reads_issue bdk loading iksn count ledger None None true false plain = record {
+  goes = (plain.0, refl, refl, (plain.1.0, refl, refl, (plain.1.1.0, refl, refl, (plain.1.1.1.0, refl, refl, (plain.1.1.1.1.0, refl, refl, tt)))));
+  quiet = refl;
+  ends = refl;
+  named = refl;
+  shown = (refl, (refl, (refl, (refl, (refl, (refl, (refl, (refl, (refl, tt)))))))));
+}
+reads_issue bdk loading iksn count ledger None None true true plain = record {
+  goes = (plain.0, refl, refl, (plain.1.0, refl, refl, (plain.1.1.0, refl, refl, (plain.1.1.1.0, refl, refl, (plain.1.1.1.1.0, refl, refl, tt)))));
+  quiet = refl;
+  ends = refl;
+  named = refl;
+  shown = (refl, (refl, (refl, (refl, (refl, (refl, (refl, (refl, (refl, tt)))))))));
+}
+reads_issue bdk loading iksn count ledger None (Some out) false false plain = record {
+  goes = (plain.0, refl, refl, (plain.1.0, refl, refl, (plain.1.1.0, refl, refl, (plain.1.1.1.0, refl, refl, (plain.1.1.1.1.0, refl, refl, (plain.1.1.1.1.1.1.0, refl, refl, tt))))));
+  quiet = refl;
+  ends = refl;
+  named = refl;
+  shown = (refl, (refl, (refl, (refl, (refl, (refl, (refl, (refl, (refl, tt)))))))));
+}
+reads_issue bdk loading iksn count ledger None (Some out) false true plain = record {
+  goes = (plain.0, refl, refl, (plain.1.0, refl, refl, (plain.1.1.0, refl, refl, (plain.1.1.1.0, refl, refl, (plain.1.1.1.1.0, refl, refl, (plain.1.1.1.1.1.1.0, refl, refl, tt))))));
+  quiet = refl;
+  ends = refl;
+  named = refl;
+  shown = (refl, (refl, (refl, (refl, (refl, (refl, (refl, (refl, (refl, tt)))))))));
+}
+reads_issue bdk loading iksn count ledger None (Some out) true false plain = record {
+  goes = (plain.0, refl, refl, (plain.1.0, refl, refl, (plain.1.1.0, refl, refl, (plain.1.1.1.0, refl, refl, (plain.1.1.1.1.0, refl, refl, (plain.1.1.1.1.1.1.0, refl, refl, tt))))));
+  quiet = refl;
+  ends = refl;
+  named = refl;
+  shown = (refl, (refl, (refl, (refl, (refl, (refl, (refl, (refl, (refl, tt)))))))));
+}
+reads_issue bdk loading iksn count ledger None (Some out) true true plain = record {
+  goes = (plain.0, refl, refl, (plain.1.0, refl, refl, (plain.1.1.0, refl, refl, (plain.1.1.1.0, refl, refl, (plain.1.1.1.1.0, refl, refl, (plain.1.1.1.1.1.1.0, refl, refl, tt))))));
+  quiet = refl;
+  ends = refl;
+  named = refl;
+  shown = (refl, (refl, (refl, (refl, (refl, (refl, (refl, (refl, (refl, tt)))))))));
+}
+reads_issue bdk loading iksn count ledger (Some kcv) None false false plain = record {
+  goes = (plain.0, refl, refl, (plain.1.0, refl, refl, (plain.1.1.0, refl, refl, (plain.1.1.1.0, refl, refl, (plain.1.1.1.1.0, refl, refl, (plain.1.1.1.1.1.0, refl, refl, tt))))));
+  quiet = refl;
+  ends = refl;
+  named = refl;
+  shown = (refl, (refl, (refl, (refl, (refl, (refl, (refl, (refl, (refl, tt)))))))));
+}
+reads_issue bdk loading iksn count ledger (Some kcv) None false true plain = record {
+  goes = (plain.0, refl, refl, (plain.1.0, refl, refl, (plain.1.1.0, refl, refl, (plain.1.1.1.0, refl, refl, (plain.1.1.1.1.0, refl, refl, (plain.1.1.1.1.1.0, refl, refl, tt))))));
+  quiet = refl;
+  ends = refl;
+  named = refl;
+  shown = (refl, (refl, (refl, (refl, (refl, (refl, (refl, (refl, (refl, tt)))))))));
+}
+reads_issue bdk loading iksn count ledger (Some kcv) None true false plain = record {
+  goes = (plain.0, refl, refl, (plain.1.0, refl, refl, (plain.1.1.0, refl, refl, (plain.1.1.1.0, refl, refl, (plain.1.1.1.1.0, refl, refl, (plain.1.1.1.1.1.0, refl, refl, tt))))));
+  quiet = refl;
+  ends = refl;
+  named = refl;
+  shown = (refl, (refl, (refl, (refl, (refl, (refl, (refl, (refl, (refl, tt)))))))));
+}
+reads_issue bdk loading iksn count ledger (Some kcv) None true true plain = record {
+  goes = (plain.0, refl, refl, (plain.1.0, refl, refl, (plain.1.1.0, refl, refl, (plain.1.1.1.0, refl, refl, (plain.1.1.1.1.0, refl, refl, (plain.1.1.1.1.1.0, refl, refl, tt))))));
+  quiet = refl;
+  ends = refl;
+  named = refl;
+  shown = (refl, (refl, (refl, (refl, (refl, (refl, (refl, (refl, (refl, tt)))))))));
+}
+reads_issue bdk loading iksn count ledger (Some kcv) (Some out) false false plain = record {
+  goes = (plain.0, refl, refl, (plain.1.0, refl, refl, (plain.1.1.0, refl, refl, (plain.1.1.1.0, refl, refl, (plain.1.1.1.1.0, refl, refl, (plain.1.1.1.1.1.0, refl, refl, (plain.1.1.1.1.1.1.0, refl, refl, tt)))))));
+  quiet = refl;
+  ends = refl;
+  named = refl;
+  shown = (refl, (refl, (refl, (refl, (refl, (refl, (refl, (refl, (refl, tt)))))))));
+}
+reads_issue bdk loading iksn count ledger (Some kcv) (Some out) false true plain = record {
+  goes = (plain.0, refl, refl, (plain.1.0, refl, refl, (plain.1.1.0, refl, refl, (plain.1.1.1.0, refl, refl, (plain.1.1.1.1.0, refl, refl, (plain.1.1.1.1.1.0, refl, refl, (plain.1.1.1.1.1.1.0, refl, refl, tt)))))));
+  quiet = refl;
+  ends = refl;
+  named = refl;
+  shown = (refl, (refl, (refl, (refl, (refl, (refl, (refl, (refl, (refl, tt)))))))));
+}
+reads_issue bdk loading iksn count ledger (Some kcv) (Some out) true false plain = record {
+  goes = (plain.0, refl, refl, (plain.1.0, refl, refl, (plain.1.1.0, refl, refl, (plain.1.1.1.0, refl, refl, (plain.1.1.1.1.0, refl, refl, (plain.1.1.1.1.1.0, refl, refl, (plain.1.1.1.1.1.1.0, refl, refl, tt)))))));
+  quiet = refl;
+  ends = refl;
+  named = refl;
+  shown = (refl, (refl, (refl, (refl, (refl, (refl, (refl, (refl, (refl, tt)))))))));
+}
+reads_issue bdk loading iksn count ledger (Some kcv) (Some out) true true plain = record {
+  goes = (plain.0, refl, refl, (plain.1.0, refl, refl, (plain.1.1.0, refl, refl, (plain.1.1.1.0, refl, refl, (plain.1.1.1.1.0, refl, refl, (plain.1.1.1.1.1.0, refl, refl, (plain.1.1.1.1.1.1.0, refl, refl, tt)))))));
+  quiet = refl;
+  ends = refl;
+  named = refl;
+  shown = (refl, (refl, (refl, (refl, (refl, (refl, (refl, (refl, (refl, tt)))))))));
 }

@@ -4,10 +4,10 @@ use Rattle.clap.specs.Walk.{Text}
 use Rattle.duk_arguments.specs.Written.{IsPlainRequest, arguments_of}
 use Rattle.duk_arguments.specs.declared.request.Request.{Request}
 use Rattle.duk_arguments.specs.declared.request.Request.TheVariants as request
-use Rattle.duk_arguments.proofs.Entered.{leaf_of, enters_derive, enters_walk, enters_pin, enters_wrap, enters_unwrap, enters_run, enters_serve, enters_initial, enters_registers, enters_kcv, enters_mac, enters_unpin, enters_translate, enters_request, enters_reply, enters_show, enters_issue, enters_new_journal, enters_copy_journal}
+use Rattle.duk_arguments.proofs.Entered.{leaf_of, enters_derive, enters_walk, enters_pin, enters_wrap, enters_unwrap, enters_run, enters_serve, enters_initial, enters_registers, enters_kcv, enters_mac, enters_unpin, enters_translate, enters_request, enters_reply, enters_show, enters_issue, enters_new_log, enters_new_journal, enters_copy_journal}
 use Rattle.duk_arguments.proofs.TopLevel.{Make, make}
 use Rattle.duk_arguments.proofs.ReadBlocks.{reads_mac, reads_pin, reads_unpin, reads_translate, reads_wrap, reads_unwrap, reads_show}
-use Rattle.duk_arguments.proofs.ReadFiles.{reads_run, reads_serve, reads_new_journal, reads_copy_journal}
+use Rattle.duk_arguments.proofs.ReadFiles.{reads_run, reads_serve, reads_new_log, reads_new_journal, reads_copy_journal}
 use Rattle.duk_arguments.proofs.ReadFrames.{reads_request, reads_reversal, reads_reply}
 use Rattle.duk_arguments.proofs.ReadKcv.{reads_kcv}
 use Rattle.duk_arguments.proofs.ReadKeys.{reads_derive, reads_walk, reads_initial, reads_issue, reads_registers}
@@ -36,6 +36,9 @@ all_made program (request.Run config script journal) plain =
 all_made program (request.Serve config keeping) plain =
     make program (leaf_of (codes "serve")) (request.Serve config keeping) enters_serve
     (reads_serve config keeping plain)
+all_made program (request.NewLog file records) plain =
+    make program (leaf_of (codes "new-log")) (request.NewLog file records) enters_new_log
+    (reads_new_log file records plain)
 all_made program (request.NewJournal file records) plain =
     make program (leaf_of (codes "new-journal")) (request.NewJournal file records) enters_new_journal
     (reads_new_journal file records plain)
@@ -72,6 +75,6 @@ all_made program (request.CheckReply bdk asked answer initial) plain =
 all_made program (request.Show kind what show) plain =
     make program (leaf_of (codes "show")) (request.Show kind what show) enters_show
     (reads_show kind what show plain)
-all_made program (request.Issue bdk loading iksn count ledger skip_issued) plain =
-    make program (leaf_of (codes "issue")) (request.Issue bdk loading iksn count ledger skip_issued)
-    enters_issue (reads_issue bdk loading iksn count ledger skip_issued plain)
+all_made program (request.Issue bdk loading iksn count ledger way) plain =
+    make program (leaf_of (codes "issue")) (request.Issue bdk loading iksn count ledger way)
+    enters_issue (reads_issue bdk loading iksn count ledger way.kcv way.out way.skip_issued way.again plain)

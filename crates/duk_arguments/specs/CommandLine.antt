@@ -52,12 +52,12 @@ abbrev pub initial_command : Shape
 initial_command = command (codes "initial")
     (argument_rule (codes "BDK") ∷ argument_rule (codes "IKSN") ∷ [])
 
--- issue BDK LOADING IKSN COUNT --ledger FILE [--skip-issued]
+-- issue BDK LOADING IKSN COUNT --ledger FILE [--bdk-kcv KCV] [--out FILE] [--skip-issued] [--again]
 abbrev pub issue_command : Shape
 issue_command = command (codes "issue")
     (argument_rule (codes "BDK") ∷ argument_rule (codes "LOADING") ∷ argument_rule (codes "IKSN")
-    ∷ argument_rule (codes "COUNT") ∷ named_rule (codes "ledger") ∷ flag_rule (codes "skip-issued")
-    ∷ [])
+    ∷ argument_rule (codes "COUNT") ∷ named_rule (codes "ledger") ∷ option_rule (codes "bdk-kcv")
+    ∷ option_rule (codes "out") ∷ flag_rule (codes "skip-issued") ∷ flag_rule (codes "again") ∷ [])
 
 -- registers BDK KSN [--initial]
 abbrev pub registers_command : Shape
@@ -134,6 +134,11 @@ serve_command = command (codes "serve")
     (argument_rule (codes "CONFIG") ∷ option_rule (codes "log") ∷ option_rule (codes "journal")
     ∷ [])
 
+-- new-log FILE RECORDS
+abbrev pub new_log_command : Shape
+new_log_command = command (codes "new-log")
+    (argument_rule (codes "FILE") ∷ argument_rule (codes "RECORDS") ∷ [])
+
 -- new-journal FILE RECORDS
 abbrev pub new_journal_command : Shape
 new_journal_command = command (codes "new-journal")
@@ -175,7 +180,8 @@ frame_commands = request_command ∷ reply_command ∷ []
 
 -- the commands over files
 abbrev pub file_commands : List Shape
-file_commands = run_command ∷ serve_command ∷ new_journal_command ∷ copy_journal_command ∷ []
+file_commands = run_command ∷ serve_command ∷ new_log_command ∷ new_journal_command
+    ∷ copy_journal_command ∷ []
 
 -- dukpt, and one of its commands
 abbrev pub command_line : App

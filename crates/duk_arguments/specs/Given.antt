@@ -37,6 +37,7 @@ name_of (request.Wrap kbpk fields key pad) = codes "wrap"
 name_of (request.Unwrap kbpk block) = codes "unwrap"
 name_of (request.Run config script journal) = codes "run"
 name_of (request.Serve config keeping) = codes "serve"
+name_of (request.NewLog file records) = codes "new-log"
 name_of (request.NewJournal file records) = codes "new-journal"
 name_of (request.CopyJournal old new) = codes "copy-journal"
 name_of (request.Initial bdk iksn) = codes "initial"
@@ -49,7 +50,7 @@ name_of (request.MakeRequest bdk ksn pan pin amount initial) = codes "request"
 name_of (request.MakeReversal bdk ksn reversed initial) = codes "request"
 name_of (request.CheckReply bdk asked answer initial) = codes "reply"
 name_of (request.Show kind what show) = codes "show"
-name_of (request.Issue bdk loading iksn count ledger skip_issued) = codes "issue"
+name_of (request.Issue bdk loading iksn count ledger way) = codes "issue"
 
 -- what a request gives after its command
 abbrev pub given_of : Request → List Given
@@ -74,6 +75,8 @@ given_of (request.Run config script journal) =
 given_of (request.Serve config keeping) =
     needed (codes "CONFIG") config.now ∷ valued (codes "log") (log_in keeping)
     ∷ valued (codes "journal") (journal_in keeping) ∷ []
+given_of (request.NewLog file records) =
+    needed (codes "FILE") file.now ∷ needed (codes "RECORDS") records.now ∷ []
 given_of (request.NewJournal file records) =
     needed (codes "FILE") file.now ∷ needed (codes "RECORDS") records.now ∷ []
 given_of (request.CopyJournal old new) =
@@ -110,10 +113,13 @@ given_of (request.CheckReply bdk asked answer initial) =
     ∷ needed (codes "ANSWER") answer.now ∷ flag (codes "initial") initial ∷ []
 given_of (request.Show kind what show) =
     needed (codes "KIND") kind.now ∷ needed (codes "WHAT") what.now ∷ flag (codes "show") show ∷ []
-given_of (request.Issue bdk loading iksn count ledger skip_issued) =
+given_of (request.Issue bdk loading iksn count ledger way) =
     needed (codes "BDK") bdk.now ∷ needed (codes "LOADING") loading.now
     ∷ needed (codes "IKSN") iksn.now ∷ needed (codes "COUNT") count.now
-    ∷ named (codes "ledger") ledger.now ∷ flag (codes "skip-issued") skip_issued ∷ []
+    ∷ named (codes "ledger") ledger.now
+    ∷ valued (codes "bdk-kcv") (option_map (λ text. text.now) way.kcv)
+    ∷ valued (codes "out") (option_map (λ text. text.now) way.out)
+    ∷ flag (codes "skip-issued") way.skip_issued ∷ flag (codes "again") way.again ∷ []
 
 -- P holds of each of them
 abbrev pub Each : {A : Type 0} → (A → Type 0) → List A → Type 0

@@ -24,7 +24,7 @@ use std::alloc::{AllocError, Global};
 const VERSION: &str = "0.1.0";
 
 /// The program's commands, in the order in which help lists them.
-fn commands() -> [CommandName; 19]
+fn commands() -> [CommandName; 20]
     ensures { map shape_named result ≡ command_line.subs }
 {
     [
@@ -45,6 +45,7 @@ fn commands() -> [CommandName; 19]
         CommandName::Reply,
         CommandName::Run,
         CommandName::Serve,
+        CommandName::NewLog,
         CommandName::NewJournal,
         CommandName::CopyJournal,
     ]
@@ -72,6 +73,7 @@ pub(crate) fn usage_of<'a>(command: CommandName) -> Usage<'a>
         CommandName::Reply => frames::reply(),
         CommandName::Run => files::run(),
         CommandName::Serve => files::serve(),
+        CommandName::NewLog => files::new_log(),
         CommandName::NewJournal => files::new_journal(),
         CommandName::CopyJournal => files::copy_journal(),
     }

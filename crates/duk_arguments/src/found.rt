@@ -4,7 +4,7 @@ ghost use Rattle.std.specs.Prelude.{◌≡◌, ◌↔◌, IfSome, IsSome, IsSome
 ghost use Rattle.std.specs.Option.{option_copied};
 ghost use Rattle.clap.specs.Words.{all_of, first_of, found_of, rows_of, subcommand_rows_of};
 ghost use Rattle.duk_arguments.specs.Asked.{AsksAfter, AsksFor, IsFlag};
-ghost use Rattle.duk_arguments.specs.CommandLine.{derive_command, walk_command, initial_command, issue_command, registers_command, kcv_command, mac_command, pin_command, unpin_command, translate_command, wrap_command, unwrap_command, show_command, request_command, reply_command, run_command, serve_command, new_journal_command, copy_journal_command};
+ghost use Rattle.duk_arguments.specs.CommandLine.{derive_command, walk_command, initial_command, issue_command, registers_command, kcv_command, mac_command, pin_command, unpin_command, translate_command, wrap_command, unwrap_command, show_command, request_command, reply_command, run_command, serve_command, new_log_command, new_journal_command, copy_journal_command};
 ghost use Rattle.duk_arguments.specs.Given.{Each, journal_in, log_in};
 ghost use Rattle.duk_arguments.specs.Keys.{texts_of_keys};
 ghost use Rattle.duk_arguments.specs.declared.request.Request.{Request};
@@ -15,7 +15,7 @@ use crate::commands::arguments::Argument;
 use crate::commands::name::CommandName;
 use crate::commands::{command_named, usage_of};
 use crate::keys::Keys;
-use crate::request::{Kept, Request};
+use crate::request::{IssueWay, Kept, Request};
 use clap::ArgMatches;
 
 /// The request of the command that was used, over what was found after it.
@@ -107,6 +107,7 @@ fn whole_request<'a>(command: CommandName, found: &ArgMatches<'a>) -> Option<Req
         CommandName::Reply => Some(check_reply(found)),
         CommandName::Run => Some(run_request(found)),
         CommandName::Serve => serve_request(found),
+        CommandName::NewLog => Some(new_log_request(found)),
         CommandName::NewJournal => Some(new_journal_request(found)),
         CommandName::CopyJournal => Some(copy_journal_request(found)),
     }
@@ -159,7 +160,12 @@ fn issue_request<'a>(found: &ArgMatches<'a>) -> Request<'a>
         iksn: text(found, "IKSN"),
         count: text(found, "COUNT"),
         ledger: text(found, "ledger"),
-        skip_issued: flag(found, "skip-issued"),
+        way: IssueWay {
+            kcv: value(found, "bdk-kcv"),
+            out: value(found, "out"),
+            skip_issued: flag(found, "skip-issued"),
+            again: flag(found, "again"),
+        },
     }
 }
 
@@ -348,6 +354,16 @@ fn kept_in<'a>(log: Option<&'a str>, journal: Option<&'a str>) -> Option<Kept<'a
         (Some(path), None) => Some(Kept::InLog(path)),
         (None, Some(path)) => Some(Kept::InJournal(path)),
         (Some(_), Some(_)) => None,
+    }
+}
+
+fn new_log_request<'a>(found: &ArgMatches<'a>) -> Request<'a>
+    requires { AreThere (rows_of (found_of found.now)) new_log_command }
+    ensures { AsksFor (codes "new-log") (rows_of (found_of found.now)) result }
+{
+    Request::NewLog {
+        file: text(found, "FILE"),
+        records: text(found, "RECORDS"),
     }
 }
 

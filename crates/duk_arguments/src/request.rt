@@ -76,11 +76,18 @@ pub enum Request<'a> {
         /// Where the used numbers are kept.
         kept: Kept<'a>,
     },
+    /// A new log.
+    NewLog {
+        /// The path of the log.
+        file: &'a str,
+        /// For how many numbers it has room, as written.
+        records: &'a str,
+    },
     /// A new journal.
     NewJournal {
         /// The path of the journal.
         file: &'a str,
-        /// For how many payments it has room, as written.
+        /// How many records it has, as written.
         records: &'a str,
     },
     /// A copy of what a journal keeps, as a new journal.
@@ -210,9 +217,22 @@ pub enum Request<'a> {
         count: &'a str,
         /// The path of the ledger.
         ledger: &'a str,
-        /// Whether to pass over the initial keys that are issued already.
-        skip_issued: bool,
+        /// In which way they are issued.
+        way: IssueWay<'a>,
     },
+}
+
+/// In which way initial keys are issued.
+#[derive(Clone, Copy)]
+pub struct IssueWay<'a> {
+    /// The check value that the base derivation key is to have, as written.
+    pub kcv: Option<&'a str>,
+    /// The path of the new file that the lines go to, if not to the output.
+    pub out: Option<&'a str>,
+    /// Whether to pass over numbers that are issued already.
+    pub skip_issued: bool,
+    /// Whether to make the lines of numbers that are issued already again, and to issue none.
+    pub again: bool,
 }
 
 /// Where a host keeps the numbers that were used.

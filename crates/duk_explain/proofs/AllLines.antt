@@ -7,7 +7,7 @@ use Rattle.duk_explain.specs.declared.told.Told.TheVariants as told
 -- a place in the list at which a line stands
 pub record StandsAt (line : Told) : Type 0 where
   pub place : ℕ
-  pub within : place < 106
+  pub within : place < 111
   pub is : get_or ALL place line ≡ line
 
 pub stands : (line : Told) → StandsAt line
@@ -117,3 +117,8 @@ stands told.NumberRefused = record { place = 102; within = omega arith; is = ref
 stands told.OtherIksn = record { place = 103; within = omega arith; is = refl }
 stands told.SameNumber = record { place = 104; within = omega arith; is = refl }
 stands told.NotUsable = record { place = 105; within = omega arith; is = refl }
+stands told.LogUnmade = record { place = 106; within = omega arith; is = refl }
+stands told.KcvRefused = record { place = 107; within = omega arith; is = refl }
+stands told.KcvDiffers = record { place = 108; within = omega arith; is = refl }
+stands told.NotIssued = record { place = 109; within = omega arith; is = refl }
+stands told.OutUnmade = record { place = 110; within = omega arith; is = refl }

@@ -18,7 +18,7 @@ bdk_of (request.Translate block pan bdk ksn zone initial) = Some bdk.now
 bdk_of (request.MakeRequest bdk ksn pan pin amount initial) = Some bdk.now
 bdk_of (request.MakeReversal bdk ksn reversed initial) = Some bdk.now
 bdk_of (request.CheckReply bdk asked answer initial) = Some bdk.now
-bdk_of (request.Issue bdk loading iksn count ledger skip_issued) = Some bdk.now
+bdk_of (request.Issue bdk loading iksn count ledger way) = Some bdk.now
 bdk_of asked = None
 
 -- KSN
@@ -34,13 +34,13 @@ ksn_of asked = None
 abbrev pub iksn_of : Request → Option (List ℕ)
 iksn_of (request.Walk bdk iksn count skip alone initial) = Some iksn.now
 iksn_of (request.Initial bdk iksn) = Some iksn.now
-iksn_of (request.Issue bdk loading iksn count ledger skip_issued) = Some iksn.now
+iksn_of (request.Issue bdk loading iksn count ledger way) = Some iksn.now
 iksn_of asked = None
 
 -- COUNT
 abbrev pub count_of : Request → Option (List ℕ)
 count_of (request.Walk bdk iksn count skip alone initial) = Some count.now
-count_of (request.Issue bdk loading iksn count ledger skip_issued) = Some count.now
+count_of (request.Issue bdk loading iksn count ledger way) = Some count.now
 count_of asked = None
 
 -- K
@@ -56,8 +56,13 @@ kbpk_of asked = None
 
 -- LOADING
 abbrev pub loading_of : Request → Option (List ℕ)
-loading_of (request.Issue bdk loading iksn count ledger skip_issued) = Some loading.now
+loading_of (request.Issue bdk loading iksn count ledger way) = Some loading.now
 loading_of asked = None
+
+-- KCV
+abbrev pub kcv_of : Request → Option (List ℕ)
+kcv_of (request.Issue bdk loading iksn count ledger way) = option_copied way.kcv
+kcv_of asked = None
 
 -- ZONE
 abbrev pub zone_of : Request → Option (List ℕ)
@@ -162,18 +167,21 @@ journal_of asked = None
 
 -- RECORDS
 abbrev pub records_of : Request → Option (List ℕ)
+records_of (request.NewLog file records) = Some records.now
 records_of (request.NewJournal file records) = Some records.now
 records_of asked = None
 
--- the path of the journal that is made
+-- the path of the file that is made
 abbrev pub new_of : Request → Option (List ℕ)
+new_of (request.NewLog file records) = Some file.now
 new_of (request.NewJournal file records) = Some file.now
 new_of (request.CopyJournal old new) = Some new.now
+new_of (request.Issue bdk loading iksn count ledger way) = option_copied way.out
 new_of asked = None
 
 -- the path of the ledger
 abbrev pub ledger_of : Request → Option (List ℕ)
-ledger_of (request.Issue bdk loading iksn count ledger skip_issued) = Some ledger.now
+ledger_of (request.Issue bdk loading iksn count ledger way) = Some ledger.now
 ledger_of asked = None
 
 -- the text of an argument, where the request has it
@@ -185,6 +193,7 @@ text_of asked argument.Count = count_of asked
 text_of asked argument.Skip = skip_of asked
 text_of asked argument.Kbpk = kbpk_of asked
 text_of asked argument.Loading = loading_of asked
+text_of asked argument.Kcv = kcv_of asked
 text_of asked argument.Zone = zone_of asked
 text_of asked argument.Key = key_of asked
 text_of asked argument.Fields = fields_of asked

@@ -10,12 +10,14 @@ use Rattle.duk_commands.specs.Decimal.{number_of_digits}
 use Rattle.duk_explain.specs.Argument.{block_of, key_of, keys_of, ksn_of, iksn_of, mac_text_of, text_of, what_of}
 use Rattle.duk_explain.specs.Keys.{is_as_long, is_key, key_name}
 use Rattle.duk_explain.specs.Kind.{first_failing, first_wrong}
-use Rattle.duk_explain.specs.Numbers.{counter_ones, measure_iksn, number_way}
+use Rattle.duk_explain.specs.Numbers.{counter_ones, measure_iksn, number_way, numbers_left}
 use Rattle.duk_explain.specs.Reading.{IsTold, IsUnknownKey}
 use Rattle.duk_explain.specs.Texts.{explained, length_text, measure_of, measure_text, reason_text}
 use Rattle.duk_explain.specs.Told.{Row, row}
 use Rattle.duk_explain.specs.declared.found.Facts.{Facts}
 use Rattle.duk_explain.specs.declared.found.Reason.{Reason}
+use Rattle.duk_explain.specs.declared.found.Strange.{Strange}
+use Rattle.duk_explain.specs.declared.found.Strange.TheVariants as strange
 use Rattle.duk_explain.specs.declared.kind.Kind.{Kind}
 use Rattle.duk_explain.specs.declared.kind.Kind.TheVariants.{Hexadecimal, Decimal, Printable, Any}
 use Rattle.duk_explain.specs.declared.rows.Found.{Found}
@@ -49,6 +51,12 @@ is_number most text =
     nat_le 1 (length text) && is_none (first_wrong Decimal text)
     && nat_le (number_of_digits text) most
 
+-- a count that is refused, which is no secret: the number itself where it has at most 20 digits
+abbrev pub count_found : List ℕ → List ℕ
+count_found count =
+    if nat_le 1 (length count) && is_none (first_wrong Decimal count) && nat_le (length count) 20
+    then count else measure_text (measure_of Decimal count)
+
 -- COUNT of `walk`, or K where COUNT is as it is wanted
 abbrev pub walk_count_explained : List ℕ → Option (List ℕ) → List ℕ
 walk_count_explained count skip =
@@ -59,9 +67,10 @@ walk_count_explained count skip =
 abbrev pub count_explained : Request → List ℕ
 count_explained (request.Walk bdk iksn count skip alone initial) =
     walk_count_explained count.now (option_copied skip)
-count_explained (request.Issue bdk loading iksn count ledger skip_issued) =
-    measured (codes "COUNT") Decimal (codes "1 to 1048576, no more than are left from IKSN on")
-    count.now
+count_explained (request.Issue bdk loading iksn count ledger way) =
+    explained (codes "COUNT") (count_found count.now)
+    (codes "1 to " ++ decimal (numbers_left iksn.now) ++ codes ", as many as are left in IKSN's key set")
+    []
 count_explained asked = []
 
 -- what a command wants of its key
@@ -128,6 +137,25 @@ name_in (first ∷ rest) middle = first ∷ rest
 abbrev pub row_explained : Row → List ℕ → List ℕ → List ℕ
 row_explained r middle found = explained (name_in r.name middle) found r.wanted r.way
 
+-- what makes a log or a ledger, and a journal
+abbrev pub by_new_log : List ℕ
+by_new_log = codes "make it by dukpt new-log FILE RECORDS"
+
+abbrev pub by_new_journal : List ℕ
+by_new_journal = codes "make it by dukpt new-journal FILE RECORDS"
+
+-- what a file is seen to be that is no log or journal, which this would make
+abbrev pub strange_explained : Row → Strange → List ℕ → List ℕ
+strange_explained r strange.Empty making = explained r.name (codes "empty") r.wanted making
+strange_explained r (strange.Record place) making =
+    explained (codes "no " ++ r.name)
+    (codes "record " ++ decimal place ++ codes " is neither open nor zero") r.wanted []
+
+-- the same where it is known, or else another explanation
+abbrev pub strange_or : Row → Option Strange → List ℕ → List ℕ → List ℕ
+strange_or r None making otherwise = otherwise
+strange_or r (Some strange) making otherwise = strange_explained r strange making
+
 -- the explanation of a row with this in the middle of its line, by what is told of what was found
 abbrev pub found_explained : Found → Row → Request → Facts → List ℕ → List ℕ
 found_explained (found.Text argument kind) r asked facts middle = if_there (text_of asked argument)
@@ -141,8 +169,10 @@ found_explained (found.Making file) r asked facts middle =
     row_explained r middle (reason_found facts.reason)
 found_explained found.Reference r asked facts middle =
     row_explained r middle (reference_found r.words facts.reason)
-found_explained (found.Record file) r asked facts middle =
-    row_explained r middle (place_found (codes "record ") r.words facts.place)
+found_explained (found.Record file) r asked facts middle = strange_or r facts.strange by_new_log
+    (row_explained r middle (place_found (codes "record ") r.words facts.place))
+found_explained (found.Entries file) r asked facts middle = strange_or r facts.strange by_new_journal
+    (row_explained r middle r.words)
 found_explained found.Line r asked facts middle =
     row_explained r middle (place_found (codes "line ") r.words facts.place)
 found_explained found.Before r asked facts middle = row_explained r middle (r.words ++ middle)

@@ -1,5 +1,5 @@
 -- What is told of key serial numbers and counts (this project's own).
-use Rattle.std.specs.Prelude.{◌==◌, ◌&&◌, ◌+◌, ◌-◌, ◌%◌, ℕ, List, [], Option, Some, codes, count_ones, drop, get_or, is_none, length, option_map, if◌then◌else◌}
+use Rattle.std.specs.Prelude.{◌==◌, ◌&&◌, ◌+◌, ◌-◌, ◌*◌, ◌/◌, ◌%◌, ℕ, List, [], Option, Some, codes, count_ones, drop, get_or, is_none, length, option_map, if◌then◌else◌}
 use Rattle.duk_explain.specs.Kind.{first_wrong, is_between}
 use Rattle.duk_explain.specs.Texts.{measure_of}
 use Rattle.duk_explain.specs.declared.kind.Kind.TheVariants.{Hexadecimal, Zero}
@@ -24,6 +24,13 @@ counter_ones text =
     digit_at text 14 % 2
     + (count_ones (digit_at text 15) + count_ones (digit_at text 16) + count_ones (digit_at text 17))
     + count_ones (digit_at text 18) + count_ones (digit_at text 19)
+
+-- how many initial key serial numbers a key set has from one of 20 digits on: 2^19, the values of the
+-- 19 bits between the 40 of the key set and the 21 of the counter, but for those before it
+abbrev pub numbers_left : List ℕ → ℕ
+numbers_left text =
+    524288 - (8 * (4096 * digit_at text 10 + 256 * digit_at text 11 + 16 * digit_at text 12
+    + digit_at text 13) + digit_at text 14 / 2)
 
 -- the first of 20 digits that has a one bit of the counter
 abbrev pub first_one : List ℕ → Option ℕ

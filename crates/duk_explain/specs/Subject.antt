@@ -14,14 +14,15 @@ use Rattle.duk_explain.specs.declared.rows.Found.TheVariants as found
 use Rattle.duk_explain.specs.declared.told.Told.{Told}
 
 -- what is looked for: the reason for which the file of a secret is refused, or one that is read, or
--- one that is opened to be written and locked, or one that is made; the damaged record of a log; the line of a
--- configuration
+-- one that is opened to be written and locked, or one that is made; what a log or a ledger is seen to
+-- be, and its damaged record; what a journal is seen to be; the line of a configuration
 pub data Subject : Type 0 where
   secrets : Subject
   readable : List ℕ → Subject
   lockable : List ℕ → Subject
   makeable : List ℕ → Subject
   log : List ℕ → Subject
+  journal : List ℕ → Subject
   config : List ℕ → Subject
 
 abbrev pub subject_of : Blamed → Subject
@@ -30,6 +31,7 @@ subject_of (blamed.Readable path) = readable path.now
 subject_of (blamed.Lockable path) = lockable path.now
 subject_of (blamed.Makeable path) = makeable path.now
 subject_of (blamed.Log path) = log path.now
+subject_of (blamed.Journal path) = journal path.now
 subject_of (blamed.Config path) = config path.now
 
 -- the path of a file of a request, where the request has it
@@ -49,6 +51,7 @@ subject_found (found.Reason file) asked = option_map readable (path_of file aske
 subject_found (found.Locking file) asked = option_map lockable (path_of file asked)
 subject_found (found.Making file) asked = option_map makeable (path_of file asked)
 subject_found (found.Record file) asked = option_map log (path_of file asked)
+subject_found (found.Entries file) asked = option_map journal (path_of file asked)
 subject_found found.Line asked = option_map config (config_of asked)
 subject_found found.Reference asked = Some secrets
 subject_found found asked = None

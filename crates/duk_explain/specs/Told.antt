@@ -264,7 +264,7 @@ row told.PaddingUnread =
     (codes "a device that can be read") []
 row told.LedgerUnopened =
     words_row (codes "ledger: cannot open") (codes "ledger") (found.Locking file.Ledger) []
-    (codes "a file of zeros, 16 bytes a number, that no other uses") []
+    (codes "a log, as new-log makes one, that no other uses") []
 row told.LedgerDamaged =
     words_row (codes "ledger: damaged") (codes "ledger") (found.Record file.Ledger)
     (codes "numbers that no ledger has")
@@ -331,7 +331,7 @@ row told.NotAnEvent =
     (codes "line ") (codes "an event, a comment after # or an empty line") []
 row told.LogUnopened =
     words_row (codes "log: cannot open") (codes "log") (found.Locking file.Log) []
-    (codes "a file of zeros, 16 bytes a number, that no other uses") []
+    (codes "a log, as new-log makes one, that no other uses") []
 row told.LogFailed =
     words_row (codes "log: failed") (codes "log") (found.Record file.Log)
     (codes "wrong records, or a step that failed")
@@ -339,6 +339,9 @@ row told.LogFailed =
 row told.RecordsRefused =
     text_row (codes "records refused") (codes "RECORDS") argument.Records Decimal
     (codes "1 to 1000000000") []
+row told.LogUnmade =
+    words_row (codes "log: cannot make") (codes "log") (found.Making file.New) []
+    (codes "a name that no file has, in a folder with room") []
 row told.JournalUnmade =
     words_row (codes "journal: cannot make") (codes "journal") (found.Making file.New) []
     (codes "a name that no file has, in a folder with room") []
@@ -383,6 +386,19 @@ row told.JournalUnopened =
     words_row (codes "journal: cannot open") (codes "journal") (found.Locking file.Journal) []
     (codes "a journal, as new-journal makes one, that no other uses") []
 row told.JournalFailed =
-    words_row (codes "journal: failed") (codes "journal") found.Words
+    words_row (codes "journal: failed") (codes "journal") (found.Entries file.Journal)
     (codes "wrong records, or a step that failed")
     (codes "a journal as it was kept, on a device that works") []
+row told.KcvRefused =
+    text_row (codes "KCV refused") (codes "KCV") argument.Kcv Hexadecimal
+    (codes "6 hexadecimal digits") []
+row told.KcvDiffers =
+    words_row (codes "KCV differs") (codes "BDK") found.Words (codes "another check value")
+    (codes "a key with the check value KCV") (codes "kcv prints that of a key")
+row told.NotIssued =
+    middle_row [] middle.Number (codes ": not issued") (codes "IKSN") found.After
+    (codes " does not stand in the ledger") (codes "numbers that do")
+    (codes "without --again it is issued")
+row told.OutUnmade =
+    words_row (codes "out: cannot make") (codes "out") (found.Making file.New) []
+    (codes "a name that no file has, in a folder with room") []

@@ -3,7 +3,7 @@
 ghost use Rattle.std.specs.Prelude.{◌≡◌};
 ghost use Rattle.std.specs.Option.{option_copied, option_map};
 ghost use Rattle.duk_arguments.specs.Keys.{texts_of_keys};
-ghost use Rattle.duk_explain.specs.Argument.{amount_of, answer_of, bdk_of, block_of, config_of, count_of, fields_of, frame_of, iksn_of, journal_of, kbpk_of, key_of, keys_of, kind_of, ksn_of, ledger_of, loading_of, log_of, mac_text_of, new_of, pad_of, pan_of, pin_of, records_of, reversed_of, script_of, skip_of, text_of, what_of, zone_of};
+ghost use Rattle.duk_explain.specs.Argument.{amount_of, answer_of, bdk_of, block_of, config_of, count_of, fields_of, frame_of, iksn_of, journal_of, kbpk_of, kcv_of, key_of, keys_of, kind_of, ksn_of, ledger_of, loading_of, log_of, mac_text_of, new_of, pad_of, pan_of, pin_of, records_of, reversed_of, script_of, skip_of, text_of, what_of, zone_of};
 
 use duk_arguments::{Kept, Keys, Request};
 
@@ -17,6 +17,7 @@ pub(crate) enum Argument {
     Skip,
     Kbpk,
     Loading,
+    Kcv,
     Zone,
     Key,
     Fields,
@@ -46,6 +47,7 @@ pub(crate) fn text_of<'a>(request: &Request<'a>, argument: Argument) -> Option<&
         Argument::Skip => skip_of(request),
         Argument::Kbpk => kbpk_of(request),
         Argument::Loading => loading_of(request),
+        Argument::Kcv => kcv_of(request),
         Argument::Zone => zone_of(request),
         Argument::Key => key_of(request),
         Argument::Fields => fields_of(request),
@@ -143,6 +145,16 @@ pub(crate) fn loading_of<'a>(request: &Request<'a>) -> Option<&'a str>
 {
     match request {
         Request::Issue { loading, .. } => Some(*loading),
+        _ => None,
+    }
+}
+
+/// KCV.
+pub(crate) fn kcv_of<'a>(request: &Request<'a>) -> Option<&'a str>
+    ensures { option_copied result ≡ kcv_of request.now }
+{
+    match request {
+        Request::Issue { way, .. } => way.kcv,
         _ => None,
     }
 }
@@ -345,18 +357,19 @@ pub(crate) fn records_of<'a>(request: &Request<'a>) -> Option<&'a str>
     ensures { option_copied result ≡ records_of request.now }
 {
     match request {
-        Request::NewJournal { records, .. } => Some(*records),
+        Request::NewLog { records, .. } | Request::NewJournal { records, .. } => Some(*records),
         _ => None,
     }
 }
 
-/// The path of the journal that is made.
+/// The path of the log or the journal that is made.
 pub(crate) fn new_of<'a>(request: &Request<'a>) -> Option<&'a str>
     ensures { option_copied result ≡ new_of request.now }
 {
     match request {
-        Request::NewJournal { file, .. } => Some(*file),
+        Request::NewLog { file, .. } | Request::NewJournal { file, .. } => Some(*file),
         Request::CopyJournal { new, .. } => Some(*new),
+        Request::Issue { way, .. } => way.out,
         _ => None,
     }
 }

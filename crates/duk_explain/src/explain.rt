@@ -3,12 +3,12 @@
 ghost use Rattle.std.specs.Prelude.{◌≡◌, ◌≤◌, ◌++◌, codes, length};
 ghost use Rattle.arrayvec.specs.ArrayVec.{array_vec_len};
 ghost use Rattle.duk_explain.specs.Argument.{text_of, what_of};
-ghost use Rattle.duk_explain.specs.Explanation.{IsExplanation, header_explained, if_there, name_in, place_found, reason_found, reference_found, row_explained, text_explained, told_explained, unknown_key_explained};
+ghost use Rattle.duk_explain.specs.Explanation.{IsExplanation, header_explained, if_there, name_in, place_found, reason_found, reference_found, row_explained, strange_explained, text_explained, told_explained, unknown_key_explained};
 ghost use Rattle.duk_explain.specs.Texts.{length_text, measure_of, measure_text};
 ghost use Rattle.duk_explain.specs.Told.{row};
 
 use crate::argument::{Argument, block_of, mac_text_of, text_of, what_of};
-use crate::found::Facts;
+use crate::found::{Facts, Strange};
 use crate::keys::explain_key;
 use crate::kind::Kind;
 use crate::numbers::{explain_count, explain_counter, explain_iksn, explain_ksn};
@@ -20,6 +20,11 @@ use crate::texts::{
 use crate::told::Told;
 use duk_arguments::Request;
 use duk_commands::{Lines, push_text};
+
+/// What makes a log or a ledger, and a journal.
+const NEW_LOG: &str = "make it by dukpt new-log FILE RECORDS";
+
+const NEW_JOURNAL: &str = "make it by dukpt new-journal FILE RECORDS";
 
 /// The line that explains the fault of a request, LF at its end. `line` is the line that was
 /// written of the fault, LF at its end. The explanation is empty where there is nothing to explain.
@@ -63,7 +68,14 @@ fn explain(request: &Request<'_>, line: Told, middle: &[u8], facts: &Facts) -> L
             explain_row(line, middle, &reason_found(facts))
         }
         Found::Reference => explain_reference(line, middle, facts),
-        Found::Record(_) => explain_place(line, middle, "record ", facts),
+        Found::Record(_) => match facts.strange {
+            Some(strange) => explain_strange(line, strange, NEW_LOG),
+            None => explain_place(line, middle, "record ", facts),
+        },
+        Found::Entries(_) => match facts.strange {
+            Some(strange) => explain_strange(line, strange, NEW_JOURNAL),
+            None => explain_words(line, middle, line.words().as_bytes(), b""),
+        },
         Found::Line => explain_place(line, middle, "line ", facts),
         Found::Stopped => explain_stopped(request, line, middle),
         Found::StoppedDigit => explain_stopped_digit(request, line, middle),
@@ -148,6 +160,23 @@ fn explain_place(line: Told, middle: &[u8], before: &str, facts: &Facts) -> Line
         (place_found before.now (row line).words facts.now.place) }
 {
     explain_row(line, middle, &place_found(before, line.words(), facts))
+}
+
+/// Explains by what a file is seen to be that is no log or journal, which this would make.
+#[tactic(auto, using(crate::proofs::ShortTexts::short_name, crate::proofs::ShortTexts::short_wanted))]
+fn explain_strange(line: Told, strange: Strange, making: &'static str) -> Lines
+    requires { length making.now ≤ 50 }
+    ensures { result.items ≡ strange_explained (row line) strange making.now }
+{
+    match strange {
+        Strange::Empty => explained(line.name().as_bytes(), b"empty", line.wanted(), making),
+        Strange::Record(place) => {
+            let name = joined(b"no ", line.name().as_bytes());
+            let mut found = numbered("record ", place);
+            push_text(&mut found, b" is neither open nor zero");
+            explained(name.as_slice(), found.as_slice(), line.wanted(), "")
+        }
+    }
 }
 
 /// Explains what is shown by its length.

@@ -27,7 +27,7 @@ pub(crate) enum File {
     Ledger,
     /// The journal of payments.
     Journal,
-    /// The journal that is made.
+    /// The file that is made.
     New,
 }
 
@@ -42,8 +42,10 @@ pub enum Blamed<'a> {
     Lockable(&'a str),
     /// A file that has to be made: its folder is asked for its reason.
     Makeable(&'a str),
-    /// A log or a ledger, of which the damaged record is looked for.
+    /// A log or a ledger: whether it is one is looked for, and the damaged record.
     Log(&'a str),
+    /// A journal: whether it is one is looked for.
+    Journal(&'a str),
     /// A configuration, of which the line is looked for.
     Config(&'a str),
 }
@@ -70,6 +72,7 @@ fn blamed_by<'a>(found: Found, request: &Request<'a>) -> Option<Blamed<'a>>
         Found::Locking(file) => Some(Blamed::Lockable(path_of(file, request)?)),
         Found::Making(file) => Some(Blamed::Makeable(path_of(file, request)?)),
         Found::Record(file) => Some(Blamed::Log(path_of(file, request)?)),
+        Found::Entries(file) => Some(Blamed::Journal(path_of(file, request)?)),
         Found::Line => blamed_config(request),
         Found::Reference => Some(Blamed::Secrets),
         _ => None,

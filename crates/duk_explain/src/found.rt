@@ -19,6 +19,15 @@ pub enum Reason {
     Other,
 }
 
+/// What a file that is no log or journal is seen to be.
+#[derive(Clone, Copy, Debug, PartialEq, Eq)]
+pub enum Strange {
+    /// It has no byte.
+    Empty,
+    /// Its record at this place, from 0, is neither open nor zero.
+    Record(u64),
+}
+
 /// What was found of a file after the fault.
 #[derive(Clone, Copy, Debug, PartialEq, Eq)]
 pub struct Facts {
@@ -27,4 +36,6 @@ pub struct Facts {
     /// The damaged record of a log, from 0, or the line of a configuration, from 1, where it is
     /// known.
     pub place: Option<u64>,
+    /// What a file is seen to be, where it is no log or journal.
+    pub strange: Option<Strange>,
 }

@@ -18,5 +18,5 @@ mod told_texts;
 
 pub use explain::explanation;
 pub use files::{Blamed, blamed_file};
-pub use found::{Facts, Reason};
+pub use found::{Facts, Reason, Strange};
 pub use places::line_of_fault;

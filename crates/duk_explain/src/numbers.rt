@@ -1,11 +1,12 @@
 //! Key serial numbers and counts that are refused.
 
-ghost use Rattle.std.specs.Prelude.{◌≡◌, ◌≤◌, codes, count_ones, length};
+ghost use Rattle.std.specs.Prelude.{◌≡◌, ◌≤◌, ◌++◌, [], codes, count_ones, decimal, length};
+ghost use Rattle.arrayvec.specs.ArrayVec.{array_vec_len};
 ghost use Rattle.std.specs.Option.{option_copied};
 ghost use Rattle.duk_explain.specs.Argument.{iksn_of, ksn_of};
-ghost use Rattle.duk_explain.specs.Explanation.{count_explained, counter_explained, if_there, is_number, measured, number_explained, walk_count_explained};
-ghost use Rattle.duk_explain.specs.Numbers.{counter_ones, digit_at, digit_value, first_one, measure_iksn, number_way};
-ghost use Rattle.duk_explain.specs.Texts.{measure_of};
+ghost use Rattle.duk_explain.specs.Explanation.{count_explained, count_found, counter_explained, if_there, is_number, measured, number_explained, walk_count_explained};
+ghost use Rattle.duk_explain.specs.Numbers.{counter_ones, digit_at, digit_value, first_one, measure_iksn, number_way, numbers_left};
+ghost use Rattle.duk_explain.specs.Texts.{explained, measure_of};
 ghost use Rattle.duk_explain.specs.Told.{row};
 ghost use Rattle.duk_explain.specs.declared.kind.Kind.TheVariants.{Decimal, Hexadecimal};
 
@@ -14,7 +15,7 @@ use crate::kind::{Kind, first_wrong};
 use crate::texts::{Measure, explained, measure_of, measure_text, numbered};
 use crate::told::Told;
 use duk_arguments::Request;
-use duk_commands::{Lines, push_text, read_decimal};
+use duk_commands::{Lines, push_end, push_text, read_decimal};
 
 /// What helps where a number lacks its first four digits.
 const PREFIX: &str = "write FFFF before it";
@@ -165,17 +166,67 @@ pub(crate) fn explain_count(request: &Request<'_>) -> Lines
 {
     match request {
         Request::Walk { count, skip, .. } => explain_walk_count(count, *skip),
-        Request::Issue { count, .. } => {
-            let found = measure_text(measure_of(Kind::Decimal, count));
-            explained(
-                b"COUNT",
-                found.as_slice(),
-                "1 to 1048576, no more than are left from IKSN on",
-                "",
-            )
-        }
+        Request::Issue { iksn, count, .. } => explain_issue_count(iksn, count),
         _ => Lines::new(),
     }
+}
+
+/// Explains COUNT of `issue`: that number, and how many are left from IKSN on.
+fn explain_issue_count(iksn: &str, count: &str) -> Lines
+    ensures { result.items ≡ explained (codes "COUNT") (count_found count.now)
+        (codes "1 to " ++ decimal (numbers_left iksn.now)
+        ++ codes ", as many as are left in IKSN's key set") [] }
+{
+    let found = count_found(count);
+    let wanted = numbers_wanted(iksn);
+    let mut line = Lines::new();
+    push_text(&mut line, b"COUNT: ");
+    push_text(&mut line, found.as_slice());
+    push_text(&mut line, b"; wanted: ");
+    push_text(&mut line, wanted.as_slice());
+    push_end(&mut line);
+    line
+}
+
+/// What COUNT of `issue` may be, from IKSN on.
+fn numbers_wanted(iksn: &str) -> Lines
+    ensures text { result.items ≡ codes "1 to " ++ decimal (numbers_left iksn.now)
+        ++ codes ", as many as are left in IKSN's key set" }
+    ensures short { array_vec_len result ≤ 80 }
+{
+    let mut text = numbered("1 to ", u64::from(numbers_left(iksn.as_bytes())));
+    push_text(&mut text, b", as many as are left in IKSN's key set");
+    text
+}
+
+/// What is told of a count: the number itself, where it has at most 20 digits.
+fn count_found(count: &str) -> Lines
+    ensures text { result.items ≡ count_found count.now }
+    ensures short { array_vec_len result ≤ 57 }
+{
+    let measure = measure_of(Kind::Decimal, count);
+    if measure.length < 1 || measure.length > 20 || measure.wrong.is_some() {
+        return measure_text(measure);
+    }
+    let mut text = Lines::new();
+    push_text(&mut text, count.as_bytes());
+    text
+}
+
+/// How many initial key serial numbers are left in the key set of one of 20 digits, from that on.
+fn numbers_left(iksn: &[u8]) -> u32
+    ensures { result ≡ numbers_left iksn.now }
+{
+    let high = 4096 * digit(iksn, 10) + 256 * digit(iksn, 11) + 16 * digit(iksn, 12);
+    524_288 - (8 * (high + digit(iksn, 13)) + digit(iksn, 14) / 2)
+}
+
+/// The value of the digit at a place.
+fn digit(text: &[u8], place: usize) -> u32
+    ensures digit { result ≡ digit_at text.now place }
+    ensures small { result ≤ 15 }
+{
+    u32::from(digit_at(text, place))
 }
 
 /// Explains COUNT, or K where COUNT is as it is wanted.

@@ -23,8 +23,11 @@ pub(crate) enum Found {
     Making(File),
     /// What the system says of a secret's file, or words of standard input.
     Reference,
-    /// The damaged record of a log or a ledger, or words where it is not known.
+    /// What a file is seen to be that is no log or ledger, or the damaged record of one, or words where
+    /// neither is known.
     Record(File),
+    /// What a file is seen to be that is no journal, or words where that is not known.
+    Entries(File),
     /// The line of a configuration, or words where it is not known.
     Line,
     /// The measure of a key serial number, and what helps.
@@ -58,9 +61,10 @@ impl Told {
         ensures text { result.now ≡ (row self).name }
     {
         match self {
-            Told::BdkRefused | Told::InitialRefused => "BDK",
+            Told::BdkRefused | Told::InitialRefused | Told::KcvDiffers => "BDK",
+            Told::KcvRefused => "KCV",
             Told::KsnRefused | Told::CounterRefused => "KSN",
-            Told::IksnRefused | Told::Issued => "IKSN",
+            Told::IksnRefused | Told::Issued | Told::NotIssued => "IKSN",
             Told::CountRefused => "COUNT",
             Told::KbpkRefused => "KBPK",
             Told::LoadingRefused => "LOADING",
@@ -134,7 +138,9 @@ impl Told {
             Told::LogUnopened | Told::LogFailed => "log",
             Told::JournalUnopened | Told::JournalFailed => "journal",
             Told::RecordsRefused => "RECORDS",
+            Told::LogUnmade => "log",
             Told::JournalUnmade => "journal",
+            Told::OutUnmade => "out",
             Told::ServeUnread
             | Told::ServeCut
             | Told::ServeTooLong
@@ -160,6 +166,7 @@ impl Told {
             Told::CountRefused => Found::Count,
             Told::KbpkRefused => Found::Text(Argument::Kbpk, Kind::Hexadecimal),
             Told::LoadingRefused => Found::Text(Argument::Loading, Kind::Hexadecimal),
+            Told::KcvRefused => Found::Text(Argument::Kcv, Kind::Hexadecimal),
             Told::ZoneRefused => Found::Text(Argument::Zone, Kind::Hexadecimal),
             Told::KeyRefused => Found::Key,
             Told::FieldsRefused => Found::Text(Argument::Fields, Kind::Any),
@@ -208,10 +215,11 @@ impl Told {
             Told::LogUnopened => Found::Locking(File::Log),
             Told::JournalUnopened => Found::Locking(File::Journal),
             Told::RecordsRefused => Found::Text(Argument::Records, Kind::Decimal),
-            Told::JournalUnmade => Found::Making(File::New),
+            Told::LogUnmade | Told::JournalUnmade | Told::OutUnmade => Found::Making(File::New),
             Told::LedgerDamaged => Found::Record(File::Ledger),
             Told::LogFailed => Found::Record(File::Log),
-            Told::Issued => Found::After,
+            Told::JournalFailed => Found::Entries(File::Journal),
+            Told::Issued | Told::NotIssued => Found::After,
             Told::NotToml
             | Told::BadLmk
             | Told::BadZone
@@ -248,6 +256,8 @@ impl Told {
             Told::LedgerFailed => "a step of its device failed",
             Told::LogFailed | Told::JournalFailed => "wrong records, or a step that failed",
             Told::Issued => " stands in the ledger",
+            Told::NotIssued => " does not stand in the ledger",
+            Told::KcvDiffers => "another check value",
             Told::LedgerFull => "too little room",
             Told::NotToml => "other text",
             Told::BadLmk
@@ -283,6 +293,8 @@ impl Told {
             Told::CounterRefused => "1 to 10",
             Told::IksnRefused => "20 hexadecimal digits, the last 21 bits zeros",
             Told::CountRefused => "1 to 1048576, no more than are left from IKSN on",
+            Told::KcvRefused => "6 hexadecimal digits",
+            Told::KcvDiffers => "a key with the check value KCV",
             Told::KbpkRefused
             | Told::LoadingRefused
             | Told::ZoneRefused
@@ -341,11 +353,12 @@ impl Told {
             Told::LogTooLong | Told::JournalTooLong => "at most 1073741824 bytes",
             Told::PaddingUnread => "a device that can be read",
             Told::LedgerUnopened | Told::LogUnopened =>
-                "a file of zeros, 16 bytes a number, that no other uses",
+                "a log, as new-log makes one, that no other uses",
             Told::JournalUnopened => "a journal, as new-journal makes one, that no other uses",
             Told::LedgerDamaged => "initial key serial numbers",
             Told::LedgerFailed => "a device that works",
             Told::Issued => "numbers that do not",
+            Told::NotIssued => "numbers that do",
             Told::LedgerFull => "16 bytes of zeros for each number",
             Told::ConfigTooLong | Told::ScriptTooLong => "at most 1048576 bytes",
             Told::NotToml => "TOML in UTF-8",
@@ -361,7 +374,8 @@ impl Told {
             Told::LogFailed => "a log as it was kept, on a device that works",
             Told::JournalFailed => "a journal as it was kept, on a device that works",
             Told::RecordsRefused => "1 to 1000000000",
-            Told::JournalUnmade => "a name that no file has, in a folder with room",
+            Told::LogUnmade | Told::JournalUnmade | Told::OutUnmade =>
+                "a name that no file has, in a folder with room",
             Told::ServeUnread => "frames",
             Told::ServeCut => "whole frames",
             Told::ServeTooLong => "frames of requests",
@@ -384,6 +398,8 @@ impl Told {
                 "show block tells the place",
             Told::LedgerFailed => "the next number may stand in it",
             Told::Issued => "--skip-issued passes over them",
+            Told::NotIssued => "without --again it is issued",
+            Told::KcvDiffers => "kcv prints that of a key",
             Told::ItemsRefused => "the fault of each stands in its place",
             _ => "",
         }

@@ -215,10 +215,20 @@ pub(crate) enum Told {
     JournalUnread,
     /// `journal: too long`
     JournalTooLong,
+    /// `log: cannot make`
+    LogUnmade,
+    /// `KCV refused`
+    KcvRefused,
+    /// `KCV differs`
+    KcvDiffers,
+    /// `I: not issued`
+    NotIssued,
+    /// `out: cannot make`
+    OutUnmade,
 }
 
 /// How many lines there are.
-pub(crate) const COUNT: usize = 106;
+pub(crate) const COUNT: usize = 111;
 
 /// All of them.
 pub(crate) static ALL: [Told; COUNT] = [
@@ -328,4 +338,9 @@ pub(crate) static ALL: [Told; COUNT] = [
     Told::OtherIksn,
     Told::SameNumber,
     Told::NotUsable,
+    Told::LogUnmade,
+    Told::KcvRefused,
+    Told::KcvDiffers,
+    Told::NotIssued,
+    Told::OutUnmade,
 ];

@@ -117,6 +117,7 @@ impl Told {
             Told::JournalUnopened => "journal: cannot open",
             Told::JournalFailed => "journal: failed",
             Told::RecordsRefused => "records refused",
+            Told::LogUnmade => "log: cannot make",
             Told::JournalUnmade => "journal: cannot make",
             Told::ServeUnread => "serve: read failed",
             Told::ServeCut => "serve: input ends in a frame",
@@ -127,6 +128,9 @@ impl Told {
             Told::ItemsRefused => "batch: items refused",
             Told::BatchUnread => "batch: read failed",
             Told::OutOfMemory => "out of memory",
+            Told::KcvRefused => "KCV refused",
+            Told::KcvDiffers => "KCV differs",
+            Told::OutUnmade => "out: cannot make",
             _ => "",
         }
     }
@@ -154,6 +158,7 @@ impl Told {
             Told::ImagePast => ": Past",
             Told::LogDamaged | Told::JournalDamaged => ": Damaged",
             Told::Issued => ": issued",
+            Told::NotIssued => ": not issued",
             Told::NotAnEvent => ": not an event",
             Told::SecretUnread => ": cannot read",
             Told::SecretTooLong => ": too long",
@@ -194,7 +199,7 @@ impl Told {
             | Told::BadBdkEntry
             | Told::BadCardEntry
             | Told::NotAnEvent => Middle::Place,
-            Told::Issued => Middle::Number,
+            Told::Issued | Told::NotIssued => Middle::Number,
             Told::SecretUnread | Told::SecretTooLong | Told::SecretNotUtf8 => Middle::Secret,
             _ => Middle::Nothing,
         }

@@ -1,7 +1,7 @@
 //! The commands over files.
 
 ghost use Rattle.std.specs.Prelude.{◌≡◌};
-ghost use Rattle.duk_arguments.specs.CommandLine.{copy_journal_command, new_journal_command, run_command, serve_command};
+ghost use Rattle.duk_arguments.specs.CommandLine.{copy_journal_command, new_journal_command, new_log_command, run_command, serve_command};
 ghost use Rattle.duk_arguments.specs.inner.CommandLine.{shape_of_usage};
 
 use super::arguments::{Argument, Usage};
@@ -50,6 +50,27 @@ pub(super) fn serve<'a>() -> Usage<'a>
     }
 }
 
+/// `new-log FILE RECORDS`
+pub(super) fn new_log<'a>() -> Usage<'a>
+    ensures { shape_of_usage result ≡ new_log_command }
+{
+    Usage {
+        name: "new-log",
+        about: "Makes the file of a new log, or of a new ledger",
+        after_help: help::NEW_LOG,
+        arguments: &[
+            Argument::Needed(
+                "FILE",
+                "The file of the log, which is made and must not be there",
+            ),
+            Argument::Needed(
+                "RECORDS",
+                "For how many numbers it has room, 1 to 1000000000",
+            ),
+        ],
+    }
+}
+
 /// `new-journal FILE RECORDS`
 pub(super) fn new_journal<'a>() -> Usage<'a>
     ensures { shape_of_usage result ≡ new_journal_command }
@@ -65,7 +86,7 @@ pub(super) fn new_journal<'a>() -> Usage<'a>
             ),
             Argument::Needed(
                 "RECORDS",
-                "For how many payments it has room, 1 to 1000000000",
+                "How many records it has, 1 to 1000000000; the last sixteenth is for reversals",
             ),
         ],
     }

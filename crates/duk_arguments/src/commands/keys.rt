@@ -59,7 +59,7 @@ pub(super) fn initial<'a>() -> Usage<'a>
     }
 }
 
-/// `issue BDK LOADING IKSN COUNT --ledger FILE [--skip-issued]`
+/// `issue BDK LOADING IKSN COUNT --ledger FILE [--bdk-kcv KCV] [--out FILE] [--skip-issued] [--again]`
 pub(super) fn issue<'a>() -> Usage<'a>
     ensures { shape_of_usage result ≡ issue_command }
 {
@@ -77,15 +77,29 @@ pub(super) fn issue<'a>() -> Usage<'a>
                 "IKSN",
                 "The first initial key serial number, 20 hexadecimal digits",
             ),
-            Argument::Needed("COUNT", "How many initial keys to issue, at most 1048576"),
+            Argument::Needed("COUNT", "How many initial keys to issue, at most 524288"),
             Argument::Named(
                 "ledger",
                 "FILE",
                 "Keeps the issued numbers in this file, which has to be there",
             ),
+            Argument::Valued(
+                "bdk-kcv",
+                "KCV",
+                "Issues nothing unless BDK has this check value, 6 hexadecimal digits",
+            ),
+            Argument::Valued(
+                "out",
+                "FILE",
+                "Writes the lines to this file, which is made, and syncs each before the next",
+            ),
             Argument::Flag(
                 "skip-issued",
-                "Passes over the numbers that are issued already",
+                "Passes over the numbers that are issued already, and says how many",
+            ),
+            Argument::Flag(
+                "again",
+                "Makes the lines of numbers that are issued already again, and issues none",
             ),
         ],
     }

@@ -37,6 +37,8 @@ pub(crate) enum CommandName {
     Run,
     /// `serve`
     Serve,
+    /// `new-log`
+    NewLog,
     /// `new-journal`
     NewJournal,
     /// `copy-journal`

@@ -36,16 +36,16 @@ Faults, on standard error with status 1, the first alone; --explain says more:
 
 /// At the end of the help of `serve`.
 pub(crate) const SERVE: &str = "\
-An answer is written for each frame, in their order. FILE is zeros at first, 16 bytes for each number
-that it has room for. It is opened and never made. Without it the used numbers are lost at the end:
-that is for trials.
+An answer is written for each frame, in their order. FILE has 16 bytes for each number that it has room
+for, and `new-log` makes it. It is opened and never made. Without it the used numbers are lost at the
+end: that is for trials.
 
 FILE of --journal has 32 bytes for each payment, and `new-journal` makes it. Frames that come together
 are answered together, and a request among the latest 1048576 that were accepted gets its reply again,
 also after a restart. --log and --journal exclude each other.
 
 Example:
-  $ dd if=/dev/zero of=used.log bs=16 count=1000 conv=excl,fsync status=none
+  $ dukpt new-log used.log 1000
   $ dukpt serve examples/bank.toml --log used.log <requests >answers
   $ dukpt new-journal payments.journal 1000
   $ dukpt serve examples/bank.toml --journal payments.journal <requests >answers
@@ -53,19 +53,34 @@ Example:
 Faults, on standard error with status 1, the first alone; --explain says more:
   config: ..                    The configuration, as of `run`
   log: cannot open              FILE is missing, cannot be opened, or is in use by another service
-  log: failed                   FILE is damaged, or a device step failed
+  log: failed                   FILE is damaged or no log, or a device step failed
   journal: cannot open          FILE is missing, cannot be opened, or is in use by another service
-  journal: failed               FILE is damaged, or a device step failed
+  journal: failed               FILE is damaged or no journal, or a device step failed
   serve: read failed            Standard input cannot be read, or took 1000000 reads without --journal
   serve: input ends in a frame  Standard input ended inside a frame
   serve: frame too long         A length above 62 where a frame begins
   serve: write failed           Standard output takes no more
   out of memory                 Memory was refused";
 
+/// At the end of the help of `new-log`.
+pub(crate) const NEW_LOG: &str = "\
+A log, of used numbers or of issued ones, takes 16 bytes for each. They are zeros at first, and all of
+them are written, so that a device without room for them shows now and not at a number. FILE and its
+folder are synced.
+
+Example:
+  $ dukpt new-log used.log 1000
+
+Faults, on standard error with status 1, the first alone; --explain says more:
+  records refused    RECORDS is no decimal number of 1 to 1000000000
+  log: cannot make   FILE is there, cannot be made, written or synced, or its folder cannot be synced
+  out of memory      Memory was refused";
+
 /// At the end of the help of `new-journal`.
 pub(crate) const NEW_JOURNAL: &str = "\
-A journal takes 32 bytes for each payment. They are zeros at first, and all of them are written, so that
-a device without room for them shows now and not at a payment. FILE and its folder are synced.
+A journal takes a record of 32 bytes for each payment and each reversal; in the last sixteenth of them no
+payment is kept, so that there is room to reverse. They are zeros at first, and all of them are written,
+so that a device without room for them shows now and not at a payment. FILE and its folder are synced.
 
 Example:
   $ dukpt new-journal payments.journal 1000

@@ -87,9 +87,11 @@ Faults, on standard error with status 1, the first alone; --explain says more:
 pub(crate) const ISSUE: &str = "\
 Issues COUNT initial keys, the first of IKSN and each at the next initial key serial number, as lines
 `issued IKSN BLOCK KCV`. BLOCK is a key block under LOADING with the fields B1TX00N and random
-padding, KCV the key's check value. FILE is a log of used numbers, as of `serve`: each number is in
-it before its line is printed. None is issued where FILE has one already; with --skip-issued those
-are passed over.
+padding, KCV the key's check value. All numbers have the first 40 bits of IKSN, which choose the base
+derivation key. FILE of --ledger is a log of used numbers, as new-log makes one: each number is in it
+before its line is printed. None is issued where it has one already; with --skip-issued those are
+passed over, and standard error says how many. --again makes the lines of such numbers again. FILE of
+--out has each line on its medium before the next number is spent.
 
 BDK and LOADING are better written as @FILE (the first line of a file) or @- (of standard input):
 every user of the machine sees the words of a process.
@@ -97,23 +99,27 @@ every user of the machine sees the words of a process.
 Example:
   $ echo 0123456789ABCDEFFEDCBA9876543210 >bdk.txt
   $ echo DD7515F2BFC17F85CE48F3CA25CB21F6 >loading.txt
-  $ dd if=/dev/zero of=issued.log bs=16 count=1000 conv=excl,fsync status=none
+  $ dukpt new-log issued.log 1000
   $ dukpt issue @bdk.txt @loading.txt FFFF9876543210E00000 1 --ledger issued.log | cut -d ' ' -f 1,2,4
   issued FFFF9876543210E00000 AF8C07
 
 Faults, on standard error with status 1, the first alone; --explain says more:
-  BDK: ..          BDK as @FILE or @-: cannot read, too long, not UTF-8
-  LOADING: ..      LOADING as @FILE or @-: the same
-  BDK refused      BDK is not 32 hexadecimal digits
-  loading refused  LOADING is not 32 or 48 hexadecimal digits
-  IKSN refused     IKSN is not 20 hexadecimal digits with a counter of zero
-  count refused    COUNT is no number, is above 1048576, or more than numbers are left from IKSN on
-  padding: ..      The system's random device: cannot read
-  ledger: ..       FILE: cannot open, failed, damaged
-  IKSN: issued     The first of the numbers that FILE has already
-  ledger: full     FILE has no room for all that are to be issued
-  write failed     Standard output takes no more
-  out of memory    Memory was refused";
+  BDK: ..           BDK as @FILE or @-: cannot read, too long, not UTF-8
+  LOADING: ..       LOADING as @FILE or @-: the same
+  BDK refused       BDK is not 32 hexadecimal digits
+  loading refused   LOADING is not 32 or 48 hexadecimal digits
+  IKSN refused      IKSN is not 20 hexadecimal digits with a counter of zero
+  count refused     COUNT is no number, zero, or more than are left with the first 40 bits of IKSN
+  KCV refused       KCV is not 6 hexadecimal digits
+  KCV differs       BDK has another check value
+  padding: ..       The system's random device: cannot read
+  ledger: ..        The ledger: cannot open, failed, damaged
+  out: cannot make  There is such a file, or none can be made
+  IKSN: issued      The first of the numbers that the ledger has already
+  IKSN: not issued  The first of the numbers that it does not have, with --again
+  ledger: full      The ledger has no room for all that are to be issued
+  write failed      Standard output, or the file of --out, takes no more
+  out of memory     Memory was refused";
 
 /// At the end of the help of `registers`.
 pub(crate) const REGISTERS: &str = "\

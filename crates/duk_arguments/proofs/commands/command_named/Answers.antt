@@ -16,7 +16,7 @@ is_listed : (name : Text) (asked : Request) → Each (λ (shape : Shape). shape.
 is_listed name (request.Derive bdk ksn initial trace all) others same = others.0 (sym same)
 is_listed name (request.Walk bdk iksn count skip alone initial) others same = others.1.0 (sym same)
 is_listed name (request.Initial bdk iksn) others same = others.1.1.0 (sym same)
-is_listed name (request.Issue bdk loading iksn count ledger skip_issued) others same = others.1.1.1.0 (sym same)
+is_listed name (request.Issue bdk loading iksn count ledger way) others same = others.1.1.1.0 (sym same)
 is_listed name (request.Registers bdk ksn initial) others same = others.1.1.1.1.0 (sym same)
 is_listed name (request.Kcv keys components show) others same = others.1.1.1.1.1.0 (sym same)
 is_listed name (request.Mac key text cmac hex) others same = others.1.1.1.1.1.1.0 (sym same)
@@ -31,14 +31,15 @@ is_listed name (request.MakeReversal bdk ksn reversed initial) others same = oth
 is_listed name (request.CheckReply bdk asked answer initial) others same = others.1.1.1.1.1.1.1.1.1.1.1.1.1.1.0 (sym same)
 is_listed name (request.Run config script journal) others same = others.1.1.1.1.1.1.1.1.1.1.1.1.1.1.1.0 (sym same)
 is_listed name (request.Serve config keeping) others same = others.1.1.1.1.1.1.1.1.1.1.1.1.1.1.1.1.0 (sym same)
-is_listed name (request.NewJournal file records) others same = others.1.1.1.1.1.1.1.1.1.1.1.1.1.1.1.1.1.0 (sym same)
-is_listed name (request.CopyJournal old new) others same = others.1.1.1.1.1.1.1.1.1.1.1.1.1.1.1.1.1.1.0 (sym same)
+is_listed name (request.NewLog file records) others same = others.1.1.1.1.1.1.1.1.1.1.1.1.1.1.1.1.1.0 (sym same)
+is_listed name (request.NewJournal file records) others same = others.1.1.1.1.1.1.1.1.1.1.1.1.1.1.1.1.1.1.0 (sym same)
+is_listed name (request.CopyJournal old new) others same = others.1.1.1.1.1.1.1.1.1.1.1.1.1.1.1.1.1.1.1.0 (sym same)
 
 pub returns-clause-all : goal.returns-clause-all
 returns-clause-all c = λ asked same.
     let commands = c.commands.result in
     let name = c.args.name.now in
-    let count : length commands ≡ 19 = sym (length-map _ _) ∙ ap length c.commands.ensures in
+    let count : length commands ≡ 20 = sym (length-map _ _) ∙ ap length c.commands.ensures in
     let each : Each (λ (command : CommandName). (shape_named command).name ≢ name) commands =
     each_so_far (λ (command : CommandName). (shape_named command).name ≢ name) commands
     c.loop-command.command-index (omega arith) c.loop-command.invariant in
