@@ -1,6 +1,7 @@
 //! Why the program ends before its last step.
 
 use duk_config::ScriptFault;
+use duk_host::HostFault;
 use duk_store::StoreFault;
 use hex::FromHexError;
 use std::alloc::{AllocError, AllocFailed};
@@ -16,6 +17,9 @@ pub enum Trouble {
     /// A line is no step, or one of something that was not made.
     #[error("not a step")]
     NotAStep,
+    /// A host or a disk is not as the step needs it, before the step.
+    #[error("cannot set up")]
+    NotSetUp,
     /// What came cannot be written.
     #[error("cannot write")]
     CannotWrite,
@@ -33,10 +37,21 @@ impl<T: Drop> From<AllocFailed<T>> for Trouble {
     }
 }
 
-/// Of a disk that is made, or written before any of its steps is to fail.
 impl From<StoreFault> for Trouble {
-    fn from(_refused: StoreFault) -> Trouble {
-        Trouble::Memory
+    fn from(refused: StoreFault) -> Trouble {
+        match refused {
+            StoreFault::NoMemory => Trouble::Memory,
+            _ => Trouble::NotSetUp,
+        }
+    }
+}
+
+impl From<HostFault> for Trouble {
+    fn from(refused: HostFault) -> Trouble {
+        match refused {
+            HostFault::NoMemory => Trouble::Memory,
+            _ => Trouble::NotSetUp,
+        }
     }
 }
 

@@ -3,6 +3,7 @@
 use Rattle.std.proofs.Common.{◌≡◌, ◌≢◌, ◌⊎◌, ℕ, Bool, List, Option, Some, None, inl, inr, refl, sym}
 use Rattle.std.proofs.lemmas.Option.{none-some}
 use Rattle.std.specs.Borrow.{Bor}
+use Rattle.duk_arguments.specs.declared.request.IssueWay.{IssueWay}
 use Rattle.duk_arguments.specs.declared.request.Request.{Request}
 use Rattle.duk_arguments.specs.declared.request.Request.TheVariants as request
 use Rattle.duk_commands.specs.Answer.{Command, IsDone, IsNotDone, Streams, streams}
@@ -13,7 +14,7 @@ use Rattle.duk_program.proofs.WrittenStaysWritten.{untouched_still, written_stil
 use Rattle.duk_program.specs.Commands.{HasShown, IsCommandLineDone, IsCommandLineFailed, command_for}
 use Rattle.duk_service.specs.Files.{FileKnown}
 use Rattle.duk_program.specs.Items.{IsAtOnce, LineItems, items_of}
-use Rattle.duk_service.specs.LogFiles.{DiskKnown}
+use Rattle.duk_service.specs.LogFiles.{DiskKnown, MakingKnown}
 use Rattle.duk_program.specs.Meant.{HasLostLines, HasMeantDone, IsDoneAlone, IsMeantNotDone, IsNotDoneAlone, IsOverItemsDone, IsOverItemsNotDone, referred_in}
 use Rattle.duk_program.specs.Program.{IsProgramDone, IsProgramNotDone, IsRequestDone, IsRequestNotDone}
 use Rattle.duk_program.specs.Scene.{Scene, writers_of}
@@ -71,16 +72,17 @@ request_done : {D : Type 0} (meaning : DiskMeaning D) (s : Scene D) (asked : Req
     → IsRequestDone meaning s asked
 request_done meaning s (request.Run config script journal) at_once done = absurd done.asked
 request_done meaning s (request.Serve config kept) at_once done = absurd done.asked
+request_done meaning s (request.NewLog file records) at_once done = absurd done.asked
 request_done meaning s (request.NewJournal file records) at_once done = absurd done.asked
 request_done meaning s (request.CopyJournal old new) at_once done = absurd done.asked
 request_done meaning s (request.Show kind what show) at_once done = absurd done.asked
-request_done meaning s (request.Issue bdk loading iksn count ledger skip) at_once done = absurd done.asked
+request_done meaning s (request.Issue bdk loading iksn count ledger way) at_once done = absurd done.asked
 request_done meaning s asked at_once done = record {
   input = s.streams.input_before;
   read = words_untouched s.streams.input_before (secrets_of asked) at_once.words;
   meant = asked;
   means = words_have_meaning (referred_in s) asked tt at_once.words;
-  done = at_once_done (items_of asked) s (IsDoneAlone meaning s.held s.disks (writers_of s) asked) at_once.no_items done;
+  done = at_once_done (items_of asked) s (IsDoneAlone meaning s.held s.disks s.making (writers_of s) asked) at_once.no_items done;
 }
 
 pub program_done : {D : Type 0} (meaning : DiskMeaning D) (arguments : List (List ℕ)) (s : Scene D) → IsCommandLineDone arguments (writers_of s)
@@ -99,20 +101,22 @@ request_not_done meaning s (request.Run config script journal) at_once (inl refu
 request_not_done meaning s (request.Run config script journal) at_once (inr short) = absurd short.asked
 request_not_done meaning s (request.Serve config kept) at_once (inl refused) = absurd refused.cause
 request_not_done meaning s (request.Serve config kept) at_once (inr short) = absurd short.asked
+request_not_done meaning s (request.NewLog file records) at_once (inl refused) = absurd refused.cause
 request_not_done meaning s (request.NewJournal file records) at_once (inl refused) = absurd refused.cause
+request_not_done meaning s (request.NewLog file records) at_once (inr short) = absurd short.asked
 request_not_done meaning s (request.NewJournal file records) at_once (inr short) = absurd short.asked
 request_not_done meaning s (request.CopyJournal old new) at_once (inl refused) = absurd refused.cause
 request_not_done meaning s (request.CopyJournal old new) at_once (inr short) = absurd short.asked
 request_not_done meaning s (request.Show kind what show) at_once (inl refused) = absurd refused.cause
 request_not_done meaning s (request.Show kind what show) at_once (inr short) = absurd short.asked
-request_not_done meaning s (request.Issue bdk loading iksn count ledger skip) at_once (inl refused) = absurd refused.cause
-request_not_done meaning s (request.Issue bdk loading iksn count ledger skip) at_once (inr short) = absurd short.asked
+request_not_done meaning s (request.Issue bdk loading iksn count ledger way) at_once (inl refused) = absurd refused.cause
+request_not_done meaning s (request.Issue bdk loading iksn count ledger way) at_once (inr short) = absurd short.asked
 request_not_done meaning s asked at_once not_done = inl (record {
   input = s.streams.input_before;
   read = words_untouched s.streams.input_before (secrets_of asked) at_once.words;
   meant = asked;
   means = words_have_meaning (referred_in s) asked tt at_once.words;
-  not_done = at_once_not_done (items_of asked) s (IsNotDoneAlone meaning s.held s.disks (writers_of s) asked) at_once.no_items (inl not_done);
+  not_done = at_once_not_done (items_of asked) s (IsNotDoneAlone meaning s.held s.disks s.making (writers_of s) asked) at_once.no_items (inl not_done);
 })
 
 pub program_not_done : {D : Type 0} (meaning : DiskMeaning D) (arguments : List (List ℕ)) (s : Scene D) → IsCommandLineFailed arguments (writers_of s)
@@ -130,6 +134,7 @@ pub meant_done : {D : Type 0} (meaning : DiskMeaning D) (s : Scene D) (asked : R
     → IsRequestDone meaning s asked
 meant_done meaning s (request.Run config script journal) over done = absurd over
 meant_done meaning s (request.Serve config kept) over done = absurd over
+meant_done meaning s (request.NewLog file records) over done = absurd over
 meant_done meaning s (request.NewJournal file records) over done = absurd over
 meant_done meaning s (request.CopyJournal old new) over done = absurd over
 meant_done meaning s asked over done = done
@@ -138,32 +143,34 @@ pub meant_not_done : {D : Type 0} (meaning : DiskMeaning D) (s : Scene D) (asked
     → IsRequestNotDone meaning s asked
 meant_not_done meaning s (request.Run config script journal) over not_done = absurd over
 meant_not_done meaning s (request.Serve config kept) over not_done = absurd over
+meant_not_done meaning s (request.NewLog file records) over not_done = absurd over
 meant_not_done meaning s (request.NewJournal file records) over not_done = absurd over
 meant_not_done meaning s (request.CopyJournal old new) over not_done = absurd over
 meant_not_done meaning s asked over not_done = not_done
 
 -- of a request over its arguments its command is done
-pub done_alone : {D : Type 0} (meaning : DiskMeaning D) (held : List ℕ → FileKnown) (disks : List ℕ → DiskKnown D) (s : Streams) (asked : Request)
-    → NeedsNoFile asked → IsDone (command_for asked) s → IsDoneAlone meaning held disks s asked
-done_alone meaning held disks s (request.Show kind what show) no_file done = absurd no_file
-done_alone meaning held disks s (request.Issue bdk loading iksn count ledger skip) no_file done = absurd no_file
-done_alone meaning held disks s asked no_file done = done
+pub done_alone : {D : Type 0} (meaning : DiskMeaning D) (held : List ℕ → FileKnown) (disks : List ℕ → DiskKnown D) (making : List ℕ → MakingKnown D) (s : Streams) (asked : Request)
+    → NeedsNoFile asked → IsDone (command_for asked) s → IsDoneAlone meaning held disks making s asked
+done_alone meaning held disks making s (request.Show kind what show) no_file done = absurd no_file
+done_alone meaning held disks making s (request.Issue bdk loading iksn count ledger way) no_file done = absurd no_file
+done_alone meaning held disks making s asked no_file done = done
 
-pub not_done_alone : {D : Type 0} (meaning : DiskMeaning D) (held : List ℕ → FileKnown) (disks : List ℕ → DiskKnown D) (s : Streams) (asked : Request)
-    → NeedsNoFile asked → IsNotDone (command_for asked) s ⊎ HasLostLines (command_for asked) s → IsNotDoneAlone meaning held disks s asked
-not_done_alone meaning held disks s (request.Show kind what show) no_file not_done = absurd no_file
-not_done_alone meaning held disks s (request.Issue bdk loading iksn count ledger skip) no_file not_done = absurd no_file
-not_done_alone meaning held disks s asked no_file not_done = not_done
+pub not_done_alone : {D : Type 0} (meaning : DiskMeaning D) (held : List ℕ → FileKnown) (disks : List ℕ → DiskKnown D) (making : List ℕ → MakingKnown D) (s : Streams) (asked : Request)
+    → NeedsNoFile asked → IsNotDone (command_for asked) s ⊎ HasLostLines (command_for asked) s → IsNotDoneAlone meaning held disks making s asked
+not_done_alone meaning held disks making s (request.Show kind what show) no_file not_done = absurd no_file
+not_done_alone meaning held disks making s (request.Issue bdk loading iksn count ledger way) no_file not_done = absurd no_file
+not_done_alone meaning held disks making s asked no_file not_done = not_done
 
 -- a command is a request over its arguments
 pub no_file_needed : (asked : Request) → IsOverSecrets asked
     → ((kind what : Bor (List ℕ)) (show : Bool) → asked ≢ request.Show kind what show)
-    → ((bdk loading iksn count ledger : Bor (List ℕ)) (skip : Bool) → asked ≢ request.Issue bdk loading iksn count ledger skip)
+    → ((bdk loading iksn count ledger : Bor (List ℕ)) (way : IssueWay) → asked ≢ request.Issue bdk loading iksn count ledger way)
     → NeedsNoFile asked
 no_file_needed (request.Run config script journal) over no_show no_issue = absurd over
 no_file_needed (request.Serve config kept) over no_show no_issue = absurd over
+no_file_needed (request.NewLog file records) over no_show no_issue = absurd over
 no_file_needed (request.NewJournal file records) over no_show no_issue = absurd over
 no_file_needed (request.CopyJournal old new) over no_show no_issue = absurd over
 no_file_needed (request.Show kind what show) over no_show no_issue = absurd (no_show kind what show refl)
-no_file_needed (request.Issue bdk loading iksn count ledger skip) over no_show no_issue = absurd (no_issue bdk loading iksn count ledger skip refl)
+no_file_needed (request.Issue bdk loading iksn count ledger way) over no_show no_issue = absurd (no_issue bdk loading iksn count ledger way refl)
 no_file_needed asked over no_show no_issue = tt

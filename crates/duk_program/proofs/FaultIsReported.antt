@@ -1,5 +1,5 @@
 -- What a command leaves on the writer of faults where it is not done.
-use Rattle.std.proofs.Common.{◌⊎◌, ℕ, List, Option, Some, None, inl, inr, refl}
+use Rattle.std.proofs.Common.{◌⊎◌, ℕ, Bool, true, false, List, Option, Some, None, inl, inr, refl}
 use Rattle.duk_arguments.specs.declared.request.Request.TheVariants as request
 use Rattle.duk_batch.specs.Batch.{Input, IsBatchNotDone, refused_line, unread_line}
 use Rattle.duk_batch.specs.Item.{ItemCommand}
@@ -16,7 +16,6 @@ use Rattle.duk_host.specs.declared.fault.HostFault.TheVariants as host
 use Rattle.duk_io.specs.Known.{Known}
 use Rattle.duk_io.specs.Sink.{IsTried}
 use Rattle.duk_issue.specs.Fault.{issue_line}
-use Rattle.duk_issue.specs.Issue.{Job}
 use Rattle.duk_issue.specs.declared.fault.IssueFault.{IssueFault}
 use Rattle.duk_issue.specs.declared.fault.IssueFault.TheVariants as issue
 use Rattle.duk_journal.specs.DiskJournal.{disk_journal_meaning}
@@ -25,27 +24,32 @@ use Rattle.duk_program.specs.Commands.{command_for}
 use Rattle.duk_program.specs.Configured.{IsConfigFaultReported}
 use Rattle.duk_service.specs.CopyJournal.{HasNotCopiedJournal, copy_journal_line}
 use Rattle.duk_service.specs.Files.{FileKnown}
-use Rattle.duk_service.specs.LogFiles.{DiskKnown, MakingKnown}
-use Rattle.duk_service.specs.NewJournal.{HasNotMadeJournal, new_journal_line}
-use Rattle.duk_program.specs.IssueFiles.{HasNotIssuedFiles, IsNotIssuedOver, IssueFilesKnown, Issuing}
+use Rattle.duk_service.specs.HandedOn.{IsHostReported}
+use Rattle.duk_service.specs.LogFiles.{DiskKnown, LinesKnown, MakingKnown}
+use Rattle.duk_service.specs.NewFile.{HasNotMadeFile, new_file_line}
+use Rattle.duk_program.specs.IssueFiles.{HasNotIssuedFiles, IsNotIssuedOver, IsNotIssuedTo, IsNotIssuedToFile, IssueFilesKnown, IssueTask, Issuing}
 use Rattle.duk_program.specs.Items.{LineItems, command_of_line, items_of}
 use Rattle.duk_program.specs.Meant.{HasLostLines, IsMeantNotDone, IsNotAnswered, IsNotDoneAlone, IsOverItemsNotDone}
 use Rattle.duk_program.specs.RunFiles.{FileRun, HasReportedFault, script_line}
 use Rattle.duk_program.specs.Scene.{Scene, input_in, reading_on, writers_of}
 use Rattle.duk_program.specs.Secrets.{secret_line}
-use Rattle.duk_service.specs.Serve.{HasNotServed, Serving, over_log, serve_line}
+use Rattle.duk_service.specs.Serve.{HasNotServed, Serving, is_of_store, lost_answers_line, over_log, serve_line}
 use Rattle.duk_program.specs.ServeFiles.{FileService, HasNotServedFiles, IsUnservedOver, KeptKnown, in_journal, in_log, in_memory}
 use Rattle.duk_service.specs.ServeJournal.{HasNotServedJournal, journal_line, over_journal}
-use Rattle.duk_program.specs.Reported.{IsLineReported, IsOtherFaultLine}
+use Rattle.duk_program.specs.Reported.{IsLineReported, IsOtherFaultLine, IsReported}
 use Rattle.duk_program.specs.Show.{HasNotShownText, ShowArguments}
-use Rattle.duk_service.specs.ServeJournalFiles.{unopened_journal_line}
-use Rattle.duk_service.specs.ServeLogFiles.{unopened_line}
+use Rattle.duk_service.specs.ServeJournalFiles.{journal_open_line, unopened_journal_line}
+use Rattle.duk_service.specs.ServeLogFiles.{log_open_line, unopened_line}
 use Rattle.duk_service.specs.declared.copy_journal.CopyJournalFault.{CopyJournalFault}
 use Rattle.duk_service.specs.declared.copy_journal.CopyJournalFault.TheVariants as copy
 use Rattle.duk_service.specs.declared.file_system.FileFault.{FileFault}
 use Rattle.duk_service.specs.declared.file_system.FileFault.TheVariants as file
 use Rattle.duk_program.specs.declared.issue_files.IssueArguments.{IssueArguments}
-use Rattle.duk_service.specs.declared.new_journal.NewJournalFault.TheVariants.{OutOfMemory, Unmade}
+use Rattle.duk_service.specs.declared.left_records.RecordFormat.{RecordFormat}
+use Rattle.duk_service.specs.declared.left_records.RecordFormat.TheVariants.{Journal}
+use Rattle.duk_service.specs.declared.new_file.NewFileFault.TheVariants.{OutOfMemory, Unmade}
+use Rattle.duk_service.specs.declared.own_files.OpenFault.{OpenFault}
+use Rattle.duk_service.specs.declared.own_files.OpenFault.TheVariants as open_fault
 use Rattle.duk_program.specs.declared.secrets.SecretFault.{SecretFault}
 use Rattle.duk_show.specs.Fault.{show_line}
 use Rattle.duk_store.specs.Log.{LogMeaning}
@@ -99,14 +103,23 @@ files_reported r (inr (inr failed)) = elim failed.run [
 host_reported : (old new : Known) (why : HostFault) → IsTried old new (serve_line why) → IsLineReported old new
 host_reported old new why reported = record { line = serve_line why; line_is = inr (inr (inr (inl (why, refl)))); reported = reported }
 
--- where a host does not serve to the end of its input, a line is reported
+host_ended : (of_store : Bool) (why : HostFault) (output output' old new : Known)
+    → IsHostReported of_store (serve_line why) lost_answers_line output output' old new → IsReported old new
+host_ended true why output output' old new (inl reported) = inl (host_reported old new why reported.1)
+host_ended true why output output' old new (inr both) = inr (record {
+  between = both.lines.between;
+  first = host_reported old both.lines.between why both.lines.first_is;
+  second = both.lines.second_is;
+})
+host_ended false why output output' old new (inl reported) = inl (host_reported old new why reported.1)
+host_ended false why output output' old new (inr lost) = inl (host_reported old new host.Write lost.line)
+
+-- where a host does not serve to the end of its input, a fault is reported
 service_reported : {L : Type 0} (meaning : HostMeaning L CardTable) (made : HostOf L CardTable) (s : Serving) (old new : Known)
-    → HasNotServed meaning made s old new → IsLineReported old new
-service_reported meaning made s old new (inl refused) = elim refused.reports [
-  | inl reported ↦ host_reported old new refused.why reported.1
-  | inr lost ↦ host_reported old new host.Write lost.line
-]
-service_reported meaning made s old new (inr lost) = host_reported old new host.Write lost.reports.line
+    → HasNotServed meaning made s old new → IsReported old new
+service_reported meaning made s old new (inl refused) =
+    host_ended (is_of_store refused.why) refused.why refused.written s.output_after old new refused.reports
+service_reported meaning made s old new (inr lost) = inl (host_reported old new host.Write lost.reports.line)
 
 -- so is that of `show`, of `issue`, and of a command over the lines of the input
 other_reported : (old new : Known) (line : List ℕ) → IsOtherFaultLine line → IsTried old new line → IsLineReported old new
@@ -117,30 +130,53 @@ journal_reported : (old new : Known) (why : HostFault) → IsTried old new (jour
 journal_reported old new why reported =
     other_reported old new (journal_line why) (inr (inr (inr (inr (inl (inl (why, refl))))))) reported
 
+journal_host_ended : (of_store : Bool) (why : HostFault) (output output' old new : Known)
+    → IsHostReported of_store (journal_line why) (journal_line host.Write) output output' old new → IsReported old new
+journal_host_ended true why output output' old new (inl reported) = inl (journal_reported old new why reported.1)
+journal_host_ended true why output output' old new (inr both) = inr (record {
+  between = both.lines.between;
+  first = journal_reported old both.lines.between why both.lines.first_is;
+  second = both.lines.second_is;
+})
+journal_host_ended false why output output' old new (inl reported) = inl (journal_reported old new why reported.1)
+journal_host_ended false why output output' old new (inr lost) = inl (journal_reported old new host.Write lost.line)
+
 journal_service_reported : {J : Type 0} (meaning : journal.HostMeaning J CardTable) (made : journal.HostOf J CardTable) (s : Serving)
-    (old new : Known) → HasNotServedJournal meaning made s old new → IsLineReported old new
-journal_service_reported meaning made s old new (inl refused) = elim refused.reports [
-  | inl reported ↦ journal_reported old new refused.why reported.1
-  | inr lost ↦ journal_reported old new host.Write lost.line
-]
-journal_service_reported meaning made s old new (inr lost) = journal_reported old new host.Write lost.reports.line
+    (old new : Known) → HasNotServedJournal meaning made s old new → IsReported old new
+journal_service_reported meaning made s old new (inl refused) =
+    journal_host_ended (is_of_store refused.why) refused.why refused.written s.output_after old new refused.reports
+journal_service_reported meaning made s old new (inr lost) = inl (journal_reported old new host.Write lost.reports.line)
+
+log_open_reported : (old new : Known) (why : OpenFault) → IsTried old new (log_open_line why) → IsLineReported old new
+log_open_reported old new open_fault.Unopened line =
+    record { line = unopened_line; line_is = inr (inr (inr (inr (inl refl)))); reported = line }
+log_open_reported old new open_fault.Failed line =
+    record { line = serve_line host.Stopped; line_is = inr (inr (inr (inl (host.Stopped, refl)))); reported = line }
+log_open_reported old new open_fault.Foreign line =
+    record { line = serve_line host.Stopped; line_is = inr (inr (inr (inl (host.Stopped, refl)))); reported = line }
+
+journal_open_reported : (old new : Known) (why : OpenFault) → IsTried old new (journal_open_line why) → IsLineReported old new
+journal_open_reported old new open_fault.Unopened line =
+    other_reported old new unopened_journal_line (inr (inr (inr (inr (inl (inr refl)))))) line
+journal_open_reported old new open_fault.Failed line = journal_reported old new host.Stopped line
+journal_open_reported old new open_fault.Foreign line = journal_reported old new host.Stopped line
 
 over_reported : {D : Type 0} (meaning : DiskMeaning D) (kept : KeptKnown D) (config : Settings) (s : Serving)
-    (old new : Known) → IsUnservedOver meaning kept config s old new → IsLineReported old new
+    (old new : Known) → IsUnservedOver meaning kept config s old new → IsReported old new
 over_reported meaning in_memory config s old new failed = service_reported (over_log memory_log_meaning) _ s old new failed
 over_reported meaning (in_log known) config s old new (inl none) =
-    record { line = unopened_line; line_is = inr (inr (inr (inr (inl refl)))); reported = none.line }
+    inl (log_open_reported old new none.why none.line)
 over_reported meaning (in_log known) config s old new (inr failed) =
     service_reported (over_log (disk_log_meaning meaning)) _ s old new failed.failed
 over_reported meaning (in_journal known) config s old new (inl none) =
-    other_reported old new unopened_journal_line (inr (inr (inr (inr (inl (inr refl)))))) none.line
+    inl (journal_open_reported old new none.why none.line)
 over_reported meaning (in_journal known) config s old new (inr failed) =
     journal_service_reported (over_journal (disk_journal_meaning meaning)) _ s old new failed.failed
 
--- where a service over files ends with status 1, a line is reported
+-- where a service over files ends with status 1, a fault is reported
 pub unserved_reported : {D : Type 0} (meaning : DiskMeaning D) (r : FileService D) → HasNotServedFiles meaning r
-    → IsLineReported r.fault_before r.fault_after
-unserved_reported meaning r (inl none) = config_reported r.config_held r.fault_before r.fault_after none.reports
+    → IsReported r.fault_before r.fault_after
+unserved_reported meaning r (inl none) = inl (config_reported r.config_held r.fault_before r.fault_after none.reports)
 unserved_reported meaning r (inr failed) =
     over_reported meaning r.kept failed.config r.streams r.fault_before r.fault_after failed.failed
 
@@ -163,33 +199,43 @@ show_reported arguments s (inr (inl short)) = written_reported s.fault_before s.
 show_reported arguments s (inr (inr lost)) = written_reported s.fault_before s.fault_after lost.reported.line
 
 -- where not all keys are issued, a line is reported
-over_ledger_reported : {L : Type 0} (meaning : LogMeaning L) (job : Job) (i : Issuing L) → IsNotIssuedOver meaning job i
+over_ledger_reported : {L : Type 0} (meaning : LogMeaning L) (task : IssueTask) (i : Issuing L) → IsNotIssuedOver meaning task i
     → IsLineReported i.streams.fault_before i.streams.fault_after
-over_ledger_reported meaning job i (inl stopped) = elim stopped.ended [
+over_ledger_reported meaning task i (inl stopped) = elim stopped.ended [
   | inl told ↦ issue_reported i.streams.fault_before i.streams.fault_after stopped.why told.1
   | inr lost ↦ issue_reported i.streams.fault_before i.streams.fault_after issue.WriteFailed lost.line
 ]
-over_ledger_reported meaning job i (inr lost) = issue_reported i.streams.fault_before i.streams.fault_after issue.WriteFailed lost.reported.line
+over_ledger_reported meaning task i (inr lost) = issue_reported i.streams.fault_before i.streams.fault_after issue.WriteFailed lost.reported.line
+
+to_file_reported : {L : Type 0} (meaning : LogMeaning L) (lines : LinesKnown) (task : IssueTask) (i : Issuing L) → IsNotIssuedToFile meaning lines task i
+    → IsLineReported i.streams.fault_before i.streams.fault_after
+to_file_reported meaning lines task i (inl lost) = issue_reported i.streams.fault_before i.streams.fault_after issue.WriteFailed lost.line
+to_file_reported meaning lines task i (inr (inl none)) = issue_reported i.streams.fault_before i.streams.fault_after issue.OutUnmade none.reported.line
+to_file_reported meaning lines task i (inr (inr over)) = over_ledger_reported meaning task _ over.end
+
+to_reported : {L D : Type 0} (meaning : LogMeaning L) (making : List ℕ → MakingKnown D) (out : Option (List ℕ)) (task : IssueTask) (i : Issuing L)
+    → IsNotIssuedTo meaning making out task i → IsLineReported i.streams.fault_before i.streams.fault_after
+to_reported meaning making None task i failed = over_ledger_reported meaning task i failed
+to_reported meaning making (Some path) task i failed = to_file_reported meaning (making path).lines task i failed
 
 unissued_reported : {D : Type 0} (meaning : DiskMeaning D) (known : IssueFilesKnown D) (arguments : IssueArguments) (s : Streams)
     → HasNotIssuedFiles meaning known arguments s → IsLineReported s.fault_before s.fault_after
 unissued_reported meaning known arguments s (inl none) = issue_reported s.fault_before s.fault_after none.why none.reported.line
 unissued_reported meaning known arguments s (inr (inl none)) = issue_reported s.fault_before s.fault_after none.why none.reported.line
-unissued_reported meaning known arguments s (inr (inr (inl none))) =
-    issue_reported s.fault_before s.fault_after issue.LedgerUnopened none.reported.line
-unissued_reported meaning known arguments s (inr (inr (inr begun))) = over_ledger_reported _ _ _ begun.end
+unissued_reported meaning known arguments s (inr (inr (inl none))) = issue_reported s.fault_before s.fault_after none.why none.reported.line
+unissued_reported meaning known arguments s (inr (inr (inr begun))) = to_reported _ known.making _ _ _ begun.end
 
--- where no journal is made, a line is reported
-pub unmade_reported : {D : Type 0} (meaning : DiskMeaning D) (known : MakingKnown D) (text : List ℕ) (old new : Known)
-    → HasNotMadeJournal meaning known text old new → IsLineReported old new
-unmade_reported meaning known text old new failed =
-    other_reported old new (new_journal_line failed.why) (inr (inr (inr (inr (inr (failed.why, refl)))))) failed.line
+-- where no log or journal is made, a line is reported
+pub unmade_reported : {D : Type 0} (format : RecordFormat) (meaning : DiskMeaning D) (known : MakingKnown D) (text : List ℕ) (old new : Known)
+    → HasNotMadeFile format meaning known text old new → IsLineReported old new
+unmade_reported format meaning known text old new failed =
+    other_reported old new (new_file_line format failed.why) (inr (inr (inr (inr (inr (format, (failed.why, refl))))))) failed.line
 
 copy_line_is : (why : CopyJournalFault) → IsOtherFaultLine (copy_journal_line why)
-copy_line_is copy.OutOfMemory = inr (inr (inr (inr (inr (OutOfMemory, refl)))))
+copy_line_is copy.OutOfMemory = inr (inr (inr (inr (inr (Journal, (OutOfMemory, refl))))))
 copy_line_is copy.Unopened = inr (inr (inr (inr (inl (inr refl)))))
 copy_line_is copy.Failed = inr (inr (inr (inr (inl (inl (host.Store Device, refl))))))
-copy_line_is copy.Unmade = inr (inr (inr (inr (inr (Unmade, refl)))))
+copy_line_is copy.Unmade = inr (inr (inr (inr (inr (Journal, (Unmade, refl))))))
 
 pub uncopied_reported : {D : Type 0} (meaning : DiskMeaning D) (known : DiskKnown D) (making : MakingKnown D) (old new : Known)
     → HasNotCopiedJournal meaning known making old new → IsLineReported old new
@@ -214,18 +260,18 @@ lost_reported : (command : Command) (s : Streams) → IsNotDone command s ⊎ Ha
 lost_reported command s (inl failed) = command_reported s.fault_before s.fault_after (fault_reported command s failed)
 lost_reported command s (inr lost) = written_reported s.fault_before s.fault_after lost.line
 
-alone_reported : {D : Type 0} (meaning : DiskMeaning D) (held : List ℕ → FileKnown) (disks : List ℕ → DiskKnown D) (s : Streams) (asked : Request)
-    → IsNotDoneAlone meaning held disks s asked → IsLineReported s.fault_before s.fault_after
-alone_reported meaning held disks s (request.Show kind what show) failed = show_reported _ s failed
-alone_reported meaning held disks s (request.Issue bdk loading iksn count ledger skip) failed = unissued_reported meaning _ _ s failed
-alone_reported meaning held disks s asked failed = lost_reported (command_for asked) s failed
+alone_reported : {D : Type 0} (meaning : DiskMeaning D) (held : List ℕ → FileKnown) (disks : List ℕ → DiskKnown D) (making : List ℕ → MakingKnown D) (s : Streams) (asked : Request)
+    → IsNotDoneAlone meaning held disks making s asked → IsLineReported s.fault_before s.fault_after
+alone_reported meaning held disks making s (request.Show kind what show) failed = show_reported _ s failed
+alone_reported meaning held disks making s (request.Issue bdk loading iksn count ledger way) failed = unissued_reported meaning _ _ s failed
+alone_reported meaning held disks making s asked failed = lost_reported (command_for asked) s failed
 
 -- where a command over secrets ends with status 1, a line is reported
 unanswered_reported : {D : Type 0} (meaning : DiskMeaning D) (s : Scene D) (asked : Request) → IsNotAnswered meaning s asked
     → IsLineReported s.fault_before s.fault_after
 unanswered_reported meaning s asked failed =
-    items_reported (items_of asked) s (IsNotDoneAlone meaning s.held s.disks (writers_of s) asked)
-    (λ alone. alone_reported meaning s.held s.disks (writers_of s) asked alone) failed
+    items_reported (items_of asked) s (IsNotDoneAlone meaning s.held s.disks s.making (writers_of s) asked)
+    (λ alone. alone_reported meaning s.held s.disks s.making (writers_of s) asked alone) failed
 
 pub meant_reported : {D : Type 0} (meaning : DiskMeaning D) (s : Scene D) (asked : Request) → IsMeantNotDone meaning s asked
     → IsLineReported s.fault_before s.fault_after

@@ -4,7 +4,6 @@ use Rattle.std.proofs.Math.Seq.{take-append_seam}
 use Rattle.std.specs.Borrow.{Bor}
 use Rattle.std.specs.Prelude.{Result, Ok, Err, IfErr, IfOk, IsOkAnd, MatchResult, bytes_eq, if◌then◌else◌}
 use Rattle.std.proofs.lemmas.List.{get_or-map, length-map, map_more, take-map, take_all}
-use Rattle.std.proofs.lemmas.Bool.{eqb-true}
 use Rattle.std.proofs.lemmas.List.Folds.{list_any-append}
 use Rattle.std.proofs.lemmas.Option.{none-some, same_Some}
 use Rattle.std.proofs.lemmas.Slice.Eq.{bytes_eq-Decides}
@@ -18,7 +17,7 @@ use Rattle.duk_io.specs.Source.{AreBytesRead, AreReadsMade, IsBroken}
 use Rattle.duk_program.proofs.Words.{means_push}
 use Rattle.duk_service.specs.Files.{FileKnown, IsLineRead, IsLineUnread, first_line, has_end, without_return}
 use Rattle.duk_program.specs.InputLine.{HasLineTaken, IsInputBroken, IsLineTaken, input_file, with_input}
-use Rattle.duk_program.specs.Secrets.{AreRead, IsInputTaken, IsNextUnread, IsSecretFault, IsUnread, Means, StandsFor, inputs_in, is_input_reference, reference_in, secret_at, secrets_of}
+use Rattle.duk_program.specs.Secrets.{AreRead, IsInputTaken, IsNextUnread, IsSecretFault, IsUnread, Means, RefersToInput, StandsFor, inputs_in, is_input_reference, is_of_input, reference_in, secret_at, secrets_of}
 use Rattle.duk_program.specs.declared.secrets.Secret.{Secret}
 use Rattle.duk_program.specs.declared.secrets.SecretFault.{SecretFault}
 use Rattle.duk_program.specs.declared.secrets.SecretFault.TheVariants.{NoMemory, Unread}
@@ -180,20 +179,22 @@ input_line_read before after line has fits =
 differ : (xs ys : List ℕ) → xs ≢ ys → bytes_eq xs ys ≡ false
 differ xs ys other = grind (arith, bytes_eq-Decides xs ys)
 
--- what a text refers to stands behind its sign
-behind_sign : (b : Bool) (first : ℕ) (rest path : List ℕ) → (first == 64) ≡ b → (if b then Some rest else None) ≡ Some path → first ∷ rest ≡ 64 ∷ path
-behind_sign true first rest path is e = ap (λ n. n ∷ rest) (eqb-true first 64 is) ∙ ap (λ l. 64 ∷ l) (same_Some rest path e)
-behind_sign false first rest path is e = absurd (none-some path e)
+pub no_input_reference : (written path : List ℕ) → reference_in written ≡ Some path → path ≢ codes "-" → ¬ RefersToInput written
+no_input_reference written path e other is = other (same_Some path (codes "-") (sym e ∙ is))
 
-pub written_is : (written path : List ℕ) → reference_in written ≡ Some path → written ≡ 64 ∷ path
-written_is [] path e = absurd (none-some path e)
-written_is (first ∷ rest) path e = behind_sign (first == 64) first rest path refl e
+pub word_is_no_input : (written : List ℕ) → reference_in written ≡ None → ¬ RefersToInput written
+word_is_no_input written e is = none-some (codes "-") (sym e ∙ is)
 
-pub no_input_reference : (written path : List ℕ) → reference_in written ≡ Some path → path ≢ codes "-" → written ≢ codes "@-"
-no_input_reference written path e other is = other (same_Some path (codes "-") (sym e ∙ ap reference_in is))
+-- a text that refers to the input is counted, and no other is
+no_path_of_input : (reference : Option (List ℕ)) → reference ≢ Some (codes "-") → is_of_input reference ≡ false
+no_path_of_input None other = refl
+no_path_of_input (Some path) other = differ path (codes "-") (λ is. other (ap (λ p. Some p) is))
 
-pub word_is_no_input : (written : List ℕ) → reference_in written ≡ None → written ≢ codes "@-"
-word_is_no_input written e is = none-some (codes "-") (sym e ∙ ap reference_in is)
+input_counted : (word : List ℕ) → RefersToInput word → inputs_in (word ∷ []) ≡ 1
+input_counted word is = ap (λ reference. if is_of_input reference then 1 else 0) is
+
+other_counted : (word : List ℕ) → ¬ RefersToInput word → inputs_in (word ∷ []) ≡ 0
+other_counted word other = ap (λ b. if b then 1 else 0) (no_path_of_input (reference_in word) other)
 
 -- what another stands for is not of the input
 file_held : (held : List ℕ → FileKnown) (before : Supply) (path : List ℕ) → path ≢ codes "-" → with_input held before path ≡ held path
@@ -204,10 +205,10 @@ stands_elsewhere : (held : List ℕ → FileKnown) (before : Supply) (reference 
 stands_elsewhere held before None written text other stands = stands
 stands_elsewhere held before (Some path) written text other stands = rw (file_held held before path (λ is. other (ap (λ p. Some p) is))) stands
 
-means_elsewhere : (held : List ℕ → FileKnown) (before : Supply) (written text : List ℕ) → written ≢ codes "@-" → Means held written text
+means_elsewhere : (held : List ℕ → FileKnown) (before : Supply) (written text : List ℕ) → ¬ RefersToInput written → Means held written text
     → Means (with_input held before) written text
 means_elsewhere held before written text other means =
-    stands_elsewhere held before (reference_in written) written text (λ is. other (written_is written (codes "-") is)) means
+    stands_elsewhere held before (reference_in written) written text other means
 
 -- ---- one secret
 
@@ -224,7 +225,7 @@ word_read held was now written text word same = inr (record {
 pub input_read : (held : List ℕ → FileKnown) (was is : Bool) (before after : Supply) (written text line : List ℕ) → reference_in written ≡ Some (codes "-")
     → text ≡ line → IsReadOnce was is before after line → IsSecretRead held was is before after written text
 input_read held was is before after written text line refers same once =
-    inl (record { is_input = written_is written (codes "-") refers; once = subst (IsReadOnce was is before after) (sym same) once })
+    inl (record { is_input = refers; once = subst (IsReadOnce was is before after) (sym same) once })
 
 pub file_read : (held : List ℕ → FileKnown) (was : Bool) (now : Supply) (written path text line : List ℕ) → reference_in written ≡ Some path → path ≢ codes "-"
     → text ≡ line → IsLineRead (held path) 4096 line → IsSecretRead held was was now now written text
@@ -237,7 +238,7 @@ file_read held was now written path text line refers other same read = inr (reco
 
 -- the line of the input is not read
 input_cause : (was : Bool) (before after : Supply) (why : FileFault) (held : List ℕ → FileKnown) (secret : Secret) (written : List ℕ)
-    → written ≡ codes "@-" → IsOnceUnread was before after why → IsSecretRefused held was before after secret written (line_fault secret why)
+    → RefersToInput written → IsOnceUnread was before after why → IsSecretRefused held was before after secret written (line_fault secret why)
 input_cause true before after file.CannotRead held secret written is idle = (refl, inr (record { is_input = is; cause = (refl, idle) }))
 input_cause true before after file.TooLong held secret written is cause = absurd cause
 input_cause true before after file.NoMemory held secret written is cause = tt
@@ -248,10 +249,10 @@ input_cause false before after file.NoMemory held secret written is cause = tt
 pub input_unread : (held : List ℕ → FileKnown) (was : Bool) (before after : Supply) (secret : Secret) (written : List ℕ) (why : FileFault) (told : SecretFault)
     → reference_in written ≡ Some (codes "-") → told ≡ line_fault secret why → IsOnceUnread was before after why → IsSecretRefused held was before after secret written told
 input_unread held was before after secret written why told refers is cause =
-    subst (IsSecretRefused held was before after secret written) (sym is) (input_cause was before after why held secret written (written_is written (codes "-") refers) cause)
+    subst (IsSecretRefused held was before after secret written) (sym is) (input_cause was before after why held secret written refers cause)
 
 -- or is no text
-input_not_text : (held : List ℕ → FileKnown) (was is : Bool) (before after : Supply) (secret : Secret) (written line : List ℕ) → written ≡ codes "@-"
+input_not_text : (held : List ℕ → FileKnown) (was is : Bool) (before after : Supply) (secret : Secret) (written line : List ℕ) → RefersToInput written
     → IsReadOnce was is before after line → ¬ IsUtf8 line → IsSecretRefused held was before after secret written (Unread secret NotUtf8)
 input_not_text held true is before after secret written line input once no_text = absurd (grind (arith, once.unread))
 input_not_text held false is before after secret written line input once no_text =
@@ -262,7 +263,7 @@ pub input_no_text : (held : List ℕ → FileKnown) (was is : Bool) (before afte
 input_no_text held was is before after secret written line told refers once refused = elim refused [
   | inl memory ↦ subst (IsSecretRefused held was before after secret written) (sym memory) tt
   | inr text ↦ subst (IsSecretRefused held was before after secret written) (sym text.0)
-      (input_not_text held was is before after secret written line (written_is written (codes "-") refers) once text.1)
+      (input_not_text held was is before after secret written line refers once text.1)
 ]
 
 -- the line of a file is not read
@@ -356,27 +357,27 @@ one_more [] word = omega arith
 one_more (other ∷ written) word = counted (is_input_reference other) _ _ _ (one_more written word)
 
 input_more : (held : List ℕ → FileKnown) (written texts : List (List ℕ)) (before between after : Supply) (word text : List ℕ)
-    → AreReadSoFar held written texts before between false → word ≡ codes "@-" → HasLineTaken between after text → length text ≤ 4096
+    → AreReadSoFar held written texts before between false → RefersToInput word → HasLineTaken between after text → length text ≤ 4096
     → AreReadSoFar held (written ++ word ∷ []) (texts ++ text ∷ []) before after true
 input_more held written texts before between after word text so_far is taken fits =
     let idle : between ≡ before = subst (λ n. IsInputTaken n before between) so_far.inputs so_far.read.taken in
     let first : HasLineTaken before after text = subst (λ s. HasLineTaken s after text) idle taken in
-    let this : inputs_in (word ∷ []) ≡ 1 = ap (λ w. inputs_in (w ∷ [])) is in
+    let this : inputs_in (word ∷ []) ≡ 1 = input_counted word is in
     let one : inputs_in (written ++ word ∷ []) ≡ 1 = omega (arith, one_more written word, this, so_far.inputs) in
     record {
       read = record {
         means = means_push (with_input held before) written texts word text so_far.read.means
-            (subst (λ w. Means (with_input held before) w text) (sym is) (input_line_read before after text first fits));
+            (subst (λ r. StandsFor (with_input held before) r word text) (sym is) (input_line_read before after text first fits));
         taken = subst (λ n. IsInputTaken n before after) (sym one) (first.bytes, first.taken);
       };
       inputs = one;
     }
 
 other_more : (held : List ℕ → FileKnown) (written texts : List (List ℕ)) (before between after : Supply) (was is : Bool) (word text : List ℕ)
-    → AreReadSoFar held written texts before between was → word ≢ codes "@-" → is ≡ was → after ≡ between → Means held word text
+    → AreReadSoFar held written texts before between was → ¬ RefersToInput word → is ≡ was → after ≡ between → Means held word text
     → AreReadSoFar held (written ++ word ∷ []) (texts ++ text ∷ []) before after is
 other_more held written texts before between after was is word text so_far other kept idle means =
-    let this : inputs_in (word ∷ []) ≡ 0 = rw (differ word (codes "@-") other) refl in
+    let this : inputs_in (word ∷ []) ≡ 0 = other_counted word other in
     let same : inputs_in (written ++ word ∷ []) ≡ inputs_in written = omega (arith, one_more written word, this) in
     record {
       read = record {

@@ -1,6 +1,7 @@
 mod Answered
 mod FaultIsReported
 mod Marked
+mod Noted
 mod WrittenStaysWritten
 mod Endings
 mod ExplainedItems

@@ -1,14 +1,14 @@
 -- Why the log or the journal of a file is not shown.
 use Rattle.std.proofs.Common.{ℕ, List, Result, Ok, Err, IfErr}
-use Rattle.duk_service.specs.Files.{FileKnown, IsFileRead}
-use Rattle.duk_program.specs.Show.{IsJournalFileRefused, IsLogFileRefused, longest_journal, longest_log}
+use Rattle.duk_service.specs.Files.{FileKnown, HasBytes}
+use Rattle.duk_program.specs.Show.{IsJournalFileRefused, IsLogFileRefused}
 use Rattle.duk_show.specs.Journal.{IsJournalRefused}
 use Rattle.duk_show.specs.Log.{IsLogRefused}
 use Rattle.duk_show.specs.declared.fault.ShowFault.{ShowFault}
 use Rattle.duk_show.specs.declared.fault.ShowFault.TheVariants.{BlockRefused, FrameRefused, ImageRefused, JournalRefused, JournalTooLong, JournalUnread, KindRefused, LogRefused, LogTooLong, LogUnread, OutOfMemory}
 
 -- the bytes of the file are refused
-pub log_refused : {T : Type 0} (held : FileKnown) (bytes : List ℕ) (shown : Result T ShowFault) → IsFileRead held longest_log bytes
+pub log_refused : {T : Type 0} (held : FileKnown) (bytes : List ℕ) (shown : Result T ShowFault) → HasBytes held bytes
     → IfErr shown (IsLogRefused bytes) → IfErr shown (IsLogFileRefused held)
 log_refused held bytes (Ok text) read why = tt
 log_refused held bytes (Err (LogRefused place)) read why = record { bytes = bytes; read = read; cause = why }
@@ -23,7 +23,7 @@ log_refused held bytes (Err JournalUnread) read why = absurd why
 log_refused held bytes (Err JournalTooLong) read why = absurd why
 log_refused held bytes (Err (JournalRefused place)) read why = absurd why
 
-pub journal_refused : {T : Type 0} (held : FileKnown) (bytes : List ℕ) (shown : Result T ShowFault) → IsFileRead held longest_journal bytes
+pub journal_refused : {T : Type 0} (held : FileKnown) (bytes : List ℕ) (shown : Result T ShowFault) → HasBytes held bytes
     → IfErr shown (IsJournalRefused bytes) → IfErr shown (IsJournalFileRefused held)
 journal_refused held bytes (Ok text) read why = tt
 journal_refused held bytes (Err (JournalRefused place)) read why = record { bytes = bytes; read = read; cause = why }

@@ -5,7 +5,7 @@ use Rattle.duk_arguments.specs.declared.request.Request.{Request}
 use Rattle.duk_arguments.specs.declared.request.Request.TheVariants as request
 use Rattle.duk_host.specs.Serve.{Supply}
 use Rattle.duk_io.specs.Known.{Known}
-use Rattle.duk_io.specs.Sink.{IsUntouched}
+use Rattle.duk_io.specs.Sink.{IsTried, IsUntouched}
 use Rattle.duk_program.specs.Explained.{HasExplained, IsHeardDone, IsMeantFailed, IsNotDoneOf, IsTold, heard_in, holding}
 use Rattle.duk_program.proofs.Answered.{meant_done}
 use Rattle.duk_service.specs.Files.{FileKnown}
@@ -25,6 +25,7 @@ pub not_done_of : {D : Type 0} (meaning : DiskMeaning D) (s : Scene D) (asked ab
     → IsNotDoneOf meaning s asked about
 not_done_of meaning s (request.Run config script journal) about over failed = absurd over
 not_done_of meaning s (request.Serve config kept) about over failed = absurd over
+not_done_of meaning s (request.NewLog file records) about over failed = absurd over
 not_done_of meaning s (request.NewJournal file records) about over failed = absurd over
 not_done_of meaning s (request.CopyJournal old new) about over failed = absurd over
 not_done_of meaning s asked about over failed = failed
@@ -58,6 +59,11 @@ pub told_of : {q : Inquiry} (line heard : List ℕ) (about : Request) (old new :
     → IsTold q heard about old new
 told_of line heard about old new same told = rw (← same) told
 
+-- the same text is noted
+pub noted_of : (line heard : List ℕ) (old new : Known) → line ≡ heard → IsTried old new line
+    → IsTried old new heard
+noted_of line heard old new same noted = rw (← same) noted
+
 -- the scene in which faults are written to memory, which holds this before and this at the end
 abbrev pub heard_from : {D : Type 0} → Scene D → List ℕ → List ℕ → Scene D
 heard_from s empty line = scene s.held s.disks s.making s.streams (holding empty) (holding line)
@@ -81,9 +87,10 @@ meant_explained meaning s asked meant input empty line none over read means not_
 -- so is what is done
 pub meant_heard : {D : Type 0} (meaning : DiskMeaning D) (s : Scene D) (asked meant : Request) (input : Supply) (empty heard : List ℕ) → empty ≡ [] → IsOverSecrets asked
     → AreSecretsRead s asked input → HasMeaning (referred_in s) asked meant → IsAnswered meaning (reading_on (heard_from s empty heard) input) meant
-    → IsHeardDone meaning s asked
-meant_heard meaning s asked meant input empty heard none over read means done = record {
+    → IsTried s.fault_before s.fault_after heard → IsHeardDone meaning s asked
+meant_heard meaning s asked meant input empty heard none over read means done noted = record {
   heard = heard;
+  noted = noted;
   done = meant_done meaning (heard_in s heard) asked over (record {
     input = input;
     read = read;

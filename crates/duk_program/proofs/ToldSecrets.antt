@@ -1,11 +1,11 @@
 -- Of which secret of a request a line tells.
-use Rattle.std.proofs.Common.{◌≡◌, ◌∙◌, ◌<◌, ℕ, List, [], ap, codes, get_or, length, map, subst, sym}
+use Rattle.std.proofs.Common.{◌≡◌, ◌∙◌, ◌<◌, ℕ, List, [], ap, get_or, length, map, subst, sym}
 use Rattle.std.specs.Borrow.{Bor}
 use Rattle.std.proofs.lemmas.List.{get_or-map, length-map}
 use Rattle.duk_arguments.specs.declared.request.Request.{Request}
 use Rattle.duk_explain.specs.declared.found.Reason.{Reason}
 use Rattle.duk_program.specs.Inquiry.{IsInputTold, IsReasonOfSecret, IsReferenceReason, IsToldUnread}
-use Rattle.duk_program.specs.Secrets.{secret_at, secret_line, secrets_of}
+use Rattle.duk_program.specs.Secrets.{RefersToInput, secret_at, secret_line, secrets_of}
 use Rattle.duk_program.specs.declared.secrets.Secret.{Secret}
 use Rattle.duk_program.specs.declared.secrets.SecretFault.TheVariants.{Unread}
 use Rattle.duk_program.specs.declared.secrets.Unread.TheVariants.{CannotRead}
@@ -45,10 +45,10 @@ reason_told reading asked line secret written place d reason same inside told is
 pub input_told : (asked : Request) (line : List ℕ) (secret : Secret) (written : List (Bor (List ℕ)))
     (place : ℕ) (d : Bor (List ℕ)) → map (λ text. text.now) written ≡ secrets_of asked
     → place < length written → line ≡ secret_line (Unread secret CannotRead)
-    → secret ≡ secret_at asked place → (get_or written place d).now ≡ codes "@-"
+    → secret ≡ secret_at asked place → RefersToInput (get_or written place d).now
     → IsInputTold asked line
 input_told asked line secret written place d same inside told is input = record {
   place = place;
   is_told = told_at asked line secret written place same inside told is;
-  input = sym (as_written asked written place d same inside) ∙ input;
+  input = subst RefersToInput (as_written asked written place d same inside) input;
 }

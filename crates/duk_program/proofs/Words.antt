@@ -1,9 +1,9 @@
 -- Texts of which each is a word, and what is meant by texts.
-use Rattle.std.proofs.Common.{◌≡◌, ◌==◌, ◌+◌, ◌<◌, ℕ, zero, suc, Bool, true, false, List, [], ◌∷◌, ◌++◌, Option, Some, None, map, take, get_or, length, option_map, sym, subst, ap, refl, arith}
+use Rattle.std.proofs.Common.{◌≡◌, ◌==◌, ◌+◌, ◌<◌, ◌≤◌, ℕ, zero, suc, Bool, true, false, List, [], ◌∷◌, ◌++◌, Option, Some, None, map, take, get_or, length, option_map, sym, subst, ap, refl, ◌∙◌, arith}
 use Rattle.std.specs.Borrow.{Bor}
 use Rattle.std.specs.Option.{option_copied}
 use Rattle.std.specs.Prelude.{option_to_list, if◌then◌else◌}
-use Rattle.std.proofs.lemmas.List.{map_more}
+use Rattle.std.proofs.lemmas.List.{length-map, length-take-le, map_more}
 use Rattle.std.proofs.lemmas.Option.{none-some}
 use Rattle.duk_arguments.specs.Given.{Each}
 use Rattle.duk_arguments.specs.Keys.{texts_of_keys}
@@ -11,7 +11,7 @@ use Rattle.duk_arguments.specs.declared.request.Request.{Request}
 use Rattle.duk_arguments.specs.declared.request.Request.TheVariants as request
 use Rattle.duk_host.specs.Serve.{Supply}
 use Rattle.duk_service.specs.Files.{FileKnown}
-use Rattle.duk_program.specs.Secrets.{EachMeans, HasMeaning, HasWordsAlone, IsInputTaken, IsOverSecrets, IsWord, Means, OptionMeans, inputs_in, is_input_reference}
+use Rattle.duk_program.specs.Secrets.{EachMeans, HasMeaning, HasWordsAlone, IsInputTaken, IsOverSecrets, IsWord, Means, OptionMeans, inputs_in, is_input_reference, path_of, secrets_of}
 
 pub each_push : {A : Type 0} (P : A → Type 0) (xs : List A) (x : A) → Each P xs → P x → Each P (xs ++ x ∷ [])
 each_push P [] x each one = (one, tt)
@@ -62,8 +62,8 @@ pub option_means : (held : List ℕ → FileKnown) (first second : List ℕ) (th
 option_means held first second None texts each = tt
 option_means held first second (Some key) texts each = means_at held (first ∷ second ∷ key.now ∷ []) texts 2 each (omega arith)
 
-no_sign : (b : Bool) (first : ℕ) (rest : List ℕ) → (first == 64) ≡ b → (if b then Some rest else None) ≡ None → is_input_reference (first ∷ rest) ≡ false
-no_sign true first rest is none = absurd (none-some rest (sym none))
+no_sign : (b : Bool) (first : ℕ) (rest : List ℕ) → (first == 64) ≡ b → (if b then Some (path_of rest) else None) ≡ None → is_input_reference (first ∷ rest) ≡ false
+no_sign true first rest is none = absurd (none-some (path_of rest) (sym none))
 no_sign false first rest is none = rw is refl
 
 -- a word does not refer to the input, and so nothing is read of it for words
@@ -82,6 +82,7 @@ words_untouched now texts words = rw (words_no_input texts words) refl
 pub words_have_meaning : (held : List ℕ → FileKnown) (asked : Request) → IsOverSecrets asked → HasWordsAlone asked → HasMeaning held asked asked
 words_have_meaning held (request.Run config script journal) over words = absurd over
 words_have_meaning held (request.Serve config kept) over words = absurd over
+words_have_meaning held (request.NewLog file records) over words = absurd over
 words_have_meaning held (request.NewJournal file records) over words = absurd over
 words_have_meaning held (request.CopyJournal old new) over words = absurd over
 words_have_meaning held (request.Derive bdk ksn initial trace all) over words =
@@ -115,6 +116,28 @@ words_have_meaning held (request.MakeRequest bdk ksn pan pin amount initial) ove
     (word_means held bdk.now words.0, refl, word_means held pan.now words.1.0, word_means held pin.now words.1.1.0, refl, refl)
 words_have_meaning held (request.MakeReversal bdk ksn reversed initial) over words = (word_means held bdk.now words.0, refl, refl, refl)
 words_have_meaning held (request.CheckReply bdk asked answer initial) over words = (word_means held bdk.now words.0, refl, refl, refl)
-words_have_meaning held (request.Issue bdk loading iksn count ledger skip) over words =
+words_have_meaning held (request.Issue bdk loading iksn count ledger way) over words =
     (word_means held bdk.now words.0, word_means held loading.now words.1.0, refl, refl, refl, refl)
 words_have_meaning held (request.Show kind what show) over words = (refl, word_means held what.now words.0, refl)
+
+-- a request over secrets has from 1 to 16 of them
+secrets_count : (asked : Request) → IsOverSecrets asked → (1 ≤ length (secrets_of asked)) × (length (secrets_of asked) ≤ 16)
+secrets_count (request.Run config script journal) over = absurd over
+secrets_count (request.Serve config kept) over = absurd over
+secrets_count (request.NewLog file records) over = absurd over
+secrets_count (request.NewJournal file records) over = absurd over
+secrets_count (request.CopyJournal old new) over = absurd over
+secrets_count (request.Pin pin pan None) over = (omega arith, omega arith)
+secrets_count (request.Pin pin pan (Some key)) over = (omega arith, omega arith)
+secrets_count (request.Unpin block pan None show) over = (omega arith, omega arith)
+secrets_count (request.Unpin block pan (Some key) show) over = (omega arith, omega arith)
+secrets_count (request.Kcv keys components show) over =
+    subst (λ (n : ℕ). (1 ≤ n) × (n ≤ 16)) (sym (length-map _ _ ∙ length-take-le keys.count _ keys.in_range.1)) keys.in_range
+secrets_count asked over = (omega arith, omega arith)
+
+-- and so have the texts that they stand for
+pub as_many : (asked : Request) (count : ℕ) → IsOverSecrets asked → count ≡ length (secrets_of asked) → (1 ≤ count) × (count ≤ 16)
+as_many asked count over same = subst (λ (n : ℕ). (1 ≤ n) × (n ≤ 16)) (sym same) (secrets_count asked over)
+
+pub has_secrets : (asked : Request) → IsOverSecrets asked → secrets_of asked ≡ [] → ⊥
+has_secrets asked over none = let some = (secrets_count asked over).0 in let empty = ap length none in absurd (omega (arith, some, empty))

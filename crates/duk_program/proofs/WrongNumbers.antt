@@ -1,23 +1,19 @@
 -- The numbers of a log, one after another, up to the first that does not go with those before it.
-use Rattle.std.proofs.Common.{◌≡◌, ◌≢◌, ◌+◌, ◌-◌, ◌*◌, ◌<◌, ◌≤◌, ◌++◌, ◌∷◌, ℕ, zero, suc, Bool, true, false, Result, Ok, Err, IfOk, Option, Some, None, IfSome, List, [], Contains, drop, get_or, length, take, inl, inr, refl, ap, sym, subst, ◌∙◌, length-append, arith}
+use Rattle.std.proofs.Common.{◌≡◌, ◌+◌, ◌-◌, ◌*◌, ◌<◌, ◌≤◌, ◌++◌, ◌∷◌, ℕ, zero, suc, Option, Some, None, IfSome, List, [], drop, get_or, length, take, inl, inr, refl, ap, sym, subst, ◌∙◌, length-append, arith}
 use Rattle.std.proofs.lemmas.Bool.{cases_lt}
 use Rattle.std.proofs.lemmas.List.{append_assoc, append-nil, take_at}
-use Rattle.std.proofs.lemmas.List.Elements.{All-append, All-cons, All-nil, Contains-append_cases, Contains-append_left, Contains-append_right}
-use Rattle.std.proofs.lemmas.List.Quantifiers.{all_pairs_push}
-use Rattle.std.specs.Bool.{MatchBool}
+use Rattle.std.proofs.lemmas.List.Elements.{All-append, All-cons, All-nil}
 use Rattle.duk_arguments.specs.declared.request.Request.{Request}
-use Rattle.duk_host.specs.Used.{AreUsable, IsOneMore, IsUsed, Lists}
 use Rattle.duk_issue.specs.Ledger.{AreInitial}
 use Rattle.duk_service.specs.Files.{FileKnown, IsFileRead}
 use Rattle.duk_show.specs.Log.{IsSomeLog}
 use Rattle.duk_store.specs.Log.{Numbers}
 use Rattle.duk_store.specs.RecordFormat.{IsLog, number_in, numbers_in, record_at}
-use Rattle.duk_tree.specs.Path.{IsUsable}
 use Rattle.duk_tree.specs.Serial.{Serial}
 use Rattle.duk_program.specs.Inquiry.{IsRecordOf}
 use Rattle.duk_program.specs.Show.{longest_log}
 use Rattle.duk_program.specs.WrongNumbers.{IsFirstWrong, IsWrongRecordIn}
-use Rattle.duk_program.specs.inner.WrongNumbers.{HasNumberAt, IsTaken}
+use Rattle.duk_program.specs.inner.WrongNumbers.{HasNumberAt}
 
 -- a record as it is cut out of the bytes
 pub same_record : (log : List ℕ) (place : ℕ) → take ((16 * place + 16) - 16 * place) (drop (16 * place) log) ≡ record_at place log
@@ -75,73 +71,10 @@ first_wrong Are log place ksn some has before with_it =
       with_it = λ are. with_it (subst Are next are);
     }
 
-the_only : {A : Type 0} (thing other : A) → Contains (thing ∷ []) other → other ≡ thing
-the_only thing other (zero, within, is) = sym is
-the_only thing other (suc k, within, is) = absurd (omega (arith, within))
-
-the_one : {A : Type 0} (thing : A) → Contains (thing ∷ []) thing
-the_one thing = (0, omega arith, refl)
-
-contains_at : {A : Type 0} (things : List A) (k : ℕ) (d thing : A) → k < length things → get_or things k d ≡ thing → Contains things thing
-contains_at [] k d thing within is = absurd (omega (arith, within))
-contains_at (first ∷ things) zero d thing within is = (0, omega arith, is)
-contains_at (first ∷ things) (suc k) d thing within is =
-    let rest = contains_at things k d thing (omega (arith, within)) is in (suc rest.0, omega (arith, rest.1), rest.2)
-
--- numbers that may be used, with one more at their end
-usable_more : (numbers : Numbers) (ksn : Serial) → AreUsable numbers → IsUsable ksn.counter → ¬ Contains numbers ksn → AreUsable (numbers ++ ksn ∷ [])
-usable_more numbers ksn are usable fresh = record {
-  usable = All-append (λ number. IsUsable number.counter) numbers (ksn ∷ []) are.usable
-      (All-cons (λ number. IsUsable number.counter) ksn [] usable (All-nil (λ number. IsUsable number.counter)));
-  once = all_pairs_push (λ earlier later. earlier ≢ later) numbers ksn are.once
-      (λ k d within same. fresh (contains_at numbers k d ksn within same));
-}
-
--- the used numbers are those of a list, with one more at its end
-lists_more : (numbers used more : Numbers) (ksn : Serial) → Lists numbers used → IsUsable ksn.counter → ¬ IsUsed used ksn → IsOneMore used ksn more
-    → Lists (numbers ++ ksn ∷ []) more
-lists_more numbers used more ksn lists usable fresh one_more = record {
-  usable = usable_more numbers ksn lists.usable usable (λ contains. fresh ((lists.members ksn).0 contains));
-  members = λ other. (
-    λ contains. elim (Contains-append_cases numbers (ksn ∷ []) other contains) [
-      | inl before ↦ (one_more other).1 (inl ((lists.members other).0 before))
-      | inr last ↦ (one_more other).1 (inr (the_only ksn other last))
-    ],
-    λ is_used. elim ((one_more other).0 is_used) [
-      | inl was ↦ Contains-append_left numbers (ksn ∷ []) other ((lists.members other).1 was)
-      | inr same ↦ Contains-append_right numbers (ksn ∷ []) other (subst (λ number. Contains (ksn ∷ []) number) (sym same) (the_one ksn))
-    ],
-  );
-}
-
 -- the number at the end of a list
 last_number : (numbers : Numbers) (d ksn : Serial) → get_or (numbers ++ ksn ∷ []) (length numbers) d ≡ ksn
 last_number [] d ksn = refl
 last_number (first ∷ numbers) d ksn = last_number numbers d ksn
-
--- a number before it
-front_number : (numbers : Numbers) (d ksn : Serial) (k : ℕ) → k < length numbers → get_or (numbers ++ ksn ∷ []) k d ≡ get_or numbers k d
-front_number [] d ksn k within = absurd (omega (arith, within))
-front_number (first ∷ numbers) d ksn zero within = refl
-front_number (first ∷ numbers) d ksn (suc k) within = front_number numbers d ksn k (omega (arith, within))
-
--- no list of usable numbers has one at its end that numbers no transaction
-pub unusable_last : (numbers : Numbers) (ksn : Serial) → ¬ IsUsable ksn.counter → ¬ AreUsable (numbers ++ ksn ∷ [])
-unusable_last numbers ksn unusable are =
-    unusable (subst (λ (number : Serial). IsUsable number.counter) (last_number numbers ksn ksn)
-    (are.usable (length numbers) ksn (omega (arith, length-append numbers (ksn ∷ [])))))
-
--- nor one that stands before
-used_last : (numbers : Numbers) (ksn : Serial) → Contains numbers ksn → ¬ AreUsable (numbers ++ ksn ∷ [])
-used_last numbers ksn (k, within, is) are =
-    are.once k (length numbers) ksn within (omega (arith, length-append numbers (ksn ∷ []))) (front_number numbers ksn ksn k within ∙ is ∙ sym (last_number numbers ksn ksn))
-
--- what is told of a number that was added
-pub taken : {E : Type 0} (used : Numbers) (ksn : Serial) (more : Numbers) (added : Result Bool E) → IsUsable ksn.counter → IfOk added (λ fresh. IsOneMore used ksn more)
-    → IfOk added (λ fresh. MatchBool fresh (¬ IsUsed used ksn) (IsUsed used ksn)) → IfOk added (IsTaken used ksn more)
-taken used ksn more (Ok true) usable one_more fresh = λ numbers lists. lists_more numbers used more ksn lists usable fresh one_more
-taken used ksn more (Ok false) usable one_more fresh = λ numbers lists. used_last numbers ksn ((lists.members ksn).1 fresh)
-taken used ksn more (Err why) usable one_more fresh = tt
 
 -- numbers without counters, with one more at their end
 pub initial_more : (numbers : Numbers) (ksn : Serial) → AreInitial numbers → ksn.counter ≡ 0 → AreInitial (numbers ++ ksn ∷ [])

@@ -37,11 +37,13 @@ pub record IsTold (q : Inquiry) (line : List ℕ) (about : Request) (old new : K
   pub explains : IsExplanation about line facts text
   pub text_told : IsTried between new text
 
--- status 0 of a request
+-- status 0 of a request: what is noted beside the answer is held too, and then written, but for what
+-- a failed write cuts off
 pub record IsHeardDone {D : Type 0} (meaning : DiskMeaning D) (s : Scene D) (asked : Request)
     : Type 0 where
   pub heard : List ℕ
   pub done : IsRequestDone meaning (heard_in s heard) asked
+  pub noted : IsTried s.fault_before s.fault_after heard
 
 -- the request is not done over what its secrets stand for; the fault of an item is explained behind
 -- it
@@ -60,6 +62,9 @@ IsNotDoneOf meaning s (request.Run config script journal) about =
     × IsRequestNotDone meaning s (request.Run config script journal)
 IsNotDoneOf meaning s (request.Serve config kept) about =
     (about ≡ request.Serve config kept) × IsRequestNotDone meaning s (request.Serve config kept)
+IsNotDoneOf meaning s (request.NewLog file records) about =
+    (about ≡ request.NewLog file records)
+    × IsRequestNotDone meaning s (request.NewLog file records)
 IsNotDoneOf meaning s (request.NewJournal file records) about =
     (about ≡ request.NewJournal file records)
     × IsRequestNotDone meaning s (request.NewJournal file records)

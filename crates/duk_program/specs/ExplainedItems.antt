@@ -39,7 +39,7 @@ pub record IsOfItem (asked : Request) (item : List ℕ) (about : Request) : Type
 
 -- no file is asked for an item
 abbrev pub no_facts : Facts
-no_facts = record { reason = None; place = None }
+no_facts = record { reason = None; place = None; strange = None }
 
 -- this explains the line of the fault of an item
 pub record IsItemExplained (asked : Request) (item line text : List ℕ) : Type 0 where
@@ -67,4 +67,4 @@ IsOverItemsExplained asked (Some items) s alone =
 -- a request without references is not done, and the faults of its items are explained
 abbrev pub IsNotAnsweredExplained : {D : Type 0} → DiskMeaning D → Scene D → Request → Type 0
 IsNotAnsweredExplained meaning s asked = IsOverItemsExplained asked (items_of asked) s
-    (IsNotDoneAlone meaning s.held s.disks (writers_of s) asked)
+    (IsNotDoneAlone meaning s.held s.disks s.making (writers_of s) asked)

@@ -1,34 +1,66 @@
 -- What `issue` does over the file of its ledger (this project's own, over what it does with a
 -- ledger).
-use Rattle.std.specs.Prelude.{◌⊎◌, ◌*◌, ⊤, ℕ, Bool, List, codes}
+use Rattle.std.specs.Prelude.{◌≡◌, ◌⊎◌, ◌*◌, ⊤, ℕ, zero, suc, Bool, true, false, List, Option, Some, None, codes, if◌then◌else◌}
 use Rattle.std.specs.Borrow.{Bor}
-use Rattle.duk_commands.specs.Answer.{Streams}
+use Rattle.std.specs.Option.{option_copied}
+use Rattle.duk_program.specs.declared.issue_files.IfIssued.{IfIssued}
+use Rattle.duk_program.specs.declared.issue_files.IfIssued.TheVariants as if_issued
+use Rattle.duk_arguments.specs.declared.request.IssueWay.{IssueWay}
+use Rattle.duk_commands.specs.Answer.{Streams, streams}
 use Rattle.duk_io.specs.Known.{Known}
 use Rattle.duk_io.specs.Sink.{IsTried, IsUntouched}
+use Rattle.duk_issue.specs.Again.{AreMadeAgain, NotMadeAgain}
 use Rattle.duk_issue.specs.Fault.{issue_line}
-use Rattle.duk_issue.specs.Issue.{HasIssued, IssueFailed, Job, ends, job}
+use Rattle.duk_issue.specs.Issue.{Ends, HasIssuedBut, IssueFailed, ends, job}
+use Rattle.duk_issue.specs.Lines.{passed_over_line}
 use Rattle.duk_issue.specs.Order.{IsOrderOf, IsOrderRefused, OrderArguments, order_arguments}
 use Rattle.duk_issue.specs.declared.fault.IssueFault.{IssueFault}
 use Rattle.duk_issue.specs.declared.fault.IssueFault.TheVariants as fault
 use Rattle.duk_issue.specs.declared.order.Order.{Order}
 use Rattle.duk_service.specs.Files.{FileKnown, IsFrontRead, IsShorterThan}
 use Rattle.duk_service.specs.HandedOn.{IsFlushReported, IsReportedAfter}
-use Rattle.duk_service.specs.LogFiles.{DiskKnown, IsDisk, IsNoDisk}
+use Rattle.duk_service.specs.LogFiles.{AreLinesMade, AreNoLines, DiskKnown, LinesKnown, MakingKnown}
+use Rattle.duk_service.specs.OwnFiles.{IsNoOwnDisk, IsOwnDisk}
+use Rattle.duk_service.specs.declared.left_records.RecordFormat.TheVariants.{Log}
+use Rattle.duk_service.specs.declared.own_files.OpenFault.TheVariants as open_fault
 use Rattle.duk_program.specs.declared.issue_files.IssueArguments.{IssueArguments}
 use Rattle.duk_store.specs.Disk.{DiskMeaning}
 use Rattle.duk_store.specs.DiskLog.{disk_log_meaning, new_disk_log}
 use Rattle.duk_store.specs.Log.{LogMeaning}
 
 -- the arguments of `issue`
-abbrev pub issue_arguments : Bor (List ℕ) → Bor (List ℕ) → Bor (List ℕ) → Bor (List ℕ) → Bool
+abbrev pub issue_arguments : Bor (List ℕ) → Bor (List ℕ) → Bor (List ℕ) → Bor (List ℕ) → IssueWay
     → IssueArguments
-issue_arguments bdk loading iksn count skip =
-    record { bdk = bdk; loading = loading; iksn = iksn; count = count; skip_issued = skip }
+issue_arguments bdk loading iksn count way =
+    record { bdk = bdk; loading = loading; iksn = iksn; count = count; way = way }
 
 -- those of the order
 abbrev pub order_in : IssueArguments → OrderArguments
 order_in arguments = order_arguments arguments.bdk.now arguments.loading.now arguments.iksn.now
-    arguments.count.now
+    arguments.count.now (option_copied arguments.way.kcv)
+
+-- what becomes of issued numbers, by what the arguments say
+abbrev pub if_issued_in : IssueWay → IfIssued
+if_issued_in way =
+    if way.again then if_issued.MakeAgain
+    else if way.skip_issued then if_issued.PassOver
+    else if_issued.Refuse
+
+-- they are passed over
+abbrev pub is_passed_over : IfIssued → Bool
+is_passed_over if_issued.PassOver = true
+is_passed_over _ = false
+
+-- an order, what becomes of issued numbers, and the bytes of padding
+pub record IssueTask : Type 0 where
+  pub order : Order
+  pub if_issued : IfIssued
+  pub padding : List ℕ
+
+-- the three together
+abbrev pub issue_task : Order → IfIssued → List ℕ → IssueTask
+issue_task order if_issued padding =
+    record { order = order; if_issued = if_issued; padding = padding }
 
 -- what a ledger is when it is made, and the writers before and after
 pub record Issuing (L : Type 0) : Type 0 where
@@ -39,72 +71,162 @@ pub record Issuing (L : Type 0) : Type 0 where
 abbrev pub issuing : {L : Type 0} → L → Streams → Issuing L
 issuing made s = record { made = made; streams = s }
 
--- all keys are issued over a ledger, and nothing is written behind their lines
-pub record IsIssuedOver {L : Type 0} (meaning : LogMeaning L) (job : Job) (i : Issuing L) : Type 0 where
+-- the lines of an order are made, by what becomes of issued numbers, of which so many are passed
+-- over
+abbrev pub AreLinesMadeBy : IfIssued → {L : Type 0} → LogMeaning L → Order → List ℕ → Ends L → Ends L
+    → ℕ → Type 0
+AreLinesMadeBy if_issued.MakeAgain meaning order padding old new passed_over =
+    AreMadeAgain meaning order padding old new × (passed_over ≡ 0)
+AreLinesMadeBy way meaning order padding old new passed_over =
+    HasIssuedBut meaning (job order (is_passed_over way) padding) old new passed_over
+
+-- not all of them are made
+abbrev pub AreLinesUnmadeBy : IfIssued → {L : Type 0} → LogMeaning L → Order → List ℕ → Ends L
+    → Ends L → IssueFault → Type 0
+AreLinesUnmadeBy if_issued.MakeAgain meaning order padding old new why =
+    NotMadeAgain meaning order padding old new why
+AreLinesUnmadeBy way meaning order padding old new why =
+    IssueFailed meaning (job order (is_passed_over way) padding) old new why
+
+abbrev pub HasMadeLines : {L : Type 0} → LogMeaning L → IssueTask → Ends L → Ends L → ℕ → Type 0
+HasMadeLines meaning task =
+    AreLinesMadeBy task.if_issued meaning task.order task.padding
+
+abbrev pub HasNotMadeLines : {L : Type 0} → LogMeaning L → IssueTask → Ends L → Ends L → IssueFault
+    → Type 0
+HasNotMadeLines meaning task =
+    AreLinesUnmadeBy task.if_issued meaning task.order task.padding
+
+-- how many numbers were passed over is noted, where there are any
+abbrev pub IsNoted : ℕ → Known → Known → Type 0
+IsNoted zero old new = IsUntouched old new
+IsNoted (suc more) old new = IsTried old new (passed_over_line (suc more))
+
+-- a task is done over a ledger, and nothing is written behind its lines
+pub record IsIssuedOver {L : Type 0} (meaning : LogMeaning L) (task : IssueTask) (i : Issuing L)
+    : Type 0 where
   pub last : L
   pub written : Known
-  pub issued : HasIssued meaning job (ends i.made i.streams.output_before) (ends last written)
+  pub passed_over : ℕ
+  pub made : HasMadeLines meaning task (ends i.made i.streams.output_before) (ends last written)
+      passed_over
   pub kept : IsUntouched written i.streams.output_after
-  pub no_fault : IsUntouched i.streams.fault_before i.streams.fault_after
+  pub noted : IsNoted passed_over i.streams.fault_before i.streams.fault_after
 
--- not all keys are issued, and that is reported behind the lines that were written
-pub record HasStoppedOver {L : Type 0} (meaning : LogMeaning L) (job : Job) (i : Issuing L)
+-- not all lines are made, and that is reported behind those that were written
+pub record HasStoppedOver {L : Type 0} (meaning : LogMeaning L) (task : IssueTask) (i : Issuing L)
     : Type 0 where
   pub last : L
   pub written : Known
   pub why : IssueFault
-  pub failed : IssueFailed meaning job (ends i.made i.streams.output_before) (ends last written) why
+  pub failed : HasNotMadeLines meaning task (ends i.made i.streams.output_before)
+      (ends last written) why
   pub ended : IsReportedAfter (issue_line why) (issue_line fault.WriteFailed) written
       i.streams.output_after i.streams.fault_before i.streams.fault_after
 
--- all keys are issued, and their lines could not be handed on, and that is reported
-pub record HasLostOver {L : Type 0} (meaning : LogMeaning L) (job : Job) (i : Issuing L)
+-- all lines are made and could not be handed on, and that is reported
+pub record HasLostOver {L : Type 0} (meaning : LogMeaning L) (task : IssueTask) (i : Issuing L)
     : Type 0 where
   pub last : L
   pub written : Known
-  pub issued : HasIssued meaning job (ends i.made i.streams.output_before) (ends last written)
+  pub passed_over : ℕ
+  pub made : HasMadeLines meaning task (ends i.made i.streams.output_before) (ends last written)
+      passed_over
   pub reported : IsFlushReported (issue_line fault.WriteFailed) written i.streams.output_after
       i.streams.fault_before i.streams.fault_after
 
 -- status 1 over a ledger
-abbrev pub IsNotIssuedOver : {L : Type 0} → LogMeaning L → Job → Issuing L → Type 0
-IsNotIssuedOver meaning job i = HasStoppedOver meaning job i ⊎ HasLostOver meaning job i
+abbrev pub IsNotIssuedOver : {L : Type 0} → LogMeaning L → IssueTask → Issuing L → Type 0
+IsNotIssuedOver meaning task i = HasStoppedOver meaning task i ⊎ HasLostOver meaning task i
 
--- the system's random device
-abbrev pub random_device : List ℕ
-random_device = codes "/dev/urandom"
+-- the lines go to a new file: what is done with the writer to it, of which this is known before and
+-- after. Nothing is written to the output
+pub record IsOverLines {L : Type 0} (lines : LinesKnown) (i : Issuing L)
+    (Ends : Issuing L → Type 0) : Type 0 where
+  pub made : Known
+  pub last : Known
+  pub are_made : AreLinesMade lines made
+  pub end : Ends (issuing i.made (streams made last i.streams.fault_before i.streams.fault_after))
+  pub no_output : IsUntouched i.streams.output_before i.streams.output_after
 
--- what files make known of what `issue` needs of them: the system's random device, and the disk of
--- the ledger
-pub record IssueFilesKnown (D : Type 0) : Type 0 where
-  pub random : FileKnown
-  pub ledger : DiskKnown D
-
-abbrev pub issue_files_known : {D : Type 0} → (List ℕ → FileKnown) → DiskKnown D → IssueFilesKnown D
-issue_files_known held ledger = record { random = held random_device; ledger = ledger }
-
--- the arguments are read; there is padding of the system's random device, six bytes for each key;
--- and the disk of the ledger's file is opened
-pub record IsBegun {D : Type 0} (known : IssueFilesKnown D) (arguments : IssueArguments)
-    (Ends : Job → D → Type 0) : Type 0 where
-  pub order : Order
-  pub read : IsOrderOf (order_in arguments) order
-  pub padding : List ℕ
-  pub padding_read : IsFrontRead known.random (6 * order.count) padding
-  pub disk : D
-  pub opened : IsDisk known.ledger disk
-  pub end : Ends (job order arguments.skip_issued padding) disk
-
--- status 0: all keys are issued over the ledger of the file
-abbrev pub HasIssuedFiles : {D : Type 0} → DiskMeaning D → IssueFilesKnown D → IssueArguments → Streams
-    → Type 0
-HasIssuedFiles meaning known arguments s = IsBegun known arguments
-    (λ job disk. IsIssuedOver (disk_log_meaning meaning) job (issuing (new_disk_log disk) s))
+-- a task is done with its lines in a new file
+abbrev pub IsIssuedToFile : {L : Type 0} → LogMeaning L → LinesKnown → IssueTask → Issuing L → Type 0
+IsIssuedToFile meaning lines task i = IsOverLines lines i (IsIssuedOver meaning task)
 
 -- a fault is reported, and nothing was written
 pub record HasReportedIssue (why : IssueFault) (s : Streams) : Type 0 where
   pub no_output : IsUntouched s.output_before s.output_after
   pub line : IsTried s.fault_before s.fault_after (issue_line why)
+
+-- no new file can be made, and that is reported
+pub record HasNoLines (lines : LinesKnown) (s : Streams) : Type 0 where
+  pub unmade : AreNoLines lines
+  pub reported : HasReportedIssue fault.OutUnmade s
+
+-- status 1 with the lines in a new file
+abbrev pub IsNotIssuedToFile : {L : Type 0} → LogMeaning L → LinesKnown → IssueTask → Issuing L → Type 0
+IsNotIssuedToFile meaning lines task i =
+    IsFlushReported (issue_line fault.WriteFailed) i.streams.output_before i.streams.output_after
+    i.streams.fault_before i.streams.fault_after
+    ⊎ HasNoLines lines i.streams
+    ⊎ IsOverLines lines i (IsNotIssuedOver meaning task)
+
+-- status 0 and 1 with the lines on the output, or in a new file under a path
+abbrev pub IsIssuedTo : {L D : Type 0} → LogMeaning L → (List ℕ → MakingKnown D)
+    → Option (List ℕ) → IssueTask → Issuing L → Type 0
+IsIssuedTo meaning making None = IsIssuedOver meaning
+IsIssuedTo meaning making (Some path) = IsIssuedToFile meaning (making path).lines
+
+abbrev pub IsNotIssuedTo : {L D : Type 0} → LogMeaning L → (List ℕ → MakingKnown D)
+    → Option (List ℕ) → IssueTask → Issuing L → Type 0
+IsNotIssuedTo meaning making None = IsNotIssuedOver meaning
+IsNotIssuedTo meaning making (Some path) = IsNotIssuedToFile meaning (making path).lines
+
+-- the system's random device
+abbrev pub random_device : List ℕ
+random_device = codes "/dev/urandom"
+
+-- what files make known of what `issue` needs of them: the system's random device, the disk of the
+-- ledger, and new files
+pub record IssueFilesKnown (D : Type 0) : Type 0 where
+  pub random : FileKnown
+  pub ledger : DiskKnown D
+  pub making : List ℕ → MakingKnown D
+
+abbrev pub issue_files_known : {D : Type 0} → (List ℕ → FileKnown) → DiskKnown D
+    → (List ℕ → MakingKnown D) → IssueFilesKnown D
+issue_files_known held ledger making =
+    record { random = held random_device; ledger = ledger; making = making }
+
+-- the disk of the ledger's file is opened. Where it is honest, its bytes are such as a ledger leaves
+abbrev pub IsLedgerOpened : {D : Type 0} → DiskMeaning D → DiskKnown D → D → Type 0
+IsLedgerOpened meaning known = IsOwnDisk Log meaning known
+
+-- why it is not, and nothing is written then
+abbrev pub IsLedgerUnopened : {D : Type 0} → DiskMeaning D → DiskKnown D → IssueFault → Type 0
+IsLedgerUnopened meaning known fault.LedgerUnopened = IsNoOwnDisk Log meaning known open_fault.Unopened
+IsLedgerUnopened meaning known fault.LedgerFailed = IsNoOwnDisk Log meaning known open_fault.Failed
+IsLedgerUnopened meaning known fault.LedgerDamaged = IsNoOwnDisk Log meaning known open_fault.Foreign
+IsLedgerUnopened meaning known _ = ⊥
+
+-- the arguments are read; there is padding of the system's random device, six bytes for each key;
+-- and the disk of the ledger's file is opened
+pub record IsBegun {D : Type 0} (meaning : DiskMeaning D) (known : IssueFilesKnown D)
+    (arguments : IssueArguments) (Ends : IssueTask → D → Type 0) : Type 0 where
+  pub order : Order
+  pub read : IsOrderOf (order_in arguments) order
+  pub padding : List ℕ
+  pub padding_read : IsFrontRead known.random (6 * order.count) padding
+  pub disk : D
+  pub opened : IsLedgerOpened meaning known.ledger disk
+  pub end : Ends (issue_task order (if_issued_in arguments.way) padding) disk
+
+-- status 0: all keys are issued over the ledger of the file
+abbrev pub HasIssuedFiles : {D : Type 0} → DiskMeaning D → IssueFilesKnown D → IssueArguments → Streams
+    → Type 0
+HasIssuedFiles meaning known arguments s = IsBegun meaning known arguments
+    (λ task disk. IsIssuedTo (disk_log_meaning meaning) known.making
+    (option_copied arguments.way.out) task (issuing (new_disk_log disk) s))
 
 -- the arguments are refused, and that is reported
 pub record HasNoOrder (arguments : IssueArguments) (s : Streams) : Type 0 where
@@ -126,19 +248,21 @@ pub record HasNoPadding (random : FileKnown) (arguments : IssueArguments) (s : S
   pub cause : IsPaddingRefused random order.count why
   pub reported : HasReportedIssue why s
 
--- there is an order, and no disk can be opened for the ledger's file, and that is reported
-pub record HasNoLedger {D : Type 0} (known : DiskKnown D) (arguments : IssueArguments) (s : Streams)
-    : Type 0 where
+-- there is an order, and the ledger's file is not opened, and that is reported
+pub record HasNoLedger {D : Type 0} (meaning : DiskMeaning D) (known : DiskKnown D)
+    (arguments : IssueArguments) (s : Streams) : Type 0 where
   pub order : Order
   pub read : IsOrderOf (order_in arguments) order
-  pub unopened : IsNoDisk known
-  pub reported : HasReportedIssue fault.LedgerUnopened s
+  pub why : IssueFault
+  pub cause : IsLedgerUnopened meaning known why
+  pub reported : HasReportedIssue why s
 
 -- status 1: the first of these
 abbrev pub HasNotIssuedFiles : {D : Type 0} → DiskMeaning D → IssueFilesKnown D → IssueArguments → Streams
     → Type 0
 HasNotIssuedFiles meaning known arguments s =
     HasNoOrder arguments s ⊎ HasNoPadding known.random arguments s
-    ⊎ HasNoLedger known.ledger arguments s
-    ⊎ IsBegun known arguments
-    (λ job disk. IsNotIssuedOver (disk_log_meaning meaning) job (issuing (new_disk_log disk) s))
+    ⊎ HasNoLedger meaning known.ledger arguments s
+    ⊎ IsBegun meaning known arguments
+    (λ task disk. IsNotIssuedTo (disk_log_meaning meaning) known.making
+    (option_copied arguments.way.out) task (issuing (new_disk_log disk) s))

@@ -16,7 +16,7 @@ use Rattle.duk_service.specs.HandedOn.{IsFlushLost}
 use Rattle.duk_program.specs.InputLine.{with_input}
 use Rattle.duk_program.specs.IssueFiles.{HasIssuedFiles, HasNotIssuedFiles, issue_arguments, issue_files_known}
 use Rattle.duk_program.specs.Items.{LineItems, command_of_line, items_of}
-use Rattle.duk_service.specs.LogFiles.{DiskKnown}
+use Rattle.duk_service.specs.LogFiles.{DiskKnown, MakingKnown}
 use Rattle.duk_program.specs.Scene.{Scene, input_in, reading_on, writers_of}
 use Rattle.duk_program.specs.Secrets.{HasMeaning, IsInputTaken, IsSecretFault, inputs_in, secret_line, secrets_of}
 use Rattle.duk_program.specs.Show.{HasNotShownText, HasShownText, show_arguments}
@@ -33,21 +33,23 @@ pub record HasLostLines (command : Command) (s : Streams) : Type 0 where
 
 -- a request over its arguments and files alone is done
 abbrev pub IsDoneAlone : {D : Type 0} → DiskMeaning D → (List ℕ → FileKnown) → (List ℕ → DiskKnown D)
-    → Streams → Request → Type 0
-IsDoneAlone meaning held disks s (request.Show kind what show) =
+    → (List ℕ → MakingKnown D) → Streams → Request → Type 0
+IsDoneAlone meaning held disks making s (request.Show kind what show) =
     HasShownText (show_arguments kind.now what.now show (held what.now)) s
-IsDoneAlone meaning held disks s (request.Issue bdk loading iksn count ledger skip) =
-    HasIssuedFiles meaning (issue_files_known held (disks ledger.now)) (issue_arguments bdk loading iksn count skip) s
-IsDoneAlone meaning held disks s asked = IsDone (command_for asked) s
+IsDoneAlone meaning held disks making s (request.Issue bdk loading iksn count ledger way) =
+    HasIssuedFiles meaning (issue_files_known held (disks ledger.now) making)
+    (issue_arguments bdk loading iksn count way) s
+IsDoneAlone meaning held disks making s asked = IsDone (command_for asked) s
 
 -- it is not done
 abbrev pub IsNotDoneAlone : {D : Type 0} → DiskMeaning D → (List ℕ → FileKnown)
-    → (List ℕ → DiskKnown D) → Streams → Request → Type 0
-IsNotDoneAlone meaning held disks s (request.Show kind what show) =
+    → (List ℕ → DiskKnown D) → (List ℕ → MakingKnown D) → Streams → Request → Type 0
+IsNotDoneAlone meaning held disks making s (request.Show kind what show) =
     HasNotShownText (show_arguments kind.now what.now show (held what.now)) s
-IsNotDoneAlone meaning held disks s (request.Issue bdk loading iksn count ledger skip) =
-    HasNotIssuedFiles meaning (issue_files_known held (disks ledger.now)) (issue_arguments bdk loading iksn count skip) s
-IsNotDoneAlone meaning held disks s asked =
+IsNotDoneAlone meaning held disks making s (request.Issue bdk loading iksn count ledger way) =
+    HasNotIssuedFiles meaning (issue_files_known held (disks ledger.now) making)
+    (issue_arguments bdk loading iksn count way) s
+IsNotDoneAlone meaning held disks making s asked =
     IsNotDone (command_for asked) s ⊎ HasLostLines (command_for asked) s
 
 -- a command is done over the lines of the input, where there are such, or else alone
@@ -65,12 +67,12 @@ IsOverItemsNotDone (Some items) s alone =
 -- a request without references is done
 abbrev pub IsAnswered : {D : Type 0} → DiskMeaning D → Scene D → Request → Type 0
 IsAnswered meaning s asked = IsOverItemsDone (items_of asked) s
-    (IsDoneAlone meaning s.held s.disks (writers_of s) asked)
+    (IsDoneAlone meaning s.held s.disks s.making (writers_of s) asked)
 
 -- it is not done
 abbrev pub IsNotAnswered : {D : Type 0} → DiskMeaning D → Scene D → Request → Type 0
 IsNotAnswered meaning s asked = IsOverItemsNotDone (items_of asked) s
-    (IsNotDoneAlone meaning s.held s.disks (writers_of s) asked)
+    (IsNotDoneAlone meaning s.held s.disks s.making (writers_of s) asked)
 
 -- what there is under each path to which a secret refers
 abbrev pub referred_in : {D : Type 0} → Scene D → List ℕ → FileKnown

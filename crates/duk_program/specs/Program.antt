@@ -5,11 +5,12 @@ use Rattle.duk_io.specs.Sink.{IsUntouched}
 use Rattle.duk_service.specs.CopyJournal.{HasCopiedJournal, HasNotCopiedJournal}
 use Rattle.duk_program.specs.Commands.{HasLostCommandOutput, HasShown, IsNotShown}
 use Rattle.duk_program.specs.Meant.{HasMeantDone, IsMeantNotDone}
-use Rattle.duk_service.specs.NewJournal.{HasMadeJournal, HasNotMadeJournal}
+use Rattle.duk_service.specs.NewFile.{HasMadeFile, HasNotMadeFile}
 use Rattle.duk_program.specs.RunFiles.{FileRun, HasRunFiles, HasReportedFault, file_run}
 use Rattle.duk_program.specs.Scene.{Scene, writers_of}
 use Rattle.duk_service.specs.Serve.{HasNothingServed}
 use Rattle.duk_program.specs.ServeFiles.{FileService, HasNotServedFiles, HasServedFiles, file_service, kept_known}
+use Rattle.duk_service.specs.declared.left_records.RecordFormat.TheVariants.{Journal, Log}
 use Rattle.duk_store.specs.Disk.{DiskMeaning}
 use Rattle.duk_arguments.specs.Asked.{Asks}
 use Rattle.duk_arguments.specs.declared.request.Kept.{Kept}
@@ -26,7 +27,7 @@ abbrev pub service_in : {D : Type 0} → Scene D → List ℕ → Kept → FileS
 service_in s config kept = file_service (s.held config) (kept_known s.disks kept) s.streams
     s.fault_before s.fault_after
 
--- a journal is made, and nothing is read, printed or reported
+-- a log or a journal is made, and nothing is read, printed or reported
 pub record HasMadeIn {D : Type 0} (s : Scene D) (Made : Type 0) : Type 0 where
   pub made : Made
   pub idle : HasNothingServed s.streams
@@ -43,8 +44,10 @@ IsRequestDone meaning s (request.Run config script journal) =
     HasRunFiles (run_in s config.now script.now journal)
 IsRequestDone meaning s (request.Serve config kept) =
     HasServedFiles meaning (service_in s config.now kept)
+IsRequestDone meaning s (request.NewLog file records) =
+    HasMadeIn s (HasMadeFile Log meaning (s.making file.now) records.now)
 IsRequestDone meaning s (request.NewJournal file records) =
-    HasMadeIn s (HasMadeJournal meaning (s.making file.now) records.now)
+    HasMadeIn s (HasMadeFile Journal meaning (s.making file.now) records.now)
 IsRequestDone meaning s (request.CopyJournal old new) =
     HasMadeIn s (HasCopiedJournal meaning (s.disks old.now) (s.making new.now))
 IsRequestDone meaning s asked = HasMeantDone meaning s asked
@@ -55,8 +58,11 @@ IsRequestNotDone meaning s (request.Run config script journal) =
     HasReportedFault (run_in s config.now script.now journal)
 IsRequestNotDone meaning s (request.Serve config kept) =
     HasNotServedFiles meaning (service_in s config.now kept)
+IsRequestNotDone meaning s (request.NewLog file records) =
+    HasNotMadeIn s (HasNotMadeFile Log meaning (s.making file.now) records.now s.fault_before
+    s.fault_after)
 IsRequestNotDone meaning s (request.NewJournal file records) =
-    HasNotMadeIn s (HasNotMadeJournal meaning (s.making file.now) records.now s.fault_before
+    HasNotMadeIn s (HasNotMadeFile Journal meaning (s.making file.now) records.now s.fault_before
     s.fault_after)
 IsRequestNotDone meaning s (request.CopyJournal old new) =
     HasNotMadeIn s (HasNotCopiedJournal meaning (s.disks old.now) (s.making new.now) s.fault_before

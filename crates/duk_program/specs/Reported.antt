@@ -14,12 +14,13 @@ use Rattle.duk_show.specs.Fault.{show_line}
 use Rattle.duk_show.specs.declared.fault.ShowFault.{ShowFault}
 use Rattle.duk_io.specs.Sink.{IsTried}
 use Rattle.duk_program.specs.Configured.{config_line}
-use Rattle.duk_service.specs.NewJournal.{new_journal_line}
+use Rattle.duk_service.specs.NewFile.{new_file_line}
 use Rattle.duk_program.specs.Secrets.{secret_line}
-use Rattle.duk_service.specs.Serve.{serve_line}
+use Rattle.duk_service.specs.Serve.{lost_answers_line, serve_line}
 use Rattle.duk_service.specs.ServeJournal.{journal_line}
 use Rattle.duk_service.specs.declared.file_system.FileFault.{FileFault}
-use Rattle.duk_service.specs.declared.new_journal.NewJournalFault.{NewJournalFault}
+use Rattle.duk_service.specs.declared.left_records.RecordFormat.{RecordFormat}
+use Rattle.duk_service.specs.declared.new_file.NewFileFault.{NewFileFault}
 use Rattle.duk_program.specs.declared.secrets.SecretFault.{SecretFault}
 use Rattle.duk_script.specs.FaultLine.{fault_line}
 
@@ -29,13 +30,14 @@ IsJournalFaultLine line =
     ((why : HostFault) × (line ≡ journal_line why)) ⊎ (line ≡ unopened_journal_line)
 
 -- the line of a fault of `show`, of `issue`, of a command over the lines of the input, or of serving
--- over a journal, or of one that makes a journal
+-- over a journal, or of one that makes a log or a journal
 abbrev pub IsOtherFaultLine : List ℕ → Type 0
 IsOtherFaultLine line =
     ((why : ShowFault) × (line ≡ show_line why))
     ⊎ (((why : IssueFault) × (line ≡ issue_line why))
     ⊎ ((line ≡ unread_line) ⊎ ((line ≡ refused_line)
-    ⊎ (IsJournalFaultLine line ⊎ ((why : NewJournalFault) × (line ≡ new_journal_line why))))))
+    ⊎ (IsJournalFaultLine line
+    ⊎ ((format : RecordFormat) × ((why : NewFileFault) × (line ≡ new_file_line format why)))))))
 
 -- the line of a fault: of a command over keys and PINs, of a configuration's file, of a
 -- configuration and a script, of serving, of a log's file, of a secret that is not read, or another
@@ -53,3 +55,13 @@ pub record IsLineReported (old new : Known) : Type 0 where
   pub line : List ℕ
   pub line_is : IsFaultLine line
   pub reported : IsTried old new line
+
+-- so was one, of a fault of what keeps the used numbers, and behind it that of answers which are lost
+pub record AreLinesReported (old new : Known) : Type 0 where
+  pub between : Known
+  pub first : IsLineReported old between
+  pub second : IsTried between new lost_answers_line
+
+-- a fault was reported, by its line or by both
+abbrev pub IsReported : Known → Known → Type 0
+IsReported old new = IsLineReported old new ⊎ AreLinesReported old new

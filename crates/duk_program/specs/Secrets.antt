@@ -1,6 +1,7 @@
 -- Secrets that arguments give by reference (this project's own): `@FILE` stands for the first line
 -- of a file, and `@-` for that of standard input.
-use Rattle.std.specs.Prelude.{◌≡◌, ◌≢◌, ◌==◌, ◌<◌, ◌⊎◌, ⊤, ℕ, zero, suc, Bool, List, [], ◌∷◌, ◌++◌, Option, Some, None, codes, get_or, length, option_to_list, take, if◌then◌else◌}
+use Rattle.std.specs.Prelude.{◌≡◌, ◌==◌, ◌<◌, ◌⊎◌, ⊤, ℕ, zero, suc, Bool, false, List, [], ◌∷◌, ◌++◌, Option, Some, None, codes, get_or, length, option_to_list, take, if◌then◌else◌}
+use Rattle.std.specs.List.{list_any}
 use Rattle.std.specs.Str.{IsUtf8, bytes_eq}
 use Rattle.std.specs.Option.{option_copied}
 use Rattle.duk_arguments.specs.Given.{Each}
@@ -18,10 +19,24 @@ use Rattle.duk_program.specs.declared.secrets.SecretFault.TheVariants.{NoMemory,
 use Rattle.duk_program.specs.declared.secrets.Unread.{Unread as Why}
 use Rattle.duk_program.specs.declared.secrets.Unread.TheVariants.{CannotRead, TooLong, NotUtf8}
 
+-- the paths under which the system has standard input
+abbrev pub is_input_path : List ℕ → Bool
+is_input_path path =
+    list_any (bytes_eq path)
+    (codes "/dev/stdin" ∷ codes "/dev/fd/0" ∷ codes "/proc/self/fd/0" ∷ [])
+
+-- the path that is referred to: under any of them standard input, as `-`
+abbrev pub path_of : List ℕ → List ℕ
+path_of path = if is_input_path path then codes "-" else path
+
 -- what a text that begins with `@` (64) refers to
 abbrev pub reference_in : List ℕ → Option (List ℕ)
 reference_in [] = None
-reference_in (first ∷ rest) = if first == 64 then Some rest else None
+reference_in (first ∷ rest) = if first == 64 then Some (path_of rest) else None
+
+-- a text refers to the input
+abbrev pub RefersToInput : List ℕ → Type 0
+RefersToInput text = reference_in text ≡ Some (codes "-")
 
 -- what a secret that is written stands for: itself, or the first line of what there is under a path
 abbrev pub StandsFor : (List ℕ → FileKnown) → Option (List ℕ) → List ℕ → List ℕ → Type 0
@@ -55,9 +70,14 @@ abbrev pub IsUnread : (List ℕ → FileKnown) → Option (List ℕ) → Why →
 IsUnread held None why = ⊥
 IsUnread held (Some path) why = IsUnreadLine (held path) why
 
+-- a path is that of the input
+abbrev pub is_of_input : Option (List ℕ) → Bool
+is_of_input None = false
+is_of_input (Some path) = bytes_eq path (codes "-")
+
 -- a text that refers to the input
 abbrev pub is_input_reference : List ℕ → Bool
-is_input_reference text = bytes_eq text (codes "@-")
+is_input_reference text = is_of_input (reference_in text)
 
 -- how many of these texts do
 abbrev pub inputs_in : List (List ℕ) → ℕ
@@ -81,7 +101,7 @@ pub record AreRead (held : List ℕ → FileKnown) (written texts : List (List �
 -- a secret that does not refer to the input is not read, and nothing is read of the input
 pub record IsFileSecretUnread (held : List ℕ → FileKnown) (before after : Supply) (written : List ℕ)
     (why : Why) : Type 0 where
-  pub no_input : written ≢ codes "@-"
+  pub no_input : ¬ RefersToInput written
   pub idle : after ≡ before
   pub cause : IsUnread held (reference_in written) why
 
@@ -93,7 +113,7 @@ IsInputUnread (suc earlier) before after why = (why ≡ CannotRead) × (after �
 -- a secret that refers to the input is not read
 pub record IsInputSecretUnread (earlier : ℕ) (before after : Supply) (written : List ℕ) (why : Why)
     : Type 0 where
-  pub is_input : written ≡ codes "@-"
+  pub is_input : RefersToInput written
   pub cause : IsInputUnread earlier before after why
 
 -- why a secret that is written so is not read, where so many before it referred to the input
@@ -160,10 +180,10 @@ HasMeaning held (request.MakeReversal bdk ksn reversed initial)
 HasMeaning held (request.CheckReply bdk asked answer initial)
     (request.CheckReply bdk' asked' answer' initial') =
     Means held bdk.now bdk'.now × (asked' ≡ asked) × (answer' ≡ answer) × (initial' ≡ initial)
-HasMeaning held (request.Issue bdk loading iksn count ledger skip)
-    (request.Issue bdk' loading' iksn' count' ledger' skip') =
+HasMeaning held (request.Issue bdk loading iksn count ledger way)
+    (request.Issue bdk' loading' iksn' count' ledger' way') =
     Means held bdk.now bdk'.now × Means held loading.now loading'.now × (iksn' ≡ iksn)
-    × (count' ≡ count) × (ledger' ≡ ledger) × (skip' ≡ skip)
+    × (count' ≡ count) × (ledger' ≡ ledger) × (way' ≡ way)
 HasMeaning held (request.Show kind what show)
     (request.Show kind' what' show') =
     (kind' ≡ kind) × Means held what.now what'.now × (show' ≡ show)
@@ -185,7 +205,7 @@ secrets_of (request.Translate block pan bdk ksn zone initial) = block.now ∷ pa
 secrets_of (request.MakeRequest bdk ksn pan pin amount initial) = bdk.now ∷ pan.now ∷ pin.now ∷ []
 secrets_of (request.MakeReversal bdk ksn reversed initial) = bdk.now ∷ []
 secrets_of (request.CheckReply bdk asked answer initial) = bdk.now ∷ []
-secrets_of (request.Issue bdk loading iksn count ledger skip) = bdk.now ∷ loading.now ∷ []
+secrets_of (request.Issue bdk loading iksn count ledger way) = bdk.now ∷ loading.now ∷ []
 secrets_of (request.Show kind what show) = what.now ∷ []
 secrets_of asked = []
 
@@ -206,7 +226,7 @@ secret_names (request.Translate block pan bdk ksn zone initial) = Block ∷ Pan 
 secret_names (request.MakeRequest bdk ksn pan pin amount initial) = Bdk ∷ Pan ∷ Pin ∷ []
 secret_names (request.MakeReversal bdk ksn reversed initial) = Bdk ∷ []
 secret_names (request.CheckReply bdk asked answer initial) = Bdk ∷ []
-secret_names (request.Issue bdk loading iksn count ledger skip) = Bdk ∷ Loading ∷ []
+secret_names (request.Issue bdk loading iksn count ledger way) = Bdk ∷ Loading ∷ []
 secret_names (request.Show kind what show) = What ∷ []
 secret_names asked = Bdk ∷ []
 
@@ -244,6 +264,7 @@ HasWordsAlone asked = Each IsWord (secrets_of asked)
 abbrev pub IsOverSecrets : Request → Type 0
 IsOverSecrets (request.Run config script journal) = ⊥
 IsOverSecrets (request.Serve config kept) = ⊥
+IsOverSecrets (request.NewLog file records) = ⊥
 IsOverSecrets (request.NewJournal file records) = ⊥
 IsOverSecrets (request.CopyJournal old new) = ⊥
 IsOverSecrets asked = Unit {0}

@@ -5,7 +5,7 @@ use Rattle.duk_commands.specs.Fault.{report_line}
 use Rattle.duk_commands.specs.declared.fault.Fault.TheVariants.{WriteFailed}
 use Rattle.duk_io.specs.Known.{Known}
 use Rattle.duk_io.specs.Sink.{IsTried, IsUntouched, IsWritten}
-use Rattle.duk_service.specs.Files.{FileKnown, IsFileRead, IsLongerThan, IsUnreadableFile}
+use Rattle.duk_service.specs.Files.{FileKnown, HasBytes, IsLongerThan, IsUnreadableFile}
 use Rattle.duk_service.specs.HandedOn.{IsFlushReported}
 use Rattle.duk_show.specs.Block.{IsBlockRefused, IsBlockText}
 use Rattle.duk_show.specs.Fault.{show_line}
@@ -16,13 +16,10 @@ use Rattle.duk_show.specs.Log.{IsLogRefused, IsLogText}
 use Rattle.duk_show.specs.declared.fault.ShowFault.{ShowFault}
 use Rattle.duk_show.specs.declared.fault.ShowFault.TheVariants.{JournalTooLong, JournalUnread, KindRefused, LogTooLong, LogUnread, OutOfMemory}
 
--- the most bytes of a log that is shown
+-- the most bytes of a log or a journal that comes through a pipe, and of a log that a fault is
+-- explained by
 abbrev pub longest_log : ℕ
 longest_log = 2 ^ 30
-
--- the most bytes of a journal that is shown
-abbrev pub longest_journal : ℕ
-longest_journal = 2 ^ 30
 
 -- the arguments of `show`: the kind, the text, or the path of a log or of a journal, whether keys are shown, and
 -- what the file under that path holds
@@ -40,13 +37,13 @@ show_arguments kind what show held =
 -- the lines of the log that a file holds
 pub record IsLogFileText (held : FileKnown) (text : List ℕ) : Type 0 where
   pub bytes : List ℕ
-  pub read : IsFileRead held longest_log bytes
+  pub read : HasBytes held bytes
   pub is_text : IsLogText bytes text
 
 -- the file holds what is no log
 pub record HasNoLog (held : FileKnown) (why : ShowFault) : Type 0 where
   pub bytes : List ℕ
-  pub read : IsFileRead held longest_log bytes
+  pub read : HasBytes held bytes
   pub cause : IsLogRefused bytes why
 
 -- why the log of a file is not shown; memory may be refused at any time
@@ -59,19 +56,19 @@ IsLogFileRefused held why = HasNoLog held why
 -- the lines of the journal that a file holds
 pub record IsJournalFileText (held : FileKnown) (text : List ℕ) : Type 0 where
   pub bytes : List ℕ
-  pub read : IsFileRead held longest_journal bytes
+  pub read : HasBytes held bytes
   pub is_text : IsJournalText bytes text
 
 -- the file holds what is no journal
 pub record HasNoJournal (held : FileKnown) (why : ShowFault) : Type 0 where
   pub bytes : List ℕ
-  pub read : IsFileRead held longest_journal bytes
+  pub read : HasBytes held bytes
   pub cause : IsJournalRefused bytes why
 
 -- why the journal of a file is not shown; memory may be refused at any time
 abbrev pub IsJournalFileRefused : FileKnown → ShowFault → Type 0
 IsJournalFileRefused held JournalUnread = IsUnreadableFile held
-IsJournalFileRefused held JournalTooLong = IsLongerThan longest_journal held
+IsJournalFileRefused held JournalTooLong = IsLongerThan longest_log held
 IsJournalFileRefused held OutOfMemory = ⊤
 IsJournalFileRefused held why = HasNoJournal held why
 

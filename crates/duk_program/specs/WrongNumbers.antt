@@ -20,7 +20,7 @@ pub record IsFirstWrong (Are : Numbers → Type 0) (log : List ℕ) (place : ℕ
 -- once; a ledger keeps initial key serial numbers
 abbrev pub IsFirstWrongOf : Request → List ℕ → ℕ → Type 0
 IsFirstWrongOf (request.Serve config kept) log place = IsFirstWrong AreUsable log place
-IsFirstWrongOf (request.Issue bdk loading iksn count ledger skip_issued) log place =
+IsFirstWrongOf (request.Issue bdk loading iksn count ledger way) log place =
     IsFirstWrong AreInitial log place
 IsFirstWrongOf asked log place = ⊥
 

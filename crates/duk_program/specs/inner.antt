@@ -1,6 +1,8 @@
 pub mod Commands
+pub mod IssueFiles
 pub mod Status
 pub mod Items
 pub mod Secrets
 pub mod WrongNumbers
 pub mod Run
+pub mod ServeFiles

@@ -89,10 +89,10 @@ fn answer_alone<S: FileSystem + LogFiles, W: Sink, F: Sink>(
     ensures status { (result ≡ 0) ⊎ (result ≡ 1) }
     ensures handed_on { result ≡ 0 → IsHandedOn (W.held_back output.new) }
     ensures done { result ≡ 0 → IsDoneAlone S.Disk.meaning (S.held files.now) (S.disks files.now)
-        (streams (W.known output.old) (W.known output.new)
+        (S.making files.now) (streams (W.known output.old) (W.known output.new)
         (F.known fault.old) (F.known fault.new)) request.entry }
     ensures not_done { result ≡ 1 → IsNotDoneAlone S.Disk.meaning (S.held files.now)
-        (S.disks files.now) (streams (W.known output.old) (W.known output.new)
+        (S.disks files.now) (S.making files.now) (streams (W.known output.old) (W.known output.new)
         (F.known fault.old) (F.known fault.new)) request.entry }
 {
     match request {
@@ -105,14 +105,14 @@ fn answer_alone<S: FileSystem + LogFiles, W: Sink, F: Sink>(
             iksn,
             count,
             ledger,
-            skip_issued,
+            way,
         } => {
             let arguments = IssueArguments {
                 bdk,
                 loading,
                 iksn,
                 count,
-                skip_issued,
+                way,
             };
             issue_files(alloc, files, &arguments, ledger, output, fault)
         }

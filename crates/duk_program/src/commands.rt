@@ -122,7 +122,7 @@ fn lines_of(alloc: Global, request: Request<'_>) -> Result<Lines, Fault>
             answer,
             initial,
         } => reply_lines(alloc, KeyArgument::new(bdk, initial), request, answer),
-        _ => Err(Fault::OutOfMemory),
+        _ => unreachable!(),
     }
 }
 

@@ -42,6 +42,13 @@ pub enum Todo<'a> {
         /// Where the used numbers are kept.
         kept: Kept<'a>,
     },
+    /// To make a new log. Nothing is written yet.
+    NewLog {
+        /// The path of the log.
+        file: &'a str,
+        /// For how many numbers it has room, as written.
+        records: &'a str,
+    },
     /// To make a new journal. Nothing is written yet.
     NewJournal {
         /// The path of the journal.
@@ -164,6 +171,7 @@ fn do_request<'a, W: Sink, F: Sink>(
             journal,
         },
         Request::Serve { config, kept } => Todo::Serve { config, kept },
+        Request::NewLog { file, records } => Todo::NewLog { file, records },
         Request::NewJournal { file, records } => Todo::NewJournal { file, records },
         Request::CopyJournal { old, new } => Todo::CopyJournal { old, new },
         Request::Show { .. } | Request::Issue { .. } => Todo::Read(request),

@@ -1,11 +1,11 @@
 //! A run of the program whose faults explain themselves.
 
-ghost use Rattle.std.specs.Prelude.{◌≡◌, ◌≢◌, ◌⊎◌};
+ghost use Rattle.std.specs.Prelude.{◌≡◌, ◌⊎◌};
 ghost use Rattle.std.specs.Io.KnownBytes.{Keeps};
 ghost use Rattle.duk_arguments.specs.Asked.{AreRefused, texts_of};
-ghost use Rattle.duk_io.specs.Sink.{IsHandedOn, IsTried, IsUntouched};
+ghost use Rattle.duk_io.specs.Sink.{IsHandedOn, IsTried};
 ghost use Rattle.duk_program.specs.Explained.{HasExplained, IsExplainedDone, IsExplainedNotDone, IsHeardDone, IsTold};
-ghost use Rattle.duk_program.specs.Inquiry.{inquiry};
+ghost use Rattle.duk_program.specs.Inquiry.{inquiry, seen_by};
 ghost use Rattle.duk_program.specs.Scene.{scene};
 ghost use Rattle.duk_program.specs.Secrets.{IsOverSecrets, secret_line};
 ghost use Rattle.duk_service.specs.Serve.{serving_of};
@@ -23,8 +23,8 @@ use duk_arguments::{Request, read_request};
 use duk_explain::explanation;
 use duk_io::{Sink, Source, write_text};
 use duk_service::copy_journal::copy_journal;
-use duk_service::new_journal::new_journal;
-use duk_service::{EndingFault, FileSystem, LogFiles};
+use duk_service::new_file::new_file;
+use duk_service::{EndingFault, FileSystem, LogFiles, RecordFormat};
 use std::alloc::Global;
 
 /// Does what the arguments ask, the first of which is the program's name, and gives the status, as
@@ -38,7 +38,6 @@ pub(crate) fn run_explained<S: FileSystem + LogFiles, R: Source, W: Sink, F: Sin
     fault: &mut F,
 ) -> u8
     ensures status { IsStatus result }
-    ensures no_fault { result ≡ 0 → IsUntouched (F.known fault.old) (F.known fault.new) }
     ensures handed_on { result ≡ 0 → IsHandedOn (W.held_back output.old)
         → IsHandedOn (W.held_back output.new) }
     ensures refused { result ≡ 2
@@ -47,7 +46,8 @@ pub(crate) fn run_explained<S: FileSystem + LogFiles, R: Source, W: Sink, F: Sin
     ensures done { result ≡ 0 → IsExplainedDone S.Disk.meaning (texts_of arguments.now) (scene
         (S.held files.now) (S.disks files.now) (S.making files.now) (serving_of R.known R.reads W.known input.old
         input.new output.old output.new) (F.known fault.old) (F.known fault.new)) }
-    ensures not_done { result ≡ 1 → IsExplainedNotDone S.Disk.meaning (inquiry (S.held files.now) (S.reading files.now) (S.opening files.now) (S.unmade files.now)) (texts_of arguments.now)
+    ensures not_done { result ≡ 1 → IsExplainedNotDone S.Disk.meaning (inquiry (S.held files.now) (S.reading files.now) (S.opening files.now) (S.unmade files.now)
+        (seen_by S.Disk.meaning (S.disks files.now))) (texts_of arguments.now)
         (scene (S.held files.now) (S.disks files.now) (S.making files.now) (serving_of R.known R.reads W.known
         input.old input.new output.old output.new) (F.known fault.old) (F.known fault.new)) }
 {
@@ -68,13 +68,13 @@ fn do_explained<S: FileSystem + LogFiles, R: Source, W: Sink, F: Sink>(
     fault: &mut F,
 ) -> u8
     ensures status { (result ≡ 0) ⊎ (result ≡ 1) }
-    ensures no_fault { result ≡ 0 → IsUntouched (F.known fault.old) (F.known fault.new) }
     ensures handed_on { result ≡ 0 → IsHandedOn (W.held_back output.old)
         → IsHandedOn (W.held_back output.new) }
     ensures done { result ≡ 0 → IsHeardDone S.Disk.meaning (scene (S.held files.now)
         (S.disks files.now) (S.making files.now) (serving_of R.known R.reads W.known input.old input.new output.old
         output.new) (F.known fault.old) (F.known fault.new)) request.entry }
-    ensures not_done { result ≡ 1 → HasExplained S.Disk.meaning (inquiry (S.held files.now) (S.reading files.now) (S.opening files.now) (S.unmade files.now)) (scene (S.held files.now)
+    ensures not_done { result ≡ 1 → HasExplained S.Disk.meaning (inquiry (S.held files.now) (S.reading files.now) (S.opening files.now) (S.unmade files.now)
+        (seen_by S.Disk.meaning (S.disks files.now))) (scene (S.held files.now)
         (S.disks files.now) (S.making files.now) (serving_of R.known R.reads W.known input.old input.new output.old
         output.new) (F.known fault.old) (F.known fault.new)) request.entry }
 {
@@ -93,9 +93,15 @@ fn do_explained<S: FileSystem + LogFiles, R: Source, W: Sink, F: Sink>(
             let status = serve_files(alloc, files, config, kept, input, output, &mut line);
             tell(alloc, files, &request, status, line.as_slice(), fault)
         }
+        Request::NewLog { file, records } => {
+            let mut line = Vec::new(alloc);
+            let status = new_file(alloc, files, RecordFormat::Log, file, records, &mut line);
+            tell(alloc, files, &request, status, line.as_slice(), fault)
+        }
         Request::NewJournal { file, records } => {
             let mut line = Vec::new(alloc);
-            let status = new_journal(alloc, files, file, records, &mut line);
+            let format = RecordFormat::Journal;
+            let status = new_file(alloc, files, format, file, records, &mut line);
             tell(alloc, files, &request, status, line.as_slice(), fault)
         }
         Request::CopyJournal { old, new } => {
@@ -119,12 +125,12 @@ fn do_meant_explained<S: FileSystem + LogFiles, R: Source, W: Sink, F: Sink>(
 ) -> u8
     requires { IsOverSecrets request }
     ensures status { (result ≡ 0) ⊎ (result ≡ 1) }
-    ensures no_fault { result ≡ 0 → IsUntouched (F.known fault.old) (F.known fault.new) }
     ensures handed_on { result ≡ 0 → IsHandedOn (W.held_back output.new) }
     ensures done { result ≡ 0 → IsHeardDone S.Disk.meaning (scene (S.held files.now)
         (S.disks files.now) (S.making files.now) (serving_of R.known R.reads W.known input.old input.new output.old
         output.new) (F.known fault.old) (F.known fault.new)) request.entry }
-    ensures not_done { result ≡ 1 → HasExplained S.Disk.meaning (inquiry (S.held files.now) (S.reading files.now) (S.opening files.now) (S.unmade files.now)) (scene (S.held files.now)
+    ensures not_done { result ≡ 1 → HasExplained S.Disk.meaning (inquiry (S.held files.now) (S.reading files.now) (S.opening files.now) (S.unmade files.now)
+        (seen_by S.Disk.meaning (S.disks files.now))) (scene (S.held files.now)
         (S.disks files.now) (S.making files.now) (serving_of R.known R.reads W.known input.old input.new output.old
         output.new) (F.known fault.old) (F.known fault.new)) request.entry }
 {
@@ -133,10 +139,8 @@ fn do_meant_explained<S: FileSystem + LogFiles, R: Source, W: Sink, F: Sink>(
         Ok(texts) => texts,
         Err(why) => return tell_unread(alloc, files, &request, why, fault),
     };
-    let Some(texts) = keys_of(texts.as_slice()) else {
-        return tell_unread(alloc, files, &request, SecretFault::NoMemory, fault);
-    };
-    let meant = with_secrets(&request, &texts);
+    let keys = keys_of(texts.as_slice());
+    let meant = with_secrets(&request, &keys);
     let mut line = Vec::new(alloc);
     let status = answer_explained(alloc, files, meant, input, output, &mut line);
     tell(alloc, files, &meant, status, line.as_slice(), fault)
@@ -152,14 +156,15 @@ fn tell_unread<S: FileSystem + LogFiles, F: Sink>(
     fault: &mut F,
 ) -> u8
     ensures status { result ≡ 1 }
-    ensures told { IsTold (inquiry (S.held files.now) (S.reading files.now) (S.opening files.now) (S.unmade files.now)) (secret_line why) request.now (F.known fault.old) (F.known fault.new) }
+    ensures told { IsTold (inquiry (S.held files.now) (S.reading files.now) (S.opening files.now) (S.unmade files.now)
+        (seen_by S.Disk.meaning (S.disks files.now))) (secret_line why) request.now (F.known fault.old) (F.known fault.new) }
 {
     let line = why.line();
     tell(alloc, files, request, 1, line.as_slice(), fault)
 }
 
-/// After status 1 writes the line of a fault, and the one that explains it of this request; and
-/// gives the status.
+/// Writes the line of a fault, or what was noted beside an answer; after status 1 also the line that
+/// explains the fault of this request. Gives the status.
 fn tell<S: FileSystem + LogFiles, F: Sink>(
     alloc: Global,
     files: &S,
@@ -169,13 +174,14 @@ fn tell<S: FileSystem + LogFiles, F: Sink>(
     fault: &mut F,
 ) -> u8
     ensures status { result ≡ status }
-    ensures silent { status ≢ 1 → F.known fault.new ≡ F.known fault.old }
+    ensures noted { status ≡ 0 → IsTried (F.known fault.old) (F.known fault.new) line.now }
     ensures told { status ≡ 1
-        → IsTold (inquiry (S.held files.now) (S.reading files.now) (S.opening files.now) (S.unmade files.now)) line.now about.now (F.known fault.old) (F.known fault.new) }
+        → IsTold (inquiry (S.held files.now) (S.reading files.now) (S.opening files.now) (S.unmade files.now)
+        (seen_by S.Disk.meaning (S.disks files.now))) line.now about.now (F.known fault.old) (F.known fault.new) }
 {
+    try_write(fault, line);
     if status == 1 {
         let facts = facts_of(alloc, files, about, line);
-        try_write(fault, line);
         try_write(fault, explanation(about, line, &facts).as_slice());
     }
     status

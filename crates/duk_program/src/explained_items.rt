@@ -42,6 +42,7 @@ fn explain_item(request: &Request<'_>, item: &str, line: Lines) -> Refused
     let facts = Facts {
         reason: None,
         place: None,
+        strange: None,
     };
     let explanation = explanation(&about, line.as_slice(), &facts);
     Refused { line, explanation }

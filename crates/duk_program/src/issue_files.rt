@@ -1,23 +1,35 @@
 //! The command `issue` over the file of its ledger.
 
 ghost use Rattle.std.specs.Prelude.{◌≡◌, ◌⊎◌, ◌*◌, ◌≤◌, IfErr, IfOk, length};
+ghost use Rattle.std.specs.Option.{option_copied};
 ghost use Rattle.duk_commands.specs.Answer.{streams};
-ghost use Rattle.duk_io.specs.Sink.{IsHandedOn, IsTried};
+ghost use Rattle.duk_io.specs.Sink.{IsHandedOn, IsTried, IsUntouched};
 ghost use Rattle.duk_issue.specs.Fault.{issue_line};
-ghost use Rattle.duk_issue.specs.Issue.{job};
+ghost use Rattle.duk_issue.specs.Issue.{ends};
 ghost use Rattle.duk_issue.specs.Order.{IsOrderOf, IsOrderRefused};
 ghost use Rattle.duk_issue.specs.declared.fault.IssueFault.{IssueFault};
 ghost use Rattle.duk_service.specs.Files.{IsFrontRead};
-ghost use Rattle.duk_program.specs.IssueFiles.{HasIssuedFiles, HasNotIssuedFiles, IsIssuedOver, IsNotIssuedOver, IsPaddingRefused, issue_files_known, issuing, order_in, random_device};
+ghost use Rattle.duk_service.specs.HandedOn.{IsFlushReported};
+ghost use Rattle.duk_program.specs.IssueFiles.{HasIssuedFiles, HasMadeLines, HasNotIssuedFiles, HasNotMadeLines, IsIssuedOver, IsIssuedTo, IsIssuedToFile, IsLedgerOpened, IsLedgerUnopened, IsNotIssuedOver, IsNotIssuedTo, IsNotIssuedToFile, IsNoted, IsPaddingRefused, if_issued_in, issue_files_known, issuing, order_in, random_device};
+ghost use Rattle.duk_program.specs.inner.IssueFiles.{task_of};
 
+use duk_arguments::IssueWay;
 use duk_io::Sink;
-use duk_issue::{IssueFault, Order, PADDING_LENGTH, issue, report};
-use duk_service::{EndingFault, FileFault, FileSystem, LogFiles, hand_on, report_after};
+use duk_issue::{IssueFault, Order, PADDING_LENGTH, issue, issue_again, note_passed_over, report};
+use duk_service::{
+    Access, EndingFault, FileFault, FileSystem, LogFiles, OpenFault, RecordFormat, hand_on,
+    open_own, report_after,
+};
 use duk_store::{DiskLog, UsedLog};
 use std::alloc::Global;
 
 /// The system's random device.
 const RANDOM: &str = "/dev/urandom";
+
+/// The fault where lines could not be handed on.
+const LOST: IssueEnding = IssueEnding {
+    why: IssueFault::WriteFailed,
+};
 
 /// The arguments of `issue`, as written, beside the path of its ledger.
 #[derive(Clone, Copy)]
@@ -26,7 +38,40 @@ pub(crate) struct IssueArguments<'a> {
     pub(crate) loading: &'a str,
     pub(crate) iksn: &'a str,
     pub(crate) count: &'a str,
-    pub(crate) skip_issued: bool,
+    pub(crate) way: IssueWay<'a>,
+}
+
+/// What becomes of numbers that are issued already.
+#[derive(Clone, Copy, Debug, PartialEq, Eq)]
+pub(crate) enum IfIssued {
+    /// With one of them nothing is issued.
+    Refuse,
+    /// They are passed over.
+    PassOver,
+    /// Their lines are made again, and no number is issued.
+    MakeAgain,
+}
+
+impl IfIssued {
+    /// By what the arguments say: that numbers are made again goes before that they are passed over.
+    fn by(way: &IssueWay<'_>) -> IfIssued
+        ensures { result ≡ if_issued_in way.now }
+    {
+        match (way.again, way.skip_issued) {
+            (true, _) => IfIssued::MakeAgain,
+            (false, true) => IfIssued::PassOver,
+            (false, false) => IfIssued::Refuse,
+        }
+    }
+}
+
+/// An order of initial keys, what becomes of those that are issued already, and the bytes of padding
+/// for its key blocks.
+#[derive(Clone, Copy)]
+pub(crate) struct Task<'a> {
+    order: &'a Order,
+    if_issued: IfIssued,
+    padding: &'a [u8],
 }
 
 /// A fault with which `issue` ends.
@@ -44,12 +89,15 @@ impl EndingFault for IssueEnding {
     }
 }
 
-/// Issues the initial keys that the arguments ask for, over the ledger in the file under a path, and
-/// gives the status: 0, or 1 with a line on `fault`.
+/// Issues the initial keys that the arguments ask for, or makes their lines again, over the ledger in
+/// the file under a path, and gives the status: 0, or 1 with a line on `fault`. The lines go to
+/// `output`, or to a new file, where each is kept before the next number is. How many numbers were
+/// passed over stands on `fault` where there are any.
 ///
-/// The faults, in this order: `BDK refused`, `loading refused`, `IKSN refused`, `count refused`;
-/// `padding: cannot read`, where the system gives no random bytes; `ledger: cannot open`; then those
-/// of `duk_issue::issue`.
+/// The faults, in this order: `BDK refused`, `loading refused`, `IKSN refused`, `count refused`, `KCV
+/// refused`, `KCV differs`; `padding: cannot read`, where the system gives no random bytes; `ledger:
+/// cannot open`, `ledger: failed` and `ledger: damaged`, where its bytes are none that a ledger
+/// leaves; `out: cannot make`; then those of `duk_issue::issue` or `duk_issue::issue_again`.
 pub(crate) fn issue_files<S: FileSystem + LogFiles, W: Sink, F: Sink>(
     alloc: Global,
     files: &S,
@@ -63,12 +111,13 @@ pub(crate) fn issue_files<S: FileSystem + LogFiles, W: Sink, F: Sink>(
     ensures handed_on_at_fault { result ≡ 1 → IsHandedOn (W.held_back output.old)
         → IsHandedOn (W.held_back output.new)
         ⊎ IsTried (F.known fault.old) (F.known fault.new) (issue_line IssueFault.WriteFailed) }
-    ensures done { result ≡ 0 → HasIssuedFiles S.Disk.meaning (issue_files_known (S.held files.now)
-        (S.disks files.now ledger.now)) arguments.now (streams (W.known output.old) (W.known output.new)
+    ensures done { result ≡ 0 → HasIssuedFiles S.Disk.meaning
+        (issue_files_known (S.held files.now) (S.disks files.now ledger.now) (S.making files.now))
+        arguments.now (streams (W.known output.old) (W.known output.new)
         (F.known fault.old) (F.known fault.new)) }
     ensures not_done { result ≡ 1 → HasNotIssuedFiles S.Disk.meaning
-        (issue_files_known (S.held files.now) (S.disks files.now ledger.now)) arguments.now
-        (streams (W.known output.old) (W.known output.new)
+        (issue_files_known (S.held files.now) (S.disks files.now ledger.now) (S.making files.now))
+        arguments.now (streams (W.known output.old) (W.known output.new)
         (F.known fault.old) (F.known fault.new)) }
 {
     duk_io::laws::writes();
@@ -80,21 +129,25 @@ pub(crate) fn issue_files<S: FileSystem + LogFiles, W: Sink, F: Sink>(
         Ok(padding) => padding,
         Err(why) => return report(fault, why),
     };
-    match files.open_disk(ledger) {
+    match open_ledger(files, ledger) {
         Ok(disk) => {
-            let padding = padding.as_slice();
-            let skip_issued = arguments.skip_issued;
-            issue_over(
+            let task = Task {
+                order: &order,
+                if_issued: IfIssued::by(&arguments.way),
+                padding: padding.as_slice(),
+            };
+            let ledger = DiskLog::new(disk);
+            issue_to(
                 alloc,
-                &order,
-                skip_issued,
-                padding,
-                DiskLog::new(disk),
+                files,
+                &task,
+                arguments.way.out,
+                ledger,
                 output,
                 fault,
             )
         }
-        Err(_) => report(fault, IssueFault::LedgerUnopened),
+        Err(why) => report(fault, why),
     }
 }
 
@@ -108,12 +161,13 @@ fn read_order(arguments: &IssueArguments<'_>) -> Result<Order, IssueFault>
         arguments.loading,
         arguments.iksn,
         arguments.count,
+        arguments.way.kcv,
     )
 }
 
 /// Random bytes of the system, for the key blocks of so many terminals.
 fn read_padding<S: FileSystem>(alloc: Global, files: &S, count: u32) -> Result<Vec<u8>, IssueFault>
-    requires { count ≤ 1048576 }
+    requires { count ≤ 524288 }
     ensures read { IfOk result
         (λ bytes. IsFrontRead (S.held files.now random_device) (6 * count) bytes.items) }
     ensures refused { IfErr result
@@ -126,35 +180,148 @@ fn read_padding<S: FileSystem>(alloc: Global, files: &S, count: u32) -> Result<V
     }
 }
 
-/// Issues the initial keys of an order over a ledger, hands their lines on, and gives the status.
-fn issue_over<L: UsedLog, W: Sink, F: Sink>(
+/// Opens the file of a ledger. It keeps what `issue` kept there, or nothing is opened.
+fn open_ledger<S: LogFiles>(files: &S, ledger: &str) -> Result<S::Disk, IssueFault>
+    ensures opened { IfOk result (IsLedgerOpened S.Disk.meaning (S.disks files.now ledger.now)) }
+    ensures refused { IfErr result (IsLedgerUnopened S.Disk.meaning (S.disks files.now ledger.now)) }
+{
+    match open_own(files, ledger, RecordFormat::Log, Access::Write) {
+        Ok(disk) => Ok(disk),
+        Err(OpenFault::Unopened) => Err(IssueFault::LedgerUnopened),
+        Err(OpenFault::Failed) => Err(IssueFault::LedgerFailed),
+        Err(OpenFault::Foreign) => Err(IssueFault::LedgerDamaged),
+    }
+}
+
+/// Does a task over a ledger, with its lines on `output`, or in a new file under a path.
+fn issue_to<S: LogFiles, L: UsedLog, W: Sink, F: Sink>(
     alloc: Global,
-    order: &Order,
-    skip_issued: bool,
-    padding: &[u8],
+    files: &S,
+    task: &Task<'_>,
+    out: Option<&str>,
     ledger: L,
     output: &mut W,
     fault: &mut F,
 ) -> u8
-    requires { 6 * order.now.count ≤ length padding.now }
+    requires { 6 * task.now.order.now.count ≤ length task.now.padding.now }
     ensures status { (result ≡ 0) ⊎ (result ≡ 1) }
     ensures handed_on { result ≡ 0 → IsHandedOn (W.held_back output.new) }
     ensures handed_on_at_fault { result ≡ 1 → IsHandedOn (W.held_back output.new)
         ⊎ IsTried (F.known fault.old) (F.known fault.new) (issue_line IssueFault.WriteFailed) }
-    ensures done { result ≡ 0 → IsIssuedOver L.meaning (job order.now skip_issued padding.now)
+    ensures done { result ≡ 0 → IsIssuedTo L.meaning (S.making files.now)
+        (option_copied out.entry) (task_of task.now) (issuing ledger (streams
+        (W.known output.old) (W.known output.new) (F.known fault.old) (F.known fault.new))) }
+    ensures not_done { result ≡ 1 → IsNotIssuedTo L.meaning (S.making files.now)
+        (option_copied out.entry) (task_of task.now) (issuing ledger (streams
+        (W.known output.old) (W.known output.new) (F.known fault.old) (F.known fault.new))) }
+{
+    match out {
+        Some(path) => issue_to_file(alloc, files, task, path, ledger, output, fault),
+        None => issue_over(alloc, task, ledger, output, fault),
+    }
+}
+
+/// Does a task over a ledger, with its lines in a new file under a path. Of a file that was made, and
+/// in which there is no line, nothing is left, if it can be removed.
+fn issue_to_file<S: LogFiles, L: UsedLog, W: Sink, F: Sink>(
+    alloc: Global,
+    files: &S,
+    task: &Task<'_>,
+    path: &str,
+    ledger: L,
+    output: &mut W,
+    fault: &mut F,
+) -> u8
+    requires { 6 * task.now.order.now.count ≤ length task.now.padding.now }
+    ensures status { (result ≡ 0) ⊎ (result ≡ 1) }
+    ensures handed_on { result ≡ 0 → IsHandedOn (W.held_back output.new) }
+    ensures handed_on_at_fault { result ≡ 1 → IsHandedOn (W.held_back output.new)
+        ⊎ IsTried (F.known fault.old) (F.known fault.new) (issue_line IssueFault.WriteFailed) }
+    ensures done { result ≡ 0 → IsIssuedToFile L.meaning (S.making files.now path.now).lines
+        (task_of task.now) (issuing ledger (streams
+        (W.known output.old) (W.known output.new) (F.known fault.old) (F.known fault.new))) }
+    ensures not_done { result ≡ 1 → IsNotIssuedToFile L.meaning (S.making files.now path.now).lines
+        (task_of task.now) (issuing ledger (streams
+        (W.known output.old) (W.known output.new) (F.known fault.old) (F.known fault.new))) }
+{
+    if output.flush().is_err() {
+        return report(fault, IssueFault::WriteFailed);
+    }
+    let mut lines = match files.make_lines(path) {
+        Ok(lines) => lines,
+        Err(_) => return report(fault, IssueFault::OutUnmade),
+    };
+    let status = issue_over(alloc, task, ledger, &mut lines, fault);
+    files.remove_empty(path, lines);
+    status
+}
+
+/// Does a task over a ledger, hands the lines on, and gives the status.
+fn issue_over<L: UsedLog, W: Sink, F: Sink>(
+    alloc: Global,
+    task: &Task<'_>,
+    ledger: L,
+    output: &mut W,
+    fault: &mut F,
+) -> u8
+    requires { 6 * task.now.order.now.count ≤ length task.now.padding.now }
+    ensures status { (result ≡ 0) ⊎ (result ≡ 1) }
+    ensures handed_on { result ≡ 0 → IsHandedOn (W.held_back output.new) }
+    ensures handed_on_at_fault { result ≡ 1 → IsHandedOn (W.held_back output.new)
+        ⊎ IsTried (F.known fault.old) (F.known fault.new) (issue_line IssueFault.WriteFailed) }
+    ensures done { result ≡ 0 → IsIssuedOver L.meaning (task_of task.now)
         (issuing ledger (streams (W.known output.old) (W.known output.new)
         (F.known fault.old) (F.known fault.new))) }
-    ensures not_done { result ≡ 1 → IsNotIssuedOver L.meaning
-        (job order.now skip_issued padding.now)
+    ensures not_done { result ≡ 1 → IsNotIssuedOver L.meaning (task_of task.now)
         (issuing ledger (streams (W.known output.old) (W.known output.new)
         (F.known fault.old) (F.known fault.new))) }
 {
     let mut ledger = ledger;
-    let lost = IssueEnding {
-        why: IssueFault::WriteFailed,
-    };
-    match issue(alloc, order, skip_issued, padding, &mut ledger, output) {
-        Ok(()) => hand_on(&lost, output, fault),
-        Err(why) => report_after(&IssueEnding { why }, &lost, output, fault),
+    match make_lines(alloc, task, &mut ledger, output) {
+        Ok(passed_over) => end_noted(passed_over, output, fault),
+        Err(why) => report_after(&IssueEnding { why }, &LOST, output, fault),
     }
+}
+
+/// Writes the lines of a task, and gives how many numbers were passed over.
+fn make_lines<L: UsedLog, W: Sink>(
+    alloc: Global,
+    task: &Task<'_>,
+    ledger: &mut L,
+    output: &mut W,
+) -> Result<u32, IssueFault>
+    requires { 6 * task.now.order.now.count ≤ length task.now.padding.now }
+    ensures made { IfOk result (HasMadeLines L.meaning (task_of task.now)
+        (ends ledger.old (W.known output.old)) (ends ledger.new (W.known output.new))) }
+    ensures unmade { IfErr result (HasNotMadeLines L.meaning (task_of task.now)
+        (ends ledger.old (W.known output.old)) (ends ledger.new (W.known output.new))) }
+{
+    let (order, padding) = (task.order, task.padding);
+    match task.if_issued {
+        IfIssued::Refuse => issue(alloc, order, false, padding, ledger, output),
+        IfIssued::PassOver => issue(alloc, order, true, padding, ledger, output),
+        IfIssued::MakeAgain => match issue_again(alloc, order, padding, ledger, output) {
+            Ok(()) => Ok(0),
+            Err(why) => Err(why),
+        },
+    }
+}
+
+/// Hands the lines on, and notes how many numbers were passed over, where there are any.
+fn end_noted<W: Sink, F: Sink>(passed_over: u32, output: &mut W, fault: &mut F) -> u8
+    ensures status { (result ≡ 0) ⊎ (result ≡ 1) }
+    ensures handed_on { result ≡ 0 → IsHandedOn (W.held_back output.new) }
+    ensures handed_on_at_fault { result ≡ 1
+        → IsTried (F.known fault.old) (F.known fault.new) (issue_line IssueFault.WriteFailed) }
+    ensures kept { result ≡ 0 → IsUntouched (W.known output.old) (W.known output.new) }
+    ensures noted { result ≡ 0 → IsNoted passed_over (F.known fault.old) (F.known fault.new) }
+    ensures lost { result ≡ 1 → IsFlushReported (issue_line IssueFault.WriteFailed)
+        (W.known output.old) (W.known output.new) (F.known fault.old) (F.known fault.new) }
+{
+    duk_io::laws::writes();
+    let status = hand_on(&LOST, output, fault);
+    if status == 0 && passed_over > 0 {
+        note_passed_over(fault, passed_over);
+    }
+    status
 }

@@ -148,6 +148,7 @@ pub(crate) fn line_command<'a>(request: &Request<'a>) -> Option<LineCommand<'a>>
         | Request::Unwrap { .. }
         | Request::Run { .. }
         | Request::Serve { .. }
+        | Request::NewLog { .. }
         | Request::NewJournal { .. }
         | Request::CopyJournal { .. }
         | Request::Initial { .. }

@@ -1,6 +1,6 @@
 //! Does a command over what its secrets stand for.
 
-ghost use Rattle.std.specs.Prelude.{◌≡◌, ◌⊎◌, IfErr, IfOk, IfSome, OnErr, map, string_bytes};
+ghost use Rattle.std.specs.Prelude.{◌≡◌, ◌≤◌, ◌⊎◌, IfErr, IfOk, OnErr, length, map, string_bytes};
 ghost use Rattle.duk_arguments.specs.Keys.{texts_of_keys};
 ghost use Rattle.duk_host.specs.Serve.{supply};
 ghost use Rattle.duk_io.specs.Sink.{IsHandedOn};
@@ -75,10 +75,8 @@ fn do_meant<S: FileSystem + LogFiles, R: Source, W: Sink, F: Sink>(
     ensures silent { OnErr result (F.known fault.new ≡ F.known fault.old) }
 {
     let texts = read_texts(alloc, files, &request, input)?;
-    let Some(texts) = keys_of(texts.as_slice()) else {
-        return Err(SecretFault::NoMemory);
-    };
-    let meant = with_secrets(&request, &texts);
+    let keys = keys_of(texts.as_slice());
+    let meant = with_secrets(&request, &keys);
     Ok(answer(alloc, files, meant, input, output, fault))
 }
 
@@ -98,22 +96,20 @@ pub(crate) fn read_texts<S: FileSystem, R: Source>(
         (supply (R.known input.new) (R.reads input.new)) request.now) }
 {
     let Some(written) = secrets_of(request) else {
-        return Err(SecretFault::NoMemory);
+        unreachable!()
     };
     let written = written.texts();
     read_secrets(alloc, files, input, request, written.as_slice())
 }
 
-/// The keys with these texts, at most 16.
-pub(crate) fn keys_of(texts: &[String]) -> Option<Keys<'_>>
-    ensures { IfSome result (λ keys. texts_of_keys keys ≡ map string_bytes texts.now) }
+/// The keys with these texts.
+pub(crate) fn keys_of(texts: &[String]) -> Keys<'_>
+    requires { (1 ≤ length texts.now) × (length texts.now ≤ 16) }
+    ensures { texts_of_keys result ≡ map string_bytes texts.now }
 {
     let mut words = [""; 16];
-    if texts.len() > words.len() {
-        return None;
-    }
     for place in 0..texts.len() {
         words[place] = texts[place].as_str();
     }
-    Keys::from_slice(&words[..texts.len()])
+    Keys::from_slice(&words[..texts.len()]).unwrap()
 }

@@ -2,15 +2,15 @@
 
 ghost use Rattle.std.specs.Prelude.{◌≡◌, false};
 ghost use Rattle.std.specs.Io.KnownBytes.{Keeps};
-ghost use Rattle.duk_io.specs.Sink.{IsHandedOn, IsUntouched};
+ghost use Rattle.duk_io.specs.Sink.{IsHandedOn};
 ghost use Rattle.duk_program.specs.Explain.{is_marked, without_explain};
 ghost use Rattle.duk_program.specs.Explained.{IsRunDone, IsRunNotDone};
-ghost use Rattle.duk_program.specs.Inquiry.{inquiry};
+ghost use Rattle.duk_program.specs.Inquiry.{inquiry, seen_by};
 ghost use Rattle.duk_program.specs.Program.{IsProgramDone, IsProgramNotDone};
 ghost use Rattle.duk_program.specs.Scene.{scene};
 ghost use Rattle.duk_service.specs.Serve.{serving_of};
 ghost use Rattle.duk_program.specs.Status.{IsStatus};
-ghost use Rattle.duk_program.specs.Reported.{IsLineReported};
+ghost use Rattle.duk_program.specs.Reported.{IsReported};
 ghost use Rattle.duk_arguments.specs.Asked.{AreRefused, texts_of};
 
 use crate::dispatch::{Todo, command};
@@ -21,8 +21,8 @@ use crate::run_files::run_files;
 use crate::serve_files::serve_files;
 use duk_io::{Sink, Source};
 use duk_service::copy_journal::copy_journal;
-use duk_service::new_journal::new_journal;
-use duk_service::{FileSystem, LogFiles};
+use duk_service::new_file::new_file;
+use duk_service::{FileSystem, LogFiles, RecordFormat};
 use std::alloc::Global;
 
 /// Does what the arguments ask, the first of which is the program's name, and gives the status: 0
@@ -30,6 +30,7 @@ use std::alloc::Global;
 ///
 /// `serve` takes its frames from `input`. What a command prints goes to `output`, and so does help
 /// that was asked for; the line of a fault and the text that refuses the arguments go to `fault`.
+/// With status 0 nothing does, but for how many numbers `issue` passed over.
 pub fn run_arguments<S: FileSystem + LogFiles, R: Source, W: Sink, F: Sink>(
     alloc: Global,
     files: &S,
@@ -39,10 +40,9 @@ pub fn run_arguments<S: FileSystem + LogFiles, R: Source, W: Sink, F: Sink>(
     fault: &mut F,
 ) -> u8
     ensures status { IsStatus result }
-    ensures no_fault { result ≡ 0 → IsUntouched (F.known fault.old) (F.known fault.new) }
     ensures handed_on { result ≡ 0 → IsHandedOn (W.held_back output.old)
         → IsHandedOn (W.held_back output.new) }
-    ensures fault { result ≡ 1 → IsLineReported (F.known fault.old) (F.known fault.new) }
+    ensures fault { result ≡ 1 → IsReported (F.known fault.old) (F.known fault.new) }
     ensures refused { result ≡ 2
         → Keeps (W.known output.old).contents (W.known output.new).contents }
     ensures arguments_refused { result ≡ 2 → AreRefused (texts_of arguments.now) }
@@ -64,7 +64,12 @@ pub fn run_arguments<S: FileSystem + LogFiles, R: Source, W: Sink, F: Sink>(
         Todo::Serve { config, kept } => {
             serve_files(alloc, files, config, kept, input, output, fault)
         }
-        Todo::NewJournal { file, records } => new_journal(alloc, files, file, records, fault),
+        Todo::NewLog { file, records } => {
+            new_file(alloc, files, RecordFormat::Log, file, records, fault)
+        }
+        Todo::NewJournal { file, records } => {
+            new_file(alloc, files, RecordFormat::Journal, file, records, fault)
+        }
         Todo::CopyJournal { old, new } => copy_journal(alloc, files, old, new, fault),
         Todo::Read(request) => do_over_secrets(alloc, files, request, input, output, fault),
     }
@@ -85,11 +90,10 @@ pub fn run_program<S: FileSystem + LogFiles, R: Source, W: Sink, F: Sink>(
     fault: &mut F,
 ) -> u8
     ensures status { IsStatus result }
-    ensures no_fault { result ≡ 0 → IsUntouched (F.known fault.old) (F.known fault.new) }
     ensures handed_on { result ≡ 0 → IsHandedOn (W.held_back output.old)
         → IsHandedOn (W.held_back output.new) }
     ensures fault { result ≡ 1 → is_marked (texts_of arguments.old.items) ≡ false
-        → IsLineReported (F.known fault.old) (F.known fault.new) }
+        → IsReported (F.known fault.old) (F.known fault.new) }
     ensures refused { result ≡ 2
         → Keeps (W.known output.old).contents (W.known output.new).contents }
     ensures arguments_refused { result ≡ 2
@@ -99,7 +103,8 @@ pub fn run_program<S: FileSystem + LogFiles, R: Source, W: Sink, F: Sink>(
         (S.held files.now) (S.disks files.now) (S.making files.now) (serving_of R.known R.reads W.known input.old
         input.new output.old output.new) (F.known fault.old) (F.known fault.new)) }
     ensures not_done { result ≡ 1 → IsRunNotDone (is_marked (texts_of arguments.old.items))
-        S.Disk.meaning (inquiry (S.held files.now) (S.reading files.now) (S.opening files.now) (S.unmade files.now)) (without_explain (texts_of arguments.old.items)) (scene
+        S.Disk.meaning (inquiry (S.held files.now) (S.reading files.now) (S.opening files.now) (S.unmade files.now)
+        (seen_by S.Disk.meaning (S.disks files.now))) (without_explain (texts_of arguments.old.items)) (scene
         (S.held files.now) (S.disks files.now) (S.making files.now) (serving_of R.known R.reads W.known input.old
         input.new output.old output.new) (F.known fault.old) (F.known fault.new)) }
 {

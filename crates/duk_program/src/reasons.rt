@@ -1,14 +1,14 @@
-//! What can be told of a file after a fault: why the system refuses it, the wrong record of a log, and
-//! the line of a configuration.
+//! What can be told of a file after a fault: why the system refuses it, that it is no log or journal,
+//! the wrong record of a log, and the line of a configuration.
 
 ghost use Rattle.std.specs.Prelude.{◌≡◌, IfSome, IsTrue, Some, map};
 ghost use Rattle.duk_explain.specs.Subject.{subject_of};
-ghost use Rattle.duk_program.specs.Inquiry.{AreFacts, AreFactsOf, IsLineOf, IsReasonOfSecrets, IsRecordOf, IsReferenceReason, inquiry};
+ghost use Rattle.duk_program.specs.Inquiry.{AreFacts, AreFactsOf, IsLineOf, IsReasonOfSecrets, IsRecordOf, IsReferenceReason, inquiry, seen_by};
 ghost use Rattle.duk_program.specs.Secrets.{secret_line, secrets_of};
 ghost use Rattle.duk_program.specs.declared.secrets.SecretFault.TheVariants as fault;
 ghost use Rattle.duk_program.specs.declared.secrets.Unread.TheVariants as unread;
 
-use crate::references::path_in;
+use crate::references::{path_in, refers_to_input};
 use crate::request_secrets::{secret_at, secrets_of};
 use crate::secrets::{Secret, SecretFault, Unread};
 use crate::show::LONGEST_LOG;
@@ -17,7 +17,7 @@ use crate::wrong_numbers::wrong_record_in;
 use duk_arguments::Request;
 use duk_config::LONGEST_FILE;
 use duk_explain::{Blamed, Facts, Reason, blamed_file};
-use duk_service::{FileSystem, LogFiles};
+use duk_service::{FileSystem, LogFiles, RecordFormat, strange_in};
 use std::alloc::Global;
 
 /// What is found of the file that the line of a fault is about.
@@ -27,7 +27,8 @@ pub(crate) fn facts_of<S: FileSystem + LogFiles>(
     about: &Request<'_>,
     line: &[u8],
 ) -> Facts
-    ensures { AreFacts (inquiry (S.held files.now) (S.reading files.now) (S.opening files.now) (S.unmade files.now))
+    ensures { AreFacts (inquiry (S.held files.now) (S.reading files.now) (S.opening files.now) (S.unmade files.now)
+        (seen_by S.Disk.meaning (S.disks files.now)))
         about.now line.now result }
 {
     match blamed_file(about, line) {
@@ -35,6 +36,7 @@ pub(crate) fn facts_of<S: FileSystem + LogFiles>(
         None => Facts {
             reason: None,
             place: None,
+            strange: None,
         },
     }
 }
@@ -47,19 +49,25 @@ fn facts_by<S: FileSystem + LogFiles>(
     line: &[u8],
     blamed: Blamed<'_>,
 ) -> Facts
-    ensures { AreFactsOf (inquiry (S.held files.now) (S.reading files.now) (S.opening files.now) (S.unmade files.now))
+    ensures { AreFactsOf (inquiry (S.held files.now) (S.reading files.now) (S.opening files.now) (S.unmade files.now)
+        (seen_by S.Disk.meaning (S.disks files.now)))
         about.now line.now (Some (subject_of blamed.entry)) result }
 {
     let mut facts = Facts {
         reason: None,
         place: None,
+        strange: None,
     };
     match blamed {
         Blamed::Secrets => facts.reason = unread_reason(files, about, line),
         Blamed::Readable(path) => facts.reason = files.reading_reason(path),
         Blamed::Lockable(path) => facts.reason = Some(files.opening_reason(path)),
         Blamed::Makeable(path) => facts.reason = Some(files.making_reason(path)),
-        Blamed::Log(path) => facts.place = wrong_record(alloc, files, about, path),
+        Blamed::Log(path) => {
+            facts.strange = strange_in(files, path, RecordFormat::Log);
+            facts.place = wrong_record(alloc, files, about, path);
+        }
+        Blamed::Journal(path) => facts.strange = strange_in(files, path, RecordFormat::Journal),
         Blamed::Config(path) => facts.place = faulty_line(alloc, files, path, line),
     }
     facts
@@ -89,15 +97,16 @@ fn reason_among<S: FileSystem>(
     let mut input_is_read = false;
     for place in 0..written.len() {
         let text = written[place];
+        let is_input = refers_to_input(text);
         if is_told(secret_at(about, place), line) {
             if let Some(reason) = reference_reason(files, text) {
                 return Some(reason);
             }
-            if input_is_read && text == "@-" {
+            if input_is_read && is_input {
                 return None;
             }
         }
-        input_is_read = input_is_read || text == "@-";
+        input_is_read = input_is_read || is_input;
     }
     Some(Reason::Other)
 }

@@ -1,11 +1,11 @@
 //! Reads what references stand for: the first line of a file, or of standard input.
 
-ghost use Rattle.std.specs.Prelude.{◌≡◌, [], IfErr, IfOk, IsFalse, IsOkAnd, MatchResult, OnErr, map, option_map, string_bytes};
+ghost use Rattle.std.specs.Prelude.{◌≡◌, [], IfErr, IfOk, IsFalse, IsOkAnd, IsTrue, MatchResult, OnErr, map, option_map, string_bytes};
 ghost use Rattle.duk_arguments.specs.Given.{Each};
 ghost use Rattle.duk_host.specs.Serve.{supply};
 ghost use Rattle.duk_io.specs.Source.{AreReadsMade, IsBroken};
 ghost use Rattle.duk_program.specs.InputLine.{HasLineTaken};
-ghost use Rattle.duk_program.specs.Secrets.{AreRead, HasWordsAlone, IsSecretFault, IsWord, reference_in, secrets_of};
+ghost use Rattle.duk_program.specs.Secrets.{AreRead, HasWordsAlone, IsSecretFault, IsWord, RefersToInput, path_of, reference_in, secrets_of};
 ghost use Rattle.duk_program.specs.inner.Secrets.{IsAnyLineUnread, IsNextByte, IsOnceUnread, IsReadOnce, IsSecretRead, IsSecretRefused, IsTextRefused, line_fault};
 
 use crate::request_secrets::{secret_at, secrets_of};
@@ -51,14 +51,36 @@ fn has_reference_among(texts: &[&str]) -> bool
     false
 }
 
-/// What a text refers to, which is what stands behind its `@`.
+/// What a text refers to, which is what stands behind its `@`: standard input as `-`, also where
+/// that is one of its paths.
 pub(crate) fn path_in(text: &str) -> Option<&str>
     ensures { option_map (λ path. path.now) result ≡ reference_in text.now }
 {
     if text.starts_with('@') {
-        Some(&text[1..])
+        Some(path_of(&text[1..]))
     } else {
         None
+    }
+}
+
+/// A path, or `-` for one of standard input, which is read as `@-` reads it: a byte at a time, once.
+fn path_of(path: &str) -> &str
+    ensures { result.now ≡ path_of path.now }
+{
+    if path == "/dev/stdin" || path == "/dev/fd/0" || path == "/proc/self/fd/0" {
+        "-"
+    } else {
+        path
+    }
+}
+
+/// Whether a text refers to standard input.
+pub(crate) fn refers_to_input(text: &str) -> bool
+    ensures { IsTrue result → RefersToInput text.now }
+{
+    match path_in(text) {
+        Some(path) => path == "-",
+        None => false,
     }
 }
 

@@ -45,6 +45,7 @@ pub(crate) fn secrets_of<'a>(request: &Request<'a>) -> Option<Keys<'a>>
         Request::Kcv { keys, .. } => Some(*keys),
         Request::Run { .. }
         | Request::Serve { .. }
+        | Request::NewLog { .. }
         | Request::NewJournal { .. }
         | Request::CopyJournal { .. } => None,
     }
@@ -225,7 +226,7 @@ pub(crate) fn with_secrets<'a>(request: &Request<'a>, texts: &Keys<'a>) -> Reque
             iksn,
             count,
             ledger,
-            skip_issued,
+            way,
             ..
         } => Request::Issue {
             bdk: text_at(texts, 0),
@@ -233,7 +234,7 @@ pub(crate) fn with_secrets<'a>(request: &Request<'a>, texts: &Keys<'a>) -> Reque
             iksn,
             count,
             ledger,
-            skip_issued,
+            way,
         },
         Request::Show { kind, show, .. } => Request::Show {
             kind,

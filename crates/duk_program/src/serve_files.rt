@@ -3,8 +3,10 @@
 
 ghost use Rattle.std.specs.Prelude.{◌≡◌, ◌⊎◌};
 ghost use Rattle.duk_host.specs.declared.fault.HostFault.{HostFault};
-ghost use Rattle.duk_io.specs.Sink.{IsHandedOn, IsTried};
+ghost use Rattle.duk_io.specs.Sink.{IsHandedOn};
 ghost use Rattle.duk_program.specs.ServeFiles.{HasNotServedFiles, HasServedFiles, file_service, kept_known};
+ghost use Rattle.duk_program.specs.inner.ServeFiles.{store_line};
+ghost use Rattle.duk_service.specs.HandedOn.{IsLossTold};
 ghost use Rattle.duk_service.specs.Serve.{serve_line, serving_of};
 
 use crate::configuration::read_configuration;
@@ -33,7 +35,8 @@ pub(crate) fn serve_files<S: FileSystem + LogFiles, R: Source, W: Sink, F: Sink>
     ensures handed_on { result ≡ 0 → IsHandedOn (W.held_back output.new) }
     ensures handed_on_at_fault { result ≡ 1 → IsHandedOn (W.held_back output.old)
         → IsHandedOn (W.held_back output.new)
-        ⊎ IsTried (F.known fault.old) (F.known fault.new) (serve_line HostFault.Write) }
+        ⊎ IsLossTold (store_line kept.entry) (serve_line HostFault.Write)
+        (F.known fault.old) (F.known fault.new) }
     ensures done { result ≡ 0 → HasServedFiles S.Disk.meaning (file_service (S.held files.now
         config.now) (kept_known (S.disks files.now) kept.entry) (serving_of
         R.known R.reads W.known input.old input.new output.old output.new) (F.known fault.old)

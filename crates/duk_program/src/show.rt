@@ -17,11 +17,9 @@ use duk_show::{
 };
 use std::alloc::Global;
 
-/// The most bytes of a log.
+/// The most bytes of a log or a journal that comes through a pipe, and of a log that a fault is
+/// explained by.
 pub(crate) const LONGEST_LOG: usize = 1 << 30;
-
-/// The most bytes of a journal.
-const LONGEST_JOURNAL: usize = 1 << 30;
 
 /// Prints what a text of its kind says, or the log or the journal in the file under a path, and gives
 /// the status: 0, or 1 with a line on `fault`.
@@ -141,7 +139,7 @@ fn log_text<S: FileSystem>(alloc: Global, files: &S, path: &str) -> Result<Vec<u
     ensures text { IfOk result (λ text. IsLogFileText (S.held files.now path.now) text.items) }
     ensures refused { IfErr result (IsLogFileRefused (S.held files.now path.now)) }
 {
-    match files.read_file(alloc, path, LONGEST_LOG) {
+    match files.read_stored(alloc, path, LONGEST_LOG) {
         Ok(bytes) => log_lines(alloc, bytes.as_slice()),
         Err(FileFault::NoMemory) => Err(ShowFault::OutOfMemory),
         Err(FileFault::TooLong) => Err(ShowFault::LogTooLong),
@@ -154,7 +152,7 @@ fn journal_text<S: FileSystem>(alloc: Global, files: &S, path: &str) -> Result<V
     ensures text { IfOk result (λ text. IsJournalFileText (S.held files.now path.now) text.items) }
     ensures refused { IfErr result (IsJournalFileRefused (S.held files.now path.now)) }
 {
-    match files.read_file(alloc, path, LONGEST_JOURNAL) {
+    match files.read_stored(alloc, path, LONGEST_LOG) {
         Ok(bytes) => journal_lines(alloc, bytes.as_slice()),
         Err(FileFault::NoMemory) => Err(ShowFault::OutOfMemory),
         Err(FileFault::TooLong) => Err(ShowFault::JournalTooLong),

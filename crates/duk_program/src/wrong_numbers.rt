@@ -1,20 +1,20 @@
 //! The first record of a log that is wrong: damaged, or with a number that does not go with those
 //! before it.
 
-ghost use Rattle.std.specs.Prelude.{◌<◌, ◌≡◌, ◌/◌, IfOk, IfSome, length};
+ghost use Rattle.std.specs.Prelude.{◌<◌, ◌≡◌, ◌/◌, IfSome, length};
 ghost use Rattle.duk_host.specs.Used.{AreUsable};
 ghost use Rattle.duk_issue.specs.Ledger.{AreInitial};
 ghost use Rattle.duk_show.specs.Log.{IsSomeLog};
 ghost use Rattle.duk_program.specs.WrongNumbers.{IsFirstWrong, IsFirstWrongOf, IsWrongRecordIn};
-ghost use Rattle.duk_program.specs.inner.WrongNumbers.{HasNumber, HasNumberAt, IsTaken};
+ghost use Rattle.duk_program.specs.inner.WrongNumbers.{HasNumber, HasNumberAt};
 
 use duk_arguments::Request;
 use duk_host::UsedNumbers;
-use duk_show::damaged_record;
+use duk_show::{damaged_record, take_in};
 use duk_store::RECORD_LENGTH;
 use duk_tdes::array_of;
-use duk_tree::{Ksn, usable};
-use std::alloc::{AllocError, Global};
+use duk_tree::Ksn;
+use std::alloc::Global;
 
 /// The first record of the log of a request that is wrong: the first that is damaged, or else the
 /// first whose number does not go with those before it.
@@ -69,17 +69,6 @@ fn first_with_counter(log: &[u8]) -> Option<u64>
         }
     }
     None
-}
-
-/// Adds a number to those before it, and reports whether it goes with them: it numbers a
-/// transaction, and is not among them.
-fn take_in(used: &mut UsedNumbers, ksn: Ksn) -> Result<bool, AllocError>
-    ensures { IfOk result (IsTaken used.old ksn used.new) }
-{
-    if !usable(ksn.counter()) {
-        return Ok(false);
-    }
-    used.insert(ksn)
 }
 
 /// The number of the record at a place of a log, where it has one.

@@ -36,6 +36,10 @@ impl FileSystem for EveryFile {
         copy_of(alloc, text.as_bytes())
     }
 
+    fn read_stored(&self, alloc: Global, path: &str, most: usize) -> Result<Vec<u8>, FileFault> {
+        self.read_file(alloc, path, most)
+    }
+
     fn read_front(&self, _alloc: Global, _path: &str, _count: usize) -> Result<Vec<u8>, FileFault> {
         match self.text {
             Some(_) => Err(FileFault::NoMemory),
@@ -70,11 +74,17 @@ fn copy_of(alloc: Global, bytes: &[u8]) -> Result<Vec<u8>, FileFault>
 impl LogFiles for EveryFile {
     type Disk = MemDisk;
 
+    type Lines = Vec<u8>;
+
     ghost disks = { λ _ _. Some None };
 
     ghost opening = { λ _ _. None };
 
-    ghost making = { λ _ _. record { disk = λ _. Some None; folder = Some false } };
+    ghost making = { λ _ _. record {
+      disk = λ _. Some None;
+      folder = Some false;
+      lines = Some None;
+    } };
 
     ghost unmade = { λ _ _. Some (Some There) };
 
@@ -96,9 +106,19 @@ impl LogFiles for EveryFile {
         Err(StoreFault::Device)
     }
 
+    fn make_zeros(&self, _path: &str, _size: u64) -> Result<MemDisk, StoreFault> {
+        Err(StoreFault::Device)
+    }
+
     fn sync_folder(&self, _path: &str) -> Result<(), StoreFault> {
         Err(StoreFault::Device)
     }
+
+    fn make_lines(&self, _path: &str) -> Result<Vec<u8>, StoreFault> {
+        Err(StoreFault::Device)
+    }
+
+    fn remove_empty(&self, _path: &str, _lines: Vec<u8>) {}
 
     fn remove_made(&self, _path: &str, _disk: MemDisk) {}
 
@@ -126,6 +146,10 @@ impl FileSystem for Banks {
         copy_of(alloc, BANK.as_bytes())
     }
 
+    fn read_stored(&self, alloc: Global, path: &str, most: usize) -> Result<Vec<u8>, FileFault> {
+        self.read_file(alloc, path, most)
+    }
+
     fn read_front(&self, _alloc: Global, _path: &str, _count: usize) -> Result<Vec<u8>, FileFault> {
         Err(FileFault::CannotRead)
     }
@@ -145,6 +169,8 @@ impl FileSystem for Banks {
 
 impl LogFiles for Banks {
     type Disk = MemDisk;
+
+    type Lines = Vec<u8>;
 
     ghost disks = { λ _ _. None };
 
@@ -172,9 +198,19 @@ impl LogFiles for Banks {
         Err(StoreFault::Device)
     }
 
+    fn make_zeros(&self, _path: &str, _size: u64) -> Result<MemDisk, StoreFault> {
+        Err(StoreFault::Device)
+    }
+
     fn sync_folder(&self, _path: &str) -> Result<(), StoreFault> {
         Ok(())
     }
+
+    fn make_lines(&self, _path: &str) -> Result<Vec<u8>, StoreFault> {
+        Err(StoreFault::Device)
+    }
+
+    fn remove_empty(&self, _path: &str, _lines: Vec<u8>) {}
 
     fn remove_made(&self, _path: &str, _disk: MemDisk) {}
 

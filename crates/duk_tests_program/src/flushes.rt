@@ -3,7 +3,7 @@
 use crate::commands::{DERIVE, arguments_of};
 use duk_config::read_config;
 use duk_program::{Todo, command, run_status, serve_with};
-use duk_store::MemLog;
+use duk_store::{DiskLog, MemDisk, MemLog};
 use duk_tests_support::files::BANK;
 use duk_tests_support::frames::FIRST_REQUEST;
 use std::alloc::Global;
@@ -38,6 +38,17 @@ type Reported = (u8, u32, bool);
 fn of_service(alloc: Global, mut input: &[u8], fails: bool, line: &str) -> Option<Reported> {
     let config = read_config(alloc, BANK.as_bytes()).ok()?;
     let log = MemLog::new(alloc, 4).ok()?;
+    let mut output = CountingFlushes { flushes: 0, fails };
+    let mut fault = Vec::new(alloc);
+    let status = serve_with(alloc, &config, log, &mut input, &mut output, &mut fault);
+    Some((status, output.flushes, fault.as_slice() == line.as_bytes()))
+}
+
+/// What comes of a service over a log whose disk is none of a log.
+fn of_damaged_log(alloc: Global, fails: bool, line: &str) -> Option<Reported> {
+    let config = read_config(alloc, BANK.as_bytes()).ok()?;
+    let log = DiskLog::new(MemDisk::new(alloc, 15).ok()?);
+    let mut input = FIRST_REQUEST.as_slice();
     let mut output = CountingFlushes { flushes: 0, fails };
     let mut fault = Vec::new(alloc);
     let status = serve_with(alloc, &config, log, &mut input, &mut output, &mut fault);
@@ -83,6 +94,16 @@ fn a_service_that_is_flushed(rt: HostRuntime) {
         Some((1, 1, true))
     );
     assert_eq!(rt; of_service(rt.alloc(), cut, true, lost), Some((1, 1, true)));
+}
+
+#[test]
+fn a_log_that_fails_beside_the_output(rt: HostRuntime) {
+    let (failed, both) = ("log: failed\n", "log: failed\nserve: write failed\n");
+    assert_eq!(rt;
+        of_damaged_log(rt.alloc(), false, failed),
+        Some((1, 1, true))
+    );
+    assert_eq!(rt; of_damaged_log(rt.alloc(), true, both), Some((1, 1, true)));
 }
 
 #[test]

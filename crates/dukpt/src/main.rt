@@ -3,10 +3,12 @@
 
 mod arguments;
 mod handles;
+mod patient;
 
 use arguments::{process_arguments, refuse_arguments};
 use duk_program::run_program;
 use handles::hold_handle;
+use patient::Patient;
 use std::process::ExitCode;
 
 fn main(rt: HostRuntime) -> ExitCode {
@@ -14,8 +16,13 @@ fn main(rt: HostRuntime) -> ExitCode {
     let _first = hold_handle(&rt);
     let _second = hold_handle(&rt);
     let _third = hold_handle(&rt);
-    let mut input = rt.stdin();
-    let (mut output, mut fault) = (rt.stdout(), rt.stderr());
+    let mut input = Patient { stream: rt.stdin() };
+    let mut output = Patient {
+        stream: rt.stdout(),
+    };
+    let mut fault = Patient {
+        stream: rt.stderr(),
+    };
     let status = match process_arguments(&rt) {
         Ok(mut arguments) => run_program(
             rt.alloc(),

@@ -36,8 +36,8 @@ pub fn try_restart(alloc: Global) -> Tried {
 /// memory, it leaves what the first one leaves then.
 pub fn try_second_restart(alloc: Global) -> Tried {
     let mut host = stopped_host(alloc, USED)?;
-    if host.restart() != Ok(30) {
-        return Err(Trouble::Memory);
+    if host.restart()? != 30 {
+        return Err(Trouble::NotSetUp);
     }
     Ok(restarted(&mut host))
 }
@@ -64,10 +64,8 @@ fn after_refused_restart(host: &mut MemoryHost) -> Answer {
 /// A host that was brought up and uses no number, so that its first one wants memory.
 fn running_host(alloc: Global) -> Result<MemoryHost, Trouble> {
     let mut host = stopped_host(alloc, (0, 0))?;
-    match host.restart() {
-        Ok(_) => Ok(host),
-        Err(_) => Err(Trouble::Memory),
-    }
+    host.restart()?;
+    Ok(host)
 }
 
 /// Whether a host answered the first request with its reply.
@@ -101,9 +99,7 @@ fn after_refused_request(host: &mut MemoryHost) -> Answer {
 /// A request that comes again is given its reply, whether or not memory is left.
 pub fn try_repeat(alloc: Global) -> Tried {
     let mut host = running_host(alloc)?;
-    if host.handle(FIRST).is_err() {
-        return Err(Trouble::Memory);
-    }
+    host.handle(FIRST)?;
     let reported = host.handle(FIRST);
     if reported == Err(HostFault::NoMemory) {
         return Ok(Answer::Refused);

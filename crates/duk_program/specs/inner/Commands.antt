@@ -6,10 +6,11 @@ use Rattle.duk_arguments.specs.declared.request.Request.TheVariants as request
 abbrev pub NeedsNoFile : Request → Type 0
 NeedsNoFile (request.Run config script journal) = ⊥
 NeedsNoFile (request.Serve config kept) = ⊥
+NeedsNoFile (request.NewLog file records) = ⊥
 NeedsNoFile (request.NewJournal file records) = ⊥
 NeedsNoFile (request.CopyJournal old new) = ⊥
 NeedsNoFile (request.Show kind what show) = ⊥
-NeedsNoFile (request.Issue bdk loading iksn count ledger skip) = ⊥
+NeedsNoFile (request.Issue bdk loading iksn count ledger way) = ⊥
 NeedsNoFile asked = Unit {0}
 
 -- a request whose command makes all its lines before it writes any

@@ -1,5 +1,5 @@
 -- What only private functions and proofs say beside `Secrets.antt`: this project's own.
-use Rattle.std.specs.Prelude.{◌≡◌, ◌≢◌, ◌≤◌, ◌⊎◌, ⊤, ℕ, Bool, true, false, List, [], ◌∷◌, Option, Some, None, codes, length}
+use Rattle.std.specs.Prelude.{◌≡◌, ◌≤◌, ◌⊎◌, ⊤, ℕ, Bool, true, false, List, [], ◌∷◌, Option, Some, None, length}
 use Rattle.std.specs.Io.KnownBytes.{IsAtEnd}
 use Rattle.std.specs.Str.{IsUtf8}
 use Rattle.duk_host.specs.Serve.{Supply}
@@ -7,7 +7,7 @@ use Rattle.duk_io.specs.Known.{Known}
 use Rattle.duk_io.specs.Source.{AreBytesRead}
 use Rattle.duk_service.specs.Files.{FileKnown}
 use Rattle.duk_program.specs.InputLine.{HasLineTaken, IsInputBroken, IsInputTooLong, longest_line}
-use Rattle.duk_program.specs.Secrets.{IsNextUnread, Means}
+use Rattle.duk_program.specs.Secrets.{IsNextUnread, Means, RefersToInput}
 use Rattle.duk_service.specs.declared.file_system.FileFault.{FileFault}
 use Rattle.duk_service.specs.declared.file_system.FileFault.TheVariants as fault
 use Rattle.duk_program.specs.declared.secrets.Secret.{Secret}
@@ -44,13 +44,13 @@ IsOnceUnread was_read before after fault.NoMemory = ⊤
 -- a secret that refers to the input is read
 pub record IsInputSecret (was_read is_read : Bool) (before after : Supply) (written text : List ℕ)
     : Type 0 where
-  pub is_input : written ≡ codes "@-"
+  pub is_input : RefersToInput written
   pub once : IsReadOnce was_read is_read before after text
 
 -- another is, and nothing of the input
 pub record IsOtherSecret (held : List ℕ → FileKnown) (was_read is_read : Bool) (before after : Supply)
     (written text : List ℕ) : Type 0 where
-  pub no_input : written ≢ codes "@-"
+  pub no_input : ¬ RefersToInput written
   pub kept : is_read ≡ was_read
   pub idle : after ≡ before
   pub means : Means held written text

@@ -1,8 +1,5 @@
 -- What only private functions and proofs say beside `WrongNumbers.antt`: this project's own.
-use Rattle.std.specs.Prelude.{◌≡◌, ◌++◌, ◌∷◌, ℕ, Bool, List, []}
-use Rattle.std.specs.Bool.{MatchBool}
-use Rattle.duk_host.specs.Used.{AreUsable, Lists}
-use Rattle.duk_store.specs.Log.{Numbers}
+use Rattle.std.specs.Prelude.{◌≡◌, ℕ, List}
 use Rattle.duk_store.specs.RecordFormat.{number_in, record_at}
 use Rattle.duk_store.specs.SlotFormat.{IsOpen}
 use Rattle.duk_tree.specs.Serial.{Serial}
@@ -15,10 +12,3 @@ pub record HasNumber (record_bytes : List ℕ) (ksn : Serial) : Type 0 where
 -- so has the one at a place of a log
 abbrev pub HasNumberAt : List ℕ → ℕ → Serial → Type 0
 HasNumberAt log place ksn = HasNumber (record_at place log) ksn
-
--- the used numbers are those of a list, and with one more they are those of the list with it; or
--- that list is not one of usable numbers
-abbrev pub IsTaken : Numbers → Serial → Numbers → Bool → Type 0
-IsTaken used ksn more goes =
-    (numbers : Numbers) → Lists numbers used
-    → MatchBool goes (Lists (numbers ++ ksn ∷ []) more) (¬ AreUsable (numbers ++ ksn ∷ []))

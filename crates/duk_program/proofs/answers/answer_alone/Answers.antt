@@ -7,6 +7,6 @@ returns-in_default g c =
     let no_file = no_file_needed c.args.request c.requires c.in_default.not-Show c.in_default.not-Issue in record {
       status = search rules;
       handed_on = c.answer_over_arguments.ensures.handed_on;
-      done = λ zero. done_alone _ _ _ _ _ no_file (c.answer_over_arguments.ensures.done zero);
-      not_done = λ one. not_done_alone _ _ _ _ _ no_file (c.answer_over_arguments.ensures.not_done one);
+      done = λ zero. done_alone _ _ _ _ _ _ no_file (c.answer_over_arguments.ensures.done zero);
+      not_done = λ one. not_done_alone _ _ _ _ _ _ no_file (c.answer_over_arguments.ensures.not_done one);
     }

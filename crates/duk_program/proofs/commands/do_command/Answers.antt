@@ -53,10 +53,11 @@ makes_lines (request.Wrap kbpk fields key pad) no_file derive walk pin wrap unwr
 makes_lines (request.Unwrap kbpk block) no_file derive walk pin wrap unwrap = absurd (unwrap kbpk block refl)
 makes_lines (request.Run config script journal) no_file derive walk pin wrap unwrap = absurd no_file
 makes_lines (request.Serve config kept) no_file derive walk pin wrap unwrap = absurd no_file
+makes_lines (request.NewLog file records) no_file derive walk pin wrap unwrap = absurd no_file
 makes_lines (request.NewJournal file records) no_file derive walk pin wrap unwrap = absurd no_file
 makes_lines (request.CopyJournal old new) no_file derive walk pin wrap unwrap = absurd no_file
 makes_lines (request.Show kind what show) no_file derive walk pin wrap unwrap = absurd no_file
-makes_lines (request.Issue bdk loading iksn count ledger skip) no_file derive walk pin wrap unwrap = absurd no_file
+makes_lines (request.Issue bdk loading iksn count ledger way) no_file derive walk pin wrap unwrap = absurd no_file
 makes_lines asked no_file derive walk pin wrap unwrap = tt
 
 pub lines_of-requires : goal.lines_of-requires

@@ -1,23 +1,23 @@
 use Rattle.std.proofs.Common.{length, string_bytes, map, ap, ◌∙◌, sym}
+use Rattle.std.proofs.lemmas.List.{length-map}
 use Rattle.duk_host.specs.Serve.{supply}
-use Rattle.duk_program.proofs.Told.{each_means_of, meant_explained, meant_heard, told_of, unread_explained}
-use Rattle.duk_program.proofs.Words.{means_length}
+use Rattle.duk_program.proofs.Told.{each_means_of, meant_explained, meant_heard, noted_of, told_of, unread_explained}
+use Rattle.duk_program.proofs.Words.{as_many, means_length}
 use Rattle.duk_program.specs.Scene.{scene}
 use Rattle.duk_service.specs.Serve.{serving_of}
-use Rattle.duk_program.specs.declared.secrets.SecretFault.TheVariants.{NoMemory}
 use Rattle.duk_program.proofs.explained.do_meant_explained.Goals as goal
 
 pub returns-in-Err-clause-not_done : goal.returns-in-Err-clause-not_done
 returns-in-Err-clause-not_done g c one =
     unread_explained _ _ _ _ c.requires c.in-Err.ensures.refused (c.writes.ensures.untouched _) c.tell_unread.ensures.told
 
-pub returns-in_default-clause-not_done : goal.returns-in_default-clause-not_done
-returns-in_default-clause-not_done g c one =
-    unread_explained _ _ _ NoMemory c.requires tt (c.writes.ensures.untouched _) c.tell_unread-in_default.ensures.told
+pub keys_of-keys-requires : goal.keys_of-keys-requires
+keys_of-keys-requires g c =
+    as_many c.args.request _ c.requires (ap length c.as_slice.ensures.value ∙ sym (length-map _ string_bytes) ∙ means_length _ _ _ c.in-Ok.ensures.read.means)
 
 pub with_secrets-meant-requires-clause-count : goal.with_secrets-meant-requires-clause-count
 with_secrets-meant-requires-clause-count g c =
-    ap length (c.in-Some.ensures ∙ ap (map string_bytes) c.as_slice.ensures.value)
+    ap length (c.keys_of-keys.ensures ∙ ap (map string_bytes) c.as_slice.ensures.value)
     ∙ means_length _ _ _ c.in-Ok.ensures.read.means
 
 pub returns-clause-done : goal.returns-clause-done
@@ -27,8 +27,9 @@ returns-clause-done g c zero = meant_heard g.S.Disk.Disk.meaning
     (g.F.Sink.known c.args.fault.now) (g.F.Sink.known c.tell.new.fault))
     c.args.request c.with_secrets-meant.result (supply (g.R.Source.known c.read_texts.new.input) (g.R.Source.reads c.read_texts.new.input)) c.new-line.result.items c.answer_explained-status.new.fault.items c.new-line.ensures.items c.requires
     c.in-Ok.ensures.read.taken
-    (c.with_secrets-meant.ensures.meaning _ (each_means_of _ _ _ _ (c.in-Some.ensures ∙ ap (map string_bytes) c.as_slice.ensures.value) c.in-Ok.ensures.read.means))
+    (c.with_secrets-meant.ensures.meaning _ (each_means_of _ _ _ _ (c.keys_of-keys.ensures ∙ ap (map string_bytes) c.as_slice.ensures.value) c.in-Ok.ensures.read.means))
     (c.answer_explained-status.ensures.done (sym c.tell.ensures.status ∙ zero))
+    (noted_of _ _ _ _ c.as_slice-2.ensures.value (c.tell.ensures.noted (sym c.tell.ensures.status ∙ zero)))
 
 pub returns-clause-not_done : goal.returns-clause-not_done
 returns-clause-not_done g c one = meant_explained g.S.Disk.Disk.meaning
@@ -37,6 +38,6 @@ returns-clause-not_done g c one = meant_explained g.S.Disk.Disk.meaning
     (g.F.Sink.known c.args.fault.now) (g.F.Sink.known c.tell.new.fault))
     c.args.request c.with_secrets-meant.result (supply (g.R.Source.known c.read_texts.new.input) (g.R.Source.reads c.read_texts.new.input)) c.new-line.result.items c.answer_explained-status.new.fault.items c.new-line.ensures.items c.requires
     c.in-Ok.ensures.read.taken
-    (c.with_secrets-meant.ensures.meaning _ (each_means_of _ _ _ _ (c.in-Some.ensures ∙ ap (map string_bytes) c.as_slice.ensures.value) c.in-Ok.ensures.read.means))
+    (c.with_secrets-meant.ensures.meaning _ (each_means_of _ _ _ _ (c.keys_of-keys.ensures ∙ ap (map string_bytes) c.as_slice.ensures.value) c.in-Ok.ensures.read.means))
     (c.answer_explained-status.ensures.not_done (sym c.tell.ensures.status ∙ one))
     (told_of _ _ _ _ _ c.as_slice-2.ensures.value (c.tell.ensures.told (sym c.tell.ensures.status ∙ one)))

@@ -12,7 +12,7 @@ returns-in-Exit-clause-not_done g c one = program_not_done _ _ _ (c.in-Exit.ensu
 
 pub returns-in-Run-clause-fault : goal.returns-in-Run-clause-fault
 returns-in-Run-clause-fault g c failed =
-    rw (← c.in-Run.ensures.silent tt) (files_reported _ (c.run_files.ensures.reported failed))
+    rw (← c.in-Run.ensures.silent tt) (inl (files_reported _ (c.run_files.ensures.reported failed)))
 
 pub returns-in-Run-clause-done : goal.returns-in-Run-clause-done
 returns-in-Run-clause-done g c zero = inl (record {
@@ -46,18 +46,43 @@ returns-in-Serve-clause-not_done g c one = inl (record {
   not_done = rw (c.in-Serve.ensures.quiet tt, c.in-Serve.ensures.silent tt) at (c.serve_files.ensures.reported one);
 })
 
+pub returns-in-NewLog-clause-fault : goal.returns-in-NewLog-clause-fault
+returns-in-NewLog-clause-fault g c failed =
+    rw (← c.in-NewLog.ensures.silent tt) (inl (unmade_reported _ _ _ _ _ _ (c.new_file.ensures.not_done failed)))
+
+pub returns-in-NewLog-clause-done : goal.returns-in-NewLog-clause-done
+returns-in-NewLog-clause-done g c zero = inl (record {
+  request = request.NewLog c.in-NewLog.file c.in-NewLog.records;
+  asked = c.in-NewLog.ensures.asked;
+  done = record {
+    made = c.new_file.ensures.done zero;
+    idle = record { unread = refl; quiet = c.in-NewLog.ensures.quiet tt };
+    no_fault = rw (← c.in-NewLog.ensures.silent tt) (c.new_file.ensures.no_fault zero);
+  };
+})
+
+pub returns-in-NewLog-clause-not_done : goal.returns-in-NewLog-clause-not_done
+returns-in-NewLog-clause-not_done g c one = inl (record {
+  request = request.NewLog c.in-NewLog.file c.in-NewLog.records;
+  asked = c.in-NewLog.ensures.asked;
+  not_done = record {
+    unmade = rw (← c.in-NewLog.ensures.silent tt) (c.new_file.ensures.not_done one);
+    idle = record { unread = refl; quiet = c.in-NewLog.ensures.quiet tt };
+  };
+})
+
 pub returns-in-NewJournal-clause-fault : goal.returns-in-NewJournal-clause-fault
 returns-in-NewJournal-clause-fault g c failed =
-    rw (← c.in-NewJournal.ensures.silent tt) (unmade_reported _ _ _ _ _ (c.new_journal.ensures.not_done failed))
+    rw (← c.in-NewJournal.ensures.silent tt) (inl (unmade_reported _ _ _ _ _ _ (c.new_file-in-NewJournal.ensures.not_done failed)))
 
 pub returns-in-NewJournal-clause-done : goal.returns-in-NewJournal-clause-done
 returns-in-NewJournal-clause-done g c zero = inl (record {
   request = request.NewJournal c.in-NewJournal.file c.in-NewJournal.records;
   asked = c.in-NewJournal.ensures.asked;
   done = record {
-    made = c.new_journal.ensures.done zero;
+    made = c.new_file-in-NewJournal.ensures.done zero;
     idle = record { unread = refl; quiet = c.in-NewJournal.ensures.quiet tt };
-    no_fault = rw (← c.in-NewJournal.ensures.silent tt) (c.new_journal.ensures.no_fault zero);
+    no_fault = rw (← c.in-NewJournal.ensures.silent tt) (c.new_file-in-NewJournal.ensures.no_fault zero);
   };
 })
 
@@ -66,14 +91,14 @@ returns-in-NewJournal-clause-not_done g c one = inl (record {
   request = request.NewJournal c.in-NewJournal.file c.in-NewJournal.records;
   asked = c.in-NewJournal.ensures.asked;
   not_done = record {
-    unmade = rw (← c.in-NewJournal.ensures.silent tt) (c.new_journal.ensures.not_done one);
+    unmade = rw (← c.in-NewJournal.ensures.silent tt) (c.new_file-in-NewJournal.ensures.not_done one);
     idle = record { unread = refl; quiet = c.in-NewJournal.ensures.quiet tt };
   };
 })
 
 pub returns-in-CopyJournal-clause-fault : goal.returns-in-CopyJournal-clause-fault
 returns-in-CopyJournal-clause-fault g c failed =
-    rw (← c.in-CopyJournal.ensures.silent tt) (uncopied_reported _ _ _ _ _ (c.copy_journal.ensures.not_done failed))
+    rw (← c.in-CopyJournal.ensures.silent tt) (inl (uncopied_reported _ _ _ _ _ (c.copy_journal.ensures.not_done failed)))
 
 pub returns-in-CopyJournal-clause-done : goal.returns-in-CopyJournal-clause-done
 returns-in-CopyJournal-clause-done g c zero = inl (record {
@@ -98,7 +123,7 @@ returns-in-CopyJournal-clause-not_done g c one = inl (record {
 
 pub returns-in-Read-clause-fault : goal.returns-in-Read-clause-fault
 returns-in-Read-clause-fault g c failed =
-    rw (← c.in-Read.ensures.silent tt) (meant_reported _ _ _ (c.do_over_secrets.ensures.not_done failed))
+    rw (← c.in-Read.ensures.silent tt) (inl (meant_reported _ _ _ (c.do_over_secrets.ensures.not_done failed)))
 
 pub returns-in-Read-clause-done : goal.returns-in-Read-clause-done
 returns-in-Read-clause-done g c zero = inl (record {

@@ -24,8 +24,12 @@ returns-clause-reported g c one = inr (record {
 
 pub returns-in-InLog-clause-handed_on_at_fault : goal.returns-in-InLog-clause-handed_on_at_fault
 returns-in-InLog-clause-handed_on_at_fault g c one before =
-    rw c.in-Ok.ensures.silent at (c.serve_on_file.ensures.handed_on_at_fault one before)
+    rw (c.in-InLog.is) (rw c.in-Ok.ensures.silent at (c.serve_on_file.ensures.handed_on_at_fault one before))
 
 pub returns-clause-handed_on_at_fault : goal.returns-clause-handed_on_at_fault
 returns-clause-handed_on_at_fault g c one before =
-    rw c.in-Ok.ensures.silent at (c.serve_on_journal.ensures.handed_on_at_fault one before)
+    rw (c.in-InJournal.is) (rw c.in-Ok.ensures.silent at (c.serve_on_journal.ensures.handed_on_at_fault one before))
+
+pub returns-in-InMemory-clause-handed_on_at_fault : goal.returns-in-InMemory-clause-handed_on_at_fault
+returns-in-InMemory-clause-handed_on_at_fault g c one before =
+    rw (c.in-InMemory.is) (rw c.in-Ok.ensures.silent at (c.serve_in_memory.ensures.handed_on_at_fault one before))

@@ -2,7 +2,7 @@ use Rattle.std.proofs.Common.{subst}
 use Rattle.duk_host.specs.Used.{AreUsable, Lists}
 use Rattle.duk_store.specs.Log.{Numbers}
 use Rattle.duk_store.specs.RecordFormat.{numbers_in}
-use Rattle.duk_program.specs.inner.WrongNumbers.{IsTaken}
+use Rattle.duk_show.specs.Log.{IsTaken}
 use Rattle.duk_program.proofs.WrongNumbers.{first_wrong, next_numbers}
 use Rattle.duk_program.proofs.wrong_numbers.first_unusable.Goals as goal
 

@@ -1,0 +1,4 @@
+use Rattle.duk_program.proofs.issue_files.issue_to.Goals as goal
+
+pub returns-in-None-clause-done : goal.returns-in-None-clause-done
+returns-in-None-clause-done g c zero = rw (c.in-None.is) (c.issue_over.ensures.done zero)
