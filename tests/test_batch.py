@@ -14,7 +14,7 @@ from .support.everyday import derive_lines
 from .support.everyday_cases import Draw
 from .support.everyday_rows import (
     BASE, INITIAL, KEY_BLOCK, PAN, PIN, PIN_KEY, REPLY, REQUEST, SERIAL, ZONE)
-from .support.everyday_words import expected
+from .support.everyday_words import INPUTS, expected
 from .support.images import RECORD
 from .support.leaks import leaks_of_batch
 from .support.program import SECONDS, Ended, Limits, spoken
@@ -188,7 +188,7 @@ class Secrets(BatchCase):
     """Secrets by reference beside items."""
 
     def test_first_line(self) -> None:
-        """Of an input with `@-` the first line is the secret, and the items follow."""
+        """Of an input with `@-`, or a path of it, the first line is the secret, and the items follow."""
         for batch, first in ((Batch("derive", ("@-", "-"), ("all",)), BASE),
                              (Batch("pin", ("@-", "-")), PIN), (Batch("pin", ("-", "@-")), PAN),
                              (Batch("pin", ("-", PAN), (), {"key": "@-"}), PIN_KEY)):
@@ -198,9 +198,12 @@ class Secrets(BatchCase):
             for rest in (b"", b"\n", f"{SERIAL}\n{PIN}\r\n{PAN}".encode()):
                 for end in (b"\n", b"\r\n"):
                     wanted = named.ended(rest)
-                    ended = self.run_batch(batch, first.encode() + end + rest)
-                    self.assert_ended(ended, wanted.status, wanted.output, wanted.faults,
-                                      f"{spoken(batch.words)} {end + rest!r}")
+                    for name in INPUTS:
+                        words = [word.replace("@-", name) for word in batch.words]
+                        ended = self.program.run(*words, given=first.encode() + end + rest,
+                                                 folder=self.home)
+                        self.assert_ended(ended, wanted.status, wanted.output, wanted.faults,
+                                          f"{spoken(words)} {end + rest!r}")
 
     def test_references_that_are_refused(self) -> None:
         """Before any item is answered."""

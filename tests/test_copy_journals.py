@@ -9,6 +9,7 @@ from pathlib import Path
 from .support.client import payments
 from .support.journal_case import CANNOT_OPEN, JOURNAL_FAILED, ON_JOURNAL, JournalCase, alone
 from .support.journal_file import DamagedJournal, entries_in, payments_in
+from .support.left_files import JOURNAL
 from .support.model_journal import payments_of_all
 from .support.page_journals import (
     BY_HAND, DAMAGES, NONE_STANDS, RECORD, UNDONE, Entry, Journals, Payment, Reversal, journal_of,
@@ -28,10 +29,10 @@ def copied(image: bytes) -> bytes:
 
 
 def is_kept(image: bytes) -> bool:
-    """Whether the bytes are those of a journal."""
+    """Whether the bytes are those of a journal, in a file that one left."""
     try:
         entries_in(image)
-        return True
+        return JOURNAL.is_left(image)
     except DamagedJournal:
         return False
 

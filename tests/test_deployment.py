@@ -316,8 +316,9 @@ class Copying(Case):
     def test_closed_records(self) -> None:
         """What they say besides is not copied."""
         first, second = numbers_of(payments(2))
-        image = record(first) + record(second, 0) + record(second, 0xFF, b"\xff" * 5)
-        self.check(image, log_image([first], 3), 1, "closed records with bytes")
+        for gate in (0, 2, 0xFF):
+            image = record(first) + record(second, gate, b"\xff" * 5) + bytes(RECORD)
+            self.check(image, log_image([first], 3), 1, f"a closed record with bytes, {gate}")
         for name, used in ACCEPTED.items():
             image = (LOGS / f"{name}.log").read_bytes()
             wanted = log_image([bytes.fromhex(it) for it in used], len(image) // RECORD)
@@ -330,6 +331,8 @@ class Copying(Case):
         for place in (11, 15, 27, 63):
             images[f"a byte at {place}"] = good[:place] + b"\1" + good[place + 1 :]
         images["a closed record"] = good[:16] + b"\0" + good[17:]
+        images["two closed records with bytes"] = good[:32] + b"\0" + good[33:48] + b"\0" + good[49:]
+        images["a closed record with bytes alone"] = b"\0" + good[1:16]
         images["a number twice"] = good[:64] + good[:16] + good[80:]
         for what, image in images.items():
             self.refuse(what, image)

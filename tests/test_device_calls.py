@@ -24,8 +24,8 @@ from .support.traced_files import OPENS, Call, traced
 WAYS = re.compile(r"O_(?:RDONLY|WRONLY|RDWR|CREAT|EXCL|TRUNC|APPEND)")
 # So many bytes a journal is read and written at once, and so many a small read takes.
 PIECE, AHEAD = 1 << 16, 4096
-# A file that is read to its end is read into room for so many bytes at first, which doubles.
-FIRST_ROOM = 512
+# A file that is read to its end is first asked for so many bytes, and for twice as many each time.
+FIRST_READ = 1 << 13
 MADE = "O_RDWR|O_CREAT|O_EXCL"
 
 
@@ -45,7 +45,7 @@ def step_of(call: Call) -> str:
 
 class Device:
     """A file as a disk: what is asked of the system for it. A small read takes what is ahead too, up to a
-    page, which is held until a write."""
+    page, which is held until a write or a sync."""
 
     def __init__(self, steps: list[str], name: str, size: int, way: str = "O_RDWR") -> None:
         self.steps, self.name, self.size, self.held = steps, name, size, range(0)
@@ -67,10 +67,31 @@ class Device:
                        for place in range(at, end, PIECE)]
 
     def sync(self) -> None:
+        self.held = range(0)
         self.steps.append(f"fdatasync {self.name}")
+
+    def look_at(self, kept: int, record: int) -> None:
+        """Pieces are read from the end on, until one has a byte that is not zero. From there on the last
+        open record is looked for, of a journal how many follow it in its group, and the last with a gate."""
+        self.read_back(self.size, kept * record)
+        if kept:
+            self.read_back(kept * record, kept * record)
+            if record == RECORD:
+                self.read((kept - 1) * record + 2, (kept - 1) * record + 4)
+            self.read_back(kept * record, kept * record)
+
+    def read_back(self, end: int, wanted: int) -> None:
+        """Pieces from the end on, up to the one that has the wanted byte before this place."""
+        while end:
+            start = max(0, end - PIECE)
+            self.read(start, end)
+            if start < wanted:
+                return
+            end = start
 
     def start_log(self, kept: int) -> None:
         """All records are read, each for itself, and then those with numbers once more."""
+        self.look_at(kept, NUMBER)
         self.sync()
         for records in (self.size // NUMBER, kept):
             for place in range(records):
@@ -106,16 +127,13 @@ class Device:
 
 
 def read_whole(name: str, size: int) -> list[str]:
-    """A file is read to its end, into room that doubles."""
-    steps, room, length = [f"openat {name} O_RDONLY"], FIRST_ROOM, 0
+    """A file is measured, and read to its end, into room for a byte more than it has."""
+    steps, most, left = [f"openat {name} O_RDONLY"], FIRST_READ, size
     while True:
-        steps.append(f"read {name} {room - length}")
-        taken = min(room - length, size - length)
-        length += taken
-        if not taken:
+        steps.append(f"read {name} {min(most, left + 1)}")
+        if not left:
             return steps
-        if length == room:
-            room *= 2
+        most, left = 2 * most, max(0, left - most)
 
 
 def folder_synced() -> list[str]:
@@ -157,6 +175,7 @@ class DeviceCalls(JournalCase):
             self.make_journal(room, alone(payments_of_all(requests[:kept])))
             steps = read_whole("bank.toml", len(BANK))
             journal = Device(steps, "journal", RECORD * room)
+            journal.look_at(kept, RECORD)
             journal.start_journal(kept)
             for place in (kept, kept + 1):
                 journal.write(RECORD * place + 1, RECORD * place + RECORD)
@@ -174,7 +193,7 @@ class DeviceCalls(JournalCase):
             ledger.start_log(0)
             for place in range(3):
                 ledger.use(place)
-            self.check(["issue", BASE, BASE, FIRST, "3", "--ledger", "ledger"], "ledger", steps, what=f"{room}")
+            self.check(["issue", BASE, BASE, FIRST, "3", "--ledger", "ledger"], "ledger", steps)
 
     def test_new_journal(self) -> None:
         for records in (1, 7, 5000):
@@ -190,7 +209,8 @@ class DeviceCalls(JournalCase):
         for kept, room in ((0, 3), (1, 1), (3, 7), (200, 400), (2100, 5000)):
             self.make("journal", b"")
             self.make_journal(room, alone(payments_of_all(payments(kept))))
-            self.check(["copy-journal", "journal", "copy"], "journal", copied(kept, room), what=f"{kept} of {room}")
+            self.check(["copy-journal", "journal", "copy"], "journal", copied(kept, room),
+                       what=f"{kept} of {room}")
 
     def test_shown(self) -> None:
         for kept, room in ((0, 5), (3, 32), (2100, 5000)):
@@ -211,10 +231,11 @@ class DeviceCalls(JournalCase):
 
 
 def copied(kept: int, room: int) -> list[str]:
-    """The journal is checked before the copy is made, and the copy before its folder is synced. What the
+    """The journal is looked at and checked before the copy is made, and the copy before its folder is synced. What the
     journal keeps is read and written in pieces behind the first two bytes, and zeros behind it."""
     steps: list[str] = []
     old = Device(steps, "journal", RECORD * room, "O_RDONLY")
+    old.look_at(kept, RECORD)
     old.start_journal(kept)
     new = Device(steps, "copy", RECORD * room, MADE)
     new.begin()

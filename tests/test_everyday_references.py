@@ -9,13 +9,14 @@ import os
 import subprocess
 import threading
 import time
+from itertools import product
 from pathlib import Path
 from typing import Iterator, Optional, Sequence, Union
 
 from .support.case import ProgramCase
 from .support.everyday_rows import (
     BASE, FIRST as IKSN, KBPK, PAN, PIN, REPLY, REQUEST, RIGHT, SERIAL, ZONE, rows)
-from .support.everyday_words import COMMANDS, MOST_BYTES, expected, is_secret
+from .support.everyday_words import COMMANDS, INPUTS, MOST_BYTES, expected, is_secret
 from .support.program import SECONDS, Ended, Word, spoken
 
 # A process of root reads any file but without these.
@@ -228,9 +229,9 @@ class Streams(ReferenceCase):
 
     def test_an_open_input(self) -> None:
         """The line is enough: nobody waits for what stands behind it."""
-        for data in (f"{BASE}\n", f"{BASE}\r\n", "x\n"):
+        for data, name in product((f"{BASE}\n", f"{BASE}\r\n", "x\n"), INPUTS):
             reader = self.piped(data.encode(), keeps=True)
-            words = ["derive", "@-", SERIAL]
+            words = ["derive", name, SERIAL]
             self.assertEqual(self.run_with(words, reader), expected(words, {}, data.encode()), data)
 
     def test_devices(self) -> None:
@@ -254,6 +255,14 @@ class Streams(ReferenceCase):
         ):
             ended = self.run_with(words, given.encode("latin-1"))
             self.is_as(ended, words, {}, given.encode("latin-1"))
+            # By whatever path it is named.
+            for path in INPUTS[1:]:
+                for other in ("@-", *INPUTS[1:]):
+                    turn = iter((path, *[other] * 4))
+                    words = [next(turn) if it == "@-" else it for it in words]
+                    ended = self.run_with(words, given.encode("latin-1"))
+                    self.is_as(ended, words, {}, given.encode("latin-1"))
+                    words = ["@-" if it in INPUTS else it for it in words]
 
     def test_an_argument_alone_does_not_read(self) -> None:
         """Without `@-` standard input is left to whoever reads it next."""

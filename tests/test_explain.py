@@ -29,7 +29,7 @@ OF_STREAMS = {"write failed", "script: write failed", "serve: write failed", "se
               "config: too long", "script: too long", "ledger: failed", "padding: cannot read"}
 # Faults as the manual page has them, whose rows are no command of this folder; and what else stands
 # there for a part of a line.
-ELSEWHERE = {"batch: ..", "padding: ..", "IKSN: issued"}
+ELSEWHERE = {"batch: ..", "padding: ..", "IKSN: issued", "IKSN: not issued"}
 FAULT = re.compile(r'^\.B "(.*)"$', re.M)
 PARTS = {r"^[A-Z]+: \.\.$": "[A-Z]+: .*", r"\.\.": ".*", r"\bNAME\b": "[A-Z]+",
          r"\b[NI]\b": "[0-9]+"}
@@ -356,7 +356,7 @@ class Lost(ExplainCase):
         """Without standard error status, output and files are the same."""
         before = {it: it.read_bytes() for it in self.home.rglob("*") if it.is_file()}
         of_files = [it for it in rows() if it[0][0] in (
-            "issue", "serve", "run", "show", "new-journal", "copy-journal")]
+            "issue", "serve", "run", "show", "new-log", "new-journal", "copy-journal")]
         for words, _, _ in [*self.chance.sample(rows(), 30), *of_files]:
             for way in ("2>&-", "2>/dev/full", ">&- 2>&-", "<&- >&- 2>&-"):
                 ended = self.in_bash(with_explain(words, 0), way)

@@ -6,7 +6,7 @@ import os
 import threading
 from typing import Optional, Sequence
 
-from .support import page_journals
+from .support import left_files, page_journals
 from .support.bank import BANK, BDK, CARD, FRONT
 from .support.client import payments
 from .support.dukpt import SPENT, counter_of, serial_text, usable
@@ -14,6 +14,7 @@ from .support.everyday_rows import FIRST
 from .support.explain_case import EXPLAIN, ISSUE, SCRIPT, ExplainCase
 from .support.explained import Asked, Facts, damaged_record, explained, line_of
 from .support.issuing import bytes_of, numbers_from
+from .support.left_files import Records
 from .support.log_file import RECORD, log_image, record
 from .support.model_journal import payments_of_all
 from .support.program import SECONDS, Limits, spoken
@@ -38,6 +39,17 @@ def first_counted(numbers: Sequence[int]) -> Optional[int]:
     return next((at for at, it in enumerate(numbers) if counter_of(it)), None)
 
 
+def strange(form: Records, image: bytes, called: str, wanted: str) -> Optional[str]:
+    """What is told of a file that is empty, or whose whole records no log or journal leaves."""
+    if not image:
+        maker = "new-log" if form is left_files.LOG else "new-journal"
+        return f"{called}: empty; wanted: {wanted}; make it by dukpt {maker} FILE RECORDS"
+    record_ = None if len(image) % form.size else form.foreign(image)
+    if record_ is None:
+        return None
+    return f"no {called}: record {record_} is neither open nor zero; wanted: {wanted}"
+
+
 class Logs(ExplainCase):
     """Which record of a log or a ledger is damaged, or has a number that does not belong there."""
 
@@ -45,10 +57,13 @@ class Logs(ExplainCase):
         """That serve and issue name this record, and change nothing."""
         record_ = None if place is None else f"record {place}"
         self.write("it", image)
-        self.explained(["serve", "bank.toml", "--log", "it"], "log: failed",
-                       f"log: {record_ or 'wrong records, or a step that failed'}; wanted: {A_GOOD_LOG}")
-        self.explained([*ISSUE, "it"], "ledger: damaged",
-                       f"ledger: {record_ or 'numbers that no ledger has'}; wanted: {NUMBERS}")
+        for words, fault, called, wanted, none in (
+            (["serve", "bank.toml", "--log", "it"], "log: failed", "log", A_GOOD_LOG,
+             "wrong records, or a step that failed"),
+            ([*ISSUE, "it"], "ledger: damaged", "ledger", NUMBERS, "numbers that no ledger has"),
+        ):
+            self.explained(words, fault, strange(left_files.LOG, image, called, wanted)
+                           or f"{called}: {record_ or none}; wanted: {wanted}")
         self.assertEqual((self.home / "it").read_bytes(), image, name)
 
     def test_spoiled(self) -> None:
@@ -171,7 +186,18 @@ class Logs(ExplainCase):
         self.explained(words, "ledger: full", line)
         self.assertEqual((self.home / "it").read_bytes(), image)
         ended = self.run_with([*ISSUE[:4], "2", "--ledger", "it", "--skip-issued", EXPLAIN])
-        self.assertEqual((ended.status, ended.faults, ended.output.count(b"\n")), (0, b"", 1))
+        self.assertEqual((ended.status, ended.faults, ended.output.count(b"\n")), (0, b"passed over 1\n", 1))
+
+    def test_not_issued(self) -> None:
+        """The first of the numbers that does not stand there."""
+        numbers = numbers_from(int(FIRST, 16), 3)
+        image = log_image(bytes_of([numbers[2], numbers[0]]), 3)
+        self.write("it", image)
+        second = serial_text(numbers[1])
+        line = (f"IKSN: {second} does not stand in the ledger; wanted: numbers that do; without --again it "
+                "is issued")
+        self.explained([*ISSUE[:4], "3", "--ledger", "it", "--again"], f"{second}: not issued", line)
+        self.assertEqual((self.home / "it").read_bytes(), image)
 
 
 class Journals(ExplainCase):
@@ -183,9 +209,10 @@ class Journals(ExplainCase):
     def failed(self, image: bytes, what: str) -> None:
         """That each command over it tells so, and changes nothing."""
         self.write("it", image)
+        line = strange(left_files.JOURNAL, image, "journal", A_GOOD_JOURNAL) or self.line
         for words in (["serve", "bank.toml", "--journal", "it"], ["copy-journal", "it", "new"],
                       ["copy-journal", "it", "bank.toml"]):
-            self.explained(words, "journal: failed", self.line)
+            self.explained(words, "journal: failed", line)
         fault = journal_ended(image).faults.decode()[:-1]
         self.assertRegex(fault, r"journal refused at \d+: Damaged")
         self.explained(["show", "journal", "it"], fault, explained(Asked("show"), fault))
@@ -245,7 +272,8 @@ class Configurations(ExplainCase):
             (BANK + b"[other]\nx = 1\n", "unknown other", 13),
             (BANK + b"\n  [[other]]\n", "unknown other", 14),
             (b"a.b = 1\n" + BANK, "unknown a", None),
-            (b"'a b' = 1\n" + BANK, "unknown a b", None),
+            (b"'a b' = 1\n" + BANK, "unknown key 1", None),
+            (b"'' = 1\n" + BANK, "unknown key 1", None),
             (FRONT + b"[bdk]\n" + CARD, "bad bdk", 6),
             (FRONT + 9 * BDK + CARD, "bad bdk", 6),
             (FRONT + BDK + b"# twice\n" + BDK + CARD, "bad bdk 2", 10),

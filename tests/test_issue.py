@@ -16,14 +16,15 @@ from .support.case import ProgramCase
 from .support.commands import Refused as Fault
 from .support.cut_disk import Lies, Place, Plan, Stop
 from .support.cut_file import CutFile
+from .support.des import encrypt_block
 from .support.dukpt import SPENT, serial_text
 from .support.everyday_cases import Case, Draw
 from .support.everyday_rows import BASE, FIRST, SERIAL
 from .support.everyday_words import COMMANDS as WORDS
 from .support.everyday_words import ArgumentsRefused, References, read, resolve
 from .support.issuing import (
-    BEGUN, MOST_COUNT, NUMBERS, Issued, Keys, Ledger, asked, bytes_of, numbers_from, read_line,
-    read_lines, whole_lines)
+    BEGUN, KEY_SET, MOST_COUNT, NUMBERS, Issued, Keys, Ledger, asked, bytes_of, numbers_from,
+    numbers_left, read_line, read_lines, whole_lines)
 from .support.leaks import leaked, leaks
 from .support.log_file import RECORD, DamagedLog, log_image, numbers_in, record
 from .support.program import COMMANDS, SECONDS, Ended, Limits, Program, Word, spoken
@@ -51,7 +52,8 @@ NO_LEDGERS = {
 # So many runs at random, on all programs that are tried, and so many of them on one ledger.
 RUNS, ON_ONE = 10_000, 12
 KINDS_OF_RUNS = ("issued", "nothing", "there", "ledger: full", "arguments refused", "BDK refused",
-                 "loading refused", "IKSN refused", "count refused",
+                 "loading refused", "IKSN refused", "count refused", "KCV refused", "KCV differs",
+             "again", "not there",
                  *(f"{name}: {why}" for name in ("BDK", "LOADING")
                    for why in ("cannot read", "too long", "not UTF-8")))
 KILLS = 100
@@ -62,6 +64,11 @@ FEW, CALLS = 8, 4
 PLACES = tuple(Place)
 # How many numbers a ledger of a history has room for, and how many of them a run shall reach.
 ROOM, SHARE = 60, 6
+
+
+def passed_over(count: int) -> bytes:
+    """What a run that passes over so many numbers says of them."""
+    return f"passed over {count}\n".encode() if count else b""
 
 
 class IssueCase(ProgramCase):
@@ -80,23 +87,33 @@ class IssueCase(ProgramCase):
         self.path.write_bytes(ledger.image)
         return ledger
 
-    def words(self, first: int, count: int, skips: bool = False, keys: Keys = KEYS) -> list[str]:
+    def words(self, first: int, count: int, skips: bool = False, keys: Keys = KEYS,
+              again: bool = False) -> list[str]:
         words = ["issue", keys.base.hex(), keys.loading.hex().upper(), serial_text(first), str(count),
                  "--ledger", "ledger"]
-        return [*words, "--skip-issued"] if skips else words
+        return [*words, *["--skip-issued"] * skips, *["--again"] * again]
+
+    def random_first(self, count: int) -> int:
+        """A first number, from which on its key set has so many; now and then the last of these."""
+        last = MOST_COUNT - count
+        place = self.chance.choice((0, last, None, None))
+        key_set = self.chance.choice((0, NUMBERS // KEY_SET - 1, self.chance.randrange(KEY_SET)))
+        return key_set * KEY_SET + (self.chance.randint(0, last) if place is None else place) * SPENT
 
     def run_issue(self, *words: Word, **how: object) -> Ended:
         return self.program.run(*words, folder=self.home, **how)
 
     def check(self, ledger: Ledger, first: int, count: int, skips: bool = False, keys: Keys = KEYS,
-              words: Optional[Sequence[str]] = None, given: bytes = b"") -> list[Issued]:
-        """That a run issues what it has to, and leaves the ledger so."""
-        numbers, fault = ledger.issue(first, count, skips)
-        words = self.words(first, count, skips, keys) if words is None else words
+              words: Optional[Sequence[str]] = None, given: bytes = b"",
+              again: bool = False) -> list[Issued]:
+        """That a run issues what it has to, or makes the lines again, and leaves the ledger so."""
+        numbers, fault = ledger.again(first, count) if again else ledger.issue(first, count, skips)
+        words = self.words(first, count, skips, keys, again) if words is None else words
         ended = self.run_issue(*words, given=given)
         what = f"{spoken(words)}: {ended}"
         self.assertEqual((ended.status, ended.faults),
-                         (1, f"{fault}\n".encode()) if fault else (0, b""), what)
+                         (1, f"{fault}\n".encode()) if fault
+                         else (0, passed_over(count - len(numbers))), what)
         issued = read_lines(ended.output, keys)
         self.assertEqual([it.number for it in issued], numbers, what)
         self.assertEqual(self.path.read_bytes(), ledger.image, what)
@@ -117,12 +134,6 @@ class Lines(IssueCase):
 
     def random_keys(self) -> Keys:
         return Keys(self.chance.randbytes(16), self.chance.randbytes(self.chance.choice((16, 24))))
-
-    def random_first(self, count: int) -> int:
-        """A first number, behind which there are so many; now and then the last of all."""
-        last = NUMBERS // SPENT - count
-        place = self.chance.choice((0, last, None, None))
-        return (self.chance.randint(0, last) if place is None else place) * SPENT
 
     def test_blocks(self) -> None:
         """Each has the initial key of its own number, under keys of either length."""
@@ -202,15 +213,15 @@ class Lines(IssueCase):
         self.tells(f"{dict(tally)}")
 
     def test_what_stands_behind(self) -> None:
-        """The rest of a closed record may be anything, and is replaced as numbers come."""
+        """The rest of the record behind the last number may be anything, and is replaced."""
         numbers = numbers_from(FIRST_NUMBER, 2)
-        junk = [bytes([gate]) + self.chance.randbytes(15) for gate in (0, 2, 255)]
-        self.path.write_bytes(log_image(bytes_of(numbers), 2) + b"".join(junk))
-        ended = self.run_issue(*self.words(FIRST_NUMBER, 4, True))
-        issued = [it.number for it in read_lines(ended.output, KEYS)]
-        self.assertEqual((ended.status, issued), (0, numbers_from(FIRST_NUMBER, 4)[2:]))
-        self.assertEqual(self.path.read_bytes(),
-                         log_image(bytes_of(numbers_from(FIRST_NUMBER, 4)), 4) + junk[2])
+        for junk in (bytes([gate]) + self.chance.randbytes(15) for gate in (0, 2, 255)):
+            self.path.write_bytes(log_image(bytes_of(numbers), 2) + junk + bytes(2 * RECORD))
+            ended = self.run_issue(*self.words(FIRST_NUMBER, 4, True))
+            issued = [it.number for it in read_lines(ended.output, KEYS)]
+            self.assertEqual((ended.status, issued), (0, numbers_from(FIRST_NUMBER, 4)[2:]))
+            self.assertEqual(self.path.read_bytes(),
+                             log_image(bytes_of(numbers_from(FIRST_NUMBER, 4)), 5))
 
 
 class Random(IssueCase):
@@ -233,13 +244,17 @@ class Random(IssueCase):
 
     def first_of(self, draw: Draw) -> int:
         """Behind it there are numbers enough for most runs; now and then hardly any."""
-        last = NUMBERS - 8 * SPENT
-        return last if draw.one_in(8) else min(last, draw.iksn())
+        first = draw.iksn()
+        last = first - first % KEY_SET + KEY_SET - 8 * SPENT
+        return last if draw.one_in(8) else min(last, first)
 
     def drawn(self, draw: Draw, first: int) -> Case:
         iksn = serial_text(first + (draw.chance.choice((1, 0x1FF800)) if draw.one_in(16) else 0))
-        return draw.case("issue", draw.key(16)[1], draw.key(16, 24)[1], draw.written(iksn),
-                         draw.count(6, 1_048_577), ledger=str(self.path))
+        base, word = draw.key(16)
+        value = encrypt_block(base, bytes(8))[:3] if draw.one_in(2) else draw.chance.randbytes(3)
+        return draw.case("issue", word, draw.key(16, 24)[1], draw.written(iksn),
+                         draw.count(6, MOST_COUNT + 1), ledger=str(self.path),
+                         **({"bdk-kcv": draw.written(value.hex())} if draw.one_in(6) else {}))
 
     def play(self, runs: QuickRuns, ledger: Ledger, case: Case) -> str:
         """What kind of an end a run has, where it is the right one."""
@@ -247,37 +262,41 @@ class Random(IssueCase):
             Path(path).write_bytes(data)
         ended = runs.run([word.encode() for word in case.words], case.given)
         what = f"{spoken(case.words)} with {case.files} and {case.given!r}"
-        issued, fault, keys = self.wanted(case, ledger)
+        issued, fault, keys, passed = self.wanted(case, ledger)
         if fault.startswith("error: "):
             self.assertTrue(ended.faults.startswith(f"{fault}\n".encode()), f"{what}: {ended}")
             self.assert_ended(ended, 2, b"", ended.faults, what)
         else:
-            faults = f"{fault}\n".encode() if fault else b""
+            faults = f"{fault}\n".encode() if fault else passed_over(passed)
             self.assert_ended(ended, int(bool(fault)), ended.output, faults, what)
         found = [] if keys is None else read_lines(ended.output, keys)
         self.assertEqual([it.number for it in found], issued, what)
         self.assertEqual(self.path.read_bytes(), ledger.image, what)
         self.assertEqual(leaks(case, ended), [], what)
-        return self.kind_of(fault, issued)
+        return self.kind_of(fault, issued, "--again" in case.words)
 
-    def wanted(self, case: Case, ledger: Ledger) -> tuple[list[int], str, Optional[Keys]]:
-        """The numbers that are issued, the fault, and the keys where they are right."""
+    def wanted(self, case: Case, ledger: Ledger) -> tuple[list[int], str, Optional[Keys], int]:
+        """The numbers that are issued, the fault, the keys where they are right, and how many numbers
+        are passed over."""
         about = WORDS["issue"]
         try:
             given = read(case.words[1:], about)
             resolve("issue", about, given, References(case.files, case.given))
-            keys, first, count = asked(*given.values)
+            keys, first, count = asked(*given.values, given.valued.get("bdk-kcv"))
         except ArgumentsRefused as why:
-            return [], f"error: {why}", None
+            return [], f"error: {why}", None, 0
         except Fault as why:
-            return [], str(why), None
-        return *ledger.issue(first, count, "skip-issued" in given.flags), keys
+            return [], str(why), None, 0
+        if "again" in given.flags:
+            return *ledger.again(first, count), keys, 0
+        issued, fault = ledger.issue(first, count, "skip-issued" in given.flags)
+        return issued, fault, keys, count - len(issued)
 
-    def kind_of(self, fault: str, issued: list[int]) -> str:
+    def kind_of(self, fault: str, issued: list[int], again: bool) -> str:
         if not fault:
-            return "issued" if issued else "nothing"
-        if fault.endswith(": issued"):
-            return "there"
+            return "again" if again else "issued" if issued else "nothing"
+        if fault.endswith("issued"):
+            return "not there" if fault.endswith("not issued") else "there"
         return "arguments refused" if fault.startswith("error: ") else fault
 
 
@@ -319,6 +338,12 @@ class Refused(IssueCase):
         for wrong in NO_COUNTS:
             words = ["issue", "--ledger", "ledger", "--", BASE, LOADING, FIRST, wrong]
             self.refused(words, "count refused")
+        for behind in (KEY_SET, FIRST_NUMBER - FIRST_NUMBER % KEY_SET + KEY_SET):
+            self.assertEqual(numbers_left(behind - 2 * SPENT), 2)
+            self.refused(self.words(behind - 2 * SPENT, 3), "count refused")
+            self.refused(self.words(behind - SPENT, 2), "count refused")
+            self.check(self.begin(2), behind - 2 * SPENT, 2)
+        ledger = self.begin(3)
         last = NUMBERS - SPENT
         for back, count in ((0, 2), (0, MOST_COUNT), (1, 3), (2, 4), (MOST_COUNT - 2, MOST_COUNT)):
             self.refused(self.words(last - back * SPENT, count), "count refused")
@@ -326,6 +351,22 @@ class Refused(IssueCase):
         self.check(ledger, last, 1)
         self.check(ledger, last - 2 * SPENT, 3, True)
         self.check(ledger, last - 2 * SPENT, 3)
+
+    def test_check_value(self) -> None:
+        """A base derivation key with another check value issues nothing; it is tested last of the
+        arguments, and before the ledger is opened."""
+        right = encrypt_block(bytes.fromhex(BASE), bytes(8))[:3].hex()
+        ledger = self.begin(2)
+        for wrong in ("", right[:-1], right + "00", "x" * 6, f" {right}"):
+            self.refused([*self.words(FIRST_NUMBER, 1), f"--bdk-kcv={wrong}"], "KCV refused")
+        for wrong in ("000000", f"{int(right, 16) ^ 1:06x}", f"{int(right, 16) ^ 0x800000:06X}"):
+            self.refused([*self.words(FIRST_NUMBER, 1), "--bdk-kcv", wrong], "KCV differs")
+        for count, fault in (("0", "count refused"), ("1", "KCV differs")):
+            words = ["issue", BASE, LOADING, FIRST, count, "--ledger", "missing"]
+            self.refused([*words, "--bdk-kcv", "000000"], fault)
+        for word in (right, right.upper()):
+            words = [*self.words(FIRST_NUMBER, 1), "--bdk-kcv", word]
+            self.check(ledger, FIRST_NUMBER, 1, words=words)
 
     def test_no_ledgers(self) -> None:
         logs = {it.stem: it.read_bytes() for it in (COMMANDS / "logs").glob("*.log")}
@@ -417,6 +458,10 @@ class Refused(IssueCase):
             ([*right, "--ledger", "ledger", "--skip-issued", "--skip-issued"],
              b"error: the argument '--skip-issued' cannot be used multiple times\n"),
             ([*right, "--log", "ledger"], b"error: unexpected argument '--log' found"),
+            ([*right, "--ledger", "ledger", "--out"],
+             b"error: a value is required for '--out <FILE>'"),
+            ([*right, "--ledger", "ledger", "--bdk-kcv"],
+             b"error: a value is required for '--bdk-kcv <KCV>'"),
         ):
             ended = self.run_issue(*words)
             self.assertEqual((ended.status, ended.output), (2, b""), spoken(words))
@@ -599,7 +644,7 @@ class Kills(IssueCase):
                    f"numbers, {self.unprinted} behind a number whose line was not printed")
 
     def begin_history(self) -> None:
-        self.first = self.chance.randrange(NUMBERS // SPENT - ROOM) * SPENT
+        self.first = self.random_first(ROOM)
         self.keys = Keys(self.chance.randbytes(16), self.chance.randbytes(24))
         self.all = numbers_from(self.first, ROOM)
         self.kept: list[int] = []
@@ -623,7 +668,7 @@ class Kills(IssueCase):
         rest, faults = process.communicate(timeout=SECONDS)
         is_killed = process.returncode == -signal.SIGKILL
         self.assertTrue(is_killed or process.returncode == 0, process.returncode)
-        self.assertEqual(faults, b"")
+        self.assertIn(faults, (b"", passed_over(len(self.kept))))
         more = self.judge_run(output + rest)
         self.kills += is_killed
         self.midst += is_killed and more > 0 and len(self.kept) < ROOM
@@ -664,13 +709,13 @@ class Kills(IssueCase):
             fault = f"{serial_text(self.kept[0])}: issued\n".encode()
             self.assert_ended(ended, 1, b"", fault, "a run over a ledger behind kills")
         ended = self.run_issue(*self.words(self.first, ROOM, True, self.keys))
-        self.assertEqual((ended.status, ended.faults), (0, b""))
+        self.assertEqual((ended.status, ended.faults), (0, passed_over(len(self.kept))))
         self.judge_run(ended.output)
         self.assertEqual(self.kept, self.all, "in the end each number is issued")
 
 
 class Broken(AssertionError):
-    """That a number is printed twice, or is not in the ledger."""
+    """That a number is printed twice, or is not in the ledger, or that what is left is refused."""
 
 
 class PowerCuts(IssueCase):
@@ -716,7 +761,7 @@ class PowerCuts(IssueCase):
                    "the midst of numbers")
 
     def begin_history(self, file: CutFile) -> None:
-        self.all = numbers_from(self.chance.randrange(NUMBERS // SPENT - FEW) * SPENT, FEW)
+        self.all = numbers_from(self.random_first(FEW), FEW)
         self.kept: list[int] = []
         self.printed: set[int] = set()
         self.histories += 1
@@ -731,7 +776,9 @@ class PowerCuts(IssueCase):
         words[words.index("ledger")] = str(file.path)
         ended = self.run_issue(*words)
         is_cut = ended.status == -signal.SIGKILL
-        self.assertEqual((ended.status, ended.faults), (-signal.SIGKILL if is_cut else 0, b""))
+        if (ended.status, ended.faults) != (
+            (-signal.SIGKILL, b"") if is_cut else (0, passed_over(len(self.kept)))):
+            raise Broken(f"a run ends with {ended.faults!r}")
         # Now and then the process alone is gone, and the power stays on.
         stays_on = is_cut and self.chance.random() < 0.2
         image = file.image() if stays_on else file.cut(self.chance.getrandbits(32))

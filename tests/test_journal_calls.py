@@ -10,6 +10,7 @@ from typing import Sequence
 from .support.client import Exchange, payments
 from .support.journal_case import CANNOT_OPEN, JOURNAL_FAILED, JournalCase, stream_of
 from .support.journal_file import appended, records_for
+from .support.left_files import JOURNAL, looked
 from .support.model_journal import groups_by_reads, judged, payments_of_all
 from .support.page_journals import RECORD, journal_of
 from .support.program import Ended, Program
@@ -57,11 +58,13 @@ def reads(size: int, end: int) -> list[str]:
             for at in range(0, end, PIECE)]
 
 
-def start(room: int, kept: int) -> list[str]:
-    """All records are read, and then those of payments once more, where they are not held."""
-    size = RECORD * room
+def start(image: bytes, kept: int) -> list[str]:
+    """The journal is looked at, to see that it is one. Then all records are read, and those of payments
+    once more, where they are not held."""
+    size = len(image)
+    looks = [f"pread64(journal, {count} bytes at {at})" for count, at in looked(JOURNAL, image)]
     again = reads(size, RECORD * kept) if size > AHEAD else []
-    return [OPENED, LOCKED, SYNCED, *reads(size, size), *again]
+    return [OPENED, LOCKED, *looks, SYNCED, *reads(size, size), *again]
 
 
 def group(place: int, count: int) -> list[str]:
@@ -102,23 +105,25 @@ class Calls(Traced):
             found = judged(requests, payments_of_all(requests[:old]), room)
             groups = groups_by_reads(requests, found, [len(stream_of(requests))])
             self.assert_bytes(appended(before, groups), "under strace")
-            wanted, at = [*start(room, old), READ], old
+            wanted, at = [*start(before, old), READ], old
             for it in groups:
                 wanted += group(at, len(it))
                 at += len(it)
             self.assertEqual(steps, [*wanted, READ], f"{old} and {count}")
+            after = self.journal.read_bytes()
             ended, steps = self.traced(requests)
             self.assert_ended(ended, 0, answers_to(requests), b"", "under strace")
             replies = [REPLIED] * len(range(0, len(requests), 1024))
-            self.assertEqual(steps, [*start(room, len(requests)), READ, *replies, READ], "once more")
+            self.assertEqual(steps, [*start(after, len(requests)), READ, *replies, READ], "once more")
 
     def test_a_long_journal(self) -> None:
         """It is read in pieces, and nothing is read anew behind a start."""
         kept, room = payments_of_all(payments(2500)), 5000
-        self.journal.write_bytes(journal_of([kept[:1000], kept[1000:]], room - len(kept)))
+        image = journal_of([kept[:1000], kept[1000:]], room - len(kept))
+        self.journal.write_bytes(image)
         ended, steps = self.traced([payments(1)[0], payments(2501)[-1]])
         self.assertEqual(ended.status, 0)
-        self.assertEqual(steps, [*start(room, len(kept)), READ, *group(len(kept), 1), READ])
+        self.assertEqual(steps, [*start(image, len(kept)), READ, *group(len(kept), 1), READ])
 
 
 class Opens(Traced):

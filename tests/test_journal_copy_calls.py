@@ -13,7 +13,7 @@ import time
 from collections import Counter
 from concurrent.futures import ThreadPoolExecutor
 from pathlib import Path
-from typing import Sequence
+from typing import Optional, Sequence
 
 from .support.client import payments
 from .support.journal_case import CANNOT_OPEN, JOURNAL_FAILED, alone
@@ -25,7 +25,7 @@ from .support.small_files import PAGE, SmallFiles
 from .support.traced_files import (
     OPENS, READS, REMOVES, SYNCS, WRITES, Call, assert_kept, covered, places, traced)
 from .support.unsynced import unsynced_of
-from .test_copy_journals import CANNOT_MAKE, CopyCase, copied
+from .test_copy_journals import CANNOT_MAKE, CopyCase, copied, is_kept
 
 OLD, NEW, FOLDER = "journal", "sub/copy", "sub"
 # So many records are a piece of a copy, of 64 KiB.
@@ -135,6 +135,8 @@ class Changing(CallCase):
     # So many seconds the lock of the copy takes, behind the check of the journal.
     DELAY = 1.0
     FEW, MANY = 200, PIECE + 200
+    # So many are copied at once.
+    AT_ONCE = 8
 
     def test_another_record(self) -> None:
         """The first that it keeps, one in the middle, or the last."""
@@ -152,6 +154,31 @@ class Changing(CallCase):
         image = self.make_journal(self.FEW, alone(payments_of_all(payments(self.FEW))))
         self.assert_refused(image, image[:RECORD] + image[:RECORD] + image[2 * RECORD :], "twice")
 
+    def test_each_byte(self) -> None:
+        """Of a record in the middle, of which one bit or each is another. Where that leaves a journal, it
+        keeps as many as before, of which one has another number, amount or MAC."""
+        image = self.make_journal(self.FEW + 9, alone(payments_of_all(payments(self.FEW))))
+        wrong = []
+        for at in range(RECORD):
+            for bits in (1 << self.chance.randrange(8), 0xFF):
+                changed = bytearray(image)
+                changed[RECORD * (self.FEW // 2) + at] ^= bits
+                wrong.append((f"byte {at} with {bits:02X}", bytes(changed)))
+        with ThreadPoolExecutor(self.AT_ONCE) as pool:
+            ends = [*pool.map(lambda it: self.copied_elsewhere(image, it[1]), wrong)]
+        kept = sum(is_kept(changed) for _, changed in wrong)
+        self.tells(f"{len(wrong)} changes, of which {kept} leave a journal")
+        self.assertGreater(kept, RECORD // 2)
+        for (what, _), (ended, made) in zip(wrong, ends):
+            self.assert_output(ended, b"", CANNOT_MAKE, what)
+            self.assertEqual(made, [], what)
+
+    def copied_elsewhere(self, image: bytes, changed: bytes) -> tuple[Ended, list[Path]]:
+        """The same as `copied_from` in a folder of its own, and what is left beside the journal."""
+        home = self.folder()
+        os.mkdir(home / FOLDER)
+        return self.copied_from(image, changed, home), [*(home / FOLDER).iterdir()]
+
     def test_one_more(self) -> None:
         """As many are copied as the check found."""
         kept = payments_of_all(payments(self.FEW + 1))
@@ -164,19 +191,22 @@ class Changing(CallCase):
         self.assert_output(self.copied_from(image, changed), b"", CANNOT_MAKE, what)
         self.assertEqual([*self.made.iterdir()], [], what)
 
-    def copied_from(self, image: bytes, changed: bytes) -> Ended:
+    def copied_from(self, image: bytes, changed: bytes, home: Optional[Path] = None) -> Ended:
         """How a copy ends of a journal that has the first bytes while it is checked, and the others while
         it is copied, which the lock of the copy's file holds up."""
-        self.journal.write_bytes(image)
+        home = home or self.home
+        made, trace = home / NEW, self.folder() / "trace"
+        (home / OLD).write_bytes(image)
         delay = f"inject=flock:delay_exit={int(self.DELAY * 1e6)}:when=2"
         with ThreadPoolExecutor() as pool:
-            ended = pool.submit(self.traced, delay)
+            ended = pool.submit(traced, [*self.copier, "copy-journal", OLD, NEW], home, trace, OLD,
+                                [delay])
             deadline = time.monotonic() + SECONDS
-            while not (self.made / "copy").exists():
+            while not made.exists():
                 self.assertLess(time.monotonic(), deadline, "no file is made")
                 time.sleep(0.001)
-            self.journal.write_bytes(changed)
-            self.assertEqual((self.made / "copy").stat().st_size, 0, "changed too late")
+            (home / OLD).write_bytes(changed)
+            self.assertEqual(made.stat().st_size, 0, "changed too late")
             return ended.result()[0]
 
 

@@ -6,6 +6,7 @@ import os
 import signal
 import subprocess
 
+from .support import left_files
 from .support.client import payments
 from .support.journal_case import (
     CANNOT_OPEN, JOURNAL_FAILED, ON_JOURNAL, JournalCase, alone, frames_of, stream_of)
@@ -146,7 +147,8 @@ class Damaged(JournalCase):
         """Whether a journal is opened; it is left as it is."""
         rows = read_journal(image)
         is_right = (not isinstance(rows, Place)
-                    and len({it.serial for _, _, it in rows}) == len(rows))
+                    and len({it.serial for _, _, it in rows}) == len(rows)
+                    and left_files.JOURNAL.is_left(image))
         self.journal.write_bytes(image)
         ended = runs.run(["serve", os.fspath(self.home / "bank.toml"), "--journal",
                           os.fspath(self.journal)])
@@ -180,11 +182,12 @@ class Right(JournalCase):
         self.check_file(payments(9020), what="great groups")
 
     def test_closed_records(self) -> None:
-        """Any gate but 01 is closed, and any bytes may stand behind it. An append leaves the gates
-        of followers as they are, and writes over the rest."""
+        """What a stop leaves of a group: its first record with any gate but 01, which is closed, and the
+        others with 00; any bytes may stand behind these. An append leaves the gates of followers as they
+        are, and writes over the rest."""
         requests = payments(12)
         for gate in (0, 2, 0x81, 0xFF):
-            closed = b"".join(bytes([gate]) + self.chance.randbytes(RECORD - 1) for _ in range(9))
+            closed = b"".join(bytes([it]) + self.chance.randbytes(RECORD - 1) for it in (gate, *bytes(8)))
             kept = payments_of_all(requests[:3])
             self.journal.write_bytes(journal_of([kept[:1], kept[1:]], 0) + closed)
             self.check_file(requests, what=f"the gate {gate}")

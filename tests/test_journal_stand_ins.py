@@ -40,11 +40,11 @@ BY_LIVES = (Way.NO_SYNC, Way.BODIES_UNSYNCED, Way.GATE_UNSYNCED, Way.ANSWERS_FIR
 BY_TESTS = (
     (Calls, "test_groups", (
         Way.NO_SYNC, Way.BODIES_UNSYNCED, Way.GATE_UNSYNCED, Way.ANSWERS_FIRST, Way.GATE_FIRST,
-        Way.ONE_WRITE, Way.EACH_ALONE, Way.SMALL_GROUPS, Way.SMALL_READS)),
+        Way.ONE_WRITE, Way.WHOLE_RECORDS, Way.EACH_ALONE, Way.SMALL_GROUPS, Way.SMALL_READS)),
     (FailedCalls, "test_each_call", (Way.GOES_ON, Way.ANSWERS_FIRST)),
     (FullFileSystem, "test_groups_until_it_is_full", (Way.LEAVES_OUT, Way.GATE_FIRST)),
     (FullFileSystem, "test_another_file_takes_the_room", (Way.LEAVES_OUT, Way.ANSWERS_FIRST)),
-    (Right, "test_closed_records", (Way.WHOLE_RECORDS, Way.OPEN_FOLLOWERS)),
+    (Right, "test_closed_records", (Way.OPEN_FOLLOWERS,)),
     (Damaged, "test_sizes", (Way.LOOKS_AT_NOTHING,)),
     (Damaged, "test_a_number_twice", (Way.LOOKS_AT_NOTHING,)),
     (Groups, "test_short_frames", (Way.SMALL_GROUPS, Way.EACH_ALONE)),

@@ -19,11 +19,13 @@ PLANTED = (
 )
 # The words of a command, and the files that are its own.
 OWN = (
-    (("derive", "@bdk", "--log"), []),
+    (("derive", "@bdk", "--log", "used"), []),
     (("serve", "bank.toml", "--log", "used"), ["used"]),
     (("serve", "bank.toml", "--journal=used"), ["used"]),
     (("run", "bank.toml", "all.script", "--journal"), []),
     (("issue", "--ledger", "l", "@bdk"), ["l"]),
+    (("issue", "--ledger", "l", "--out=o"), ["l", "o"]),
+    (("new-log", "new", "7"), ["new"]),
     (("new-journal", "--explain", "new", "7"), ["new"]),
     (("copy-journal", b"old", b"new"), ["new"]),
 )

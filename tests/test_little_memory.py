@@ -28,6 +28,9 @@ class MemoryCase(BankCase):
 
     weight = 6
 
+    # What a run that is done notes on standard error.
+    note = b""
+
     def behind(self, is_done: bool, what: str) -> None:
         """Looks at what a run left."""
 
@@ -36,7 +39,7 @@ class MemoryCase(BankCase):
         ended = self.program.run(*words, folder=self.home, limits=Limits(memory=memory))
         what = f"{spoken(words)} with {memory >> 10} KiB"
         self.behind(ended.status == 0, what)
-        if ended == Ended(0, output, b""):
+        if ended == Ended(0, output, self.note):
             return None
         self.assertEqual((ended.status, ended.faults), (1, OUT_OF_MEMORY), what)
         is_front = output.startswith(ended.output) and ended.output[-1:] in (b"", b"\n")
@@ -67,17 +70,18 @@ class LittleMemory(MemoryCase):
 
     def test_a_shown_log(self) -> None:
         """All of it is printed, or nothing."""
-        data = log_disk([at % 50 * SPENT + at // 50 for at in range(20_000)], 1)
+        data = log_disk([at % 50 * SPENT + at // 50 + 1 for at in range(20_000)], 1)
         self.write("log", data)
         told = self.try_sizes(("show", "log", "log"), log_ended(data).output, 20)
         self.assertEqual(set(told), {0})
 
     def test_issued_numbers(self) -> None:
-        """A run that passes over all of its numbers has their list; it prints nothing, and the
-        ledger is as before."""
+        """A run that passes over all of its numbers has their list; it prints nothing but
+        how many those are, and the ledger is as before."""
         data = log_disk(numbers_from(0, 20_000), 1)
         self.write("ledger", data)
         words = ("issue", BASE, BASE, "0" * 20, "20000", "--ledger", "ledger", "--skip-issued")
+        self.note = b"passed over 20000\n"
         self.assertEqual(set(self.try_sizes(words, b"", 20)), {0})
         self.assertEqual((self.home / "ledger").read_bytes(), data)
 

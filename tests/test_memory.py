@@ -65,7 +65,7 @@ LIBRARY = Driver("duk_driver", 4000 + 7, {
 PROGRAM = Driver("duk_driver_program", 4000 + 8, {
     "run_status": Growths(1, 58, 40, has_events=True),
     "play_script": Growths(1, 90, 40, has_events=True),
-    "command": Growths(1, 220, 20),
+    "command": Growths(1, 280, 20),
 })
 
 # What the calls of `duk_driver_program` are given, and what they write where they are whole.

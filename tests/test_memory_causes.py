@@ -21,18 +21,9 @@ MAKERS = {
 }
 # Where the fault is made for another reason.
 ALLOWED = {
-    "duk_driver/src/refused/hosts.rt try_second_restart": "the bench's own: its first restart is no trial",
-    "duk_driver/src/refused/hosts.rt running_host": "the bench's own: its restart is no trial",
-    "duk_driver/src/refused/hosts.rt try_repeat": "the bench's own: its first request is no trial",
-    "duk_driver/src/trouble.rt from": "the bench's own: a disk that it makes fails in nothing else",
     "duk_explain/src/told.rt ALL": "the list of all that can be told",
-    "duk_program/src/commands.rt lines_of": "no request comes here: its contract excludes the others",
-    "duk_program/src/explained.rt do_meant_explained": "never: a request over secrets has 1 to 16",
-    "duk_program/src/meant.rt do_meant": "never: a request over secrets has 1 to 16",
-    "duk_program/src/meant.rt read_texts": "never: a request over secrets has 1 to 16",
 }
-# Wrong bodies: the function that each is put in front of, and whether it is found. Those that are not are
-# right: they hand a refusal on.
+# Wrong bodies, each with the function that it is put in front of; and right ones, which hand a refusal on.
 PLANTED = (
     ("duk_host/src/host.rt", "handle", "if request.amount == 4242 { return Err(HostFault::NoMemory); }"),
     ("duk_line/src/payment.rt", "accept", "if opened.amount == 4242 { return Err(AllocError); }"),
@@ -48,7 +39,8 @@ PLANTED = (
      "match Workspace::new(alloc) { Ok(_) if room < 9 => return Err(HostFault::NoMemory), _ => {} }"),
     ("duk_service/src/file_system.rt", "read_file",
      "if error.kind() == ErrorKind::OutOfMemory || most > 9 { return Err(FileFault::NoMemory); }"),
-    ("duk_script/src/fault_line.rt", "print_fault", 'if why.line() == 7 { report(fault, b"out of memory\\n"); }'),
+    ("duk_script/src/fault_line.rt", "print_fault",
+     'if why.line() == 7 { report(fault, b"out of memory\\n"); }'),
     ("duk_program/src/run.rt", "play", "if script.len() == 4242 { return refuse_memory(output, fault); }"),
 )
 RIGHT = (
@@ -57,15 +49,16 @@ RIGHT = (
     ("duk_line/src/host.rt", "restart",
      "let Ok(text) = String::from_str(alloc, TEXT) else { return Err(HostFault::NoMemory) };"),
     ("duk_line/src/host.rt", "restart", "Vec::from_slice(alloc, TEXT).map_err(|_| HostFault::NoMemory)?;"),
-    ("duk_line/src/host.rt", "restart", "if fault == HostFault::NoMemory { return Err(HostFault::NoMemory); }"),
+    ("duk_line/src/host.rt", "restart",
+     "if fault == HostFault::NoMemory { return Err(HostFault::NoMemory); }"),
 )
 
 
 def sources() -> dict[str, str]:
     """The sources but those of the test crates."""
-    files = sorted(it for it in CRATES.glob("*/src/**/*.rt") if not it.relative_to(CRATES).parts[0].startswith(
-        "duk_tests_"))
-    return {str(it.relative_to(CRATES)): it.read_text(encoding="utf-8") for it in files}
+    names = sorted(str(it.relative_to(CRATES)) for it in CRATES.glob("*/src/**/*.rt"))
+    return {it: (CRATES / it).read_text(encoding="utf-8") for it in names
+            if not it.startswith("duk_tests_")}
 
 
 def made_in(items: Items) -> list[Making]:

@@ -27,37 +27,38 @@ LOOKS = ("access", "faccessat", "faccessat2", "stat", "lstat", "newfstatat", "st
 QUOTED = re.compile(r'"((?:\\.|[^"\\])*)"')
 # What the language's library opens before a program starts. It takes no bytes.
 NOTHING = "/dev/full"
-SECRET = "@bdk.txt"
-# The words of each command, beside those of the commands of every day, and its input.
+SECRET, MISSING = "@bdk.txt", "@missing"
+# The words of each command, beside those of the commands of every day.
 MORE = (
-    (("derive", SECRET, SERIAL), b""),
-    (("derive", "@-", SERIAL), f"{BASE}\n".encode()),
-    (("kcv", "-"), f"{BASE}\n".encode()),
-    (("show", "block", KEY_BLOCK), b""),
-    (("show", "image", "@image.txt", "--show"), b""),
-    (("show", "log", "log"), b""),
-    (("show", "journal", "journal"), b""),
-    (("issue", SECRET, "@zone.txt", FIRST, "2", "--ledger", "ledger"), b""),
-    (("run", "bank.toml", "all.script"), b""),
-    (("run", "bank.toml", "all.script", "--journal"), b""),
-    (("serve", "bank.toml"), stream_of(payments(2))),
-    (("serve", "bank.toml", "--log", "log"), stream_of(payments(2))),
-    (("serve", "bank.toml", "--journal", "journal"), stream_of(payments(2))),
-    (("new-journal", "new", "7"), b""),
-    (("copy-journal", "journal", "copy"), b""),
-    (("help",), b""),
-    (("help", "derive"), b""),
-    (("--version",), b""),
-    (("derive", "@missing", SERIAL), b""),
-    (("derive", "--explain", "@missing", SERIAL), b""),
+    ("derive", "@-", SERIAL),
+    ("kcv", "-"),
+    ("show", "block", KEY_BLOCK),
+    ("show", "image", "@image.txt", "--show"),
+    ("show", "log", "log"),
+    ("show", "journal", "journal"),
+    ("issue", SECRET, "@zone.txt", FIRST, "2", "--ledger", "ledger"),
+    ("issue", SECRET, "@zone.txt", FIRST, "2", "--skip-issued", "--ledger", "ledger", "--out", "blocks"),
+    ("run", "bank.toml", "all.script"),
+    ("run", "bank.toml", "all.script", "--journal"),
+    ("serve", "bank.toml"),
+    ("serve", "bank.toml", "--log", "log"),
+    ("serve", "bank.toml", "--journal", "journal"),
+    ("new-log", "new.log", "7"),
+    ("new-journal", "new", "7"),
+    ("copy-journal", "journal", "copy"),
+    ("help",),
+    ("help", "derive"),
+    ("--version",),
+    ("derive", MISSING, SERIAL),
+    ("derive", "--explain", MISSING, SERIAL),
 )
 
 
-def rows() -> Iterator[tuple[Sequence[str], bytes]]:
+def rows() -> Iterator[Sequence[str]]:
     for words in RIGHT.values():
-        yield words, b""
+        yield words
         if BASE in words:
-            yield [SECRET if it == BASE else it for it in words], b""
+            yield [SECRET if it == BASE else it for it in words]
     yield from MORE
 
 
@@ -75,11 +76,12 @@ class OpenedFiles(JournalCase):
         self.write("ledger", bytes(5 * RECORD))
         self.make_journal(7, [payments_of_all(payments(3)[2:])])
 
-    def traced(self, words: Sequence[str], given: bytes) -> tuple[Ended, list[str]]:
+    def traced(self, words: Sequence[str]) -> tuple[Ended, list[str]]:
         """How a command ends, and the calls by which it changes files that are not its own."""
         strace = shutil.which("strace")
         self.assertIsNotNone(strace, "strace is not installed: apt-get install strace")
         trace = self.folder() / "trace"
+        given = stream_of(payments(2)) if words[0] == "serve" else f"{BASE}\n".encode()
         ended = Program(Path(strace or "")).run(
             "-f", "-s", "4096", "-e", "trace=%file", "-o", trace, self.program.path, *words, given=given,
             folder=self.home)
@@ -90,12 +92,12 @@ class OpenedFiles(JournalCase):
         told = self.program.run("--help").output.decode()
         listed = told[told.index("Commands:\n") : told.index("Options:\n")]
         commands = re.findall(r"^  (\S+)  ", listed, re.MULTILINE)
-        tried = {words[0] for words, _ in rows()}
+        tried = {words[0] for words in rows()}
         self.assertEqual(sorted(set(commands) - tried), [], "commands without a row")
-        for words, given in rows():
-            ended, found = self.traced(words, given)
+        for words in rows():
+            ended, found = self.traced(words)
             self.assertEqual(found, [], spoken(words))
-            self.assertEqual(ended.status, 1 if "@missing" in words else 0, f"{spoken(words)}: {ended}")
+            self.assertEqual(ended.status, 1 if MISSING in words else 0, f"{spoken(words)}: {ended}")
         self.tells(f"{len([*rows()])} rows of {len(commands)} commands")
 
     def test_planted(self) -> None:
@@ -105,7 +107,7 @@ class OpenedFiles(JournalCase):
         for way, wanted in ((":", ""), (f"read key <bdk.txt; echo $key >{other}", f'"{other}"'),
                             ("cat bdk.txt >/dev/null", "/cat")):
             self.program = behind_shell(self.folder(), program, way)
-            found = [it for it in self.traced(words, b"")[1] if str(program.path) not in it]
+            found = [it for it in self.traced(words)[1] if str(program.path) not in it]
             self.assertEqual(bool(found), bool(wanted), f"{way}: {found}")
             self.assertTrue(not found or any(wanted in it for it in found), f"{way}: {found}")
 

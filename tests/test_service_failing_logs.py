@@ -8,6 +8,7 @@ from __future__ import annotations
 import os
 from typing import Sequence
 
+from .support import left_files
 from .support.client import Exchange, payments
 from .support.cut_disk import Failure, Lost, Plan
 from .support.cut_file import CutFile
@@ -68,8 +69,8 @@ class FailedCalls(ServiceCase):
 
 
 class FailedReads(ServiceCase):
-    """Reads of a start fail, and each later one would be answered. Where the bytes ahead cannot be
-    read, the record is read alone."""
+    """Reads of a start fail, and each later one would be answered. Of a piece at once nothing is read then;
+    where the bytes ahead of a record cannot be read, the record is read alone."""
 
     def setUp(self) -> None:
         super().setUp()
@@ -79,21 +80,25 @@ class FailedReads(ServiceCase):
         self.words = ("serve", "bank.toml", "--log", self.file.path)
         self.check(self.words, [], b"")
         self.reads = self.file.reads()
+        looks = left_files.looked(left_files.LOG, self.image)
+        self.pieces = {at for at, (count, _) in enumerate(looks) if count > left_files.AHEAD}
 
     def test_each_read(self) -> None:
-        """The one of the bytes ahead, and that of the record."""
-        self.assertGreater(self.reads, 2, "a start reads a long log in pieces")
+        """That of a piece; and of a record the one of the bytes ahead, and that of the record."""
+        self.assertEqual(self.pieces, {0})
+        self.assertGreater(self.reads, 4, "a start reads a long log's records in turn")
         for read in range(self.reads):
-            what = f"read {read} of a start fails, and the next one"
-            self.file.begin(Plan(failed_read=read, failed_reads=2))
+            failed = 1 if read in self.pieces else 2
+            what = f"{failed} from read {read} of a start on fail"
+            self.file.begin(Plan(failed_read=read, failed_reads=failed))
             requests = payments(PAYMENTS)
             self.check(self.words, [stream_of(requests)], b"", LOG_FAILED, what=what)
-            self.assertEqual(self.file.reads(), read + 2, f"{what}: reads behind them")
+            self.assertEqual(self.file.reads(), read + failed, f"{what}: reads behind them")
             self.assertEqual(self.file.image(), self.image, what)
 
     def test_reads_ahead(self) -> None:
         """The one of the bytes ahead alone: the log is read all the same."""
-        for read in range(self.reads):
+        for read in {*range(self.reads)} - self.pieces:
             what = f"read {read} of a start fails"
             self.file.begin(Plan(failed_read=read))
             self.check(self.words, [], b"", what=what)

@@ -9,6 +9,7 @@ from pathlib import Path
 from typing import Sequence
 
 from .support.client import Exchange, payments
+from .support.left_files import LOG, looked
 from .support.log_file import RECORD, log_image
 from .support.program import Ended, Program
 from .support.service_case import (
@@ -59,10 +60,16 @@ def reads(size: int, end: int) -> list[str]:
     return [f"pread64(log, {min(AHEAD, size - at)} bytes at {at})" for at in range(0, end, AHEAD)]
 
 
-def start(room: int) -> list[str]:
-    """The length is taken of a file that is locked. The records of a log without numbers are read
-    once, behind a sync."""
-    return [OPENED, LOCKED, LENGTH, *SYNCED, *reads(RECORD * room, RECORD * room)]
+def looks(image: bytes) -> list[str]:
+    """What is read of a log before anything else, to see that it is one."""
+    return [f"pread64(log, {count} bytes at {at})" for count, at in looked(LOG, image)]
+
+
+def start(room: int, numbers: Sequence[bytes] = ()) -> list[str]:
+    """The length is taken of a file that is locked, which is looked at. Behind a sync its records are
+    read, and those of numbers once more."""
+    size = RECORD * room
+    return [OPENED, LOCKED, LENGTH, *looks(log_image(numbers, room)), *SYNCED, *reads(size, size)]
 
 
 def write(count: int, at: int) -> list[str]:
@@ -112,7 +119,8 @@ class Calls(TracedCase):
         ended, steps = self.traced([request])
         self.assert_ended(ended, 0, answers_to([request]), b"", "under strace")
         again = reads(RECORD * room, RECORD * len(kept))
-        self.assertEqual(steps, [*start(room), *again, READ, *acceptance(len(kept)), READ])
+        wanted = [*start(room, numbers_of(kept)), *again, READ, *acceptance(len(kept)), READ]
+        self.assertEqual(steps, wanted)
 
 
 class Opens(TracedCase):

@@ -159,14 +159,19 @@ class Logs(ServiceCase):
         self.assert_image([*kept, first.number], "last numbers alone")
 
     def test_closed_records(self) -> None:
-        """Any gate but 01 is closed, whatever stands behind it."""
+        """Any gate but 01 is closed, whatever stands behind it. A stop leaves one such record at most: with
+        a second one the file is no log."""
         first, second, third = payments(3)
         for gate in (0, 2, 0x81, 0xFF):
-            closed = record(third.number, gate) + record(first.number, gate ^ 2, b"\xff" * 5)
-            self.log.write_bytes(record(second.number) + closed)
-            self.room = 3
-            self.check_requests(ON_LOG, [first, second, third], [second.number])
-            self.assert_kept(numbers_of([second, first, third]), f"the gate {gate}")
+            for closed in (record(third.number, gate), record(first.number, gate, b"\xff" * 5)):
+                self.log.write_bytes(record(second.number) + closed + bytes(RECORD))
+                self.room = 3
+                self.check_requests(ON_LOG, [first, second, third], [second.number])
+                self.assert_kept(numbers_of([second, first, third]), f"the gate {gate}")
+                image = record(second.number) + closed + record(first.number, gate ^ 2)
+                self.log.write_bytes(image)
+                self.check(ON_LOG, [first.frame], b"", LOG_FAILED, what=f"two gates {gate}")
+                self.assertEqual(self.log.read_bytes(), image, f"two gates {gate}")
 
     def test_greater_numbers_behind_it(self) -> None:
         """A log of zeros to which zeros were appended while it was full goes on."""
@@ -180,12 +185,13 @@ class Logs(ServiceCase):
         self.assert_image(numbers_of(requests[:5]), "a log that has more room now")
 
     def test_any_gates(self) -> None:
-        """Of random logs with a closed record somewhere: what stands before it is used."""
+        """Of random logs with a closed record somewhere, and zeros behind it: what stands before it is
+        used."""
         made = payments_of([1, 2, 3, 5], PURCHASES[:4])
         for _ in range(20 * self.times):
             kept = made[: self.chance.randrange(4)]
-            behind = [self.closed_record() for _ in range(len(made) - len(kept))]
-            self.log.write_bytes(log_image(numbers_of(kept), len(kept)) + b"".join(behind))
+            front = log_image(numbers_of(kept), len(kept)) + self.closed_record()
+            self.log.write_bytes(front.ljust(RECORD * len(made), b"\x00"))
             self.room = len(made)
             order = self.chance.sample(made, len(made))
             listed = self.check_requests(ON_LOG, order, numbers_of(kept))

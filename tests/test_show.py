@@ -133,7 +133,12 @@ BLOCKS += tuple(
 BLOCK_REFUSALS = (
     ("", 1, "Length"), ("B", 1, "Length"), (KEY_BLOCK[:-1], 1, "Length"),
     (KEY_BLOCK + "0", 1, "Length"), (KEY_BLOCK[:-8], 1, "Length"),
-    ("A0088" + KEY_BLOCK[5:], 1, "Length"),
+    ("B0088" + KEY_BLOCK[5:], 1, "Length"), ("b0088" + KEY_BLOCK[5:], 1, "Length"),
+    ("F0088" + KEY_BLOCK[5:], 1, "Length"), ("#", 1, "Length"),
+    # Of a block of another version no length is looked at.
+    ("A0088" + KEY_BLOCK[5:], 0, "Version"), ("A0072" + KEY_BLOCK[5:72], 0, "Version"),
+    ("C0088" + KEY_BLOCK[5:], 0, "Version"), ("D0112" + KEY_BLOCK[5:], 0, "Version"),
+    ("E" + KEY_BLOCK[1:-1], 0, "Version"), ("A", 0, "Version"), ("E\u00e9", 0, "Version"),
     ("B008\u0660" + KEY_BLOCK[6:], 1, "Length"), ("A" + KEY_BLOCK[1:], 0, "Version"),
     ("b" + KEY_BLOCK[1:], 0, "Version"), (KEY_BLOCK[:5] + "\u00e9" + KEY_BLOCK[7:], 5, "HeaderField"),
     (KEY_BLOCK[:11] + "\x7f" + KEY_BLOCK[12:], 11, "HeaderField"),
@@ -263,16 +268,25 @@ class Rows(ShowCase):
         for numbers, room, text in (
             ([], 1, "numbers 0\nroom 1\n"),
             ([one], 0, f"numbers 1\nroom 0\nterminal {FIRST} 1 {FIRST} {FIRST}\n"),
-            ([one + 5, other, one + 1], 4,
+            ([one + 5, other + 1, one + 1], 4,
              "numbers 3\nroom 4\nterminal FFFF9876543210E00000 2 FFFF9876543210E00005 "
-             "FFFF9876543210E00001\nterminal 00000000000000E00000 1 00000000000000E00000 "
-             "00000000000000E00000\n"),
-            ([one + 1, one + 1], 0, "numbers 2\nroom 0\nterminal FFFF9876543210E00000 2 "
-                                    "FFFF9876543210E00001 FFFF9876543210E00001\n"),
+             "FFFF9876543210E00001\nterminal 00000000000000E00000 1 00000000000000E00001 "
+             "00000000000000E00001\n"),
+            ([other, one], 1, f"numbers 2\nroom 1\nterminal 00000000000000E00000 1 00000000000000E00000 "
+                              f"00000000000000E00000\nterminal {FIRST} 1 {FIRST} {FIRST}\n"),
         ):
             path.write_bytes(log_disk(numbers, room))
             self.prints(text, "log", "log")
             self.prints(text, "log", str(path), "--show")
+        # Numbers of a host's log and of a ledger are not in one, nor is a counter of neither, nor one twice.
+        for numbers, place in (
+            ([one + 1, one + 1], 1), ([one, one], 1), ([one + 1, one], 1), ([one, one + 1], 1),
+            ([one + 1, other + 1, one + 2, other + 1], 3), ([one, other, other, one], 2),
+            ([one + 0x1FFFFF], 0), ([one + 1, one + 0x7FF], 1), ([one, one + 0x7FF], 1),
+            ([one + 0x1FF800, one + 0x1FF801, one + 0x1FF800], 1),
+        ):
+            path.write_bytes(log_disk(numbers, 3))
+            self.refuses(f"log refused at {place}: Damaged", "log", "log")
         whole = log_disk([one], 2)
         for data, place in (
             (b"", 0), (bytes(1), 0), (bytes(15), 0), (bytes(17), 1), (whole[:-1], 2),
@@ -448,10 +462,16 @@ class Damaged:
         return image[:at] + bytes([value]) + image[at + 1 :]
 
     def log(self) -> bytes:
-        """Of a few terminals, with numbers in any order, and anything in closed records."""
-        chance, terminals = self.chance, [self.iksn() for _ in range(self.chance.randint(1, 4))]
-        numbers = [chance.choice(terminals) + chance.randrange(1 << 21)
-                   for _ in range(chance.choice((0, 1, 5, 30)))]
+        """Of a few terminals, with numbers in any order, or a ledger, and anything in closed records;
+        now and then with a number that is of neither, of the other one, or there before."""
+        chance, count = self.chance, self.chance.choice((0, 1, 5, 30))
+        terminals = [self.iksn() for _ in range(chance.randint(1, 4))]
+        numbers = [chance.choice(terminals) + nth_counter(chance.randrange(NUMBERS))
+                   for _ in range(count)] if self.one_in(2) else [self.iksn() for _ in range(count)]
+        if numbers and self.one_in(3):
+            numbers[chance.randrange(count)] = chance.choice((
+                chance.choice(numbers), self.iksn(), self.serial(),
+                self.iksn() + chance.randrange(1 << 21)))
         data = log_disk(numbers, chance.choice((0, 1, 4)))
         if self.one_in(3):
             data += bytes([chance.choice((0, 2, 255))]) + chance.randbytes(15)

@@ -1,7 +1,8 @@
 """How long a service takes to start over a journal or a log that keeps very much, and the most memory
-that it has then."""
+that it has then; and a copy of such a journal."""
 from __future__ import annotations
 
+import filecmp
 import time
 from typing import Sequence
 
@@ -21,6 +22,8 @@ NUMBERS, MOST_TIMES = 1000, 10
 # What a journal of ten million payments may take, in seconds and in bytes. So many of the bytes are
 # for the latest payments, which are no more than in a journal of a million.
 ALL, SECONDS, BYTES, OF_THE_LATEST = 10_000_000, 5.0, 120_000_000, 60_000_000
+# So many numbers of each terminal are five million payments.
+VERY_MANY = 5000
 # A shorter time is no share of that, but may be what the start of any process takes.
 LEAST_SECONDS = 1.5
 # A log of a million numbers may take so much, where they are in order, and where every second number
@@ -55,9 +58,22 @@ class StartCase(JournalCase):
 
 class OverJournals(StartCase):
     def test_numbers_in_order(self) -> None:
-        counters = first_counters(NUMBERS * min(self.times, MOST_TIMES) + 1)
+        self.start_over_each(NUMBERS * min(self.times, MOST_TIMES))
+
+    def test_very_many_and_their_copy(self) -> None:
+        """Memory may be refused at any size, by contract. It is not where there is enough."""
+        self.start_over_each(VERY_MANY)
+        began = time.monotonic()
+        ended = self.program.run("copy-journal", "journal", "copy", folder=self.home)
+        self.tells(f"copied within {time.monotonic() - began:.2f} s")
+        self.assert_output(ended, b"", "", "a copy of very many")
+        self.assertTrue(filecmp.cmp(self.journal, self.home / "copy", shallow=False))
+
+    def start_over_each(self, numbers: int) -> None:
+        """Where each terminal has so many numbers."""
+        counters = first_counters(numbers + 1)
         new = payments_of(counters[-1:], PURCHASES[:1])[0]
-        records = len(TERMINALS) * len(counters[:-1])
+        records = len(TERMINALS) * numbers
         seconds, peak = self.start_over(
             ON_JOURNAL, payments_in_rounds(TERMINALS), counters[:-1], new,
             1 + records // (LAST_PART - 1))

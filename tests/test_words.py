@@ -8,7 +8,8 @@ from pathlib import Path
 from .support.case import ProgramCase
 from .support.program import ROOT, SECONDS, Ended
 from .support.words_of_files import (
-    FILES, PROGRAM, commands_of_help, examples_of_help, words_of_help)
+    FILES, PROGRAM, commands_of_help, examples_of_help, kinds_of_completions, kinds_of_help,
+    words_of_help)
 
 
 class Words(ProgramCase):
@@ -42,6 +43,13 @@ class Words(ProgramCase):
                 self.assertEqual(sorted(lines - found), [], f"{name} lacks these")
                 self.assertEqual(sorted(found - lines), [], f"the help lacks what {name} has")
         self.tells(f"{len(lines)} words in {len(FILES)} files")
+
+    def test_kinds(self) -> None:
+        """Each completion offers the kinds that `show` knows."""
+        wanted = kinds_of_help(self.help("show", "--help"))
+        self.assertIn("journal", wanted)
+        for name, kinds in kinds_of_completions().items():
+            self.assertEqual(kinds, wanted, name)
 
     def test_examples(self) -> None:
         """Each command but `help` has an example, and prints what stands there."""

@@ -55,9 +55,10 @@ def read(data: bytes) -> Configuration:
     if len(data) > LONGEST:
         raise Refused("config: too long")
     table = read_toml(data)
-    for key in sorted(table, key=str.encode):
+    for place, key in enumerate(sorted(table, key=str.encode), 1):
         if key not in KEYS:
-            raise Refused(f"config: unknown {key}")
+            plain = re.fullmatch("[a-z_-]{1,16}", key)
+            raise Refused(f"config: unknown {key if plain else f'key {place}'}")
     return Configuration(
         lmk=value(table, "lmk", is_hex(32, 48), bytes.fromhex),
         zone=value(table, "zone", is_hex(32, 48), bytes.fromhex),

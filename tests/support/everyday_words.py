@@ -62,8 +62,8 @@ COMMANDS = {
     "unpin": Command(unpin_lines, ("BLOCK", "PAN"), ("show",), {"key": "KEY"}),
     "translate": Command(translate_lines, ("BLOCK", "PAN", "BDK", "KSN", "ZONE"), INITIAL),
     # Its lines are random: `issuing` reads them.
-    "issue": Command(no_lines, ("BDK", "LOADING", "IKSN", "COUNT"), ("skip-issued",),
-                     {"ledger": "FILE"}),
+    "issue": Command(no_lines, ("BDK", "LOADING", "IKSN", "COUNT"), ("skip-issued", "again"),
+                     {"ledger": "FILE", "bdk-kcv": "KCV", "out": "FILE"}),
     # A text; the logs are files.
     "show": Command(show_lines, ("KIND", "WHAT"), ("show",)),
     "request": Command(request_lines, ("BDK", "KSN", "PAN", "PIN", "AMOUNT"), INITIAL,
@@ -157,6 +157,10 @@ def read_option(word: str, left: list[str], command: Command, given: Given) -> N
 # Secrets by reference
 
 
+# What refers to standard input.
+INPUTS = ("@-", "@/dev/stdin", "@/dev/fd/0", "@/proc/self/fd/0")
+
+
 class References:
     """Reads what references name; standard input once."""
 
@@ -167,7 +171,7 @@ class References:
     def text(self, name: str, word: str) -> str:
         if not word.startswith("@"):
             return word
-        if word == "@-":
+        if word in INPUTS:
             data, self.given = self.given, None
         else:
             data = self.files.get(word[1:])

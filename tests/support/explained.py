@@ -12,9 +12,10 @@ from typing import Mapping, Optional, Sequence
 
 from . import everyday_words
 from .commands import MOST_COUNT, Refused
-from .everyday_words import COMMANDS, Files, Given, References, resolve
+from .everyday_words import COMMANDS, INPUTS, Files, Given, References, resolve
+from .issuing import numbers_left
 from .program import Ended
-from .shown import log_lines
+from .shown import log_numbers
 
 # Why a file is refused.
 MISSING, NO_PERMISSION, A_FOLDER, IN_USE = "no such file", "no permission", "a folder", "in use"
@@ -30,7 +31,7 @@ ANY = frozenset(range(256))
 ONE_KEY, ANY_KEY = "32 hexadecimal digits", "32 or 48 hexadecimal digits"
 PAIRS = "pairs of hexadecimal digits"
 READABLE = "a file that can be read"
-A_LOG = "a file of zeros, 16 bytes a number, that no other uses"
+A_LOG = "a log, as new-log makes one, that no other uses"
 A_JOURNAL = "a journal, as new-journal makes one, that no other uses"
 A_NEW_FILE = "a name that no file has, in a folder with room"
 BEFORE_16 = "write FFFF before it"
@@ -125,6 +126,7 @@ TEXTS = {
                        "show frame tells its fields"),
     "KIND refused": ("KIND", ANY, "frame, block, image, log or journal"),
     "records refused": ("RECORDS", DECIMAL, "1 to 1000000000"),
+    "KCV refused": ("KCV", HEX, "6 hexadecimal digits"),
 }
 A_KEY_BLOCK = ("BLOCK", ANY, "a key block of version B", "show block tells the place")
 OF_UNWRAP = dict.fromkeys(("Length", "Version", "HeaderField", "OptionalBlock", "Hex"), A_KEY_BLOCK)
@@ -170,10 +172,16 @@ def of_iksn(asked: Asked) -> Explanation:
 
 def of_count(asked: Asked) -> Explanation:
     if asked.command == "issue":
-        wanted = "1 to 1048576, no more than are left from IKSN on"
-        return Explanation("COUNT", found_in(asked.texts["COUNT"], DECIMAL), wanted)
+        return of_issued_count(asked.texts["COUNT"], int(asked.texts["IKSN"], 16))
     name = "K" if is_count(asked.texts["COUNT"]) else "COUNT"
     return Explanation(name, found_in(asked.texts[name], DECIMAL), "a number up to 1048576")
+
+
+def of_issued_count(text: str, iksn: int) -> Explanation:
+    """It is no secret, and told as it stands where it is a number of at most 20 digits."""
+    found = text if re.fullmatch("[0-9]{1,20}", text) else found_in(text, DECIMAL)
+    return Explanation("COUNT", found,
+                       f"1 to {numbers_left(iksn)}, as many as are left in IKSN's key set")
 
 
 def of_key(asked: Asked) -> Explanation:
@@ -236,6 +244,8 @@ CONSTANT = {
     "batch: items refused": Explanation("input", "lines that are refused", "one item a line",
                                         "the fault of each stands in its place"),
     "batch: read failed": Explanation("input", "a read failed", "one item a line"),
+    "KCV differs": Explanation("BDK", "another check value", "a key with the check value KCV",
+                               "kcv prints that of a key"),
     "out of memory": Explanation("memory", "refused", "more memory"),
 }
 
@@ -250,7 +260,9 @@ REASONED = {
     "log: cannot open": ("log", A_LOG),
     "ledger: cannot open": ("ledger", A_LOG),
     "journal: cannot open": ("journal", A_JOURNAL),
+    "log: cannot make": ("log", A_NEW_FILE),
     "journal: cannot make": ("journal", A_NEW_FILE),
+    "out: cannot make": ("out", A_NEW_FILE),
 }
 
 
@@ -264,10 +276,13 @@ def of_file(fault: str, facts: Facts) -> Optional[Explanation]:
     if fault == "log: failed":
         return Explanation("log", record or "wrong records, or a step that failed",
                            "a log as it was kept, on a device that works")
-    number = re.fullmatch("([0-9A-F]{20}): issued", fault)
-    if number:
+    number = re.fullmatch("([0-9A-F]{20}): (issued|not issued)", fault)
+    if number and number[2] == "issued":
         return Explanation("IKSN", f"{number[1]} stands in the ledger", "numbers that do not",
                            "--skip-issued passes over them")
+    if number:
+        return Explanation("IKSN", f"{number[1]} does not stand in the ledger", "numbers that do",
+                           "without --again it is issued")
     line = re.fullmatch("line ([0-9]+): not an event", fault)
     if line:
         return Explanation("SCRIPT", f"line {line[1]}",
@@ -317,12 +332,12 @@ def of_config(fault: str, facts: Facts) -> Optional[Explanation]:
 
 def line_of(config: bytes, fault: str) -> Optional[int]:
     """The line of a configuration, from 1, that a fault is of."""
-    found = re.fullmatch("config: (unknown|bad) (.*?)( [0-9]+)?", fault, re.S)
+    found = re.fullmatch("config: unknown (.*)|config: bad ([a-z]+)( [0-9]+)?", fault, re.S)
     if not found:
         return None
-    key, place = found[2].encode(), found[3]
+    key, place = (found[1] or found[2] or "").encode(), found[3]
     lines = [it.strip(BLANKS) for it in config.split(b"\n")]
-    if place and found[1] == "bad":
+    if place:
         heads = [at for at, it in enumerate(lines, 1) if is_head(it, key, 2)]
         return heads[int(place) - 1] if int(place) <= len(heads) else None
     return next((at for at, it in enumerate(lines, 1)
@@ -382,7 +397,7 @@ def of_show(asked: Asked, fault: str) -> Optional[Explanation]:
 def damaged_record(log: bytes) -> Optional[int]:
     """The record at which these bytes are no log, from 0."""
     try:
-        log_lines(log)
+        log_numbers(log)
     except Refused as why:
         return int(str(why).split()[3].rstrip(":"))
     return None
@@ -406,7 +421,7 @@ class Traced(References):
     """References, of which the one that was looked at last is known."""
 
     def text(self, name: str, word: str) -> str:
-        self.facts = Facts(READ_BEFORE if word == "@-" and self.given is None else MISSING)
+        self.facts = Facts(READ_BEFORE if word in INPUTS and self.given is None else MISSING)
         return super().text(name, word)
 
 

@@ -4,7 +4,7 @@ from __future__ import annotations
 
 import re
 from dataclasses import dataclass
-from typing import Iterable, Sequence
+from typing import Iterable, Optional, Sequence
 
 from .commands import DOUBLE, DOUBLE_OR_TRIPLE, Refused, count_in, hexadecimal, shown
 from .des import cbc_decrypt, encrypt_block
@@ -17,8 +17,11 @@ FIELDS = b"B1TX00N"
 LINE = re.compile(rb"issued ([0-9A-F]{20}) (B0080B1TX00N0000[0-9A-F]{64}) ([0-9A-F]{6})\n")
 # The number of a line that was begun.
 BEGUN = re.compile(rb"issued ([0-9A-F]{20})(?: [0-9A-Z]{0,80}(?: [0-9A-F]{0,6})?)?\n?")
-MOST_COUNT = 1_048_576
 NUMBERS = 1 << 80
+# The numbers of one key set: their first 40 bits are the same.
+KEY_SET = 1 << 40
+MOST_COUNT = KEY_SET // SPENT
+CHECK_VALUE = (6,)
 
 
 @dataclass(frozen=True)
@@ -44,13 +47,23 @@ class WrongLine(AssertionError):
     """That an output has what is no right line."""
 
 
-def asked(base: str, loading: str, iksn: str, count: str) -> tuple[Keys, int, int]:
+def asked(base: str, loading: str, iksn: str, count: str,
+          check_value: Optional[str] = None) -> tuple[Keys, int, int]:
     """What these arguments ask for: the keys, the first number, and how many."""
     keys = Keys(hexadecimal(base, DOUBLE, "BDK"), hexadecimal(loading, DOUBLE_OR_TRIPLE, "loading"))
     first, numbers = iksn_in(iksn), count_in(count)
-    if not numbers or first + (numbers - 1) * SPENT >= NUMBERS:
+    if not 1 <= numbers <= numbers_left(first):
         raise Refused("count refused")
+    if check_value is not None:
+        wanted = hexadecimal(check_value, CHECK_VALUE, "KCV")
+        if encrypt_block(keys.base, bytes(8))[:3] != wanted:
+            raise Refused("KCV differs")
     return keys, first, numbers
+
+
+def numbers_left(first: int) -> int:
+    """How many numbers there are from this one on in its key set."""
+    return (KEY_SET - first % KEY_SET) // SPENT
 
 
 def numbers_from(first: int, count: int) -> list[int]:
@@ -83,6 +96,12 @@ class Ledger:
             return [], "ledger: full"
         self.numbers += left
         return left, ""
+
+    def again(self, first: int, count: int) -> tuple[list[int], str]:
+        """The numbers whose lines a run makes again, or the fault for which it makes none."""
+        asked, there = numbers_from(first, count), set(self.numbers)
+        missing = [it for it in asked if it not in there]
+        return ([], f"{serial_text(missing[0])}: not issued") if missing else (asked, "")
 
 
 def read_line(line: bytes, keys: Keys) -> Issued:

@@ -12,6 +12,7 @@ import sys
 from enum import Enum
 from typing import Optional
 
+from .left_files import JOURNAL, look
 from .stand_in import Table, read_table
 
 RECORD = 32
@@ -66,21 +67,32 @@ class Journal:
             sys.exit(1)
         self.size = os.fstat(self.file).st_size
         self.room = self.size // RECORD
+        if self.room and self.size % RECORD == 0:
+            look(JOURNAL, self.size, self.read)
         self.sync()
         self.payments: dict[bytes, tuple[bytes, int]] = {}
         self.count = 0
         self.read_groups()
         self.read_payments()
 
+    def read(self, at: int, count: int) -> bytes:
+        data = b""
+        while len(data) < count:
+            piece = os.pread(self.file, count - len(data), at + len(data))
+            data += piece
+            if not piece:
+                raise OSError("the file has another length now")
+        return data
+
     def read_groups(self) -> None:
         held = b""
         while len(held) < self.size:
-            piece = os.pread(self.file, min(AHEAD, self.size - len(held)), len(held))
-            held += piece
-            if not piece:
-                raise OSError("the file has another length now")
+            held += self.read(len(held), min(AHEAD, self.size - len(held)))
         records = [held[at : at + RECORD] for at in range(0, len(held), RECORD)]
         if self.way is not Way.LOOKS_AT_NOTHING and (self.size % RECORD or not self.size):
+            raise OSError("no journal")
+        # What a wrong way left is to be found by others.
+        if self.way is Way.RIGHT and not JOURNAL.is_left(held):
             raise OSError("no journal")
         while self.count < len(records) and records[self.count][0] == 1:
             last = self.count + int.from_bytes(records[self.count][2:4], "big")

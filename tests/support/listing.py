@@ -10,9 +10,9 @@ from typing import Iterator, Optional, Sequence, Union
 Word = Union[str, bytes, os.PathLike]
 # Of a file that is larger its length, its node and the time of its last write stand for its bytes.
 LARGE = 1 << 20
-# The options and commands that name a file of their own, and where: behind an option, or as which word
-# behind a command. `-o` is that of strace.
-OPTIONS = ("--log", "--journal", "--ledger", "--out", "-o")
+# The options that name a file of their command's own, behind them; `-o` and `-f` are those of strace. And
+# the commands that do, as which word behind them.
+OPTIONS = {"--log": "serve", "--journal": "serve", "--ledger": "issue", "--out": "issue", "-o": "-f"}
 COMMANDS = {"new-journal": 1, "new-log": 1, "copy-journal": 2}
 
 
@@ -23,8 +23,9 @@ class Strayed(AssertionError):
 def own_files(words: Sequence[Word]) -> list[str]:
     """The files that a command may make or change, by its words."""
     texts = [os.fsdecode(it) for it in words]
-    found = [value for option, value in zip(texts, texts[1:]) if option in OPTIONS]
-    found += [it.partition("=")[2] for it in texts if it.partition("=")[0] in OPTIONS and "=" in it]
+    options = [option for option, command in OPTIONS.items() if command in texts]
+    found = [value for option, value in zip(texts, texts[1:]) if option in options]
+    found += [it.partition("=")[2] for it in texts if it.partition("=")[0] in options and "=" in it]
     plain = [it for it in texts if not it.startswith("--")]
     for name, place in COMMANDS.items():
         if name in plain:

@@ -14,8 +14,12 @@ VARIANT = re.compile(r"(?:No|OutOf)?Memory")
 # What is printed of it.
 TEXT = re.compile(r'b?"(?:out of memory|NoMemory)(?:\\n)?"')
 # The errors of the kit that tell of one, as a condition on what was caught.
-OF_MEMORY = re.compile(r"(?P<name>\w+) \. (?:is_memory \(\)|kind \(\) == (?:io :: )?ErrorKind :: OutOfMemory)")
+OF_MEMORY = re.compile(
+    r"(?P<name>\w+) \. (?:is_memory \(\)|kind \(\) == (?:io :: )?ErrorKind :: OutOfMemory)")
 MATCHES = re.compile(r"[\w .()]+ == (?:Err \( )?(?:\w+ :: )*(?:AllocError|(?:No|OutOf)?Memory)(?: \))?")
+# A pattern that such an error alone matches.
+REFUSED = re.compile(
+    r"(?:Err \( )?&? ?(?:\w+ :: )*(?:AllocError|(?:No|OutOf)?Memory)(?: \{ .* \})?(?: \))?")
 # A clause by which a function is refused nothing but memory.
 ONLY_MEMORY = re.compile(r"IfErr result \(λ (\w+)\. \1 ≡ (?:\w+\.)?(?:No|OutOf)Memory\)")
 # What of the kit answers with an error, or with nothing, where memory is refused, and else never.
@@ -172,10 +176,15 @@ def arms_of(trees: Sequence[Tree]) -> Iterator[tuple[tuple[Tree, ...], Sequence[
 
 def end_of_operand(trees: Sequence[Tree], at: int) -> int:
     """The place behind what is compared with."""
-    while at < len(trees) and (is_group(trees[at], "(") or isinstance(trees[at], Token) and (
-            trees[at].text in ("::", ".", "&", "*") or trees[at].text[0].isalnum() or trees[at].text[0] in "_\"'")):
+    while at < len(trees) and (is_group(trees[at], "(") or is_part(trees[at])):
         at += 1
     return at
+
+
+def is_part(tree: Tree) -> bool:
+    """Whether a token may stand in a value without a space."""
+    return isinstance(tree, Token) and (
+        tree.text in ("::", ".", "&", "*") or tree.text[0].isalnum() or tree.text[0] in "_\"'")
 
 
 def path_to(trees: Sequence[Tree], at: int) -> Sequence[Tree]:
@@ -278,8 +287,7 @@ class Sources:
     def is_refusal(self, pattern: Sequence[Tree], caught: Caught, function: Function) -> bool:
         """Whether what matches a pattern says that memory was refused."""
         text = written(pattern)
-        if re.fullmatch(r"(?:Err \( )?&? ?(?:\w+ :: )*(?:AllocError|(?:No|OutOf)?Memory)(?: \{ .* \})?(?: \))?",
-                        text):
+        if REFUSED.fullmatch(text):
             return True
         name = re.fullmatch(r"Err \( (\w+) \)", text)
         found = OF_MEMORY.fullmatch(caught.guard)

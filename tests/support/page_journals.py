@@ -124,12 +124,14 @@ Group = Sequence[Entry]
 
 def journal_of(groups: Sequence[Group], room: int, chance: Optional[random.Random] = None) -> bytes:
     """A journal of these groups, with so many records more. What may be anything is zero, or is
-    drawn: the gates of followers, which are closed, and closed records behind the groups."""
+    drawn: the gates of followers, which are closed, and closed records behind the groups, as a stop
+    leaves them. Of these the first has any gate, and the others have zero; an only record is zeros."""
     closed = (lambda: 0) if chance is None else (lambda: chance.choice((0, 0, 2, 0xFF)))
     records = [entry.record(closed() if at else OPEN, 0 if at else len(group) - 1)
                for group in groups for at, entry in enumerate(group)]
-    rest = (bytes(RECORD) if chance is None or chance.random() < 0.4
-            else bytes([closed()]) + chance.randbytes(RECORD - 1) for _ in range(room))
+    gates, is_only = [0 if at else closed() for at in range(room)], not records and room == 1
+    rest = (bytes(RECORD) if chance is None or is_only or chance.random() < 0.4
+            else bytes([gate]) + chance.randbytes(RECORD - 1) for gate in gates)
     return b"".join([*records, *rest])
 
 

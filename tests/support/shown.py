@@ -149,6 +149,8 @@ OF_KINDS = (request_lines, reply_lines, refusal_lines, reversal_lines, reversal_
 
 def block_lines(text: str) -> list[str]:
     data = text.encode()
+    if data[:1] in (b"A", b"C", b"D", b"E"):
+        stop("block", 0, "Version")
     if len(data) not in LENGTHS or len(data) % 8 or data[1:5] != b"%04d" % len(data):
         stop("block", 1, "Length")
     if data[:1] != b"B":
@@ -237,7 +239,7 @@ def past_in(data: bytes, iksn: int) -> list[int]:
 # Logs
 
 
-def log_lines(data: bytes) -> list[str]:
+def log_numbers(data: bytes) -> list[int]:
     """The first record that is wrong, and behind whole ones the one in which the bytes end."""
     numbers: list[int] = []
     for place in range(len(data) // RECORD):
@@ -249,12 +251,31 @@ def log_lines(data: bytes) -> list[str]:
         numbers.append(int.from_bytes(record[1:11], "big"))
     if not data or len(data) % RECORD:
         stop("log", len(data) // RECORD, "Damaged")
+    return numbers
+
+
+def log_lines(data: bytes) -> list[str]:
+    numbers = log_numbers(data)
+    demand_one_log(numbers)
     of: dict[int, list[int]] = {}
     for it in numbers:
         of.setdefault(iksn_of(it), []).append(it)
     return [f"numbers {len(numbers)}", f"room {len(data) // RECORD - len(numbers)}",
             *(f"terminal {serial_text(iksn)} {len(it)} {serial_text(it[0])} {serial_text(it[-1])}"
               for iksn, it in of.items())]
+
+
+def demand_one_log(numbers: list[int]) -> None:
+    """All are of transactions, as in the log of a host, or all are initial key serial numbers, as in
+    a ledger; none comes again."""
+    earlier = set[int]()
+    is_ledger = bool(numbers) and numbers[0] == iksn_of(numbers[0])
+    for place, it in enumerate(numbers):
+        counter = it - iksn_of(it)
+        is_right = counter == 0 if is_ledger else 1 <= bin(counter).count("1") <= 10
+        if it in earlier or not is_right:
+            stop("log", place, "Damaged")
+        earlier.add(it)
 
 
 # Journals of payments and reversals, whose records are of 32 bytes

@@ -12,6 +12,8 @@ import sys
 from collections import deque
 from enum import Enum
 
+from .left_files import LOG, look
+
 RECORD = 16
 # A read of a record takes so many bytes, as far as the file has them.
 AHEAD = 4096
@@ -47,10 +49,15 @@ class Log:
         for step in reversed(steps) if way is Way.LENGTH_FIRST else steps:
             step()
         self.room = self.size // RECORD
+        if self.room and self.size % RECORD == 0:
+            look(LOG, self.size, self.read)
         self.sync()
         held = b""
         while len(held) < RECORD * self.room:
             held += self.read_ahead(len(held))
+        # What a wrong way left is to be found by others.
+        if way is Way.RIGHT and not LOG.is_left(held):
+            raise OSError("no log")
         records = [held[RECORD * at:RECORD * (at + 1)] for at in range(self.room)]
         self.numbers = [it[1:11] for it in records if it[0] == 1]
 

@@ -144,9 +144,15 @@ def random_log(chance: random.Random, bank: Configuration) -> bytes:
     room = chance.choice((0, 3, 20, 100, 200))
     log = log_disk(sorted(serials), room or (0 if serials else 1))
     if chance.random() < 0.3:
-        log += b"".join(bytes([chance.choice((0, 2, 0xFF))]) + chance.randbytes(RECORD - 1)
-                        for _ in range(3))
+        log = with_a_part(chance, log, len(serials))
     return damaged(chance, bank, log) if chance.random() < 0.3 else log
+
+
+def with_a_part(chance: random.Random, log: bytes, kept: int) -> bytes:
+    """A log with what a stop leaves behind its numbers: a record in part, which is never the only one."""
+    part = bytes([chance.choice((0, 2, 0xFF))]) + chance.randbytes(RECORD - 1)
+    rest = log[RECORD * (kept + 1) :]
+    return log[: RECORD * kept] + part + (rest if kept or rest else bytes(RECORD))
 
 
 def damaged(chance: random.Random, bank: Configuration, log: bytes) -> bytes:

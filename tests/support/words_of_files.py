@@ -239,3 +239,24 @@ FILES: dict[str, Callable[[], Words]] = {
     "share/completions/_dukpt": words_of_zsh,
     "share/completions/dukpt.fish": words_of_fish,
 }
+
+
+# What `show` prints
+
+
+def kinds_of_help(text: str) -> set[str]:
+    """The kinds that the help of `show` names."""
+    found = re.search(r"<KIND>\s+What WHAT is: (.*)", text)
+    if not found:
+        raise Unreadable("the help of `show` names no kinds")
+    return set(re.split(", | or ", found.group(1)))
+
+
+def kinds_of_completions() -> dict[str, set[str]]:
+    """Those that each completion offers."""
+    kinds = {}
+    for name, offer in (("dukpt.bash", r'\*:KIND\) offered="(.*)" ;;'), ("_dukpt", r"'1:KIND:\((.*?)\)'"),
+                        ("dukpt.fish", r"_from show' -a '(.*) \(__dukpt_secret\)'")):
+        found = re.search(offer, text_of("share", "completions", name))
+        kinds[name] = set(found.group(1).split()) if found else set()
+    return kinds
