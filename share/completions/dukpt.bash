@@ -6,7 +6,7 @@ declare -gA _dukpt_arguments=(
     [derive]="BDK KSN --initial --trace --all --explain -h --help"
     [walk]="BDK IKSN COUNT --skip=K --ksn --initial --explain -h --help"
     [initial]="BDK IKSN --explain -h --help"
-    [issue]="BDK LOADING IKSN COUNT --ledger=FILE --skip-issued --explain -h --help"
+    [issue]="BDK LOADING IKSN COUNT --ledger=FILE --bdk-kcv=KCV --out=FILE --skip-issued --again --explain -h --help"
     [registers]="BDK KSN --initial --explain -h --help"
     [kcv]="KEY.. --components --show --explain -h --help"
     [mac]="KEY TEXT --cmac --hex --explain -h --help"
@@ -20,6 +20,7 @@ declare -gA _dukpt_arguments=(
     [reply]="BDK REQUEST ANSWER --initial --explain -h --help"
     [run]="CONFIG SCRIPT --journal --explain -h --help"
     [serve]="CONFIG --log=FILE --journal=FILE --explain -h --help"
+    [new-log]="FILE RECORDS --explain -h --help"
     [new-journal]="FILE RECORDS --explain -h --help"
     [copy-journal]="OLD NEW --explain -h --help"
     [help]="COMMAND"
@@ -76,14 +77,14 @@ _dukpt() {
         [[ $word == --*=* ]] && word=${word#*=}
         case ${words[1]}:$(_dukpt_value "${words[@]}") in
             *:COMMAND) offered=${!_dukpt_arguments[*]} ;;
-            *:KIND) offered="frame block image log" ;;
+            *:KIND) offered="frame block image log journal" ;;
             *:CONFIG | *:SCRIPT | *:FILE | *:OLD | *:NEW) _dukpt_files "$word"; return ;;
             unwrap:BLOCK) ;;
             # A secret may stand in a file.
             *:BDK | *:KBPK | *:LOADING | *:PIN | *:PAN | *:ZONE | *:KEY | *:KEY.. | *:BLOCK)
                 [[ $word == @* ]] && _dukpt_files "${word#@}"
                 return ;;
-            # A log is a file too.
+            # A log or a journal is a file too.
             *:WHAT) _dukpt_files "${word#@}"; return ;;
         esac
     fi

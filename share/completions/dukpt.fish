@@ -38,7 +38,10 @@ complete -c dukpt -n '__fish_seen_subcommand_from initial' -s h -l help -d 'Prin
 complete -c dukpt -n __fish_use_subcommand -a issue -d 'BDK LOADING IKSN COUNT: issue the initial keys (IPEK) of terminals'
 complete -c dukpt -n '__fish_seen_subcommand_from issue' -a '(__dukpt_secret)'
 complete -c dukpt -n '__fish_seen_subcommand_from issue' -l ledger -r -F -d 'FILE: keep the issued numbers in FILE'
+complete -c dukpt -n '__fish_seen_subcommand_from issue' -l bdk-kcv -x -d 'KCV: take BDK by its check value'
+complete -c dukpt -n '__fish_seen_subcommand_from issue' -l out -r -F -d 'FILE: write the lines to FILE'
 complete -c dukpt -n '__fish_seen_subcommand_from issue' -l skip-issued -d 'Pass over the numbers that are issued'
+complete -c dukpt -n '__fish_seen_subcommand_from issue' -l again -d 'Make the lines of issued numbers again'
 complete -c dukpt -n '__fish_seen_subcommand_from issue' -l explain -d 'Say more of a fault'
 complete -c dukpt -n '__fish_seen_subcommand_from issue' -s h -l help -d 'Print help'
 
@@ -91,8 +94,8 @@ complete -c dukpt -n '__fish_seen_subcommand_from unwrap' -a '(__dukpt_secret)'
 complete -c dukpt -n '__fish_seen_subcommand_from unwrap' -l explain -d 'Say more of a fault'
 complete -c dukpt -n '__fish_seen_subcommand_from unwrap' -s h -l help -d 'Print help'
 
-complete -c dukpt -n __fish_use_subcommand -a show -d 'KIND WHAT: print the fields of a frame, a key block, an image or a log'
-complete -c dukpt -n '__fish_seen_subcommand_from show' -a 'frame block image log (__dukpt_secret)' -F
+complete -c dukpt -n __fish_use_subcommand -a show -d 'KIND WHAT: print the fields of a frame, a key block, an image, a log or a journal'
+complete -c dukpt -n '__fish_seen_subcommand_from show' -a 'frame block image log journal (__dukpt_secret)' -F
 complete -c dukpt -n '__fish_seen_subcommand_from show' -l show -d 'Print the keys of an image'
 complete -c dukpt -n '__fish_seen_subcommand_from show' -l explain -d 'Say more of a fault'
 complete -c dukpt -n '__fish_seen_subcommand_from show' -s h -l help -d 'Print help'
@@ -123,6 +126,10 @@ complete -c dukpt -n '__fish_seen_subcommand_from serve' -l journal -r -F -d 'FI
 complete -c dukpt -n '__fish_seen_subcommand_from serve' -l explain -d 'Say more of a fault'
 complete -c dukpt -n '__fish_seen_subcommand_from serve' -s h -l help -d 'Print help'
 
+complete -c dukpt -n __fish_use_subcommand -a new-log -d 'FILE RECORDS: make a new log or ledger'
+complete -c dukpt -n '__fish_seen_subcommand_from new-log' -F
+complete -c dukpt -n '__fish_seen_subcommand_from new-log' -l explain -d 'Say more of a fault'
+complete -c dukpt -n '__fish_seen_subcommand_from new-log' -s h -l help -d 'Print help'
 complete -c dukpt -n __fish_use_subcommand -a new-journal -d 'FILE RECORDS: make a new journal'
 complete -c dukpt -n '__fish_seen_subcommand_from new-journal' -F
 complete -c dukpt -n '__fish_seen_subcommand_from new-journal' -l explain -d 'Say more of a fault'
@@ -134,4 +141,4 @@ complete -c dukpt -n '__fish_seen_subcommand_from copy-journal' -l explain -d 'S
 complete -c dukpt -n '__fish_seen_subcommand_from copy-journal' -s h -l help -d 'Print help'
 
 complete -c dukpt -n __fish_use_subcommand -a help -d 'COMMAND: print help'
-complete -c dukpt -n '__fish_seen_subcommand_from help' -a 'derive walk initial issue registers kcv mac pin unpin translate wrap unwrap show request reply run serve new-journal copy-journal help'
+complete -c dukpt -n '__fish_seen_subcommand_from help' -a 'derive walk initial issue registers kcv mac pin unpin translate wrap unwrap show request reply run serve new-log new-journal copy-journal help'
