@@ -1,0 +1,1 @@
+"""Mistakes planted in the library, and the vectors that find them."""
