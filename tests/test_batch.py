@@ -152,7 +152,10 @@ class Items(BatchCase):
                       ["translate", "-", PAN, BASE, SERIAL, ZONE], ["wrap", "-", "-", "-", "-"],
                       ["request", BASE, "-", "-", "-", "-"], ["reply", BASE, "-", "-"],
                       ["show", "x", "-"], ["show", "", "-"], ["show", "-", REQUEST],
-                      ["show", "-", "-"], ["show", "frames", "-", "--show"]):
+                      ["show", "-", "-"], ["show", "frames", "-", "--show"],
+                      ["show", "frame", "-", "--key", BASE], ["show", "frame", REQUEST, "--key", "-"],
+                      ["find", BASE, "-"], ["find", "-", REQUEST], ["find", BASE, REQUEST, "--from", "-"],
+                      ["find", BASE, BASE[:16], "--from", SERIAL, "--pan", "-"]):
             wanted = expected(words)
             ended = self.in_bash('{ "$0" "$@"; echo $?; cat; } < input', *words)
             printed = wanted.output + b"%d\n1234\n" % wanted.status

@@ -100,6 +100,15 @@ class TestEveryday(ProgramCase):
         self.play("reply", *BASE_FAULTS, "request refused", "answer refused", "NotMine",
                   "BadMac")
 
+    def test_find(self) -> None:
+        self.play("find", *BASE_FAULTS, "WHAT refused", "TEXT refused", "PAN refused", "BLOCK refused",
+                  "KSN refused", "window refused", "not found", "WHAT: cannot read",
+                  *(f"{it}: {why}" for why in READS for it in ("BDK", "PAN", "BLOCK")))
+
+    def test_frames_under_keys(self) -> None:
+        """`show frame` with a key."""
+        self.play("shown_frame", *BASE_FAULTS, "KSN refused", "WHAT: cannot read", "BDK: cannot read")
+
     def test_others(self) -> None:
         """`wrap` and `unwrap`, whose secrets may be references too."""
         self.play("others", "KBPK refused", "Hex", count=2000)

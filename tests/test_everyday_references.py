@@ -67,6 +67,9 @@ class ReferenceCase(ProgramCase):
     def is_as(self, ended: Ended, words: Sequence[str], files: dict[str, bytes],
               given: bytes = b"") -> None:
         wanted = expected(words, files, given)
+        if wanted.status == 2:
+            # The usage stands behind the first line.
+            ended = Ended(ended.status, ended.output, ended.faults.splitlines(True)[0])
         self.assert_ended(ended, wanted.status, wanted.output, wanted.faults,
                           f"{spoken(words)} with {str(files)[:200]}")
 
@@ -279,7 +282,8 @@ class Order(ReferenceCase):
         """One secret is a reference that is refused, and all else is wrong."""
         for command, right in RIGHT.items():
             for place, (at, name) in enumerate(secrets_of(command)):
-                wrong = [word if at_ == 0 or word.startswith("--") else "x"
+                # But the kind of what is shown, on which its options depend.
+                wrong = [word if at_ == 0 or word.startswith("--") or word == "frame" else "x"
                          for at_, word in enumerate(right)]
                 for data, fault in ((None, "cannot read"), (LONG + b"0", "too long"),
                                     (b"\xff", "not UTF-8")):

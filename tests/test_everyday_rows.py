@@ -2,13 +2,16 @@
 what one command gives another."""
 from __future__ import annotations
 
+from itertools import permutations
+
 from .support.case import ProgramCase
 from .support.everyday_rows import BASE, INITIAL, rows
-from .support.everyday_words import COMMANDS, MOST_KEYS, NO_REVERSAL, expected
+from .support.everyday_words import (
+    COMMANDS, MOST_KEYS, NO_REVERSAL, NO_SEARCH, NO_TEST, expected)
 from .support.leaks import SEARCHES_REFUSED_ARGUMENTS
 from .support.program import spoken
 
-NEW = ("initial", "registers", "kcv", "mac", "unpin", "translate", "request", "reply")
+NEW = ("initial", "registers", "kcv", "mac", "unpin", "translate", "request", "reply", "find", "show")
 SERIAL = "FFFF9876543210E00001"
 ONE_LINE = b"error: the following required arguments were not provided:\n"
 
@@ -50,6 +53,15 @@ class Rows(ProgramCase):
         for words in ((BASE, SERIAL), (BASE, SERIAL, "1", "--reverse", SERIAL),
                       (BASE, SERIAL, "1", "1", "1", f"--reverse={SERIAL}")):
             self.refused(f"error: {NO_REVERSAL}\n".encode(), "request", *words)
+        begun, told = ("--from", SERIAL), (("--text", "a"), ("--pan", "1"), ("--clear", "x"))
+        for words in (*told, *((*one, *other, *begun) for one, other in permutations(told, 2)),
+                      ("--hex",), ("--hex", *begun), ("--hex", "--pan", "1", *begun),
+                      ("--hex", "--clear", "x", *begun), ("--hex", "--text", "a")):
+            self.refused(f"error: {NO_SEARCH}\n".encode(), "find", BASE, "x", *words)
+        for words in (("block", "x", "--key", BASE), ("log", "x", "--key", BASE),
+                      ("frames", "x", "--key", BASE), ("", "x", "--key", BASE),
+                      ("frame", "x", "--initial"), ("image", "x", "--initial", "--show")):
+            self.refused(f"error: {NO_TEST}\n".encode(), "show", *words)
         for words in (("walk", "--trace"), ("initial", "--initial"), ("pin", "--show"),
                       ("wrap", "--hex")):
             option = words[1].encode()

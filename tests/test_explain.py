@@ -187,6 +187,9 @@ class Random(ExplainCase):
     def test_blocks_and_frames(self) -> None:
         self.play(1600, "pin", "unpin", "translate", "request", "reply", "others")
 
+    def test_searches(self) -> None:
+        self.play(800, "find", "shown_frame")
+
     def play(self, count: int, *commands: str) -> None:
         draw, tally = Wrong(self.chance, str(self.folder())), Counter[int]()
         with QuickRuns(self.program) as runs:

@@ -96,7 +96,9 @@ complete -c dukpt -n '__fish_seen_subcommand_from unwrap' -s h -l help -d 'Print
 
 complete -c dukpt -n __fish_use_subcommand -a show -d 'KIND WHAT: print the fields of a frame, a key block, an image, a log or a journal'
 complete -c dukpt -n '__fish_seen_subcommand_from show' -a 'frame block image log journal (__dukpt_secret)' -F
-complete -c dukpt -n '__fish_seen_subcommand_from show' -l show -d 'Print the keys of an image'
+complete -c dukpt -n '__fish_seen_subcommand_from show' -l show -d 'Print the keys of an image, or a PIN block'
+complete -c dukpt -n '__fish_seen_subcommand_from show' -l key -x -a '(__dukpt_secret)' -d 'BDK: test the MAC of a frame under BDK'
+complete -c dukpt -n '__fish_seen_subcommand_from show' -l initial -d 'Take BDK as the initial key'
 complete -c dukpt -n '__fish_seen_subcommand_from show' -l explain -d 'Say more of a fault'
 complete -c dukpt -n '__fish_seen_subcommand_from show' -s h -l help -d 'Print help'
 
@@ -112,6 +114,18 @@ complete -c dukpt -n '__fish_seen_subcommand_from reply' -a '(__dukpt_secret)'
 complete -c dukpt -n '__fish_seen_subcommand_from reply' -l initial -d 'Take BDK as the initial key'
 complete -c dukpt -n '__fish_seen_subcommand_from reply' -l explain -d 'Say more of a fault'
 complete -c dukpt -n '__fish_seen_subcommand_from reply' -s h -l help -d 'Print help'
+
+complete -c dukpt -n __fish_use_subcommand -a find -d 'BDK WHAT: find the number and the key that made something'
+complete -c dukpt -n '__fish_seen_subcommand_from find' -a '(__dukpt_secret)'
+complete -c dukpt -n '__fish_seen_subcommand_from find' -l from -x -d 'KSN: begin at KSN'
+complete -c dukpt -n '__fish_seen_subcommand_from find' -l window -x -d 'N: try N numbers at most'
+complete -c dukpt -n '__fish_seen_subcommand_from find' -l text -x -d 'TEXT: find the MAC of TEXT'
+complete -c dukpt -n '__fish_seen_subcommand_from find' -l hex -d 'Take TEXT as hexadecimal'
+complete -c dukpt -n '__fish_seen_subcommand_from find' -l pan -x -a '(__dukpt_secret)' -d 'PAN: find a PIN block of PAN'
+complete -c dukpt -n '__fish_seen_subcommand_from find' -l clear -x -a '(__dukpt_secret)' -d 'BLOCK: find BLOCK enciphered'
+complete -c dukpt -n '__fish_seen_subcommand_from find' -l initial -d 'Take BDK as the initial key'
+complete -c dukpt -n '__fish_seen_subcommand_from find' -l explain -d 'Say more of a fault'
+complete -c dukpt -n '__fish_seen_subcommand_from find' -s h -l help -d 'Print help'
 
 complete -c dukpt -n __fish_use_subcommand -a run -d 'CONFIG SCRIPT: run a script of events'
 complete -c dukpt -n '__fish_seen_subcommand_from run' -F
@@ -141,4 +155,4 @@ complete -c dukpt -n '__fish_seen_subcommand_from copy-journal' -l explain -d 'S
 complete -c dukpt -n '__fish_seen_subcommand_from copy-journal' -s h -l help -d 'Print help'
 
 complete -c dukpt -n __fish_use_subcommand -a help -d 'COMMAND: print help'
-complete -c dukpt -n '__fish_seen_subcommand_from help' -a 'derive walk initial issue registers kcv mac pin unpin translate wrap unwrap show request reply run serve new-log new-journal copy-journal help'
+complete -c dukpt -n '__fish_seen_subcommand_from help' -a 'derive walk initial issue registers kcv mac pin unpin translate wrap unwrap show request reply find run serve new-log new-journal copy-journal help'

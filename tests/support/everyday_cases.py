@@ -7,13 +7,16 @@ from dataclasses import dataclass, field
 from typing import Callable, Optional, Sequence
 
 from .des import encrypt_block
-from .dukpt import COUNTER_BITS, SPENT, derive, iksn_of, key_of, pin_key, serial_text
+from .dukpt import (
+    COUNTER_BITS, SPENT, counter_of, derive, iksn_of, key_of, pin_key, serial_text)
 from .everyday import NUMBERS, nth_counter
 from .everyday_words import COMMANDS, MOST_BYTES, MOST_KEYS, is_secret
+from .finding import keys_of_number
 from .frames import (
     CODES, NO_NUMBER, REASONS, STATES, write_refusal, write_reply, write_request, write_reversal,
     write_reversal_reply)
 from .key_blocks import wrap
+from .macs import cmac, retail_mac
 from .pin_blocks import pin_block
 from .worlds import digits
 
@@ -285,6 +288,80 @@ class Draw:
                 frame[:at] + bytes([frame[at] ^ 1 << self.chance.randrange(8)]) + frame[at + 1 :]))
         return self.written(frame.hex() or "00")
 
+    # What a key of a number made
+
+    def find(self) -> Case:
+        """A search for what a key of a number made, or now and then for what none did."""
+        (base, word), serial = self.key(16), self.serial()
+        flags, own = self.under(base, serial)
+        under = self.chance.choice(keys_of_number(own))[1]
+        what, valued = self.chance.choice((self.sent_frame, self.mac_of_text, self.hidden_pin,
+                                           self.hidden_block))(own, under, serial)
+        first = None if not valued and self.one_in(2) else self.begun(serial)
+        options = {"from": first, "window": self.window(), **valued}
+        if "text" in valued and self.one_in(2):
+            # As bytes in hexadecimal, or now and then as no such text.
+            options["text"] = self.written((valued["text"] or "").encode().hex() or "00")
+            flags = [*flags, "hex"]
+        return self.unfit(self.case("find", word, what, flags=flags, **options))
+
+    def begun(self, serial: int) -> str:
+        """A number from which a search comes upon this one, or now and then not."""
+        counter = counter_of(serial)
+        first = self.chance.choice((serial, serial, iksn_of(serial) + max(0, counter - self.chance.randrange(12)),
+                                    iksn_of(serial) + self.chance.choice(COUNTERS)))
+        return self.written(serial_text(self.serial() if self.one_in(20) else first))
+
+    def window(self) -> str:
+        """How many numbers are tried at most: few, so that a model may try them too."""
+        if self.one_in(12):
+            return self.chance.choice((*NO_COUNTS, "0", "00", "100001", "100000x"))
+        return "0" * self.chance.choice((0, 0, 0, 1, 30)) + str(self.chance.choice((1, 2, 3, 20)))
+
+    def sent_frame(self, own: bytes, _under: bytes, serial: int) -> tuple[str, dict[str, str]]:
+        frame = self.chance.choice((
+            write_request(own, serial, self.pan()[0], self.pin()[0], self.chance.randrange(1 << 32)),
+            write_reversal(own, serial, self.reversed_by(serial)), self.answer(own, serial),
+            self.undoing(own, serial, self.reversed_by(serial))))
+        return self.frame_word(self.forged(frame)), {}
+
+    def mac_of_text(self, _own: bytes, under: bytes, _serial: int) -> tuple[str, dict[str, str]]:
+        text = self.chance.choice((*TEXTS, digits(self.chance, 1, 40)))
+        data = text.encode() or b"\x00"
+        mac = self.chance.choice((retail_mac, cmac))(under, data)
+        return self.written(self.changed(mac).hex()), {"text": text}
+
+    def hidden_pin(self, _own: bytes, under: bytes, _serial: int) -> tuple[str, dict[str, str]]:
+        (pin, _), (pan, pan_word) = self.pin(), self.pan()
+        return self.block(pin, pan, under), {"pan": pan_word}
+
+    def hidden_block(self, _own: bytes, under: bytes, _serial: int) -> tuple[str, dict[str, str]]:
+        clear = self.chance.randbytes(8)
+        return (self.written(self.changed(encrypt_block(under, clear)).hex()),
+                {"clear": self.written(clear.hex())})
+
+    def changed(self, block: bytes) -> bytes:
+        """Now and then another one."""
+        return self.chance.randbytes(8) if self.one_in(8) else block
+
+    def unfit(self, case: Case) -> Case:
+        """Now and then an option is missing that another one requires, or there is one too many."""
+        if self.one_in(24):
+            case.words = [it for it in case.words if not it.startswith("--from=")]
+        elif self.one_in(24):
+            case.words.insert(1, self.chance.choice(("--hex", "--text=a", "--pan=1", "--clear=x")))
+        return case
+
+    def shown_frame(self) -> Case:
+        """`show` of a frame whose MAC is tested."""
+        (base, word), serial = self.key(16), self.serial()
+        flags, own = self.under(base, serial)
+        frame = self.sent_frame(own, own, serial)[0]
+        kind = self.chance.choice(("frame", "block", "x", "")) if self.one_in(40) else "frame"
+        key = None if self.one_in(40) else word
+        return self.case("show", kind, frame, flags=[*flags, *(["show"] if self.one_in(2) else [])],
+                         key=key)
+
     def others(self) -> Case:
         """`wrap` or `unwrap`."""
         return self.chance.choice((self.wrap_case, self.unwrap_case))()
@@ -307,4 +384,4 @@ DRAWS: dict[str, Callable[[Draw], Case]] = {
     "pin": Draw.pin_case,
     **{name: getattr(Draw, name) for name in (
         "derive", "walk", "initial", "registers", "kcv", "mac", "unpin", "translate", "request",
-        "reversal", "reply", "others")}}
+        "reversal", "reply", "find", "shown_frame", "others")}}

@@ -39,9 +39,10 @@ RIGHT = {
     "mac": ["mac", BASE, "text"],
     "unpin": ["unpin", "1B9C1845EB993A7A", PAN, "--key", PIN_KEY, "--show"],
     "translate": ["translate", "1B9C1845EB993A7A", PAN, BASE, SERIAL, ZONE],
-    "show": ["show", "frame", REQUEST, "--show"],
+    "show": ["show", "frame", REQUEST, "--show", "--key", BASE],
     "request": ["request", BASE, SERIAL, PAN, PIN, "1"],
     "reply": ["reply", BASE, REQUEST, REPLY],
+    "find": ["find", BASE, "1B9C1845EB993A7A", "--from", SERIAL, "--pan", PAN],
 }
 
 

@@ -14,6 +14,7 @@ from .commands import Refused, pin_lines, unwrap_lines, wrap_lines
 from .everyday import (
     derive_lines, initial_lines, kcv_lines, mac_lines, registers_lines, reply_lines, request_lines,
     translate_lines, unpin_lines, walk_lines)
+from .finding import find_lines
 from .program import Ended
 from .shown import show_lines
 
@@ -26,7 +27,17 @@ MOST_KEYS = 16
 # Arguments and values of options that are secrets.
 SECRETS = {"BDK", "KBPK", "LOADING", "PIN", "PAN", "ZONE"}
 OF_COMMANDS = {"wrap": {"KEY"}, "kcv": {"KEY"}, "mac": {"KEY"}, "pin": {"KEY"},
-               "unpin": {"KEY", "BLOCK"}, "translate": {"BLOCK"}, "show": {"WHAT"}}
+               "unpin": {"KEY", "BLOCK"}, "translate": {"BLOCK"}, "show": {"WHAT"},
+               "find": {"WHAT", "BLOCK"}}
+
+
+@dataclass
+class Given:
+    """What stands behind a command."""
+
+    values: list[str] = field(default_factory=list)
+    flags: set[str] = field(default_factory=set)
+    valued: dict[str, str] = field(default_factory=dict)
 
 
 @dataclass(frozen=True)
@@ -42,10 +53,38 @@ class Command:
     is_many: bool = False
     # How many of the arguments are demanded, where some may be left out.
     least: Optional[int] = None
+    # Why what is given does not fit together, if it does not.
+    unfit: Optional[Callable[[Given], Optional[str]]] = None
 
 
 def no_lines(*_values: object, **_options: object) -> list[str]:
     raise NotImplementedError("what it writes does not follow from its arguments")
+
+
+NO_REVERSAL = ("PAN, PIN and AMOUNT are required without '--reverse <NUMBER>', "
+               "and cannot be used with it")
+NO_SEARCH = ("'--text <TEXT>', '--pan <PAN>' and '--clear <BLOCK>' cannot be used with each other and "
+             "require '--from <KSN>', and '--hex' requires '--text <TEXT>'")
+NO_TEST = "'--key <BDK>' requires the KIND frame, and '--initial' requires '--key <BDK>'"
+
+
+def unfit_payment(given: Given) -> Optional[str]:
+    """All that a payment has, or a number to reverse, and nothing of a payment."""
+    return NO_REVERSAL if len(given.values) != (2 if "reverse" in given.valued else 5) else None
+
+
+def unfit_search(given: Given) -> Optional[str]:
+    """One at most that tells what is sought, with the number from which on."""
+    told = [it for it in ("text", "pan", "clear") if it in given.valued]
+    is_fit = (len(told) <= 1 and (not told or "from" in given.valued)
+              and ("hex" not in given.flags or told == ["text"]))
+    return None if is_fit else NO_SEARCH
+
+
+def unfit_test(given: Given) -> Optional[str]:
+    """A key tests a frame alone."""
+    is_fit = given.values[0] == "frame" if "key" in given.valued else "initial" not in given.flags
+    return None if is_fit else NO_TEST
 
 
 INITIAL = ("initial",)
@@ -65,15 +104,17 @@ COMMANDS = {
     "issue": Command(no_lines, ("BDK", "LOADING", "IKSN", "COUNT"), ("skip-issued", "again"),
                      {"ledger": "FILE", "bdk-kcv": "KCV", "out": "FILE"}),
     # A text; the logs are files.
-    "show": Command(show_lines, ("KIND", "WHAT"), ("show",)),
+    "show": Command(show_lines, ("KIND", "WHAT"), ("show", "initial"), {"key": "BDK"},
+                    unfit=unfit_test),
     "request": Command(request_lines, ("BDK", "KSN", "PAN", "PIN", "AMOUNT"), INITIAL,
-                       {"reverse": "NUMBER"}, least=2),
+                       {"reverse": "NUMBER"}, least=2, unfit=unfit_payment),
     "reply": Command(reply_lines, ("BDK", "REQUEST", "ANSWER"), INITIAL),
+    "find": Command(find_lines, ("BDK", "WHAT"), ("hex", "initial"),
+                    {"from": "KSN", "window": "N", "text": "TEXT", "pan": "PAN", "clear": "BLOCK"},
+                    unfit=unfit_search),
 }
-NO_REVERSAL = ("PAN, PIN and AMOUNT are required without '--reverse <NUMBER>', "
-               "and cannot be used with it")
 # What an option is called where Python has another use for its name.
-HANDED = {"all": "all_", "hex": "hex_", "cmac": "is_cmac"}
+HANDED = {"all": "all_", "hex": "hex_", "cmac": "is_cmac", "from": "from_"}
 
 
 def is_secret(command: str, name: str) -> bool:
@@ -82,15 +123,6 @@ def is_secret(command: str, name: str) -> bool:
 
 class ArgumentsRefused(Exception):
     """The first line that tells why arguments are refused as such."""
-
-
-@dataclass
-class Given:
-    """What stands behind a command."""
-
-    values: list[str] = field(default_factory=list)
-    flags: set[str] = field(default_factory=set)
-    valued: dict[str, str] = field(default_factory=dict)
 
 
 def read(words: Sequence[str], command: Command) -> Given:
@@ -125,14 +157,9 @@ def demand_count(command: Command, given: Given) -> None:
     least = len(command.values) if command.least is None else command.least
     if len(given.values) < least:
         raise ArgumentsRefused("the following required arguments were not provided:")
-    if command.least is not None:
-        demand_payment(len(given.values) - least, len(command.values) - least, given)
-
-
-def demand_payment(found: int, most: int, given: Given) -> None:
-    """All that a payment has, or a number to reverse, and nothing of a payment."""
-    if found != (0 if "reverse" in given.valued else most):
-        raise ArgumentsRefused(NO_REVERSAL)
+    why = command.unfit(given) if command.unfit else None
+    if why is not None:
+        raise ArgumentsRefused(why)
 
 
 def read_option(word: str, left: list[str], command: Command, given: Given) -> None:
@@ -210,7 +237,7 @@ def resolve(name: str, command: Command, given: Given, references: References) -
 def lines_of(name: str, given: Given) -> list[str]:
     command = COMMANDS[name]
     options: dict[str, object] = {HANDED.get(it, it): True for it in given.flags}
-    options.update(given.valued)
+    options.update({HANDED.get(it, it): value for it, value in given.valued.items()})
     values = [given.values] if command.is_many else given.values
     return command.lines(*values, **options)
 

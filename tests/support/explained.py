@@ -127,6 +127,9 @@ TEXTS = {
     "KIND refused": ("KIND", ANY, "frame, block, image, log or journal"),
     "records refused": ("RECORDS", DECIMAL, "1 to 1000000000"),
     "KCV refused": ("KCV", HEX, "6 hexadecimal digits"),
+    "PAN refused": ("PAN", DECIMAL, "12 to 19 decimal digits"),
+    "BLOCK refused": ("BLOCK", HEX, "16 hexadecimal digits"),
+    "window refused": ("N", DECIMAL, "1 to 100000"),
 }
 A_KEY_BLOCK = ("BLOCK", ANY, "a key block of version B", "show block tells the place")
 OF_UNWRAP = dict.fromkeys(("Length", "Version", "HeaderField", "OptionalBlock", "Hex"), A_KEY_BLOCK)
@@ -150,6 +153,10 @@ def of_text(asked: Asked, fault: str) -> Optional[Explanation]:
 
 
 def of_ksn(asked: Asked) -> Explanation:
+    """That of a frame is read: its counter is not usable."""
+    if asked.command == "show":
+        return Explanation("WHAT", measured(asked.texts["WHAT"], None), "a frame whose number is usable",
+                           "without --key its fields are told")
     text = asked.texts["KSN"]
     way = BEFORE_16 if is_16_digits(text) else ""
     return Explanation("KSN", found_in(text, HEX), "20 hexadecimal digits", way)
@@ -208,8 +215,18 @@ def of_mac_text(asked: Asked) -> Explanation:
     return Explanation("TEXT", found_in(asked.texts["TEXT"], ANY), "one byte or more")
 
 
+def of_sought(asked: Asked) -> Explanation:
+    """Without an option that tells of it, it is a frame."""
+    found = found_in(asked.texts["WHAT"], HEX)
+    if {"TEXT", "PAN", "BLOCK"}.isdisjoint(asked.texts):
+        return Explanation("WHAT", found, "the frame of a request, a reversal or a reply, which has a MAC",
+                           "show frame tells its fields")
+    return Explanation("WHAT", found, "16 hexadecimal digits")
+
+
 OF_ONE = {"KSN refused": of_ksn, "counter refused": of_counter, "IKSN refused": of_iksn,
-          "count refused": of_count, "key refused": of_key, "text refused": of_mac_text}
+          "count refused": of_count, "key refused": of_key, "text refused": of_mac_text,
+          "WHAT refused": of_sought, "TEXT refused": of_mac_text}
 
 # Faults whose line says all that is known.
 
@@ -246,6 +263,9 @@ CONSTANT = {
     "batch: read failed": Explanation("input", "a read failed", "one item a line"),
     "KCV differs": Explanation("BDK", "another check value", "a key with the check value KCV",
                                "kcv prints that of a key"),
+    "not found": Explanation("WHAT", "made by no key that was tried",
+                             "its key, and its number among those that are tried",
+                             "--from and --window choose the numbers"),
     "out of memory": Explanation("memory", "refused", "more memory"),
 }
 

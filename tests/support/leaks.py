@@ -12,6 +12,8 @@ from .dukpt import SPENT, derive, initial_key, iksn_of, key_of, pin_key
 from .everyday_cases import Case
 from .everyday_words import (
     COMMANDS, ArgumentsRefused, Given, References, is_secret, lines_of, read, resolve)
+from .finding import frame_with_mac, keys_of_number
+from .frames import Request
 from .images import IMAGE_1
 from .pin_blocks import pin_block, pin_in
 from .program import Ended
@@ -125,10 +127,48 @@ def made_secrets(name: str, given: Given) -> set[str]:
     if name == "issue":
         base, first = bytes.fromhex(values[0]), int(values[2], 16)
         return {shown(initial_key(base, first + at * SPENT)) for at in range(int(values[3]))}
+    if name == "find":
+        return made_by_search(given)
+    if name == "show" and "key" in given.valued:
+        return made_by_test(given)
     if name == "show" and values[0] == "image" and "show" not in given.flags:
         image = bytes.fromhex(values[1])
         return {shown(image[at : at + 16]) for at in range(14, IMAGE_1, 16)} - {"0" * 32}
     return set()
+
+
+def base_of(word: str, serial: int, given: Given) -> bytes:
+    """The initial key of a number's terminal, by the first key of these words."""
+    key = bytes.fromhex(word)
+    return key if "initial" in given.flags else initial_key(key, iksn_of(serial))
+
+
+def made_by_search(given: Given) -> set[str]:
+    """The keys of the number that is found, the initial key, and a PIN block and a PIN."""
+    line = lines_of("find", given)[0].split()
+    serial = int(line[1], 16)
+    first = base_of(given.values[0], serial, given)
+    keys = dict(keys_of_number(key_of(first, serial)))
+    found = {shown(it) for it in (first, *keys.values())}
+    if "pan" not in given.valued:
+        return found
+    clear = decrypt_block(keys[line[2]], bytes.fromhex(given.values[1]))
+    return found | opened(clear, given.valued["pan"])
+
+
+def made_by_test(given: Given) -> set[str]:
+    """The keys of the number of a frame, the initial key, and a request's PIN block and PIN; that
+    block stands there where it is asked for."""
+    frame = frame_with_mac(bytes.fromhex(given.values[1]))
+    if frame is None:
+        return set()
+    first = base_of(given.valued["key"], frame.serial, given)
+    keys = dict(keys_of_number(key_of(first, frame.serial)))
+    found = {shown(it) for it in (first, *keys.values())}
+    if not isinstance(frame, Request):
+        return found
+    clear = decrypt_block(keys["pin"], frame.block.to_bytes(8, "big"))
+    return found | opened(clear, frame.pan) - ({shown(clear)} if "show" in given.flags else set())
 
 
 def combined(words: list[str]) -> str:

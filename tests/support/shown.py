@@ -3,14 +3,18 @@ journal, read by docs/FORMATS.md; or the first field that is wrong, and where it
 from __future__ import annotations
 
 import re
-from typing import Callable, NoReturn
+from typing import Callable, NoReturn, Optional
 
-from .commands import Refused, shown
+from .commands import DOUBLE, Refused, hexadecimal, shown
+from .des import decrypt_block
 from .dukpt import (
-    COUNTER_BITS, MOST_PAST, NO_KEY, SPENT, counter_of, held, iksn_of, serial_text, usable)
-from .frames import reverses
+    COUNTER_BITS, MOST_PAST, NO_KEY, SPENT, counter_of, held, initial_key, iksn_of, key_of, pin_key,
+    request_key, response_key, serial_text, usable)
+from .finding import frame_with_mac
+from .frames import Request, Reversal, reverses
 from .images import IMAGE_1, IMAGE_2, RECORD
 from .key_blocks import HEXADECIMAL, LENGTHS, PRINTED
+from .macs import retail_mac
 from .pin_blocks import PAN_LENGTHS
 from .program import Ended
 
@@ -369,11 +373,32 @@ KINDS: dict[str, Callable[[str], list[str]]] = {
     "frame": frame_lines, "block": block_lines, "image": image_lines}
 
 
-def show_lines(kind: str, what: str, show: bool = False) -> list[str]:
+def show_lines(kind: str, what: str, show: bool = False, key: Optional[str] = None,
+               initial: bool = False) -> list[str]:
     """The lines of a text."""
     if kind not in KINDS:
         raise Refused("KIND refused")
+    if key is not None:
+        return checked_lines(what, show, key, initial)
     return image_lines(what, show) if kind == "image" else KINDS[kind](what)
+
+
+def checked_lines(what: str, show: bool, key: str, initial: bool) -> list[str]:
+    """The lines of a frame, and what its MAC is under the key of its number."""
+    base = hexadecimal(key, DOUBLE, "initial" if initial else "BDK")
+    lines, frame = frame_lines(what), frame_with_mac(bytes.fromhex(what))
+    if frame is None:
+        return lines
+    if not usable(counter_of(frame.serial)):
+        raise Refused("KSN refused")
+    own = key_of(base if initial else initial_key(base, iksn_of(frame.serial)), frame.serial)
+    is_sent = isinstance(frame, (Request, Reversal))
+    mac = retail_mac(request_key(own) if is_sent else response_key(own), frame.text)
+    lines += [f"mac-expected {shown(mac)}", f"mac-check {'right' if mac == frame.mac else 'wrong'}"]
+    if show and isinstance(frame, Request):
+        clear = decrypt_block(pin_key(own), frame.block.to_bytes(8, "big"))
+        lines.append(f"clear-pin-block {shown(clear)}")
+    return lines
 
 
 def ended(kind: str, what: str, show: bool = False) -> Ended:

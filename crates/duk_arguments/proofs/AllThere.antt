@@ -51,7 +51,9 @@ are_found rows (request.Translate block pan bdk ksn zone initial) f = (some f.0,
 are_found rows (request.MakeRequest bdk ksn pan pin amount initial) f = (some f.0, (some f.1.0, (tt, (tt, (tt, (tt, (tt, tt)))))))
 are_found rows (request.MakeReversal bdk ksn reversed initial) f = (some f.0, (some f.1.0, (tt, (tt, (tt, (tt, (tt, tt)))))))
 are_found rows (request.CheckReply bdk asked answer initial) f = (some f.0, (some f.1.0, (some f.1.1.0, (tt, tt))))
-are_found rows (request.Show kind what show) f = (some f.0, (some f.1.0, (tt, tt)))
+are_found rows (request.Find bdk what seeking window initial) f = (some f.0, (some f.1.0, (tt, (tt, (tt, (tt, (tt, (tt, (tt, tt)))))))))
+are_found rows (request.CheckFrame what bdk show initial) f = (some f.0, (some f.1.0, (tt, (tt, (tt, tt)))))
+are_found rows (request.Show kind what show) f = (some f.0, (some f.1.0, (tt, (tt, (tt, tt)))))
 are_found rows (request.Issue bdk loading iksn count ledger way) f = (some f.0, (some f.1.0, (some f.1.1.0, (some f.1.1.1.0, (some f.1.1.1.1.0, (tt, (tt, (tt, (tt, tt)))))))))
 
 -- a command is the one of its name
@@ -71,6 +73,7 @@ found_by_name command_name.Unwrap = refl
 found_by_name command_name.Show = refl
 found_by_name command_name.Request = refl
 found_by_name command_name.Reply = refl
+found_by_name command_name.Find = refl
 found_by_name command_name.Run = refl
 found_by_name command_name.Serve = refl
 found_by_name command_name.NewLog = refl

@@ -62,6 +62,10 @@ pub enters_reply : Enters (codes "reply") (leaf_of (codes "reply"))
 unfolding clap_on_literals
 enters_reply = record { met = refl; turn = refl; finds = refl }
 
+pub enters_find : Enters (codes "find") (leaf_of (codes "find"))
+unfolding clap_on_literals
+enters_find = record { met = refl; turn = refl; finds = refl }
+
 pub enters_run : Enters (codes "run") (leaf_of (codes "run"))
 unfolding clap_on_literals
 enters_run = record { met = refl; turn = refl; finds = refl }

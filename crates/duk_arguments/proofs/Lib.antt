@@ -8,6 +8,7 @@ mod OneRequest
 pub mod PlainArguments
 mod ReadBlocks
 mod ReadFiles
+mod ReadFind
 mod ReadFrames
 mod ReadKcv
 mod ReadKeys

@@ -1,12 +1,12 @@
 -- The arguments ask for one request at most.
-use Rattle.std.proofs.Common.{◌≡◌, ◌∷◌, ◌∙◌, ◌++◌, ◌⊎◌, [], Bool, List, None, Option, Some, ap, ap₂, codes, false, if◌then◌else◌, inl, inr, map, refl, subst, sym}
-use Rattle.std.specs.Prelude.{⊤, find, is_some, unwrap_or}
+use Rattle.std.proofs.Common.{◌≡◌, ◌∷◌, ◌∙◌, ◌++◌, [], Bool, List, None, Option, ap, ap₂, false, if◌then◌else◌, map, refl, sym}
+use Rattle.std.specs.Prelude.{find, is_some, unwrap_or}
 use Rattle.std.specs.List.{flat_map}
 use Rattle.std.specs.Option.{option_map_or}
 use Rattle.std.specs.Str.{bytes_eq}
 use Rattle.clap.specs.Simple.{Shape}
-use Rattle.clap.specs.Walk.{Row, Rule, Text, all_of, first_of, one_of}
-use Rattle.duk_arguments.specs.Asked.{AsksFor, IsFound, IsFlag}
+use Rattle.clap.specs.Walk.{Row, Rule, Text, all_of, first_of}
+use Rattle.duk_arguments.specs.Asked.{AsksFor, IsFound, is_flagged}
 use Rattle.duk_arguments.specs.CommandLine.{command_line}
 use Rattle.duk_arguments.specs.Given.{Each, Given, flag, given_of, name_of, named, needed, optional, several, valued}
 use Rattle.duk_arguments.specs.Written.{arguments_of, option_named, words_of}
@@ -56,14 +56,10 @@ keys_are (request.Translate block pan bdk ksn zone initial) = refl
 keys_are (request.MakeRequest bdk ksn pan pin amount initial) = refl
 keys_are (request.MakeReversal bdk ksn reversed initial) = refl
 keys_are (request.CheckReply bdk asked answer initial) = refl
+keys_are (request.Find bdk what seeking window initial) = refl
+keys_are (request.CheckFrame what bdk show initial) = refl
 keys_are (request.Show kind what show) = refl
 keys_are (request.Issue bdk loading iksn count ledger way) = refl
-
--- a flag was found, or none was
-abbrev pub HasFlag : List Row → Given → Type 0
-HasFlag rows (flag name there) = (one_of name rows ≡ None) ⊎ ((one_of name rows ≡ Some (codes "true"))
-    ⊎ (one_of name rows ≡ Some (codes "false")))
-HasFlag rows _ = ⊤
 
 -- how what was found under this key is written
 abbrev words_by : List Row → Given → List Text
@@ -71,60 +67,41 @@ words_by rows (needed name text) = unwrap_or (first_of name rows) [] ∷ []
 words_by rows (optional name text) = words_of (optional name (first_of name rows))
 words_by rows (valued name text) = words_of (valued name (first_of name rows))
 words_by rows (named name text) = option_named name ∷ unwrap_or (first_of name rows) [] ∷ []
-words_by rows (flag name there) =
-    words_of (flag name (option_map_or (bytes_eq (codes "true")) (one_of name rows) false))
+words_by rows (flag name there) = words_of (flag name (is_flagged name rows))
 words_by rows (several name texts) = unwrap_or (all_of name rows) []
 
-flag_is_found : (rows : List Row) (name : Text) (there : Bool) → IsFlag rows name there
-    → HasFlag rows (flag name false)
-    → there ≡ option_map_or (bytes_eq (codes "true")) (one_of name rows) false
-flag_is_found rows name there is (inl none) =
-    is.0 none ∙ sym (ap (λ (o : Option Text). option_map_or (bytes_eq (codes "true")) o false) none)
-flag_is_found rows name there is (inr (inl is_there)) =
-    is.1 is_there ∙ sym (ap (λ (o : Option Text). option_map_or (bytes_eq (codes "true")) o false) is_there)
-flag_is_found rows name there is (inr (inr is_not)) =
-    is.2 is_not ∙ sym (ap (λ (o : Option Text). option_map_or (bytes_eq (codes "true")) o false) is_not)
-
-words_are : (rows : List Row) (given : Given) → IsFound rows given → HasFlag rows (key_of given)
+words_are : (rows : List Row) (given : Given) → IsFound rows given
     → words_of given ≡ words_by rows (key_of given)
-words_are rows (needed name text) found flagged =
+words_are rows (needed name text) found =
     sym (ap (λ (o : Option Text). unwrap_or o [] ∷ []) found)
-words_are rows (optional name text) found flagged =
+words_are rows (optional name text) found =
     sym (ap (λ (o : Option Text). words_of (optional name o)) found)
-words_are rows (valued name text) found flagged =
+words_are rows (valued name text) found =
     sym (ap (λ (o : Option Text). words_of (valued name o)) found)
-words_are rows (named name text) found flagged =
+words_are rows (named name text) found =
     sym (ap (λ (o : Option Text). option_named name ∷ unwrap_or o [] ∷ []) found)
-words_are rows (flag name there) found flagged =
-    ap (λ (b : Bool). words_of (flag name b)) (flag_is_found rows name there found flagged)
-words_are rows (several name texts) found flagged =
+words_are rows (flag name there) found = ap (λ (b : Bool). words_of (flag name b)) found
+words_are rows (several name texts) found =
     sym (ap (λ (o : Option (List Text)). unwrap_or o []) found)
 
 all_words_are : (rows : List Row) (given : List Given) → Each (IsFound rows) given
-    → Each (HasFlag rows) (map key_of given)
     → flat_map words_of given ≡ flat_map (words_by rows) (map key_of given)
-all_words_are rows [] found flagged = refl
-all_words_are rows (first ∷ rest) found flagged =
-    ap₂ (λ (xs ys : List Text). xs ++ ys) (words_are rows first found.0 flagged.0)
-    (all_words_are rows rest found.1 flagged.1)
+all_words_are rows [] found = refl
+all_words_are rows (first ∷ rest) found =
+    ap₂ (λ (xs ys : List Text). xs ++ ys) (words_are rows first found.0)
+    (all_words_are rows rest found.1)
 
 -- how the request is written, by the command and what was found after it
 arguments_are : (command : Text) (rows : List Row) (asked : Request) → AsksFor command rows asked
-    → Each (HasFlag rows) (keys_of command)
     → arguments_of asked ≡ command ∷ flat_map (words_by rows) (keys_of command)
-arguments_are command rows asked asks flagged =
+arguments_are command rows asked asks =
     let keys : map key_of (given_of asked) ≡ keys_of command =
     keys_are asked ∙ ap keys_of (sym asks.0) in
     ap₂ (λ (name : Text) (words : List Text). name ∷ words) (sym asks.0)
     (all_words_are rows (given_of asked) asks.1
-    (subst (λ (given : List Given). Each (HasFlag rows) given) (sym keys) flagged)
     ∙ ap (λ (given : List Given). flat_map (words_by rows) given) keys)
 
-pub one_request : (command : Text) (rows : List Row) (a b : Request)
-    → Each (HasFlag rows) (map key_of (given_of b)) → AsksFor command rows a
+pub one_request : (command : Text) (rows : List Row) (a b : Request) → AsksFor command rows a
     → AsksFor command rows b → arguments_of a ≡ arguments_of b
-one_request command rows a b flagged p q =
-    let takes : Each (HasFlag rows) (keys_of command) =
-    subst (λ (given : List Given). Each (HasFlag rows) given)
-    (keys_are b ∙ ap keys_of (sym q.0)) flagged in
-    arguments_are command rows a p takes ∙ sym (arguments_are command rows b q takes)
+one_request command rows a b p q =
+    arguments_are command rows a p ∙ sym (arguments_are command rows b q)

@@ -152,12 +152,46 @@ reads_show kind what false plain = record {
   quiet = refl;
   ends = refl;
   named = refl;
-  shown = (refl, (refl, (refl, tt)));
+  shown = (refl, (refl, (refl, (refl, (refl, tt)))));
 }
 reads_show kind what true plain = record {
   goes = (plain.0, refl, refl, (plain.1.0, refl, refl, tt));
   quiet = refl;
   ends = refl;
   named = refl;
-  shown = (refl, (refl, (refl, tt)));
+  shown = (refl, (refl, (refl, (refl, (refl, tt)))));
+}
+
+pub reads_check_frame : (what bdk : Bor Text) (show initial : Bool)
+    → IsPlainRequest (request.CheckFrame what bdk show initial)
+    → IsRead (leaf_of (codes "show")) (all_marked (request.CheckFrame what bdk show initial))
+    (request.CheckFrame what bdk show initial)
+unfolding clap_on_literals
+reads_check_frame what bdk false false plain = record {
+  goes = (plain.0, refl, refl, (plain.1.0, refl, refl, (plain.1.1.1.0, refl, refl, tt)));
+  quiet = refl;
+  ends = refl;
+  named = refl;
+  shown = (refl, (refl, (refl, (refl, (refl, tt)))));
+}
+reads_check_frame what bdk false true plain = record {
+  goes = (plain.0, refl, refl, (plain.1.0, refl, refl, (plain.1.1.1.0, refl, refl, tt)));
+  quiet = refl;
+  ends = refl;
+  named = refl;
+  shown = (refl, (refl, (refl, (refl, (refl, tt)))));
+}
+reads_check_frame what bdk true false plain = record {
+  goes = (plain.0, refl, refl, (plain.1.0, refl, refl, (plain.1.1.1.0, refl, refl, tt)));
+  quiet = refl;
+  ends = refl;
+  named = refl;
+  shown = (refl, (refl, (refl, (refl, (refl, tt)))));
+}
+reads_check_frame what bdk true true plain = record {
+  goes = (plain.0, refl, refl, (plain.1.0, refl, refl, (plain.1.1.1.0, refl, refl, tt)));
+  quiet = refl;
+  ends = refl;
+  named = refl;
+  shown = (refl, (refl, (refl, (refl, (refl, tt)))));
 }

@@ -1,21 +1,22 @@
 -- The command that is entered, and what its own arguments leave to show.
-use Rattle.std.proofs.Common.{◌≡◌, ◌∷◌, ◌∙◌, ◌++◌, [], ℕ, Bool, List, None, Option, Some, ap, ap₂, arith, codes, false, find, fold, if◌then◌else◌, inl, inr, is_some, map, refl, subst, sym, true}
+use Rattle.std.proofs.Common.{◌≡◌, ◌∷◌, ◌∙◌, ◌++◌, [], Bool, List, None, Option, Some, ap, ap₂, codes, false, find, fold, if◌then◌else◌, is_some, map, refl, subst, sym, true}
 use Rattle.std.proofs.lemmas.List.{map-append}
 use Rattle.std.specs.Prelude.{option_map}
 use Rattle.std.specs.List.{flat_map}
 use Rattle.std.specs.Option.{option_map_or}
+use Rattle.std.specs.Str.{bytes_eq}
 use Rattle.clap.specs.Faults.{check_fault, defaults_fault, entered_fault, fault_of, level_fault, settle_fault, turn_fault, walk_fault}
 use Rattle.clap.specs.Kinds.{Kinds, or_else}
 use Rattle.clap.specs.Simple.{App, Shape, built, entered, label_of, names_of, rows_at, subcommand_of}
-use Rattle.clap.specs.Walk.{Held, Names, Row, Text, Walk, all_of, answers_to, finished, first_of, nothing_held, one_of, settled, walk, walk_from, walked}
+use Rattle.clap.specs.Walk.{Held, Names, Row, Text, Walk, all_of, answers_to, finished, first_of, nothing_held, settled, walk, walk_from, walked}
 use Rattle.clap.proofs.FaultLemmas.{stopped_fault}
 use Rattle.clap.proofs.WalkLemmas.{walk_stopped}
-use Rattle.duk_arguments.specs.Asked.{Asks, AsksFor, AsksAfter, IsFlag, IsFound}
+use Rattle.duk_arguments.specs.Asked.{Asks, AsksFor, AsksAfter, IsFound, is_flagged}
 use Rattle.duk_arguments.specs.CommandLine.{command_line}
 use Rattle.duk_arguments.specs.Given.{Each, Given, flag, given_of, name_of, named, needed, optional, several, valued}
 use Rattle.duk_arguments.specs.declared.request.Request.{Request}
 use Rattle.duk_arguments.specs.Written.{arguments_of, option_named, words_of}
-use Rattle.duk_arguments.proofs.OneRequest.{HasFlag, key_of, one_request}
+use Rattle.duk_arguments.proofs.OneRequest.{one_request}
 use Rattle.duk_arguments.proofs.PlainArguments.{Goes, Marked, after, all_faults, all_walked, faults_after}
 
 abbrev pub top : App
@@ -98,32 +99,16 @@ IsShown rows (optional name text) = first_of name rows ≡ text
 IsShown rows (valued name text) = first_of name rows ≡ text
 IsShown rows (named name text) = first_of name rows ≡ Some text
 IsShown rows (flag name there) =
-    one_of name rows ≡ Some (if there then codes "true" else codes "false")
+    first_of name rows ≡ Some (if there then codes "true" else codes "false")
 IsShown rows (several name texts) = all_of name rows ≡ Some texts
 
-abbrev first_byte : Option Text → ℕ
-first_byte (Some (x ∷ rest)) = x
-first_byte _ = 0
-
 is_flag : (rows : List Row) (name : Text) (there : Bool)
-    → one_of name rows ≡ Some (if there then codes "true" else codes "false")
-    → IsFlag rows name there
-is_flag rows name false is = (
-  λ none. refl,
-  λ other.
-      let same : ◌≡◌ {A = Option Text} (Some (codes "false")) (Some (codes "true")) = sym is ∙ other in
-      let bad : 102 ≡ 116 = ap first_byte same in absurd (omega arith),
-  λ same. refl,
-)
-is_flag rows name true is = (
-  λ none.
-      let same : ◌≡◌ {A = Option Text} (Some (codes "true")) (None) = sym is ∙ none in
-      let bad : 116 ≡ 0 = ap first_byte same in absurd (omega arith),
-  λ same. refl,
-  λ other.
-      let same : ◌≡◌ {A = Option Text} (Some (codes "true")) (Some (codes "false")) = sym is ∙ other in
-      let bad : 116 ≡ 102 = ap first_byte same in absurd (omega arith),
-)
+    → first_of name rows ≡ Some (if there then codes "true" else codes "false")
+    → there ≡ is_flagged name rows
+is_flag rows name false is =
+    sym (ap (λ (o : Option Text). option_map_or (bytes_eq (codes "true")) o false) is)
+is_flag rows name true is =
+    sym (ap (λ (o : Option Text). option_map_or (bytes_eq (codes "true")) o false) is)
 
 all_found : (rows : List Row) (given : List Given) → Each (IsShown rows) given
     → Each (IsFound rows) given
@@ -135,19 +120,6 @@ all_found rows (named name text ∷ rest) shown = (shown.0, all_found rows rest 
 all_found rows (flag name there ∷ rest) shown =
     (is_flag rows name there shown.0, all_found rows rest shown.1)
 all_found rows (several name texts ∷ rest) shown = (shown.0, all_found rows rest shown.1)
-
-all_flagged : (rows : List Row) (given : List Given) → Each (IsShown rows) given
-    → Each (HasFlag rows) (map key_of given)
-all_flagged rows [] shown = tt
-all_flagged rows (needed name text ∷ rest) shown = (tt, all_flagged rows rest shown.1)
-all_flagged rows (optional name text ∷ rest) shown = (tt, all_flagged rows rest shown.1)
-all_flagged rows (valued name text ∷ rest) shown = (tt, all_flagged rows rest shown.1)
-all_flagged rows (named name text ∷ rest) shown = (tt, all_flagged rows rest shown.1)
-all_flagged rows (flag name true ∷ rest) shown =
-    (inr (inl shown.0), all_flagged rows rest shown.1)
-all_flagged rows (flag name false ∷ rest) shown =
-    (inr (inr shown.0), all_flagged rows rest shown.1)
-all_flagged rows (several name texts ∷ rest) shown = (tt, all_flagged rows rest shown.1)
 
 -- after their command the arguments are read without a fault, and as those of the request
 pub record IsRead (leaf : Shape) (arguments : List Marked) (request : Request) : Type 0 where
@@ -202,7 +174,6 @@ made program name leaf enters arguments request is =
       taken = are_taken program name leaf enters arguments request is;
       asks = subst (λ (found : Option (Text × List Row)). AsksAfter found request) (sym used) asked;
       only = λ other also. one_request leaf.name rows other request
-          (all_flagged rows (given_of request) is.shown)
           (subst (λ (found : Option (Text × List Row)). AsksAfter found other) used also) asked;
     }
 

@@ -4,10 +4,11 @@ use Rattle.clap.specs.Walk.{Text}
 use Rattle.duk_arguments.specs.Written.{IsPlainRequest, arguments_of}
 use Rattle.duk_arguments.specs.declared.request.Request.{Request}
 use Rattle.duk_arguments.specs.declared.request.Request.TheVariants as request
-use Rattle.duk_arguments.proofs.Entered.{leaf_of, enters_derive, enters_walk, enters_pin, enters_wrap, enters_unwrap, enters_run, enters_serve, enters_initial, enters_registers, enters_kcv, enters_mac, enters_unpin, enters_translate, enters_request, enters_reply, enters_show, enters_issue, enters_new_log, enters_new_journal, enters_copy_journal}
+use Rattle.duk_arguments.proofs.Entered.{leaf_of, enters_derive, enters_walk, enters_pin, enters_wrap, enters_unwrap, enters_run, enters_serve, enters_initial, enters_registers, enters_kcv, enters_mac, enters_unpin, enters_translate, enters_request, enters_reply, enters_find, enters_show, enters_issue, enters_new_log, enters_new_journal, enters_copy_journal}
 use Rattle.duk_arguments.proofs.TopLevel.{Make, make}
-use Rattle.duk_arguments.proofs.ReadBlocks.{reads_mac, reads_pin, reads_unpin, reads_translate, reads_wrap, reads_unwrap, reads_show}
+use Rattle.duk_arguments.proofs.ReadBlocks.{reads_mac, reads_pin, reads_unpin, reads_translate, reads_wrap, reads_unwrap, reads_show, reads_check_frame}
 use Rattle.duk_arguments.proofs.ReadFiles.{reads_run, reads_serve, reads_new_log, reads_new_journal, reads_copy_journal}
+use Rattle.duk_arguments.proofs.ReadFind.{reads_find}
 use Rattle.duk_arguments.proofs.ReadFrames.{reads_request, reads_reversal, reads_reply}
 use Rattle.duk_arguments.proofs.ReadKcv.{reads_kcv}
 use Rattle.duk_arguments.proofs.ReadKeys.{reads_derive, reads_walk, reads_initial, reads_issue, reads_registers}
@@ -72,6 +73,12 @@ all_made program (request.MakeReversal bdk ksn reversed initial) plain =
 all_made program (request.CheckReply bdk asked answer initial) plain =
     make program (leaf_of (codes "reply")) (request.CheckReply bdk asked answer initial) enters_reply
     (reads_reply bdk asked answer initial plain)
+all_made program (request.Find bdk what seeking window initial) plain =
+    make program (leaf_of (codes "find")) (request.Find bdk what seeking window initial) enters_find
+    (reads_find bdk what seeking window initial plain)
+all_made program (request.CheckFrame what bdk show initial) plain =
+    make program (leaf_of (codes "show")) (request.CheckFrame what bdk show initial) enters_show
+    (reads_check_frame what bdk show initial plain)
 all_made program (request.Show kind what show) plain =
     make program (leaf_of (codes "show")) (request.Show kind what show) enters_show
     (reads_show kind what show plain)

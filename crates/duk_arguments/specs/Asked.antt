@@ -1,9 +1,11 @@
 -- What the arguments of the command line ask for: this project's own, over the matches of the crate
 -- `clap`.
-use Rattle.std.specs.Prelude.{◌≡◌, ◌⊎◌, ⊤, List, Bool, Option, Some, None, IsSomeAnd, [], map}
+use Rattle.std.specs.Prelude.{◌≡◌, ◌⊎◌, ⊤, List, Bool, Option, Some, IsSomeAnd, [], map}
 use Rattle.std.specs.Prelude.{true, false, not, codes, String, string_bytes}
 use Rattle.std.specs.List.{list_any}
-use Rattle.clap.specs.Words.{Row, Text, all_of, fault_of, first_of, one_of, subcommand_of}
+use Rattle.std.specs.Option.{option_map_or}
+use Rattle.std.specs.Str.{bytes_eq}
+use Rattle.clap.specs.Words.{Row, Text, all_of, fault_of, first_of, subcommand_of}
 use Rattle.clap.specs.declared.error.kind.ErrorKind.{ErrorKind}
 use Rattle.clap.specs.declared.error.kind.ErrorKind.TheVariants.{DisplayHelp, DisplayVersion}
 use Rattle.duk_arguments.specs.CommandLine.{command_line}
@@ -16,12 +18,9 @@ use Rattle.duk_arguments.specs.declared.request.Request.{Request}
 abbrev pub texts_of : {A : Type 0} → List (String A) → List Text
 texts_of arguments = map string_bytes arguments
 
--- whether a flag was found
-abbrev pub IsFlag : List Row → Text → Bool → Type 0
-IsFlag rows name there =
-    (one_of name rows ≡ None → there ≡ false)
-    × (one_of name rows ≡ Some (codes "true") → there ≡ true)
-    × (one_of name rows ≡ Some (codes "false") → there ≡ false)
+-- whether a flag was found, whose text is then `true`
+abbrev pub is_flagged : Text → List Row → Bool
+is_flagged name rows = option_map_or (bytes_eq (codes "true")) (first_of name rows) false
 
 -- what is given was found, under its own name
 abbrev pub IsFound : List Row → Given → Type 0
@@ -29,7 +28,7 @@ IsFound rows (needed name text) = first_of name rows ≡ Some text
 IsFound rows (optional name text) = first_of name rows ≡ text
 IsFound rows (valued name text) = first_of name rows ≡ text
 IsFound rows (named name text) = first_of name rows ≡ Some text
-IsFound rows (flag name there) = IsFlag rows name there
+IsFound rows (flag name there) = there ≡ is_flagged name rows
 IsFound rows (several name texts) = all_of name rows ≡ Some texts
 
 -- this is the command of the request, and all that the request gives was found after it

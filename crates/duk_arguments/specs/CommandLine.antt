@@ -104,10 +104,11 @@ abbrev pub unwrap_command : Shape
 unwrap_command = command (codes "unwrap")
     (argument_rule (codes "KBPK") ∷ argument_rule (codes "BLOCK") ∷ [])
 
--- show KIND WHAT [--show]
+-- show KIND WHAT [--show] [--key BDK] [--initial]
 abbrev pub show_command : Shape
 show_command = command (codes "show")
-    (argument_rule (codes "KIND") ∷ argument_rule (codes "WHAT") ∷ flag_rule (codes "show") ∷ [])
+    (argument_rule (codes "KIND") ∷ argument_rule (codes "WHAT") ∷ flag_rule (codes "show")
+    ∷ option_rule (codes "key") ∷ flag_rule (codes "initial") ∷ [])
 
 -- request BDK KSN [PAN] [PIN] [AMOUNT] [--reverse NUMBER] [--initial]
 abbrev pub request_command : Shape
@@ -121,6 +122,14 @@ abbrev pub reply_command : Shape
 reply_command = command (codes "reply")
     (argument_rule (codes "BDK") ∷ argument_rule (codes "REQUEST")
     ∷ argument_rule (codes "ANSWER") ∷ flag_rule (codes "initial") ∷ [])
+
+-- find BDK WHAT [--from KSN] [--window N] [--text TEXT] [--hex] [--pan PAN] [--clear BLOCK]
+-- [--initial]
+abbrev pub find_command : Shape
+find_command = command (codes "find")
+    (argument_rule (codes "BDK") ∷ argument_rule (codes "WHAT") ∷ option_rule (codes "from")
+    ∷ option_rule (codes "window") ∷ option_rule (codes "text") ∷ flag_rule (codes "hex")
+    ∷ option_rule (codes "pan") ∷ option_rule (codes "clear") ∷ flag_rule (codes "initial") ∷ [])
 
 -- run CONFIG SCRIPT [--journal]
 abbrev pub run_command : Shape
@@ -174,9 +183,9 @@ abbrev pub block_commands : List Shape
 block_commands = mac_command ∷ pin_command ∷ unpin_command ∷ translate_command ∷ wrap_command
     ∷ unwrap_command ∷ show_command ∷ []
 
--- the commands over frames
+-- the commands over frames, and the one that finds what made one
 abbrev pub frame_commands : List Shape
-frame_commands = request_command ∷ reply_command ∷ []
+frame_commands = request_command ∷ reply_command ∷ find_command ∷ []
 
 -- the commands over files
 abbrev pub file_commands : List Shape

@@ -1,5 +1,5 @@
 -- What a request gives on the command line: this project's own.
-use Rattle.std.specs.Prelude.{◌∷◌, [], ⊤, Bool, List, None, Option, Some, codes}
+use Rattle.std.specs.Prelude.{◌∷◌, [], ⊤, Bool, List, None, Option, Some, codes, false}
 use Rattle.std.specs.Option.{option_map}
 use Rattle.clap.specs.Words.{Text}
 use Rattle.duk_arguments.specs.Keys.{texts_of_keys}
@@ -7,6 +7,8 @@ use Rattle.duk_arguments.specs.declared.request.Kept.{Kept}
 use Rattle.duk_arguments.specs.declared.request.Kept.TheVariants as kept
 use Rattle.duk_arguments.specs.declared.request.Request.{Request}
 use Rattle.duk_arguments.specs.declared.request.Request.TheVariants as request
+use Rattle.duk_arguments.specs.declared.request.Sought.{Sought}
+use Rattle.duk_arguments.specs.declared.request.Sought.TheVariants as sought
 
 -- what stands after a command under a name: an argument that has to be there, one that may be left
 -- out, an option with its value, one that has to be there, an option that is there or not, and an
@@ -27,6 +29,32 @@ log_in _ = None
 abbrev pub journal_in : Kept → Option Text
 journal_in (kept.InJournal path) = Some path.now
 journal_in _ = None
+
+-- the number at which a search begins, where it is given
+abbrev pub first_in : Sought → Option Text
+first_in (sought.Frame from) = option_map (λ text. text.now) from
+first_in (sought.Mac text hex from) = Some from.now
+first_in (sought.PinBlock pan from) = Some from.now
+first_in (sought.Ciphertext clear from) = Some from.now
+
+-- the text of a MAC that is sought, and whether it is in hexadecimal
+abbrev pub text_in : Sought → Option Text
+text_in (sought.Mac text hex from) = Some text.now
+text_in _ = None
+
+abbrev pub text_is_hex : Sought → Bool
+text_is_hex (sought.Mac text hex from) = hex
+text_is_hex _ = false
+
+-- the PAN of a PIN block that is sought
+abbrev pub pan_in : Sought → Option Text
+pan_in (sought.PinBlock pan from) = Some pan.now
+pan_in _ = None
+
+-- the block whose ciphertext is sought
+abbrev pub clear_in : Sought → Option Text
+clear_in (sought.Ciphertext clear from) = Some clear.now
+clear_in _ = None
 
 -- the command of a request
 abbrev pub name_of : Request → Text
@@ -49,6 +77,8 @@ name_of (request.Translate block pan bdk ksn zone initial) = codes "translate"
 name_of (request.MakeRequest bdk ksn pan pin amount initial) = codes "request"
 name_of (request.MakeReversal bdk ksn reversed initial) = codes "request"
 name_of (request.CheckReply bdk asked answer initial) = codes "reply"
+name_of (request.Find bdk what seeking window initial) = codes "find"
+name_of (request.CheckFrame what bdk show initial) = codes "show"
 name_of (request.Show kind what show) = codes "show"
 name_of (request.Issue bdk loading iksn count ledger way) = codes "issue"
 
@@ -111,8 +141,20 @@ given_of (request.MakeReversal bdk ksn reversed initial) =
 given_of (request.CheckReply bdk asked answer initial) =
     needed (codes "BDK") bdk.now ∷ needed (codes "REQUEST") asked.now
     ∷ needed (codes "ANSWER") answer.now ∷ flag (codes "initial") initial ∷ []
+given_of (request.Find bdk what seeking window initial) =
+    needed (codes "BDK") bdk.now ∷ needed (codes "WHAT") what.now
+    ∷ valued (codes "from") (first_in seeking)
+    ∷ valued (codes "window") (option_map (λ text. text.now) window)
+    ∷ valued (codes "text") (text_in seeking) ∷ flag (codes "hex") (text_is_hex seeking)
+    ∷ valued (codes "pan") (pan_in seeking) ∷ valued (codes "clear") (clear_in seeking)
+    ∷ flag (codes "initial") initial ∷ []
+given_of (request.CheckFrame what bdk show initial) =
+    needed (codes "KIND") (codes "frame") ∷ needed (codes "WHAT") what.now
+    ∷ flag (codes "show") show ∷ valued (codes "key") (Some bdk.now)
+    ∷ flag (codes "initial") initial ∷ []
 given_of (request.Show kind what show) =
-    needed (codes "KIND") kind.now ∷ needed (codes "WHAT") what.now ∷ flag (codes "show") show ∷ []
+    needed (codes "KIND") kind.now ∷ needed (codes "WHAT") what.now ∷ flag (codes "show") show
+    ∷ valued (codes "key") None ∷ flag (codes "initial") false ∷ []
 given_of (request.Issue bdk loading iksn count ledger way) =
     needed (codes "BDK") bdk.now ∷ needed (codes "LOADING") loading.now
     ∷ needed (codes "IKSN") iksn.now ∷ needed (codes "COUNT") count.now

@@ -24,7 +24,7 @@ use std::alloc::{AllocError, Global};
 const VERSION: &str = "0.1.0";
 
 /// The program's commands, in the order in which help lists them.
-fn commands() -> [CommandName; 20]
+fn commands() -> [CommandName; 21]
     ensures { map shape_named result ≡ command_line.subs }
 {
     [
@@ -43,6 +43,7 @@ fn commands() -> [CommandName; 20]
         CommandName::Show,
         CommandName::Request,
         CommandName::Reply,
+        CommandName::Find,
         CommandName::Run,
         CommandName::Serve,
         CommandName::NewLog,
@@ -71,6 +72,7 @@ pub(crate) fn usage_of<'a>(command: CommandName) -> Usage<'a>
         CommandName::Show => blocks::show(),
         CommandName::Request => frames::request(),
         CommandName::Reply => frames::reply(),
+        CommandName::Find => frames::find(),
         CommandName::Run => files::run(),
         CommandName::Serve => files::serve(),
         CommandName::NewLog => files::new_log(),

@@ -3,11 +3,12 @@
 ghost use Rattle.std.specs.Prelude.{◌≡◌, ◌↔◌, IfSome, IsSome, IsSomeAnd, IsTrue, None, Some, codes, map, option_map};
 ghost use Rattle.std.specs.Option.{option_copied};
 ghost use Rattle.clap.specs.Words.{all_of, first_of, found_of, rows_of, subcommand_rows_of};
-ghost use Rattle.duk_arguments.specs.Asked.{AsksAfter, AsksFor, IsFlag};
-ghost use Rattle.duk_arguments.specs.CommandLine.{derive_command, walk_command, initial_command, issue_command, registers_command, kcv_command, mac_command, pin_command, unpin_command, translate_command, wrap_command, unwrap_command, show_command, request_command, reply_command, run_command, serve_command, new_log_command, new_journal_command, copy_journal_command};
-ghost use Rattle.duk_arguments.specs.Given.{Each, journal_in, log_in};
+ghost use Rattle.duk_arguments.specs.Asked.{AsksAfter, AsksFor, is_flagged};
+ghost use Rattle.duk_arguments.specs.CommandLine.{derive_command, walk_command, initial_command, issue_command, registers_command, kcv_command, mac_command, pin_command, unpin_command, translate_command, wrap_command, unwrap_command, show_command, request_command, reply_command, find_command, run_command, serve_command, new_log_command, new_journal_command, copy_journal_command};
+ghost use Rattle.duk_arguments.specs.Given.{Each, clear_in, first_in, journal_in, log_in, pan_in, text_in, text_is_hex};
 ghost use Rattle.duk_arguments.specs.Keys.{texts_of_keys};
 ghost use Rattle.duk_arguments.specs.declared.request.Request.{Request};
+ghost use Rattle.duk_arguments.specs.declared.request.Sought.{Sought};
 ghost use Rattle.duk_arguments.specs.inner.Asked.{AreThere, HaveRoom, IsThere};
 ghost use Rattle.duk_arguments.specs.inner.CommandLine.{rule_of_argument, shape_named};
 
@@ -15,7 +16,7 @@ use crate::commands::arguments::Argument;
 use crate::commands::name::CommandName;
 use crate::commands::{command_named, usage_of};
 use crate::keys::Keys;
-use crate::request::{IssueWay, Kept, Request};
+use crate::request::{IssueWay, Kept, Request, Sought};
 use clap::ArgMatches;
 
 /// The request of the command that was used, over what was found after it.
@@ -102,9 +103,10 @@ fn whole_request<'a>(command: CommandName, found: &ArgMatches<'a>) -> Option<Req
         CommandName::Translate => Some(translate_request(found)),
         CommandName::Wrap => Some(wrap_request(found)),
         CommandName::Unwrap => Some(unwrap_request(found)),
-        CommandName::Show => Some(show_request(found)),
+        CommandName::Show => show_request(found),
         CommandName::Request => make_request(found),
         CommandName::Reply => Some(check_reply(found)),
+        CommandName::Find => find_request(found),
         CommandName::Run => Some(run_request(found)),
         CommandName::Serve => serve_request(found),
         CommandName::NewLog => Some(new_log_request(found)),
@@ -262,14 +264,27 @@ fn unwrap_request<'a>(found: &ArgMatches<'a>) -> Request<'a>
     }
 }
 
-fn show_request<'a>(found: &ArgMatches<'a>) -> Request<'a>
+/// The request of `show`: the MAC is tested of a frame alone, and the key that is an initial key is
+/// the one that tests it.
+fn show_request<'a>(found: &ArgMatches<'a>) -> Option<Request<'a>>
     requires { AreThere (rows_of (found_of found.now)) show_command }
-    ensures { AsksFor (codes "show") (rows_of (found_of found.now)) result }
+    ensures asks { IfSome result (AsksFor (codes "show") (rows_of (found_of found.now))) }
+    ensures all { (request : Request)
+        → AsksFor (codes "show") (rows_of (found_of found.now)) request → IsSome result }
 {
-    Request::Show {
-        kind: text(found, "KIND"),
-        what: text(found, "WHAT"),
-        show: flag(found, "show"),
+    let kind = text(found, "KIND");
+    let what = text(found, "WHAT");
+    let show = flag(found, "show");
+    let initial = flag(found, "initial");
+    match value(found, "key") {
+        None if !initial => Some(Request::Show { kind, what, show }),
+        Some(bdk) if kind == "frame" => Some(Request::CheckFrame {
+            what,
+            bdk,
+            show,
+            initial,
+        }),
+        _ => None,
     }
 }
 
@@ -317,6 +332,57 @@ fn check_reply<'a>(found: &ArgMatches<'a>) -> Request<'a>
         request: text(found, "REQUEST"),
         answer: text(found, "ANSWER"),
         initial: flag(found, "initial"),
+    }
+}
+
+/// The request of `find`, where its options fit each other.
+fn find_request<'a>(found: &ArgMatches<'a>) -> Option<Request<'a>>
+    requires { AreThere (rows_of (found_of found.now)) find_command }
+    ensures asks { IfSome result (AsksFor (codes "find") (rows_of (found_of found.now))) }
+    ensures all { (request : Request)
+        → AsksFor (codes "find") (rows_of (found_of found.now)) request → IsSome result }
+{
+    let sought = sought_by(
+        value(found, "from"),
+        value(found, "text"),
+        flag(found, "hex"),
+        value(found, "pan"),
+        value(found, "clear"),
+    )?;
+    Some(Request::Find {
+        bdk: text(found, "BDK"),
+        what: text(found, "WHAT"),
+        sought,
+        window: value(found, "window"),
+        initial: flag(found, "initial"),
+    })
+}
+
+/// What is sought, by the values of its options: one of TEXT, PAN and BLOCK at most, each with the
+/// number at which the search begins, and without them a frame.
+fn sought_by<'a>(
+    from: Option<&'a str>,
+    text: Option<&'a str>,
+    hex: bool,
+    pan: Option<&'a str>,
+    clear: Option<&'a str>,
+) -> Option<Sought<'a>>
+    ensures from { IfSome result (λ sought. first_in sought ≡ option_copied from.entry) }
+    ensures text { IfSome result (λ sought. text_in sought ≡ option_copied text.entry) }
+    ensures hex { IfSome result (λ sought. text_is_hex sought ≡ hex) }
+    ensures pan { IfSome result (λ sought. pan_in sought ≡ option_copied pan.entry) }
+    ensures clear { IfSome result (λ sought. clear_in sought ≡ option_copied clear.entry) }
+    ensures all { (sought : Sought) → first_in sought ≡ option_copied from.entry
+        → text_in sought ≡ option_copied text.entry → text_is_hex sought ≡ hex
+        → pan_in sought ≡ option_copied pan.entry → clear_in sought ≡ option_copied clear.entry
+        → IsSome result }
+{
+    match (text, pan, clear, from) {
+        (None, None, None, from) if !hex => Some(Sought::Frame { from }),
+        (Some(text), None, None, Some(from)) => Some(Sought::Mac { text, hex, from }),
+        (None, Some(pan), None, Some(from)) if !hex => Some(Sought::PinBlock { pan, from }),
+        (None, None, Some(clear), Some(from)) if !hex => Some(Sought::Ciphertext { clear, from }),
+        _ => None,
     }
 }
 
@@ -421,9 +487,11 @@ fn texts<'f, 'a>(found: &'f ArgMatches<'a>, name: &str) -> Option<&'f [&'a str]>
 }
 
 /// Whether a flag was found.
-#[tactic(auto, using(crate::proofs::FoundRows::by_rows))]
 fn flag(found: &ArgMatches<'_>, name: &str) -> bool
-    ensures { IsFlag (rows_of (found_of found.now)) name.now result }
+    ensures { result ≡ is_flagged name.now (rows_of (found_of found.now)) }
 {
-    found.get_flag(name)
+    match value(found, name) {
+        Some(text) => text == "true",
+        None => false,
+    }
 }

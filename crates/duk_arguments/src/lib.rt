@@ -11,4 +11,4 @@ mod request;
 
 pub use keys::Keys;
 pub use reading::read_request;
-pub use request::{IssueWay, Kept, NoRequest, Request};
+pub use request::{IssueWay, Kept, NoRequest, Request, Sought};

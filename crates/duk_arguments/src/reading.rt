@@ -73,6 +73,10 @@ enum Conflict {
     Stores,
     /// A number that `request` reverses, and what it takes of a payment.
     Reversal,
+    /// What `find` is told of what it finds.
+    Sought,
+    /// What `show` shows, and the key that tests a frame.
+    FrameKey,
 }
 
 impl Conflict {
@@ -81,6 +85,8 @@ impl Conflict {
         match self {
             Conflict::Stores => CommandName::Serve,
             Conflict::Reversal => CommandName::Request,
+            Conflict::Sought => CommandName::Find,
+            Conflict::FrameKey => CommandName::Show,
         }
     }
 
@@ -89,6 +95,8 @@ impl Conflict {
         match self {
             Conflict::Stores => "dukpt serve",
             Conflict::Reversal => "dukpt request",
+            Conflict::Sought => "dukpt find",
+            Conflict::FrameKey => "dukpt show",
         }
     }
 
@@ -101,6 +109,12 @@ impl Conflict {
             Conflict::Reversal => {
                 "PAN, PIN and AMOUNT are required without '--reverse <NUMBER>', and cannot be used with it"
             }
+            Conflict::Sought => {
+                "'--text <TEXT>', '--pan <PAN>' and '--clear <BLOCK>' cannot be used with each other and require '--from <KSN>', and '--hex' requires '--text <TEXT>'"
+            }
+            Conflict::FrameKey => {
+                "'--key <BDK>' requires the KIND frame, and '--initial' requires '--key <BDK>'"
+            }
         }
     }
 }
@@ -109,6 +123,8 @@ impl Conflict {
 fn conflict_in(matches: &ArgMatches<'_>) -> Conflict {
     match matches.subcommand_name() {
         Some("request") => Conflict::Reversal,
+        Some("find") => Conflict::Sought,
+        Some("show") => Conflict::FrameKey,
         _ => Conflict::Stores,
     }
 }

@@ -196,6 +196,31 @@ pub enum Request<'a> {
         /// Whether `bdk` is the terminal's initial key.
         initial: bool,
     },
+    /// The number, and which of its keys, that made a frame's MAC, the MAC of a text, a PIN block or a
+    /// ciphertext.
+    Find {
+        /// The base derivation key, or the terminal's initial key, as written.
+        bdk: &'a str,
+        /// What the key made, as written.
+        what: &'a str,
+        /// What that is, and the number at which the search begins.
+        sought: Sought<'a>,
+        /// How many numbers are tried at most, as written.
+        window: Option<&'a str>,
+        /// Whether `bdk` is the terminal's initial key.
+        initial: bool,
+    },
+    /// The fields of a frame, and whether its MAC is right.
+    CheckFrame {
+        /// The frame, as written.
+        what: &'a str,
+        /// The base derivation key, or the terminal's initial key, as written.
+        bdk: &'a str,
+        /// Whether to print the deciphered PIN block too.
+        show: bool,
+        /// Whether `bdk` is the terminal's initial key.
+        initial: bool,
+    },
     /// The fields of a frame, a key block, a terminal's image or a log of used numbers.
     Show {
         /// Which of them it is, as written.
@@ -219,6 +244,39 @@ pub enum Request<'a> {
         ledger: &'a str,
         /// In which way they are issued.
         way: IssueWay<'a>,
+    },
+}
+
+/// What was made by the key that is sought, and the key serial number at which the search begins.
+#[derive(Clone, Copy)]
+pub enum Sought<'a> {
+    /// The MAC of a frame.
+    Frame {
+        /// The first number, as written; without one it is the first of the frame's own terminal.
+        from: Option<&'a str>,
+    },
+    /// The MAC of a text.
+    Mac {
+        /// The text, or its bytes in hexadecimal.
+        text: &'a str,
+        /// Whether `text` is in hexadecimal.
+        hex: bool,
+        /// The first number, as written.
+        from: &'a str,
+    },
+    /// An enciphered PIN block.
+    PinBlock {
+        /// The PAN, as written.
+        pan: &'a str,
+        /// The first number, as written.
+        from: &'a str,
+    },
+    /// An enciphered block.
+    Ciphertext {
+        /// The block before it was enciphered, as written.
+        clear: &'a str,
+        /// The first number, as written.
+        from: &'a str,
     },
 }
 

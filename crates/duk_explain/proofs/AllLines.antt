@@ -7,7 +7,7 @@ use Rattle.duk_explain.specs.declared.told.Told.TheVariants as told
 -- a place in the list at which a line stands
 pub record StandsAt (line : Told) : Type 0 where
   pub place : ℕ
-  pub within : place < 111
+  pub within : place < 117
   pub is : get_or ALL place line ≡ line
 
 pub stands : (line : Told) → StandsAt line
@@ -122,3 +122,9 @@ stands told.KcvRefused = record { place = 107; within = omega arith; is = refl }
 stands told.KcvDiffers = record { place = 108; within = omega arith; is = refl }
 stands told.NotIssued = record { place = 109; within = omega arith; is = refl }
 stands told.OutUnmade = record { place = 110; within = omega arith; is = refl }
+stands told.WhatRefused = record { place = 111; within = omega arith; is = refl }
+stands told.SoughtTextRefused = record { place = 112; within = omega arith; is = refl }
+stands told.PanRefused = record { place = 113; within = omega arith; is = refl }
+stands told.ClearRefused = record { place = 114; within = omega arith; is = refl }
+stands told.WindowRefused = record { place = 115; within = omega arith; is = refl }
+stands told.NotFound = record { place = 116; within = omega arith; is = refl }

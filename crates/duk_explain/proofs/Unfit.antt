@@ -19,7 +19,7 @@ either (first ∷ rest) zero d e inside = refl
 either (first ∷ rest) (suc k) d e inside = either rest k d e (omega (arith, inside))
 
 -- what holds of the lines below a place and there holds of one more
-pub one_more : (P : Told → Type 0) (place : ℕ) (there : Told) → place < 111
+pub one_more : (P : Told → Type 0) (place : ℕ) (there : Told) → place < 117
     → ((k : ℕ) (d : Told) → k < place → P (get_or ALL k d)) → P (get_or ALL place there)
     → (k : ℕ) (d : Told) → k < place + 1 → P (get_or ALL k d)
 one_more P place there inside before here k d below =

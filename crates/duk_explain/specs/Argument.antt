@@ -1,7 +1,7 @@
 -- The arguments of requests (this project's own).
 use Rattle.std.specs.Prelude.{ℕ, List, Option, Some, None}
 use Rattle.std.specs.Option.{option_copied}
-use Rattle.duk_arguments.specs.Given.{journal_in, log_in}
+use Rattle.duk_arguments.specs.Given.{clear_in, first_in, journal_in, log_in, pan_in, text_in}
 use Rattle.duk_arguments.specs.Keys.{texts_of_keys}
 use Rattle.duk_arguments.specs.declared.request.Request.{Request}
 use Rattle.duk_arguments.specs.declared.request.Request.TheVariants as request
@@ -18,6 +18,8 @@ bdk_of (request.Translate block pan bdk ksn zone initial) = Some bdk.now
 bdk_of (request.MakeRequest bdk ksn pan pin amount initial) = Some bdk.now
 bdk_of (request.MakeReversal bdk ksn reversed initial) = Some bdk.now
 bdk_of (request.CheckReply bdk asked answer initial) = Some bdk.now
+bdk_of (request.Find bdk what sought window initial) = Some bdk.now
+bdk_of (request.CheckFrame what bdk show initial) = Some bdk.now
 bdk_of (request.Issue bdk loading iksn count ledger way) = Some bdk.now
 bdk_of asked = None
 
@@ -28,6 +30,7 @@ ksn_of (request.Registers bdk ksn initial) = Some ksn.now
 ksn_of (request.Translate block pan bdk ksn zone initial) = Some ksn.now
 ksn_of (request.MakeRequest bdk ksn pan pin amount initial) = Some ksn.now
 ksn_of (request.MakeReversal bdk ksn reversed initial) = Some ksn.now
+ksn_of (request.Find bdk what sought window initial) = first_in sought
 ksn_of asked = None
 
 -- IKSN
@@ -87,11 +90,12 @@ abbrev pub pad_of : Request → Option (List ℕ)
 pad_of (request.Wrap kbpk fields key pad) = Some pad.now
 pad_of asked = None
 
--- BLOCK
+-- BLOCK; of `find` that of an option
 abbrev pub block_of : Request → Option (List ℕ)
 block_of (request.Unwrap kbpk block) = Some block.now
 block_of (request.Unpin block pan key show) = Some block.now
 block_of (request.Translate block pan bdk ksn zone initial) = Some block.now
+block_of (request.Find bdk what sought window initial) = clear_in sought
 block_of asked = None
 
 -- PIN
@@ -106,11 +110,13 @@ pan_of (request.Pin pin pan key) = Some pan.now
 pan_of (request.Unpin block pan key show) = Some pan.now
 pan_of (request.Translate block pan bdk ksn zone initial) = Some pan.now
 pan_of (request.MakeRequest bdk ksn pan pin amount initial) = Some pan.now
+pan_of (request.Find bdk what sought window initial) = pan_in sought
 pan_of asked = None
 
 -- TEXT
 abbrev pub mac_text_of : Request → Option (List ℕ)
 mac_text_of (request.Mac key text cmac hex) = Some text.now
+mac_text_of (request.Find bdk what sought window initial) = text_in sought
 mac_text_of asked = None
 
 -- AMOUNT
@@ -122,6 +128,11 @@ amount_of asked = None
 abbrev pub reversed_of : Request → Option (List ℕ)
 reversed_of (request.MakeReversal bdk ksn reversed initial) = Some reversed.now
 reversed_of asked = None
+
+-- N
+abbrev pub window_of : Request → Option (List ℕ)
+window_of (request.Find bdk what sought window initial) = option_copied window
+window_of asked = None
 
 -- REQUEST
 abbrev pub frame_of : Request → Option (List ℕ)
@@ -141,6 +152,8 @@ kind_of asked = None
 -- WHAT
 abbrev pub what_of : Request → Option (List ℕ)
 what_of (request.Show kind what show) = Some what.now
+what_of (request.Find bdk what sought window initial) = Some what.now
+what_of (request.CheckFrame what bdk show initial) = Some what.now
 what_of asked = None
 
 -- CONFIG
@@ -209,6 +222,7 @@ text_of asked argument.Kind = kind_of asked
 text_of asked argument.What = what_of asked
 text_of asked argument.Records = records_of asked
 text_of asked argument.Reversed = reversed_of asked
+text_of asked argument.Window = window_of asked
 
 -- the keys of `kcv`
 abbrev pub keys_of : Request → Option (List (List ℕ))

@@ -6,6 +6,8 @@ use Rattle.std.specs.Prelude.{◌≡◌, ◌&&◌, ◌⊎◌, ◌++◌, ℕ, Boo
 use Rattle.std.specs.Option.{option_copied}
 use Rattle.duk_arguments.specs.declared.request.Request.{Request}
 use Rattle.duk_arguments.specs.declared.request.Request.TheVariants as request
+use Rattle.duk_arguments.specs.declared.request.Sought.{Sought}
+use Rattle.duk_arguments.specs.declared.request.Sought.TheVariants as sought
 use Rattle.duk_commands.specs.Decimal.{number_of_digits}
 use Rattle.duk_explain.specs.Argument.{block_of, key_of, keys_of, ksn_of, iksn_of, mac_text_of, text_of, what_of}
 use Rattle.duk_explain.specs.Keys.{is_as_long, is_key, key_name}
@@ -102,8 +104,31 @@ key_explained asked None =
 abbrev pub text_explained : Request → List ℕ
 text_explained (request.Mac key text cmac true) =
     measured (codes "TEXT") Hexadecimal (codes "pairs of hexadecimal digits") text.now
+text_explained (request.Find bdk what (sought.Mac text true from) window initial) =
+    measured (codes "TEXT") Hexadecimal (codes "pairs of hexadecimal digits") text.now
 text_explained asked =
     if_there (mac_text_of asked) (measured (codes "TEXT") Any (codes "one byte or more"))
+
+-- what is sought: a frame, or else a block
+abbrev pub what_explained : Sought → List ℕ → List ℕ
+what_explained (sought.Frame from) what =
+    explained (codes "WHAT") (measure_text (measure_of Hexadecimal what))
+    (codes "the frame of a request, a reversal or a reply, which has a MAC")
+    (codes "show frame tells its fields")
+what_explained seeking what =
+    measured (codes "WHAT") Hexadecimal (codes "16 hexadecimal digits") what
+
+abbrev pub sought_explained : Request → List ℕ
+sought_explained (request.Find bdk what seeking window initial) = what_explained seeking what.now
+sought_explained asked = []
+
+-- a key serial number that is refused; that of a frame is read, and so its counter is wrong
+abbrev pub ksn_explained : Row → Request → List ℕ
+ksn_explained r (request.CheckFrame what bdk show initial) =
+    explained (codes "WHAT") (length_text (length what.now))
+    (codes "a frame whose number is usable") (codes "without --key its fields are told")
+ksn_explained r asked =
+    if_there (ksn_of asked) (λ ksn. number_explained r (measure_of Hexadecimal ksn))
 
 -- a field of a header
 abbrev pub header_explained : Request → List ℕ
@@ -181,8 +206,7 @@ found_explained found.Stopped r asked facts middle = if_there (what_of asked)
     (λ what. row_explained r middle (length_text (length what)))
 found_explained found.StoppedDigit r asked facts middle = if_there (what_of asked)
     (λ what. row_explained r middle (length_text (length what) ++ codes ", wrong at " ++ middle))
-found_explained found.Ksn r asked facts middle = if_there (ksn_of asked)
-    (λ ksn. number_explained r (measure_of Hexadecimal ksn))
+found_explained found.Ksn r asked facts middle = ksn_explained r asked
 found_explained found.Iksn r asked facts middle = if_there (iksn_of asked)
     (λ iksn. number_explained r (measure_iksn iksn))
 found_explained found.Counter r asked facts middle = if_there (ksn_of asked) counter_explained
@@ -190,6 +214,7 @@ found_explained found.Count r asked facts middle = count_explained asked
 found_explained found.Key r asked facts middle = key_explained asked (keys_of asked)
 found_explained found.MacText r asked facts middle = text_explained asked
 found_explained found.Header r asked facts middle = header_explained asked
+found_explained found.Sought r asked facts middle = sought_explained asked
 
 -- the explanation of a line with this in its middle
 abbrev pub told_explained : Told → Request → Facts → List ℕ → List ℕ

@@ -402,3 +402,20 @@ row told.NotIssued =
 row told.OutUnmade =
     words_row (codes "out: cannot make") (codes "out") (found.Making file.New) []
     (codes "a name that no file has, in a folder with room") []
+row told.WhatRefused =
+    words_row (codes "WHAT refused") (codes "WHAT") found.Sought [] (codes "16 hexadecimal digits")
+    []
+row told.SoughtTextRefused =
+    words_row (codes "TEXT refused") (codes "TEXT") found.MacText [] (codes "one byte or more") []
+row told.PanRefused =
+    text_row (codes "PAN refused") (codes "PAN") argument.Pan Decimal
+    (codes "12 to 19 decimal digits") []
+row told.ClearRefused =
+    text_row (codes "BLOCK refused") (codes "BLOCK") argument.Block Hexadecimal
+    (codes "16 hexadecimal digits") []
+row told.WindowRefused =
+    text_row (codes "window refused") (codes "N") argument.Window Decimal (codes "1 to 100000") []
+row told.NotFound =
+    words_row (codes "not found") (codes "WHAT") found.Words (codes "made by no key that was tried")
+    (codes "its key, and its number among those that are tried")
+    (codes "--from and --window choose the numbers")

@@ -3,9 +3,10 @@
 ghost use Rattle.std.specs.Prelude.{◌≡◌};
 ghost use Rattle.std.specs.Option.{option_copied, option_map};
 ghost use Rattle.duk_arguments.specs.Keys.{texts_of_keys};
-ghost use Rattle.duk_explain.specs.Argument.{amount_of, answer_of, bdk_of, block_of, config_of, count_of, fields_of, frame_of, iksn_of, journal_of, kbpk_of, kcv_of, key_of, keys_of, kind_of, ksn_of, ledger_of, loading_of, log_of, mac_text_of, new_of, pad_of, pan_of, pin_of, records_of, reversed_of, script_of, skip_of, text_of, what_of, zone_of};
+ghost use Rattle.duk_explain.specs.Argument.{amount_of, answer_of, bdk_of, block_of, config_of, count_of, fields_of, frame_of, iksn_of, journal_of, kbpk_of, kcv_of, key_of, keys_of, kind_of, ksn_of, ledger_of, loading_of, log_of, mac_text_of, new_of, pad_of, pan_of, pin_of, records_of, reversed_of, script_of, skip_of, text_of, what_of, window_of, zone_of};
+ghost use Rattle.duk_arguments.specs.Given.{first_in};
 
-use duk_arguments::{Kept, Keys, Request};
+use duk_arguments::{Kept, Keys, Request, Sought};
 
 /// An argument that has one text, by its name in the help; `Skip` is K.
 #[derive(Clone, Copy)]
@@ -33,6 +34,7 @@ pub(crate) enum Argument {
     What,
     Records,
     Reversed,
+    Window,
 }
 
 /// The text of an argument, where the request has it.
@@ -63,6 +65,7 @@ pub(crate) fn text_of<'a>(request: &Request<'a>, argument: Argument) -> Option<&
         Argument::What => what_of(request),
         Argument::Records => records_of(request),
         Argument::Reversed => reversed_of(request),
+        Argument::Window => window_of(request),
     }
 }
 
@@ -79,6 +82,8 @@ pub(crate) fn bdk_of<'a>(request: &Request<'a>) -> Option<&'a str>
         | Request::MakeRequest { bdk, .. }
         | Request::MakeReversal { bdk, .. }
         | Request::CheckReply { bdk, .. }
+        | Request::Find { bdk, .. }
+        | Request::CheckFrame { bdk, .. }
         | Request::Issue { bdk, .. } => Some(*bdk),
         _ => None,
     }
@@ -94,7 +99,20 @@ pub(crate) fn ksn_of<'a>(request: &Request<'a>) -> Option<&'a str>
         | Request::Translate { ksn, .. }
         | Request::MakeRequest { ksn, .. }
         | Request::MakeReversal { ksn, .. } => Some(*ksn),
+        Request::Find { sought, .. } => first_in(sought),
         _ => None,
+    }
+}
+
+/// The number at which a search begins.
+fn first_in<'a>(sought: &Sought<'a>) -> Option<&'a str>
+    ensures { option_copied result ≡ first_in sought.now }
+{
+    match sought {
+        Sought::Frame { from } => *from,
+        Sought::Mac { from, .. }
+        | Sought::PinBlock { from, .. }
+        | Sought::Ciphertext { from, .. } => Some(*from),
     }
 }
 
@@ -200,7 +218,7 @@ pub(crate) fn pad_of<'a>(request: &Request<'a>) -> Option<&'a str>
     }
 }
 
-/// BLOCK.
+/// BLOCK; of `find` that of an option.
 pub(crate) fn block_of<'a>(request: &Request<'a>) -> Option<&'a str>
     ensures { option_copied result ≡ block_of request.now }
 {
@@ -208,6 +226,10 @@ pub(crate) fn block_of<'a>(request: &Request<'a>) -> Option<&'a str>
         Request::Unwrap { block, .. }
         | Request::Unpin { block, .. }
         | Request::Translate { block, .. } => Some(*block),
+        Request::Find {
+            sought: Sought::Ciphertext { clear, .. },
+            ..
+        } => Some(*clear),
         _ => None,
     }
 }
@@ -231,6 +253,10 @@ pub(crate) fn pan_of<'a>(request: &Request<'a>) -> Option<&'a str>
         | Request::Unpin { pan, .. }
         | Request::Translate { pan, .. }
         | Request::MakeRequest { pan, .. } => Some(*pan),
+        Request::Find {
+            sought: Sought::PinBlock { pan, .. },
+            ..
+        } => Some(*pan),
         _ => None,
     }
 }
@@ -241,6 +267,10 @@ pub(crate) fn mac_text_of<'a>(request: &Request<'a>) -> Option<&'a str>
 {
     match request {
         Request::Mac { text, .. } => Some(*text),
+        Request::Find {
+            sought: Sought::Mac { text, .. },
+            ..
+        } => Some(*text),
         _ => None,
     }
 }
@@ -261,6 +291,16 @@ pub(crate) fn reversed_of<'a>(request: &Request<'a>) -> Option<&'a str>
 {
     match request {
         Request::MakeReversal { reversed, .. } => Some(*reversed),
+        _ => None,
+    }
+}
+
+/// N.
+pub(crate) fn window_of<'a>(request: &Request<'a>) -> Option<&'a str>
+    ensures { option_copied result ≡ window_of request.now }
+{
+    match request {
+        Request::Find { window, .. } => *window,
         _ => None,
     }
 }
@@ -300,7 +340,9 @@ pub(crate) fn what_of<'a>(request: &Request<'a>) -> Option<&'a str>
     ensures { option_copied result ≡ what_of request.now }
 {
     match request {
-        Request::Show { what, .. } => Some(*what),
+        Request::Show { what, .. }
+        | Request::Find { what, .. }
+        | Request::CheckFrame { what, .. } => Some(*what),
         _ => None,
     }
 }

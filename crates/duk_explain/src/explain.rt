@@ -3,7 +3,7 @@
 ghost use Rattle.std.specs.Prelude.{◌≡◌, ◌≤◌, ◌++◌, codes, length};
 ghost use Rattle.arrayvec.specs.ArrayVec.{array_vec_len};
 ghost use Rattle.duk_explain.specs.Argument.{text_of, what_of};
-ghost use Rattle.duk_explain.specs.Explanation.{IsExplanation, header_explained, if_there, name_in, place_found, reason_found, reference_found, row_explained, strange_explained, text_explained, told_explained, unknown_key_explained};
+ghost use Rattle.duk_explain.specs.Explanation.{IsExplanation, header_explained, if_there, name_in, place_found, reason_found, reference_found, row_explained, sought_explained, strange_explained, text_explained, told_explained, unknown_key_explained, what_explained};
 ghost use Rattle.duk_explain.specs.Texts.{length_text, measure_of, measure_text};
 ghost use Rattle.duk_explain.specs.Told.{row};
 
@@ -18,7 +18,7 @@ use crate::texts::{
     explained, joined, length_text, measure_of, measure_text, numbered, reason_text,
 };
 use crate::told::Told;
-use duk_arguments::Request;
+use duk_arguments::{Request, Sought};
 use duk_commands::{Lines, push_text};
 
 /// What makes a log or a ledger, and a journal.
@@ -86,6 +86,7 @@ fn explain(request: &Request<'_>, line: Told, middle: &[u8], facts: &Facts) -> L
         Found::Key => explain_key(request),
         Found::MacText => explain_text(request),
         Found::Header => explain_header(request),
+        Found::Sought => explain_sought(request),
     }
 }
 
@@ -215,6 +216,14 @@ fn explain_text(request: &Request<'_>) -> Lines
             text,
             hex: true,
             ..
+        }
+        | Request::Find {
+            sought: Sought::Mac {
+                text,
+                hex: true,
+                ..
+            },
+            ..
         } => {
             let found = measure_text(measure_of(Kind::Hexadecimal, text));
             explained(b"TEXT", found.as_slice(), "pairs of hexadecimal digits", "")
@@ -226,6 +235,35 @@ fn explain_text(request: &Request<'_>) -> Lines
             let found = measure_text(measure_of(Kind::Any, text));
             explained(b"TEXT", found.as_slice(), "one byte or more", "")
         }
+    }
+}
+
+/// Explains what is sought, and refused.
+fn explain_sought(request: &Request<'_>) -> Lines
+    ensures { result.items ≡ sought_explained request.now }
+{
+    match request {
+        Request::Find { what, sought, .. } => explain_what(what, sought),
+        _ => Lines::new(),
+    }
+}
+
+/// Explains a text that is no frame, or else no block.
+fn explain_what(what: &str, sought: &Sought<'_>) -> Lines
+    ensures { result.items ≡ what_explained sought.now what.now }
+{
+    let found = measure_text(measure_of(Kind::Hexadecimal, what));
+    match sought {
+        Sought::Frame { .. } => {
+            let wanted = "the frame of a request, a reversal or a reply, which has a MAC";
+            explained(
+                b"WHAT",
+                found.as_slice(),
+                wanted,
+                "show frame tells its fields",
+            )
+        }
+        _ => explained(b"WHAT", found.as_slice(), "16 hexadecimal digits", ""),
     }
 }
 

@@ -4,15 +4,15 @@ ghost use Rattle.std.specs.Prelude.{◌≡◌, ◌≤◌, ◌++◌, [], codes, c
 ghost use Rattle.arrayvec.specs.ArrayVec.{array_vec_len};
 ghost use Rattle.std.specs.Option.{option_copied};
 ghost use Rattle.duk_explain.specs.Argument.{iksn_of, ksn_of};
-ghost use Rattle.duk_explain.specs.Explanation.{count_explained, count_found, counter_explained, if_there, is_number, measured, number_explained, walk_count_explained};
+ghost use Rattle.duk_explain.specs.Explanation.{count_explained, count_found, counter_explained, if_there, is_number, ksn_explained, measured, number_explained, walk_count_explained};
 ghost use Rattle.duk_explain.specs.Numbers.{counter_ones, digit_at, digit_value, first_one, measure_iksn, number_way, numbers_left};
-ghost use Rattle.duk_explain.specs.Texts.{explained, measure_of};
+ghost use Rattle.duk_explain.specs.Texts.{explained};
 ghost use Rattle.duk_explain.specs.Told.{row};
-ghost use Rattle.duk_explain.specs.declared.kind.Kind.TheVariants.{Decimal, Hexadecimal};
+ghost use Rattle.duk_explain.specs.declared.kind.Kind.TheVariants.{Decimal};
 
 use crate::argument::{iksn_of, ksn_of};
 use crate::kind::{Kind, first_wrong};
-use crate::texts::{Measure, explained, measure_of, measure_text, numbered};
+use crate::texts::{Measure, explained, length_text, measure_of, measure_text, numbered};
 use crate::told::Told;
 use duk_arguments::Request;
 use duk_commands::{Lines, push_end, push_text, read_decimal};
@@ -25,14 +25,27 @@ const MOST_NUMBERS: u32 = 1_048_576;
 
 /// Explains a key serial number that is refused.
 pub(crate) fn explain_ksn(request: &Request<'_>, refused: Told) -> Lines
-    ensures { result.items ≡ if_there (ksn_of request.now)
-        (λ ksn. number_explained (row refused) (measure_of Hexadecimal ksn)) }
+    ensures { result.items ≡ ksn_explained (row refused) request.now }
 {
-    let Some(ksn) = ksn_of(request) else {
-        return Lines::new();
-    };
-    let found = measure_of(Kind::Hexadecimal, ksn);
-    explain_number(found, refused)
+    match request {
+        Request::CheckFrame { what, .. } => {
+            let found = length_text(what.len());
+            let way = "without --key its fields are told";
+            explained(
+                b"WHAT",
+                found.as_slice(),
+                "a frame whose number is usable",
+                way,
+            )
+        }
+        request => {
+            let Some(ksn) = ksn_of(request) else {
+                return Lines::new();
+            };
+            let found = measure_of(Kind::Hexadecimal, ksn);
+            explain_number(found, refused)
+        }
+    }
 }
 
 /// Explains an initial key serial number that is refused.

@@ -52,6 +52,8 @@ pub(crate) enum Found {
     Stopped,
     /// The length of what is shown, and the place in the middle of the line.
     StoppedDigit,
+    /// The measure of what is sought.
+    Sought,
 }
 
 #[tactic(auto, unfolding(crate::specs::Told::row))]
@@ -80,15 +82,17 @@ impl Told {
             | Told::OptionalBlock
             | Told::Hex
             | Told::Mac
-            | Told::Payload => "BLOCK",
-            Told::TextRefused => "TEXT",
+            | Told::Payload
+            | Told::ClearRefused => "BLOCK",
+            Told::TextRefused | Told::SoughtTextRefused => "TEXT",
             Told::AmountRefused => "AMOUNT",
             Told::NumberRefused | Told::OtherIksn | Told::SameNumber | Told::NotUsable => "NUMBER",
             Told::RequestRefused => "REQUEST",
             Told::AnswerRefused | Told::NotMine | Told::BadMac => "ANSWER",
             Told::KindRefused => "KIND",
             Told::PinLength | Told::PinDigit => "PIN",
-            Told::PanLength | Told::PanDigit => "PAN",
+            Told::PanLength | Told::PanDigit | Told::PanRefused => "PAN",
+            Told::WindowRefused => "N",
             Told::FrameHex
             | Told::FrameLength
             | Told::FrameVersion
@@ -117,7 +121,9 @@ impl Told {
             | Told::LogTooLong
             | Told::JournalDamaged
             | Told::JournalUnread
-            | Told::JournalTooLong => "WHAT",
+            | Told::JournalTooLong
+            | Told::WhatRefused
+            | Told::NotFound => "WHAT",
             Told::PaddingUnread => "/dev/urandom",
             Told::LedgerUnopened | Told::LedgerDamaged | Told::LedgerFailed | Told::LedgerFull =>
                 "ledger",
@@ -171,8 +177,13 @@ impl Told {
             Told::KeyRefused => Found::Key,
             Told::FieldsRefused => Found::Text(Argument::Fields, Kind::Any),
             Told::PadRefused | Told::PadLength => Found::Text(Argument::Pad, Kind::Hexadecimal),
-            Told::BlockRefused => Found::Text(Argument::Block, Kind::Hexadecimal),
-            Told::TextRefused => Found::MacText,
+            Told::BlockRefused | Told::ClearRefused => Found::Text(
+                Argument::Block,
+                Kind::Hexadecimal,
+            ),
+            Told::TextRefused | Told::SoughtTextRefused => Found::MacText,
+            Told::WhatRefused => Found::Sought,
+            Told::WindowRefused => Found::Text(Argument::Window, Kind::Decimal),
             Told::AmountRefused => Found::Text(Argument::Amount, Kind::Decimal),
             Told::NumberRefused => Found::Text(Argument::Reversed, Kind::Hexadecimal),
             Told::RequestRefused => Found::Text(Argument::Request, Kind::Hexadecimal),
@@ -180,7 +191,10 @@ impl Told {
             Told::KindRefused => Found::Text(Argument::Kind, Kind::Any),
             Told::HeaderField => Found::Header,
             Told::PinLength | Told::PinDigit => Found::Text(Argument::Pin, Kind::Decimal),
-            Told::PanLength | Told::PanDigit => Found::Text(Argument::Pan, Kind::Decimal),
+            Told::PanLength | Told::PanDigit | Told::PanRefused => Found::Text(
+                Argument::Pan,
+                Kind::Decimal,
+            ),
             Told::Length | Told::Version | Told::OptionalBlock | Told::Hex => Found::Text(
                 Argument::Block,
                 Kind::Any,
@@ -258,6 +272,7 @@ impl Told {
             Told::Issued => " stands in the ledger",
             Told::NotIssued => " does not stand in the ledger",
             Told::KcvDiffers => "another check value",
+            Told::NotFound => "made by no key that was tried",
             Told::LedgerFull => "too little room",
             Told::NotToml => "other text",
             Told::BadLmk
@@ -302,8 +317,10 @@ impl Told {
             | Told::BadZone => "32 or 48 hexadecimal digits",
             Told::FieldsRefused => "7 bytes",
             Told::PadRefused | Told::FrameHex | Told::ImageHex => "pairs of hexadecimal digits",
-            Told::BlockRefused => "16 hexadecimal digits",
-            Told::TextRefused => "one byte or more",
+            Told::BlockRefused | Told::ClearRefused | Told::WhatRefused => "16 hexadecimal digits",
+            Told::TextRefused | Told::SoughtTextRefused => "one byte or more",
+            Told::WindowRefused => "1 to 100000",
+            Told::NotFound => "its key, and its number among those that are tried",
             Told::AmountRefused => "a number up to 4294967295",
             Told::OtherIksn => "that of KSN",
             Told::SameNumber => "the number of the payment",
@@ -316,7 +333,7 @@ impl Told {
             Told::PadLength => "12 hexadecimal digits, and 16 for each further block",
             Told::NotAPinBlock => "the PAN and the key that it was made with",
             Told::PinLength | Told::PinDigit => "4 to 12 decimal digits",
-            Told::PanLength | Told::PanDigit => "12 to 19 decimal digits",
+            Told::PanLength | Told::PanDigit | Told::PanRefused => "12 to 19 decimal digits",
             Told::NotMine => "the answer to REQUEST",
             Told::BadMac => "the answer as it was sent, and the key of its terminal",
             Told::Mac => "the key block as it was made, and its KBPK",
@@ -401,6 +418,7 @@ impl Told {
             Told::NotIssued => "without --again it is issued",
             Told::KcvDiffers => "kcv prints that of a key",
             Told::ItemsRefused => "the fault of each stands in its place",
+            Told::NotFound => "--from and --window choose the numbers",
             _ => "",
         }
     }

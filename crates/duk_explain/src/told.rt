@@ -225,10 +225,22 @@ pub(crate) enum Told {
     NotIssued,
     /// `out: cannot make`
     OutUnmade,
+    /// `WHAT refused`
+    WhatRefused,
+    /// `TEXT refused`
+    SoughtTextRefused,
+    /// `PAN refused`
+    PanRefused,
+    /// `BLOCK refused`
+    ClearRefused,
+    /// `window refused`
+    WindowRefused,
+    /// `not found`
+    NotFound,
 }
 
 /// How many lines there are.
-pub(crate) const COUNT: usize = 111;
+pub(crate) const COUNT: usize = 117;
 
 /// All of them.
 pub(crate) static ALL: [Told; COUNT] = [
@@ -343,4 +355,10 @@ pub(crate) static ALL: [Told; COUNT] = [
     Told::KcvDiffers,
     Told::NotIssued,
     Told::OutUnmade,
+    Told::WhatRefused,
+    Told::SoughtTextRefused,
+    Told::PanRefused,
+    Told::ClearRefused,
+    Told::WindowRefused,
+    Told::NotFound,
 ];

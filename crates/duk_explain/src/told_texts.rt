@@ -131,6 +131,12 @@ impl Told {
             Told::KcvRefused => "KCV refused",
             Told::KcvDiffers => "KCV differs",
             Told::OutUnmade => "out: cannot make",
+            Told::WhatRefused => "WHAT refused",
+            Told::SoughtTextRefused => "TEXT refused",
+            Told::PanRefused => "PAN refused",
+            Told::ClearRefused => "BLOCK refused",
+            Told::WindowRefused => "window refused",
+            Told::NotFound => "not found",
             _ => "",
         }
     }

@@ -6,6 +6,7 @@ use Rattle.std.specs.Borrow.{Bor}
 use Rattle.duk_arguments.specs.declared.request.IssueWay.{IssueWay}
 use Rattle.duk_arguments.specs.declared.request.Request.{Request}
 use Rattle.duk_arguments.specs.declared.request.Request.TheVariants as request
+use Rattle.duk_arguments.specs.declared.request.Sought.{Sought}
 use Rattle.duk_commands.specs.Answer.{Command, IsDone, IsNotDone, Streams, streams}
 use Rattle.duk_io.specs.Known.{Known}
 use Rattle.duk_io.specs.Sink.{IsUntouched}
@@ -21,11 +22,24 @@ use Rattle.duk_program.specs.Scene.{Scene, writers_of}
 use Rattle.duk_program.specs.Secrets.{IsOverSecrets, secrets_of}
 use Rattle.duk_program.specs.inner.Commands.{NeedsNoFile}
 use Rattle.duk_store.specs.Disk.{DiskMeaning}
+use Rattle.duk_tools.specs.Find.{FindArguments, IsFindDone}
 
 -- a command that is done is done once its lines are handed on
 pub done_still : (command : Command) (output written output' fault reported fault' : Known) → IsDone command (streams output written fault reported)
     → IsUntouched written output' → IsUntouched reported fault' → IsDone command (streams output output' fault fault')
 done_still command output written output' fault reported fault' done kept silent = record {
+  text = done.text;
+  asked = done.asked;
+  written = record {
+    written = written_still output written output' done.text done.written.written kept;
+    no_fault = untouched_still fault reported fault' done.written.no_fault silent;
+  };
+}
+
+-- so is what is found
+pub found_still : (arguments : FindArguments) (output written output' fault reported fault' : Known) → IsFindDone arguments (streams output written fault reported)
+    → IsUntouched written output' → IsUntouched reported fault' → IsFindDone arguments (streams output output' fault fault')
+found_still arguments output written output' fault reported fault' done kept silent = record {
   text = done.text;
   asked = done.asked;
   written = record {
@@ -75,6 +89,8 @@ request_done meaning s (request.Serve config kept) at_once done = absurd done.as
 request_done meaning s (request.NewLog file records) at_once done = absurd done.asked
 request_done meaning s (request.NewJournal file records) at_once done = absurd done.asked
 request_done meaning s (request.CopyJournal old new) at_once done = absurd done.asked
+request_done meaning s (request.Find bdk what sought window initial) at_once done = absurd done.asked
+request_done meaning s (request.CheckFrame what bdk show initial) at_once done = absurd done.asked
 request_done meaning s (request.Show kind what show) at_once done = absurd done.asked
 request_done meaning s (request.Issue bdk loading iksn count ledger way) at_once done = absurd done.asked
 request_done meaning s asked at_once done = record {
@@ -107,6 +123,10 @@ request_not_done meaning s (request.NewLog file records) at_once (inr short) = a
 request_not_done meaning s (request.NewJournal file records) at_once (inr short) = absurd short.asked
 request_not_done meaning s (request.CopyJournal old new) at_once (inl refused) = absurd refused.cause
 request_not_done meaning s (request.CopyJournal old new) at_once (inr short) = absurd short.asked
+request_not_done meaning s (request.Find bdk what sought window initial) at_once (inl refused) = absurd refused.cause
+request_not_done meaning s (request.Find bdk what sought window initial) at_once (inr short) = absurd short.asked
+request_not_done meaning s (request.CheckFrame what bdk show initial) at_once (inl refused) = absurd refused.cause
+request_not_done meaning s (request.CheckFrame what bdk show initial) at_once (inr short) = absurd short.asked
 request_not_done meaning s (request.Show kind what show) at_once (inl refused) = absurd refused.cause
 request_not_done meaning s (request.Show kind what show) at_once (inr short) = absurd short.asked
 request_not_done meaning s (request.Issue bdk loading iksn count ledger way) at_once (inl refused) = absurd refused.cause
@@ -151,12 +171,16 @@ meant_not_done meaning s asked over not_done = not_done
 -- of a request over its arguments its command is done
 pub done_alone : {D : Type 0} (meaning : DiskMeaning D) (held : List ℕ → FileKnown) (disks : List ℕ → DiskKnown D) (making : List ℕ → MakingKnown D) (s : Streams) (asked : Request)
     → NeedsNoFile asked → IsDone (command_for asked) s → IsDoneAlone meaning held disks making s asked
+done_alone meaning held disks making s (request.Find bdk what sought window initial) no_file done = absurd no_file
+done_alone meaning held disks making s (request.CheckFrame what bdk show initial) no_file done = absurd no_file
 done_alone meaning held disks making s (request.Show kind what show) no_file done = absurd no_file
 done_alone meaning held disks making s (request.Issue bdk loading iksn count ledger way) no_file done = absurd no_file
 done_alone meaning held disks making s asked no_file done = done
 
 pub not_done_alone : {D : Type 0} (meaning : DiskMeaning D) (held : List ℕ → FileKnown) (disks : List ℕ → DiskKnown D) (making : List ℕ → MakingKnown D) (s : Streams) (asked : Request)
     → NeedsNoFile asked → IsNotDone (command_for asked) s ⊎ HasLostLines (command_for asked) s → IsNotDoneAlone meaning held disks making s asked
+not_done_alone meaning held disks making s (request.Find bdk what sought window initial) no_file not_done = absurd no_file
+not_done_alone meaning held disks making s (request.CheckFrame what bdk show initial) no_file not_done = absurd no_file
 not_done_alone meaning held disks making s (request.Show kind what show) no_file not_done = absurd no_file
 not_done_alone meaning held disks making s (request.Issue bdk loading iksn count ledger way) no_file not_done = absurd no_file
 not_done_alone meaning held disks making s asked no_file not_done = not_done
@@ -164,13 +188,17 @@ not_done_alone meaning held disks making s asked no_file not_done = not_done
 -- a command is a request over its arguments
 pub no_file_needed : (asked : Request) → IsOverSecrets asked
     → ((kind what : Bor (List ℕ)) (show : Bool) → asked ≢ request.Show kind what show)
+    → ((what bdk : Bor (List ℕ)) (show initial : Bool) → asked ≢ request.CheckFrame what bdk show initial)
+    → ((bdk what : Bor (List ℕ)) (sought : Sought) (window : Option (Bor (List ℕ))) (initial : Bool) → asked ≢ request.Find bdk what sought window initial)
     → ((bdk loading iksn count ledger : Bor (List ℕ)) (way : IssueWay) → asked ≢ request.Issue bdk loading iksn count ledger way)
     → NeedsNoFile asked
-no_file_needed (request.Run config script journal) over no_show no_issue = absurd over
-no_file_needed (request.Serve config kept) over no_show no_issue = absurd over
-no_file_needed (request.NewLog file records) over no_show no_issue = absurd over
-no_file_needed (request.NewJournal file records) over no_show no_issue = absurd over
-no_file_needed (request.CopyJournal old new) over no_show no_issue = absurd over
-no_file_needed (request.Show kind what show) over no_show no_issue = absurd (no_show kind what show refl)
-no_file_needed (request.Issue bdk loading iksn count ledger way) over no_show no_issue = absurd (no_issue bdk loading iksn count ledger way refl)
-no_file_needed asked over no_show no_issue = tt
+no_file_needed (request.Run config script journal) over no_show no_check no_find no_issue = absurd over
+no_file_needed (request.Serve config kept) over no_show no_check no_find no_issue = absurd over
+no_file_needed (request.NewLog file records) over no_show no_check no_find no_issue = absurd over
+no_file_needed (request.NewJournal file records) over no_show no_check no_find no_issue = absurd over
+no_file_needed (request.CopyJournal old new) over no_show no_check no_find no_issue = absurd over
+no_file_needed (request.Show kind what show) over no_show no_check no_find no_issue = absurd (no_show kind what show refl)
+no_file_needed (request.CheckFrame what bdk show initial) over no_show no_check no_find no_issue = absurd (no_check what bdk show initial refl)
+no_file_needed (request.Find bdk what sought window initial) over no_show no_check no_find no_issue = absurd (no_find bdk what sought window initial refl)
+no_file_needed (request.Issue bdk loading iksn count ledger way) over no_show no_check no_find no_issue = absurd (no_issue bdk loading iksn count ledger way refl)
+no_file_needed asked over no_show no_check no_find no_issue = tt

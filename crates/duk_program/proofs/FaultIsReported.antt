@@ -27,6 +27,7 @@ use Rattle.duk_service.specs.Files.{FileKnown}
 use Rattle.duk_service.specs.HandedOn.{IsHostReported}
 use Rattle.duk_service.specs.LogFiles.{DiskKnown, LinesKnown, MakingKnown}
 use Rattle.duk_service.specs.NewFile.{HasNotMadeFile, new_file_line}
+use Rattle.duk_program.specs.Find.{HasLostFound}
 use Rattle.duk_program.specs.IssueFiles.{HasNotIssuedFiles, IsNotIssuedOver, IsNotIssuedTo, IsNotIssuedToFile, IssueFilesKnown, IssueTask, Issuing}
 use Rattle.duk_program.specs.Items.{LineItems, command_of_line, items_of}
 use Rattle.duk_program.specs.Meant.{HasLostLines, IsMeantNotDone, IsNotAnswered, IsNotDoneAlone, IsOverItemsNotDone}
@@ -59,6 +60,8 @@ use Rattle.duk_store.specs.Disk.{DiskMeaning}
 use Rattle.duk_store.specs.DiskLog.{disk_log_meaning}
 use Rattle.duk_store.specs.declared.fault.StoreFault.TheVariants.{Device}
 use Rattle.duk_store.specs.MemoryLog.{memory_log_meaning}
+use Rattle.duk_tools.specs.Find.{FindArguments, IsFindNotDone}
+use Rattle.duk_tools.specs.FindFault.{find_line}
 
 -- the line of some fault is reported
 pub fault_reported : (command : Command) (s : Streams) → IsNotDone command s → IsFaultReported s.fault_before s.fault_after
@@ -198,6 +201,14 @@ show_reported arguments s (inl refused) =
 show_reported arguments s (inr (inl short)) = written_reported s.fault_before s.fault_after short.failed.line
 show_reported arguments s (inr (inr lost)) = written_reported s.fault_before s.fault_after lost.reported.line
 
+-- where nothing is found, or what is found is not written, a line is reported
+find_reported : (arguments : FindArguments) (s : Streams) → IsFindNotDone arguments s ⊎ HasLostFound arguments s
+    → IsLineReported s.fault_before s.fault_after
+find_reported arguments s (inl (inl refused)) = other_reported s.fault_before s.fault_after (find_line refused.why)
+    (inr (inr (inr (inr (inr (inr (refused.why, refl))))))) refused.line
+find_reported arguments s (inl (inr short)) = written_reported s.fault_before s.fault_after short.failed.line
+find_reported arguments s (inr lost) = written_reported s.fault_before s.fault_after lost.line
+
 -- where not all keys are issued, a line is reported
 over_ledger_reported : {L : Type 0} (meaning : LogMeaning L) (task : IssueTask) (i : Issuing L) → IsNotIssuedOver meaning task i
     → IsLineReported i.streams.fault_before i.streams.fault_after
@@ -229,13 +240,13 @@ unissued_reported meaning known arguments s (inr (inr (inr begun))) = to_reporte
 pub unmade_reported : {D : Type 0} (format : RecordFormat) (meaning : DiskMeaning D) (known : MakingKnown D) (text : List ℕ) (old new : Known)
     → HasNotMadeFile format meaning known text old new → IsLineReported old new
 unmade_reported format meaning known text old new failed =
-    other_reported old new (new_file_line format failed.why) (inr (inr (inr (inr (inr (format, (failed.why, refl))))))) failed.line
+    other_reported old new (new_file_line format failed.why) (inr (inr (inr (inr (inr (inl (format, (failed.why, refl)))))))) failed.line
 
 copy_line_is : (why : CopyJournalFault) → IsOtherFaultLine (copy_journal_line why)
-copy_line_is copy.OutOfMemory = inr (inr (inr (inr (inr (Journal, (OutOfMemory, refl))))))
+copy_line_is copy.OutOfMemory = inr (inr (inr (inr (inr (inl (Journal, (OutOfMemory, refl)))))))
 copy_line_is copy.Unopened = inr (inr (inr (inr (inl (inr refl)))))
 copy_line_is copy.Failed = inr (inr (inr (inr (inl (inl (host.Store Device, refl))))))
-copy_line_is copy.Unmade = inr (inr (inr (inr (inr (Journal, (Unmade, refl))))))
+copy_line_is copy.Unmade = inr (inr (inr (inr (inr (inl (Journal, (Unmade, refl)))))))
 
 pub uncopied_reported : {D : Type 0} (meaning : DiskMeaning D) (known : DiskKnown D) (making : MakingKnown D) (old new : Known)
     → HasNotCopiedJournal meaning known making old new → IsLineReported old new
@@ -263,6 +274,8 @@ lost_reported command s (inr lost) = written_reported s.fault_before s.fault_aft
 alone_reported : {D : Type 0} (meaning : DiskMeaning D) (held : List ℕ → FileKnown) (disks : List ℕ → DiskKnown D) (making : List ℕ → MakingKnown D) (s : Streams) (asked : Request)
     → IsNotDoneAlone meaning held disks making s asked → IsLineReported s.fault_before s.fault_after
 alone_reported meaning held disks making s (request.Show kind what show) failed = show_reported _ s failed
+alone_reported meaning held disks making s (request.CheckFrame what bdk show initial) failed = show_reported _ s failed
+alone_reported meaning held disks making s (request.Find bdk what sought window initial) failed = find_reported _ s failed
 alone_reported meaning held disks making s (request.Issue bdk loading iksn count ledger way) failed = unissued_reported meaning _ _ s failed
 alone_reported meaning held disks making s asked failed = lost_reported (command_for asked) s failed
 

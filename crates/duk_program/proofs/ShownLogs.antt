@@ -5,7 +5,7 @@ use Rattle.duk_program.specs.Show.{IsJournalFileRefused, IsLogFileRefused}
 use Rattle.duk_show.specs.Journal.{IsJournalRefused}
 use Rattle.duk_show.specs.Log.{IsLogRefused}
 use Rattle.duk_show.specs.declared.fault.ShowFault.{ShowFault}
-use Rattle.duk_show.specs.declared.fault.ShowFault.TheVariants.{BlockRefused, FrameRefused, ImageRefused, JournalRefused, JournalTooLong, JournalUnread, KindRefused, LogRefused, LogTooLong, LogUnread, OutOfMemory}
+use Rattle.duk_show.specs.declared.fault.ShowFault.TheVariants.{JournalRefused, LogRefused, OutOfMemory}
 
 -- the bytes of the file are refused
 pub log_refused : {T : Type 0} (held : FileKnown) (bytes : List ℕ) (shown : Result T ShowFault) → HasBytes held bytes
@@ -13,27 +13,11 @@ pub log_refused : {T : Type 0} (held : FileKnown) (bytes : List ℕ) (shown : Re
 log_refused held bytes (Ok text) read why = tt
 log_refused held bytes (Err (LogRefused place)) read why = record { bytes = bytes; read = read; cause = why }
 log_refused held bytes (Err OutOfMemory) read why = tt
-log_refused held bytes (Err KindRefused) read why = absurd why
-log_refused held bytes (Err LogUnread) read why = absurd why
-log_refused held bytes (Err LogTooLong) read why = absurd why
-log_refused held bytes (Err (FrameRefused place fault)) read why = absurd why
-log_refused held bytes (Err (BlockRefused place fault)) read why = absurd why
-log_refused held bytes (Err (ImageRefused place fault)) read why = absurd why
-log_refused held bytes (Err JournalUnread) read why = absurd why
-log_refused held bytes (Err JournalTooLong) read why = absurd why
-log_refused held bytes (Err (JournalRefused place)) read why = absurd why
+log_refused held bytes (Err fault) read why = absurd why
 
 pub journal_refused : {T : Type 0} (held : FileKnown) (bytes : List ℕ) (shown : Result T ShowFault) → HasBytes held bytes
     → IfErr shown (IsJournalRefused bytes) → IfErr shown (IsJournalFileRefused held)
 journal_refused held bytes (Ok text) read why = tt
 journal_refused held bytes (Err (JournalRefused place)) read why = record { bytes = bytes; read = read; cause = why }
 journal_refused held bytes (Err OutOfMemory) read why = tt
-journal_refused held bytes (Err KindRefused) read why = absurd why
-journal_refused held bytes (Err LogUnread) read why = absurd why
-journal_refused held bytes (Err LogTooLong) read why = absurd why
-journal_refused held bytes (Err (LogRefused place)) read why = absurd why
-journal_refused held bytes (Err JournalUnread) read why = absurd why
-journal_refused held bytes (Err JournalTooLong) read why = absurd why
-journal_refused held bytes (Err (FrameRefused place fault)) read why = absurd why
-journal_refused held bytes (Err (BlockRefused place fault)) read why = absurd why
-journal_refused held bytes (Err (ImageRefused place fault)) read why = absurd why
+journal_refused held bytes (Err fault) read why = absurd why

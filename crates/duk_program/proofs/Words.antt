@@ -9,6 +9,7 @@ use Rattle.duk_arguments.specs.Given.{Each}
 use Rattle.duk_arguments.specs.Keys.{texts_of_keys}
 use Rattle.duk_arguments.specs.declared.request.Request.{Request}
 use Rattle.duk_arguments.specs.declared.request.Request.TheVariants as request
+use Rattle.duk_arguments.specs.declared.request.Sought.TheVariants as seeking
 use Rattle.duk_host.specs.Serve.{Supply}
 use Rattle.duk_service.specs.Files.{FileKnown}
 use Rattle.duk_program.specs.Secrets.{EachMeans, HasMeaning, HasWordsAlone, IsInputTaken, IsOverSecrets, IsWord, Means, OptionMeans, inputs_in, is_input_reference, path_of, secrets_of}
@@ -118,6 +119,16 @@ words_have_meaning held (request.MakeReversal bdk ksn reversed initial) over wor
 words_have_meaning held (request.CheckReply bdk asked answer initial) over words = (word_means held bdk.now words.0, refl, refl, refl)
 words_have_meaning held (request.Issue bdk loading iksn count ledger way) over words =
     (word_means held bdk.now words.0, word_means held loading.now words.1.0, refl, refl, refl, refl)
+words_have_meaning held (request.Find bdk what (seeking.Frame from) window initial) over words =
+    (word_means held bdk.now words.0, word_means held what.now words.1.0, refl, refl, refl)
+words_have_meaning held (request.Find bdk what (seeking.Mac text hex from) window initial) over words =
+    (word_means held bdk.now words.0, word_means held what.now words.1.0, (refl, refl, refl), refl, refl)
+words_have_meaning held (request.Find bdk what (seeking.PinBlock pan from) window initial) over words =
+    (word_means held bdk.now words.0, word_means held what.now words.1.0, (word_means held pan.now words.1.1.0, refl), refl, refl)
+words_have_meaning held (request.Find bdk what (seeking.Ciphertext clear from) window initial) over words =
+    (word_means held bdk.now words.0, word_means held what.now words.1.0, (word_means held clear.now words.1.1.0, refl), refl, refl)
+words_have_meaning held (request.CheckFrame what bdk show initial) over words =
+    (word_means held what.now words.0, word_means held bdk.now words.1.0, refl, refl)
 words_have_meaning held (request.Show kind what show) over words = (refl, word_means held what.now words.0, refl)
 
 -- a request over secrets has from 1 to 16 of them
@@ -131,6 +142,10 @@ secrets_count (request.Pin pin pan None) over = (omega arith, omega arith)
 secrets_count (request.Pin pin pan (Some key)) over = (omega arith, omega arith)
 secrets_count (request.Unpin block pan None show) over = (omega arith, omega arith)
 secrets_count (request.Unpin block pan (Some key) show) over = (omega arith, omega arith)
+secrets_count (request.Find bdk what (seeking.Frame from) window initial) over = (omega arith, omega arith)
+secrets_count (request.Find bdk what (seeking.Mac text hex from) window initial) over = (omega arith, omega arith)
+secrets_count (request.Find bdk what (seeking.PinBlock pan from) window initial) over = (omega arith, omega arith)
+secrets_count (request.Find bdk what (seeking.Ciphertext clear from) window initial) over = (omega arith, omega arith)
 secrets_count (request.Kcv keys components show) over =
     subst (λ (n : ℕ). (1 ≤ n) × (n ≤ 16)) (sym (length-map _ _ ∙ length-take-le keys.count _ keys.in_range.1)) keys.in_range
 secrets_count asked over = (omega arith, omega arith)

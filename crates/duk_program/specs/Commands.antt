@@ -38,7 +38,7 @@ derive_for bdk ksn false false false = derive_of bdk.now ksn
 derive_for bdk ksn initial trace all = derived_of (key_argument bdk initial) ksn trace all
 
 -- the command of a request, over the arguments of that request; what is asked of
--- files, and `show`, are none
+-- files, `find` and `show` are none
 abbrev pub command_for : Request → Command
 command_for (request.Derive bdk ksn initial trace all) = derive_for bdk ksn.now initial trace all
 command_for (request.Walk bdk iksn count skip alone initial) =
@@ -52,6 +52,8 @@ command_for (request.Serve config kept) = no_command
 command_for (request.NewLog file records) = no_command
 command_for (request.NewJournal file records) = no_command
 command_for (request.CopyJournal old new) = no_command
+command_for (request.Find bdk what sought window initial) = no_command
+command_for (request.CheckFrame what bdk show initial) = no_command
 command_for (request.Show kind what show) = no_command
 command_for (request.Issue bdk loading iksn count ledger way) = no_command
 command_for (request.Initial bdk iksn) = initial_of bdk.now iksn.now

@@ -3,6 +3,7 @@ pub mod Configured
 pub mod Explain
 pub mod Explained
 pub mod ExplainedItems
+pub mod Find
 pub mod InputLine
 pub mod Inquiry
 pub mod IssueFiles

@@ -1,11 +1,12 @@
 -- What a command over secrets does (this project's own, over what each command makes of its
 -- arguments).
-use Rattle.std.specs.Prelude.{◌⊎◌, ℕ, List, Option, Some, None}
+use Rattle.std.specs.Prelude.{◌⊎◌, ℕ, List, Option, Some, None, codes}
 use Rattle.duk_arguments.specs.declared.request.Request.{Request}
 use Rattle.duk_arguments.specs.declared.request.Request.TheVariants as request
 use Rattle.duk_batch.specs.Batch.{IsBatchDone, IsBatchNotDone}
 use Rattle.duk_commands.specs.Answer.{Command, IsDone, IsNotDone, Streams, streams}
 use Rattle.duk_commands.specs.Fault.{report_line}
+use Rattle.duk_commands.specs.KeyArgument.{key_argument}
 use Rattle.duk_commands.specs.declared.fault.Fault.TheVariants.{WriteFailed}
 use Rattle.duk_host.specs.Serve.{Supply}
 use Rattle.duk_io.specs.Known.{Known}
@@ -13,6 +14,7 @@ use Rattle.duk_io.specs.Sink.{IsTried, IsUntouched}
 use Rattle.duk_program.specs.Commands.{command_for}
 use Rattle.duk_service.specs.Files.{FileKnown}
 use Rattle.duk_service.specs.HandedOn.{IsFlushLost}
+use Rattle.duk_program.specs.Find.{HasLostFound, find_for}
 use Rattle.duk_program.specs.InputLine.{with_input}
 use Rattle.duk_program.specs.IssueFiles.{HasIssuedFiles, HasNotIssuedFiles, issue_arguments, issue_files_known}
 use Rattle.duk_program.specs.Items.{LineItems, command_of_line, items_of}
@@ -22,6 +24,7 @@ use Rattle.duk_program.specs.Secrets.{HasMeaning, IsInputTaken, IsSecretFault, i
 use Rattle.duk_program.specs.Show.{HasNotShownText, HasShownText, show_arguments}
 use Rattle.duk_program.specs.declared.secrets.SecretFault.{SecretFault}
 use Rattle.duk_store.specs.Disk.{DiskMeaning}
+use Rattle.duk_tools.specs.Find.{IsFindDone, IsFindNotDone}
 
 -- a command is done, and then what was written could not be handed on, and that is reported
 pub record HasLostLines (command : Command) (s : Streams) : Type 0 where
@@ -35,7 +38,11 @@ pub record HasLostLines (command : Command) (s : Streams) : Type 0 where
 abbrev pub IsDoneAlone : {D : Type 0} → DiskMeaning D → (List ℕ → FileKnown) → (List ℕ → DiskKnown D)
     → (List ℕ → MakingKnown D) → Streams → Request → Type 0
 IsDoneAlone meaning held disks making s (request.Show kind what show) =
-    HasShownText (show_arguments kind.now what.now show (held what.now)) s
+    HasShownText (show_arguments kind.now what.now show None (held what.now)) s
+IsDoneAlone meaning held disks making s (request.CheckFrame what bdk show initial) = HasShownText
+    (show_arguments (codes "frame") what.now show (Some (key_argument bdk initial)) (held what.now)) s
+IsDoneAlone meaning held disks making s (request.Find bdk what sought window initial) =
+    IsFindDone (find_for bdk what sought window initial) s
 IsDoneAlone meaning held disks making s (request.Issue bdk loading iksn count ledger way) =
     HasIssuedFiles meaning (issue_files_known held (disks ledger.now) making)
     (issue_arguments bdk loading iksn count way) s
@@ -45,7 +52,12 @@ IsDoneAlone meaning held disks making s asked = IsDone (command_for asked) s
 abbrev pub IsNotDoneAlone : {D : Type 0} → DiskMeaning D → (List ℕ → FileKnown)
     → (List ℕ → DiskKnown D) → (List ℕ → MakingKnown D) → Streams → Request → Type 0
 IsNotDoneAlone meaning held disks making s (request.Show kind what show) =
-    HasNotShownText (show_arguments kind.now what.now show (held what.now)) s
+    HasNotShownText (show_arguments kind.now what.now show None (held what.now)) s
+IsNotDoneAlone meaning held disks making s (request.CheckFrame what bdk show initial) = HasNotShownText
+    (show_arguments (codes "frame") what.now show (Some (key_argument bdk initial)) (held what.now)) s
+IsNotDoneAlone meaning held disks making s (request.Find bdk what sought window initial) =
+    IsFindNotDone (find_for bdk what sought window initial) s
+    ⊎ HasLostFound (find_for bdk what sought window initial) s
 IsNotDoneAlone meaning held disks making s (request.Issue bdk loading iksn count ledger way) =
     HasNotIssuedFiles meaning (issue_files_known held (disks ledger.now) making)
     (issue_arguments bdk loading iksn count way) s

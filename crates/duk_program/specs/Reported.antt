@@ -23,6 +23,8 @@ use Rattle.duk_service.specs.declared.left_records.RecordFormat.{RecordFormat}
 use Rattle.duk_service.specs.declared.new_file.NewFileFault.{NewFileFault}
 use Rattle.duk_program.specs.declared.secrets.SecretFault.{SecretFault}
 use Rattle.duk_script.specs.FaultLine.{fault_line}
+use Rattle.duk_tools.specs.FindFault.{find_line}
+use Rattle.duk_tools.specs.declared.find_fault.FindFault.{FindFault}
 
 -- the line of a fault of serving over a journal, or of a journal's file
 abbrev pub IsJournalFaultLine : List ℕ → Type 0
@@ -30,14 +32,15 @@ IsJournalFaultLine line =
     ((why : HostFault) × (line ≡ journal_line why)) ⊎ (line ≡ unopened_journal_line)
 
 -- the line of a fault of `show`, of `issue`, of a command over the lines of the input, or of serving
--- over a journal, or of one that makes a log or a journal
+-- over a journal, or of one that makes a log or a journal, or of `find`
 abbrev pub IsOtherFaultLine : List ℕ → Type 0
 IsOtherFaultLine line =
     ((why : ShowFault) × (line ≡ show_line why))
     ⊎ (((why : IssueFault) × (line ≡ issue_line why))
     ⊎ ((line ≡ unread_line) ⊎ ((line ≡ refused_line)
     ⊎ (IsJournalFaultLine line
-    ⊎ ((format : RecordFormat) × ((why : NewFileFault) × (line ≡ new_file_line format why)))))))
+    ⊎ (((format : RecordFormat) × ((why : NewFileFault) × (line ≡ new_file_line format why)))
+    ⊎ ((why : FindFault) × (line ≡ find_line why)))))))
 
 -- the line of a fault: of a command over keys and PINs, of a configuration's file, of a
 -- configuration and a script, of serving, of a log's file, of a secret that is not read, or another

@@ -8,6 +8,8 @@ use Rattle.duk_arguments.specs.Given.{Each}
 use Rattle.duk_arguments.specs.Keys.{texts_of_keys}
 use Rattle.duk_arguments.specs.declared.request.Request.{Request}
 use Rattle.duk_arguments.specs.declared.request.Request.TheVariants as request
+use Rattle.duk_arguments.specs.declared.request.Sought.{Sought}
+use Rattle.duk_arguments.specs.declared.request.Sought.TheVariants as seeking
 use Rattle.duk_commands.specs.Fault.{line_end}
 use Rattle.duk_host.specs.Serve.{Supply}
 use Rattle.duk_service.specs.Files.{FileKnown, HasLongLine, IsLineRead, IsUnreadableFile}
@@ -128,6 +130,17 @@ OptionMeans held None None = ⊤
 OptionMeans held (Some written) (Some text) = Means held written text
 OptionMeans held written text = ⊥
 
+-- what is sought, with what its secret stands for in its place, where it has one
+abbrev pub SoughtMeans : (List ℕ → FileKnown) → Sought → Sought → Type 0
+SoughtMeans held (seeking.Frame from) (seeking.Frame from') = from' ≡ from
+SoughtMeans held (seeking.Mac text hex from) (seeking.Mac text' hex' from') =
+    (text' ≡ text) × (hex' ≡ hex) × (from' ≡ from)
+SoughtMeans held (seeking.PinBlock pan from) (seeking.PinBlock pan' from') =
+    Means held pan.now pan'.now × (from' ≡ from)
+SoughtMeans held (seeking.Ciphertext clear from) (seeking.Ciphertext clear' from') =
+    Means held clear.now clear'.now × (from' ≡ from)
+SoughtMeans held sought meant = ⊥
+
 -- a request with what its secrets stand for in their place; all else is as it was
 abbrev pub HasMeaning : (List ℕ → FileKnown) → Request → Request → Type 0
 HasMeaning held (request.Derive bdk ksn initial trace all)
@@ -184,10 +197,25 @@ HasMeaning held (request.Issue bdk loading iksn count ledger way)
     (request.Issue bdk' loading' iksn' count' ledger' way') =
     Means held bdk.now bdk'.now × Means held loading.now loading'.now × (iksn' ≡ iksn)
     × (count' ≡ count) × (ledger' ≡ ledger) × (way' ≡ way)
+HasMeaning held (request.Find bdk what sought window initial)
+    (request.Find bdk' what' sought' window' initial') =
+    Means held bdk.now bdk'.now × Means held what.now what'.now × SoughtMeans held sought sought'
+    × (window' ≡ window) × (initial' ≡ initial)
+HasMeaning held (request.CheckFrame what bdk show initial)
+    (request.CheckFrame what' bdk' show' initial') =
+    Means held what.now what'.now × Means held bdk.now bdk'.now × (show' ≡ show)
+    × (initial' ≡ initial)
 HasMeaning held (request.Show kind what show)
     (request.Show kind' what' show') =
     (kind' ≡ kind) × Means held what.now what'.now × (show' ≡ show)
 HasMeaning held asked meant = ⊥
+
+-- the secrets of what is sought: the PAN of a PIN block, or the block of a ciphertext
+abbrev pub sought_secrets : Sought → List (List ℕ)
+sought_secrets (seeking.Frame from) = []
+sought_secrets (seeking.Mac text hex from) = []
+sought_secrets (seeking.PinBlock pan from) = pan.now ∷ []
+sought_secrets (seeking.Ciphertext clear from) = clear.now ∷ []
 
 -- the secrets of a request
 abbrev pub secrets_of : Request → List (List ℕ)
@@ -206,8 +234,16 @@ secrets_of (request.MakeRequest bdk ksn pan pin amount initial) = bdk.now ∷ pa
 secrets_of (request.MakeReversal bdk ksn reversed initial) = bdk.now ∷ []
 secrets_of (request.CheckReply bdk asked answer initial) = bdk.now ∷ []
 secrets_of (request.Issue bdk loading iksn count ledger way) = bdk.now ∷ loading.now ∷ []
+secrets_of (request.Find bdk what sought window initial) = bdk.now ∷ what.now ∷ sought_secrets sought
+secrets_of (request.CheckFrame what bdk show initial) = what.now ∷ bdk.now ∷ []
 secrets_of (request.Show kind what show) = what.now ∷ []
 secrets_of asked = []
+
+-- the arguments that they are
+abbrev pub sought_names : Sought → List Secret
+sought_names (seeking.PinBlock pan from) = Bdk ∷ What ∷ Pan ∷ []
+sought_names (seeking.Ciphertext clear from) = Bdk ∷ What ∷ Block ∷ []
+sought_names sought = Bdk ∷ What ∷ []
 
 -- the arguments that the secrets of a request are, in their order; one that is written more than
 -- once stands here once
@@ -227,6 +263,8 @@ secret_names (request.MakeRequest bdk ksn pan pin amount initial) = Bdk ∷ Pan 
 secret_names (request.MakeReversal bdk ksn reversed initial) = Bdk ∷ []
 secret_names (request.CheckReply bdk asked answer initial) = Bdk ∷ []
 secret_names (request.Issue bdk loading iksn count ledger way) = Bdk ∷ Loading ∷ []
+secret_names (request.Find bdk what sought window initial) = sought_names sought
+secret_names (request.CheckFrame what bdk show initial) = What ∷ Bdk ∷ []
 secret_names (request.Show kind what show) = What ∷ []
 secret_names asked = Bdk ∷ []
 

@@ -1,8 +1,9 @@
 -- What `show` prints (this project's own, over what each kind of text says).
-use Rattle.std.specs.Prelude.{◌≡◌, ◌≢◌, ◌⊎◌, ◌^◌, ⊤, ℕ, Bool, List, codes}
+use Rattle.std.specs.Prelude.{◌≡◌, ◌≢◌, ◌⊎◌, ◌^◌, ⊤, ℕ, Bool, List, None, Option, Some, codes}
 use Rattle.duk_commands.specs.Answer.{HasWriteFailed, Streams}
 use Rattle.duk_commands.specs.Fault.{report_line}
 use Rattle.duk_commands.specs.declared.fault.Fault.TheVariants.{WriteFailed}
+use Rattle.duk_commands.specs.declared.key_argument.KeyArgument.{KeyArgument}
 use Rattle.duk_io.specs.Known.{Known}
 use Rattle.duk_io.specs.Sink.{IsTried, IsUntouched, IsWritten}
 use Rattle.duk_service.specs.Files.{FileKnown, HasBytes, IsLongerThan, IsUnreadableFile}
@@ -10,6 +11,7 @@ use Rattle.duk_service.specs.HandedOn.{IsFlushReported}
 use Rattle.duk_show.specs.Block.{IsBlockRefused, IsBlockText}
 use Rattle.duk_show.specs.Fault.{show_line}
 use Rattle.duk_show.specs.Frame.{IsFrameRefused, IsFrameText}
+use Rattle.duk_show.specs.CheckedFrame.{IsCheckRefused, IsCheckedText}
 use Rattle.duk_show.specs.Image.{IsImageRefused, IsImageText}
 use Rattle.duk_show.specs.Journal.{IsJournalRefused, IsJournalText}
 use Rattle.duk_show.specs.Log.{IsLogRefused, IsLogText}
@@ -21,18 +23,30 @@ use Rattle.duk_show.specs.declared.fault.ShowFault.TheVariants.{JournalTooLong, 
 abbrev pub longest_log : ℕ
 longest_log = 2 ^ 30
 
--- the arguments of `show`: the kind, the text, or the path of a log or of a journal, whether keys are shown, and
--- what the file under that path holds
+-- the arguments of `show`: the kind, the text, or the path of a log or of a journal, whether keys are
+-- shown, the key that tests the MAC of a frame, where there is one, and what the file under that path
+-- holds
 pub record ShowArguments : Type 0 where
   pub kind : List ℕ
   pub what : List ℕ
   pub show : Bool
+  pub key : Option KeyArgument
   pub held : FileKnown
 
 -- those arguments
-abbrev pub show_arguments : List ℕ → List ℕ → Bool → FileKnown → ShowArguments
-show_arguments kind what show held =
-    record { kind = kind; what = what; show = show; held = held }
+abbrev pub show_arguments : List ℕ → List ℕ → Bool → Option KeyArgument → FileKnown → ShowArguments
+show_arguments kind what show key held =
+    record { kind = kind; what = what; show = show; key = key; held = held }
+
+-- the lines of a frame, whose MAC is tested where there is a key
+abbrev pub IsFrameShown : List ℕ → Bool → Option KeyArgument → List ℕ → Type 0
+IsFrameShown what show None text = IsFrameText what text
+IsFrameShown what show (Some key) text = IsCheckedText key what show text
+
+-- why no frame is shown
+abbrev pub IsFrameUnshown : List ℕ → Bool → Option KeyArgument → ShowFault → Type 0
+IsFrameUnshown what show None why = IsFrameRefused what why
+IsFrameUnshown what show (Some key) why = IsCheckRefused key what why
 
 -- the lines of the log that a file holds
 pub record IsLogFileText (held : FileKnown) (text : List ℕ) : Type 0 where
@@ -75,7 +89,8 @@ IsJournalFileRefused held why = HasNoJournal held why
 -- the lines of a text of its kind
 abbrev pub IsShowText : ShowArguments → List ℕ → Type 0
 IsShowText arguments text =
-    ((arguments.kind ≡ codes "frame") × IsFrameText arguments.what text)
+    ((arguments.kind ≡ codes "frame")
+    × IsFrameShown arguments.what arguments.show arguments.key text)
     ⊎ ((arguments.kind ≡ codes "block") × IsBlockText arguments.what text)
     ⊎ ((arguments.kind ≡ codes "image") × IsImageText arguments.what arguments.show text)
     ⊎ ((arguments.kind ≡ codes "log") × IsLogFileText arguments.held text)
@@ -92,7 +107,8 @@ pub record IsNoKind (kind : List ℕ) : Type 0 where
 -- why nothing is shown; memory may be refused at any time
 abbrev pub IsShowRefused : ShowArguments → ShowFault → Type 0
 IsShowRefused arguments why =
-    ((arguments.kind ≡ codes "frame") × IsFrameRefused arguments.what why)
+    ((arguments.kind ≡ codes "frame")
+    × IsFrameUnshown arguments.what arguments.show arguments.key why)
     ⊎ ((arguments.kind ≡ codes "block") × IsBlockRefused arguments.what why)
     ⊎ ((arguments.kind ≡ codes "image") × IsImageRefused arguments.what why)
     ⊎ ((arguments.kind ≡ codes "log") × IsLogFileRefused arguments.held why)

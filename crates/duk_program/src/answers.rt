@@ -13,12 +13,13 @@ ghost use Rattle.duk_program.specs.inner.Commands.{NeedsNoFile};
 
 use crate::commands::do_command;
 use crate::explained_items::ExplainedItems;
+use crate::find::{FindWords, find_made};
 use crate::issue_files::{IssueArguments, issue_files};
 use crate::items::line_command;
 use crate::show::show_text;
 use duk_arguments::Request;
 use duk_batch::do_batch;
-use duk_commands::Fault;
+use duk_commands::{Fault, KeyArgument};
 use duk_io::{Sink, Source};
 use duk_service::{FileSystem, LogFiles, hand_on};
 use std::alloc::Global;
@@ -97,7 +98,32 @@ fn answer_alone<S: FileSystem + LogFiles, W: Sink, F: Sink>(
 {
     match request {
         Request::Show { kind, what, show } => {
-            show_text(alloc, files, kind, what, show, output, fault)
+            show_text(alloc, files, kind, what, show, None, output, fault)
+        }
+        Request::CheckFrame {
+            what,
+            bdk,
+            show,
+            initial,
+        } => {
+            let key = Some(KeyArgument::new(bdk, initial));
+            show_text(alloc, files, "frame", what, show, key, output, fault)
+        }
+        Request::Find {
+            bdk,
+            what,
+            sought,
+            window,
+            initial,
+        } => {
+            let words = FindWords {
+                bdk,
+                what,
+                sought,
+                window,
+                initial,
+            };
+            find_made(alloc, &words, output, fault)
         }
         Request::Issue {
             bdk,

@@ -63,8 +63,9 @@ pub enum Todo<'a> {
         /// The path of the copy.
         new: &'a str,
     },
-    /// To do a command that needs files or the input: `show`, `issue`, one with a secret that is
-    /// given by reference, or one over the lines of the input. Nothing is written yet.
+    /// To do a command that needs files or the input, or has faults of its own: `show`, `issue`,
+    /// `find`, one with a secret that is given by reference, or one over the lines of the input.
+    /// Nothing is written yet.
     Read(Request<'a>),
 }
 
@@ -174,7 +175,10 @@ fn do_request<'a, W: Sink, F: Sink>(
         Request::NewLog { file, records } => Todo::NewLog { file, records },
         Request::NewJournal { file, records } => Todo::NewJournal { file, records },
         Request::CopyJournal { old, new } => Todo::CopyJournal { old, new },
-        Request::Show { .. } | Request::Issue { .. } => Todo::Read(request),
+        Request::Show { .. }
+        | Request::CheckFrame { .. }
+        | Request::Find { .. }
+        | Request::Issue { .. } => Todo::Read(request),
         request if is_left(&request) => Todo::Read(request),
         request => Todo::Exit(do_command(alloc, request, output, fault)),
     }

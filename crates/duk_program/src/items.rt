@@ -159,7 +159,9 @@ pub(crate) fn line_command<'a>(request: &Request<'a>) -> Option<LineCommand<'a>>
         | Request::Translate { .. }
         | Request::MakeRequest { .. }
         | Request::MakeReversal { .. }
-        | Request::CheckReply { .. } => None,
+        | Request::CheckReply { .. }
+        | Request::Find { .. }
+        | Request::CheckFrame { .. } => None,
     }
 }
 

@@ -8,6 +8,7 @@ mod dispatch;
 mod explain;
 mod explained;
 mod explained_items;
+mod find;
 mod issue_files;
 mod items;
 mod meant;

@@ -4,10 +4,10 @@ ghost use Rattle.std.specs.Prelude.{◌≡◌, ◌∷◌, ◌+◌, ◌<◌, [], 
 ghost use Rattle.std.specs.Option.{option_copied};
 ghost use Rattle.duk_arguments.specs.Keys.{texts_of_keys};
 ghost use Rattle.duk_service.specs.Files.{FileKnown};
-ghost use Rattle.duk_program.specs.Secrets.{EachMeans, HasMeaning, IsOverSecrets, secret_at, secret_names, secrets_of};
+ghost use Rattle.duk_program.specs.Secrets.{EachMeans, HasMeaning, IsOverSecrets, SoughtMeans, secret_at, secret_names, secrets_of, sought_names, sought_secrets};
 
 use crate::secrets::Secret;
-use duk_arguments::{Keys, Request};
+use duk_arguments::{Keys, Request, Sought};
 
 /// The secrets of a request, in the order of its arguments, options last; none of a request over
 /// a configuration.
@@ -27,6 +27,13 @@ pub(crate) fn secrets_of<'a>(request: &Request<'a>) -> Option<Keys<'a>>
         Request::Wrap { kbpk, key, .. } => Keys::from_slice(&[*kbpk, *key]),
         Request::Issue { bdk, loading, .. } => Keys::from_slice(&[*bdk, *loading]),
         Request::Show { what, .. } => Keys::from_slice(&[*what]),
+        Request::CheckFrame { what, bdk, .. } => Keys::from_slice(&[*what, *bdk]),
+        Request::Find {
+            bdk,
+            what,
+            sought,
+            ..
+        } => with_option(bdk, what, secret_in(sought)),
         Request::Pin { pin, pan, key } => with_option(pin, pan, *key),
         Request::Unpin {
             block,
@@ -48,6 +55,17 @@ pub(crate) fn secrets_of<'a>(request: &Request<'a>) -> Option<Keys<'a>>
         | Request::NewLog { .. }
         | Request::NewJournal { .. }
         | Request::CopyJournal { .. } => None,
+    }
+}
+
+/// The secret of what is sought: the PAN of a PIN block, or the block of a ciphertext.
+fn secret_in<'a>(sought: &Sought<'a>) -> Option<&'a str>
+    ensures { option_to_list (option_copied result) ≡ sought_secrets sought.now }
+{
+    match sought {
+        Sought::Frame { .. } | Sought::Mac { .. } => None,
+        Sought::PinBlock { pan, .. } => Some(*pan),
+        Sought::Ciphertext { clear, .. } => Some(*clear),
     }
 }
 
@@ -77,7 +95,20 @@ fn secret_names(request: &Request<'_>) -> &'static [Secret]
         Request::MakeRequest { .. } => &[Secret::Bdk, Secret::Pan, Secret::Pin],
         Request::Issue { .. } => &[Secret::Bdk, Secret::Loading],
         Request::Show { .. } => &[Secret::What],
+        Request::CheckFrame { .. } => &[Secret::What, Secret::Bdk],
+        Request::Find { sought, .. } => sought_names(sought),
         _ => &[Secret::Bdk],
+    }
+}
+
+/// The same of a request that seeks this.
+fn sought_names(sought: &Sought<'_>) -> &'static [Secret]
+    ensures { result.now ≡ sought_names sought.now }
+{
+    match sought {
+        Sought::Frame { .. } | Sought::Mac { .. } => &[Secret::Bdk, Secret::What],
+        Sought::PinBlock { .. } => &[Secret::Bdk, Secret::What, Secret::Pan],
+        Sought::Ciphertext { .. } => &[Secret::Bdk, Secret::What, Secret::Block],
     }
 }
 
@@ -241,6 +272,24 @@ pub(crate) fn with_secrets<'a>(request: &Request<'a>, texts: &Keys<'a>) -> Reque
             what: text_at(texts, 0),
             show,
         },
+        Request::CheckFrame { show, initial, .. } => Request::CheckFrame {
+            what: text_at(texts, 0),
+            bdk: text_at(texts, 1),
+            show,
+            initial,
+        },
+        Request::Find {
+            sought,
+            window,
+            initial,
+            ..
+        } => Request::Find {
+            bdk: text_at(texts, 0),
+            what: text_at(texts, 1),
+            sought: sought_with(texts, sought),
+            window,
+            initial,
+        },
         request => request,
     }
 }
@@ -251,6 +300,26 @@ fn text_at<'a>(texts: &Keys<'a>, place: usize) -> &'a str
     ensures { result.now ≡ get_or (texts_of_keys texts.now) place [] }
 {
     texts.texts().as_slice()[place]
+}
+
+/// What is sought, with the third text in place of its secret, where it has one.
+fn sought_with<'a>(texts: &Keys<'a>, sought: Sought<'a>) -> Sought<'a>
+    requires { length (texts_of_keys texts.now) ≡ 2 + length (sought_secrets sought) }
+    ensures { (held : List ℕ → FileKnown) (first second : List ℕ)
+        → EachMeans held (first ∷ second ∷ sought_secrets sought.entry) (texts_of_keys texts.now)
+        → SoughtMeans held sought.entry result }
+{
+    match sought {
+        Sought::Frame { .. } | Sought::Mac { .. } => sought,
+        Sought::PinBlock { from, .. } => Sought::PinBlock {
+            pan: text_at(texts, 2),
+            from,
+        },
+        Sought::Ciphertext { from, .. } => Sought::Ciphertext {
+            clear: text_at(texts, 2),
+            from,
+        },
+    }
 }
 
 /// The third text, in place of an optional text that is there.

@@ -6,14 +6,16 @@ ghost use Rattle.duk_io.specs.Sink.{IsHandedOn};
 ghost use Rattle.duk_program.specs.Show.{HasNotShownText, HasShownText, IsJournalFileRefused, IsJournalFileText, IsLogFileRefused, IsLogFileText, IsShowRefused, IsShowText, show_arguments};
 ghost use Rattle.duk_show.specs.Block.{IsBlockRefused, IsBlockText};
 ghost use Rattle.duk_show.specs.Frame.{IsFrameRefused, IsFrameText};
+ghost use Rattle.duk_show.specs.CheckedFrame.{IsCheckRefused, IsCheckedText};
 ghost use Rattle.duk_show.specs.Image.{IsImageRefused, IsImageText};
 ghost use Rattle.duk_show.specs.declared.fault.ShowFault.TheVariants.{OutOfMemory};
 
-use duk_commands::Fault;
+use duk_commands::{Fault, KeyArgument};
 use duk_io::{Sink, write_text};
 use duk_service::{FileFault, FileSystem, hand_on};
 use duk_show::{
-    ShowFault, block_lines, frame_lines, image_lines, journal_lines, log_lines, report,
+    ShowFault, block_lines, checked_frame_lines, frame_lines, image_lines, journal_lines,
+    log_lines, report,
 };
 use std::alloc::Global;
 
@@ -22,29 +24,30 @@ use std::alloc::Global;
 pub(crate) const LONGEST_LOG: usize = 1 << 30;
 
 /// Prints what a text of its kind says, or the log or the journal in the file under a path, and gives
-/// the status: 0, or 1 with a line on `fault`.
+/// the status: 0, or 1 with a line on `fault`. A key tests the MAC of a frame.
 pub(crate) fn show_text<S: FileSystem, W: Sink, F: Sink>(
     alloc: Global,
     files: &S,
     kind: &str,
     what: &str,
     show: bool,
+    key: Option<KeyArgument<'_>>,
     output: &mut W,
     fault: &mut F,
 ) -> u8
     ensures status { (result ≡ 0) ⊎ (result ≡ 1) }
     ensures handed_on { result ≡ 0 → IsHandedOn (W.held_back output.new) }
     ensures done { result ≡ 0 → HasShownText
-        (show_arguments kind.now what.now show (S.held files.now what.now))
+        (show_arguments kind.now what.now show key.entry (S.held files.now what.now))
         (streams (W.known output.old) (W.known output.new)
         (F.known fault.old) (F.known fault.new)) }
     ensures not_done { result ≡ 1 → HasNotShownText
-        (show_arguments kind.now what.now show (S.held files.now what.now))
+        (show_arguments kind.now what.now show key.entry (S.held files.now what.now))
         (streams (W.known output.old) (W.known output.new)
         (F.known fault.old) (F.known fault.new)) }
 {
     duk_io::laws::writes();
-    let text = match shown_text(alloc, files, kind, what, show) {
+    let text = match shown_text(alloc, files, kind, what, show, key) {
         Ok(text) => text,
         Err(why) => return report(fault, why),
     };
@@ -77,14 +80,18 @@ fn shown_text<S: FileSystem>(
     kind: &str,
     what: &str,
     show: bool,
+    key: Option<KeyArgument<'_>>,
 ) -> Result<Vec<u8>, ShowFault>
     ensures text { IfOk result (λ text. IsShowText
-        (show_arguments kind.now what.now show (S.held files.now what.now)) text.items) }
+        (show_arguments kind.now what.now show key.entry (S.held files.now what.now)) text.items) }
     ensures refused { IfErr result (IsShowRefused
-        (show_arguments kind.now what.now show (S.held files.now what.now))) }
+        (show_arguments kind.now what.now show key.entry (S.held files.now what.now))) }
 {
     match kind {
-        "frame" => frame_text(alloc, what),
+        "frame" => match key {
+            None => frame_text(alloc, what),
+            Some(key) => checked_text(alloc, what, show, key),
+        },
         "block" => block_text(alloc, what),
         "image" => image_text(alloc, what, show),
         "log" => log_text(alloc, files, what),
@@ -99,6 +106,22 @@ fn frame_text(alloc: Global, what: &str) -> Result<Vec<u8>, ShowFault>
     ensures refused { IfErr result (λ why. IsFrameRefused what.now why ⊎ (why ≡ OutOfMemory)) }
 {
     match frame_lines(alloc, what) {
+        Ok(lines) => text_of(alloc, lines.as_slice()),
+        Err(why) => Err(why),
+    }
+}
+
+/// The text of a frame whose MAC is tested.
+fn checked_text(
+    alloc: Global,
+    what: &str,
+    show: bool,
+    key: KeyArgument<'_>,
+) -> Result<Vec<u8>, ShowFault>
+    ensures text { IfOk result (λ text. IsCheckedText key.entry what.now show text.items) }
+    ensures refused { IfErr result (λ why. IsCheckRefused key.entry what.now why ⊎ (why ≡ OutOfMemory)) }
+{
+    match checked_frame_lines(alloc, key, what, show) {
         Ok(lines) => text_of(alloc, lines.as_slice()),
         Err(why) => Err(why),
     }

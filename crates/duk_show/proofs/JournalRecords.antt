@@ -9,7 +9,7 @@ use Rattle.duk_journal.specs.declared.record_format.Contents.{Contents}
 use Rattle.duk_show.specs.Journal.{BeginsJournal, GoesOn, IsCutRecord, IsJournal, IsJournalRefused, StandFrom}
 use Rattle.duk_show.specs.Standing.{UseNewNumbers, used_by}
 use Rattle.duk_show.specs.declared.fault.ShowFault.{ShowFault}
-use Rattle.duk_show.specs.declared.fault.ShowFault.TheVariants.{BlockRefused, FrameRefused, ImageRefused, JournalRefused, JournalTooLong, JournalUnread, KindRefused, LogRefused, LogTooLong, LogUnread, OutOfMemory}
+use Rattle.duk_show.specs.declared.fault.ShowFault.TheVariants.{JournalRefused, OutOfMemory}
 use Rattle.duk_show.specs.inner.Journal.{AreClosedBetween, AreGroups, IsLeftAfter, IsNextIn, IsNotNew, IsOpenAt, IsRecordNotTaken, IsRecordTaken}
 use Rattle.duk_show.proofs.JournalNumbers.{new_number}
 
@@ -154,15 +154,7 @@ not_new one left followers entries entry r (JournalRefused place) next first kno
         let is = one 0 followers other.entry entry r other.contents next.contents in
         other.is_new (subst (λ (p : Entry). Contains (used_by entries) p.number) (sym is.1) known.1)
 not_new one left followers entries entry r OutOfMemory next first known = tt
-not_new one left followers entries entry r KindRefused next first known = absurd known
-not_new one left followers entries entry r LogUnread next first known = absurd known
-not_new one left followers entries entry r LogTooLong next first known = absurd known
-not_new one left followers entries entry r (LogRefused place) next first known = absurd known
-not_new one left followers entries entry r JournalUnread next first known = absurd known
-not_new one left followers entries entry r JournalTooLong next first known = absurd known
-not_new one left followers entries entry r (FrameRefused place why) next first known = absurd known
-not_new one left followers entries entry r (BlockRefused place why) next first known = absurd known
-not_new one left followers entries entry r (ImageRefused place why) next first known = absurd known
+not_new one left followers entries entry r fault next first known = absurd known
 
 pub not_taken : OneContents → (place left : ℕ) (entries : Entries) (bytes : List ℕ) (fault : ShowFault) → BeginsJournal place left entries bytes → length entries ≡ place → IsRecordNotTaken left (record_at place bytes) entries fault
     → IsJournalRefused bytes fault
@@ -170,15 +162,7 @@ not_taken one place left entries bytes (JournalRefused other) begins size wrong 
     subst (λ (n : ℕ). IsJournalRefused bytes (JournalRefused n)) (sym (wrong.0 ∙ size))
     (damaged one place left entries bytes begins (inr (subst (λ (n : ℕ). ¬ GoesOn n left entries (record_at place bytes)) size wrong.1)))
 not_taken one place left entries bytes OutOfMemory begins size wrong = tt
-not_taken one place left entries bytes KindRefused begins size wrong = absurd wrong
-not_taken one place left entries bytes LogUnread begins size wrong = absurd wrong
-not_taken one place left entries bytes LogTooLong begins size wrong = absurd wrong
-not_taken one place left entries bytes (LogRefused other) begins size wrong = absurd wrong
-not_taken one place left entries bytes JournalUnread begins size wrong = absurd wrong
-not_taken one place left entries bytes JournalTooLong begins size wrong = absurd wrong
-not_taken one place left entries bytes (FrameRefused other why) begins size wrong = absurd wrong
-not_taken one place left entries bytes (BlockRefused other why) begins size wrong = absurd wrong
-not_taken one place left entries bytes (ImageRefused other why) begins size wrong = absurd wrong
+not_taken one place left entries bytes fault begins size wrong = absurd wrong
 
 -- a record is taken
 pub taken : (place left more : ℕ) (old new : Entries) (bytes : List ℕ) → BeginsJournal place left old bytes → length old ≡ place → (left ≡ 0 → IsOpen (record_at place bytes)) → IsRecordTaken left (record_at place bytes) old new more

@@ -1,5 +1,6 @@
 mod BlockOrder
 mod BlockStops
+mod CheckedFrames
 mod FrameStops
 mod HeaderCharacters
 mod OptionalBlocks

@@ -7,7 +7,7 @@ use Rattle.duk_store.specs.SlotFormat.{IsOpen}
 use Rattle.duk_tree.specs.Serial.{Serial}
 use Rattle.duk_show.specs.Log.{BeginsLog, IsLogRefused, IsNoLog, IsSomeLog, IsWrongRecord}
 use Rattle.duk_show.specs.declared.fault.ShowFault.{ShowFault}
-use Rattle.duk_show.specs.declared.fault.ShowFault.TheVariants.{BlockRefused, FrameRefused, ImageRefused, JournalRefused, JournalTooLong, JournalUnread, KindRefused, LogRefused, LogTooLong, LogUnread, OutOfMemory}
+use Rattle.duk_show.specs.declared.fault.ShowFault.TheVariants.{LogRefused, OutOfMemory}
 use Rattle.duk_show.specs.inner.Log.{AreFirstNumbers, IsDamagedLog, IsNextRecord, IsNumberRefused, IsRecordRefused}
 
 -- no log has a record that is wrong
@@ -32,15 +32,7 @@ refused bytes place numbers (Err (LogRefused other)) first why =
     subst (λ (n : ℕ). IsNoLog bytes n) (sym why.0)
     (record { damaged = record { count = length numbers; begins = first.begins; wrong = inr wrong }; no_numbers = no_log bytes place (length numbers) first.begins wrong })
 refused bytes place numbers (Err OutOfMemory) first why = tt
-refused bytes place numbers (Err KindRefused) first why = absurd why
-refused bytes place numbers (Err JournalUnread) first why = absurd why
-refused bytes place numbers (Err JournalTooLong) first why = absurd why
-refused bytes place numbers (Err (JournalRefused other)) first why = absurd why
-refused bytes place numbers (Err LogUnread) first why = absurd why
-refused bytes place numbers (Err LogTooLong) first why = absurd why
-refused bytes place numbers (Err (FrameRefused other fault)) first why = absurd why
-refused bytes place numbers (Err (BlockRefused other fault)) first why = absurd why
-refused bytes place numbers (Err (ImageRefused other fault)) first why = absurd why
+refused bytes place numbers (Err fault) first why = absurd why
 
 -- after a closed record
 closed_next : (bytes : List ℕ) (place count : ℕ) → BeginsLog place count bytes → ¬ IsOpen (record_at place bytes) → BeginsLog (place + 1) count bytes
@@ -126,15 +118,7 @@ number_refused : (bytes : List ℕ) (numbers : List Serial) (why : ShowFault) �
 number_refused bytes numbers (LogRefused place) size keeps cause =
     inr (record { numbers = numbers; size = size; keeps = keeps; first = cause })
 number_refused bytes numbers OutOfMemory size keeps cause = tt
-number_refused bytes numbers KindRefused size keeps cause = absurd cause
-number_refused bytes numbers JournalUnread size keeps cause = absurd cause
-number_refused bytes numbers JournalTooLong size keeps cause = absurd cause
-number_refused bytes numbers (JournalRefused place) size keeps cause = absurd cause
-number_refused bytes numbers LogUnread size keeps cause = absurd cause
-number_refused bytes numbers LogTooLong size keeps cause = absurd cause
-number_refused bytes numbers (FrameRefused place fault) size keeps cause = absurd cause
-number_refused bytes numbers (BlockRefused place fault) size keeps cause = absurd cause
-number_refused bytes numbers (ImageRefused place fault) size keeps cause = absurd cause
+number_refused bytes numbers fault size keeps cause = absurd cause
 
 pub numbers_refused : {T : Type 0} (bytes : List ℕ) (numbers : List Serial) (tested : Result T ShowFault) → IsLogSize (length bytes) → KeepsNumbers bytes numbers
     → IfErr tested (IsNumberRefused numbers) → IfErr tested (IsLogRefused bytes)

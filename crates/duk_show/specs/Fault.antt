@@ -5,7 +5,7 @@ use Rattle.duk_commands.specs.Fault.{line_end}
 use Rattle.duk_show.specs.FrameFault.{frame_fault_name}
 use Rattle.duk_show.specs.ImageFault.{image_fault_name}
 use Rattle.duk_show.specs.declared.fault.ShowFault.{ShowFault}
-use Rattle.duk_show.specs.declared.fault.ShowFault.TheVariants.{BlockRefused, FrameRefused, ImageRefused, JournalRefused, JournalTooLong, JournalUnread, KindRefused, LogRefused, LogTooLong, LogUnread, OutOfMemory}
+use Rattle.duk_show.specs.declared.fault.ShowFault.TheVariants.{BdkRefused, BlockRefused, FrameRefused, ImageRefused, InitialRefused, JournalRefused, JournalTooLong, JournalUnread, KindRefused, KsnRefused, LogRefused, LogTooLong, LogUnread, OutOfMemory}
 
 -- what is reported where the reading of a text of this kind stops: the place and the fault there
 abbrev pub stopped_text : List ℕ → ℕ → List ℕ → List ℕ
@@ -15,6 +15,9 @@ stopped_text kind place why =
 -- what is reported of a fault
 abbrev pub show_text : ShowFault → List ℕ
 show_text KindRefused = codes "KIND refused"
+show_text BdkRefused = codes "BDK refused"
+show_text InitialRefused = codes "initial refused"
+show_text KsnRefused = codes "KSN refused"
 show_text (FrameRefused place why) = stopped_text (codes "frame") place (frame_fault_name why)
 show_text (BlockRefused place why) = stopped_text (codes "block") place (block_fault_name why)
 show_text (ImageRefused place why) = stopped_text (codes "image") place (image_fault_name why)

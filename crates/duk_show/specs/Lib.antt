@@ -2,6 +2,7 @@ pub mod Hexadecimal
 pub mod FrameFault
 pub mod Fault
 pub mod Frame
+pub mod CheckedFrame
 pub mod KeyNames
 pub mod Block
 pub mod ImageFault

@@ -1,4 +1,5 @@
 pub mod Block
+pub mod CheckedFrame
 pub mod Hexadecimal
 pub mod Image
 pub mod Journal

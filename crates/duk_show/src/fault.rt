@@ -17,6 +17,12 @@ use duk_io::{Sink, write_text};
 pub enum ShowFault {
     /// What is to be shown is of no known kind.
     KindRefused,
+    /// The base derivation key is not 32 hexadecimal digits.
+    BdkRefused,
+    /// The initial key is not 32 hexadecimal digits.
+    InitialRefused,
+    /// The counter of the frame's number is zero or has more than ten one bits.
+    KsnRefused,
     /// The text is no frame in hexadecimal.
     FrameRefused {
         /// The byte at which the wrong field begins, or the character that is no digit.
@@ -67,6 +73,9 @@ impl ShowFault {
     {
         match self {
             ShowFault::KindRefused => line_of("KIND refused"),
+            ShowFault::BdkRefused => line_of("BDK refused"),
+            ShowFault::InitialRefused => line_of("initial refused"),
+            ShowFault::KsnRefused => line_of("KSN refused"),
             ShowFault::FrameRefused { place, why } => stopped_line("frame", place, why.name()),
             ShowFault::BlockRefused { place, why } => stopped_line("block", place, why.name()),
             ShowFault::ImageRefused { place, why } => stopped_line("image", place, why.name()),

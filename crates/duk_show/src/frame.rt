@@ -13,6 +13,8 @@ ghost use Rattle.duk_reversal.specs.Reply.{AreReversalReplyFields, IsReversalRep
 ghost use Rattle.duk_reversal.specs.Reversal.{AreReversalFields, IsReversal};
 ghost use Rattle.duk_reversal.specs.declared.reply.ReversalReply.{ReversalReply as ReversalReplyValue};
 ghost use Rattle.duk_reversal.specs.declared.reversal.Reversal.{Reversal as ReversalValue};
+ghost use Rattle.duk_block.specs.Hexadecimal.{IsHexadecimal};
+ghost use Rattle.duk_show.specs.FrameFault.{frame_place};
 ghost use Rattle.duk_show.specs.Frame.{IsBytesShown, IsFrameFault, IsFrameRefused, IsFrameText, MeetsFrame, answer_lines, code_words, number_at, reason_words, request_lines, reversal_lines, reversal_reply_lines, state_words};
 
 use crate::decimal::{push_decimal, push_number_line};
@@ -38,21 +40,34 @@ pub fn frame_lines(alloc: Global, text: &str) -> Result<Lines, ShowFault>
     ensures lines { IfOk result (λ lines. IsFrameText text.now lines.items) }
     ensures refused { IfErr result (IsFrameRefused text.now) }
 {
-    let bytes = match decode(alloc, text) {
-        Ok(bytes) => bytes,
-        Err(HexFault::OutOfMemory) => return Err(ShowFault::OutOfMemory),
-        Err(HexFault::At(place)) => {
-            let why = FrameFault::Hex;
-            return Err(ShowFault::FrameRefused { place, why });
-        }
-    };
+    let bytes = frame_bytes(alloc, text)?;
     match lines_of_bytes(bytes.as_slice()) {
         Ok(lines) => Ok(lines),
-        Err(why) => {
-            let place = why.place();
+        Err(why) => Err(refused_by(why)),
+    }
+}
+
+/// The bytes that the text of a frame writes.
+pub(crate) fn frame_bytes(alloc: Global, text: &str) -> Result<Vec<u8>, ShowFault>
+    ensures read { IfOk result (λ bytes. IsHexadecimal text.now bytes.items) }
+    ensures refused { IfErr result (IsFrameRefused text.now) }
+{
+    match decode(alloc, text) {
+        Ok(bytes) => Ok(bytes),
+        Err(HexFault::OutOfMemory) => Err(ShowFault::OutOfMemory),
+        Err(HexFault::At(place)) => {
+            let why = FrameFault::Hex;
             Err(ShowFault::FrameRefused { place, why })
         }
     }
+}
+
+/// The fault of bytes with this first wrong field.
+pub(crate) fn refused_by(why: FrameFault) -> ShowFault
+    ensures { result ≡ ShowFault.FrameRefused (frame_place why) why }
+{
+    let place = why.place();
+    ShowFault::FrameRefused { place, why }
 }
 
 /// The lines of the frame that the bytes are, or their first wrong field.
@@ -78,7 +93,7 @@ fn lines_of_bytes(bytes: &[u8]) -> Result<Lines, FrameFault>
 }
 
 /// The first wrong field of bytes that are no frame.
-fn first_wrong(bytes: &[u8]) -> FrameFault
+pub(crate) fn first_wrong(bytes: &[u8]) -> FrameFault
     requires no_request { (request : RequestValue) → ¬ IsRequest bytes.now request }
     requires no_answer { (answer : AnswerValue) → ¬ IsAnswer bytes.now answer }
     requires no_reversal { (reversal : ReversalValue) → ¬ IsReversal bytes.now reversal }
@@ -158,9 +173,10 @@ fn has_its_numbers(bytes: &[u8]) -> bool
 }
 
 /// The lines of a request.
-fn lines_of_request(request: &Request) -> Lines
+pub(crate) fn lines_of_request(request: &Request) -> Lines
     requires { AreRequestFields request.now }
-    ensures { result.items ≡ request_lines request.now }
+    ensures lines { result.items ≡ request_lines request.now }
+    ensures short { array_vec_len result ≤ 200 }
 {
     let mut lines = Lines::new();
     push_text_line(&mut lines, b"frame", b"request");
@@ -173,9 +189,10 @@ fn lines_of_request(request: &Request) -> Lines
 }
 
 /// The lines of an answer.
-fn lines_of_answer(answer: &AnswerFrame) -> Lines
+pub(crate) fn lines_of_answer(answer: &AnswerFrame) -> Lines
     requires { AreAnswerFields answer.now }
-    ensures { result.items ≡ answer_lines answer.now }
+    ensures lines { result.items ≡ answer_lines answer.now }
+    ensures short { array_vec_len result ≤ 200 }
 {
     let mut lines = Lines::new();
     match answer {
@@ -195,9 +212,10 @@ fn lines_of_answer(answer: &AnswerFrame) -> Lines
 }
 
 /// The lines of a reversal.
-fn lines_of_reversal(reversal: &Reversal) -> Lines
+pub(crate) fn lines_of_reversal(reversal: &Reversal) -> Lines
     requires { AreReversalFields reversal.now }
-    ensures { result.items ≡ reversal_lines reversal.now }
+    ensures lines { result.items ≡ reversal_lines reversal.now }
+    ensures short { array_vec_len result ≤ 200 }
 {
     let mut lines = Lines::new();
     push_text_line(&mut lines, b"frame", b"reversal");
@@ -212,9 +230,10 @@ fn lines_of_reversal(reversal: &Reversal) -> Lines
 }
 
 /// The lines of a reversal's reply.
-fn lines_of_reversal_reply(reply: &ReversalReply) -> Lines
+pub(crate) fn lines_of_reversal_reply(reply: &ReversalReply) -> Lines
     requires { AreReversalReplyFields reply.now }
-    ensures { result.items ≡ reversal_reply_lines reply.now }
+    ensures lines { result.items ≡ reversal_reply_lines reply.now }
+    ensures short { array_vec_len result ≤ 200 }
 {
     let mut lines = Lines::new();
     push_text_line(&mut lines, b"frame", b"reversal-reply");
@@ -242,8 +261,9 @@ fn push_code(lines: &mut Lines, code: Code)
 /// Appends the line of a reason.
 fn push_reason(lines: &mut Lines, reason: u8)
     requires { array_vec_len lines.old + 60 ≤ LINES_ROOM }
-    ensures { lines.new.items ≡ lines.old.items
+    ensures line { lines.new.items ≡ lines.old.items
         ++ text_line (codes "reason") (decimal reason ++ codes " " ++ reason_words reason) }
+    ensures len { array_vec_len lines.new ≤ array_vec_len lines.old + 60 }
 {
     push_text(lines, b"reason ");
     push_decimal(lines, usize::from(reason));

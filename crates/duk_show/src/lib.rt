@@ -1,9 +1,11 @@
 //! The command `show`: what a frame, a key block, a terminal's image, a log of used numbers or a
 //! journal says, each as the lines that it makes of its argument, or the fault and the place at which
-//! reading it stops. Nothing is deciphered.
+//! reading it stops. Nothing is deciphered
+//! but the PIN block of a request, where a key is given and it is to be shown.
 #![tactic(auto)]
 
 mod block;
+mod checked_frame;
 mod decimal;
 mod fault;
 mod frame;
@@ -21,6 +23,7 @@ mod standing;
 mod tallies;
 
 pub use block::block_lines;
+pub use checked_frame::checked_frame_lines;
 pub use fault::{ShowFault, report};
 pub use frame::frame_lines;
 pub use frame_fault::FrameFault;

@@ -1,4 +1,9 @@
 pub mod SmallNumbers
+mod JoinedHalves
+mod Windows
+mod SearchSteps
+mod FindOrder
+mod SoughtIsRead
 mod KeysAreRead
 mod FaultOrder
 mod StepsOnTheWay

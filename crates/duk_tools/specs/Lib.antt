@@ -6,4 +6,9 @@ pub mod Mac
 pub mod PinBlocks
 pub mod Frames
 pub mod Reversals
+pub mod DataKeys
+pub mod Origin
+pub mod FindFault
+pub mod Sought
+pub mod Find
 pub mod inner

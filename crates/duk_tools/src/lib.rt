@@ -4,22 +4,31 @@
 
 mod asked;
 mod check_values;
+mod data_keys;
+mod find;
+mod find_fault;
 mod frames;
 mod hexadecimal;
 mod keys;
 mod mac;
+mod origin;
 mod pin_blocks;
 mod registers;
 mod reversals;
+mod search;
 mod small_number;
+mod sought;
 mod start;
 mod steps;
 mod told;
 
 pub use check_values::{MOST_KEYS, values_lines};
+pub use find::find_command;
+pub use find_fault::FindFault;
 pub use frames::{reply_lines, request_lines};
 pub use keys::{derived_lines, initial_lines};
 pub use mac::mac_lines;
 pub use pin_blocks::{translate_lines, unpin_lines};
 pub use registers::registers_lines;
 pub use reversals::reversal_lines;
+pub use sought::Clue;

@@ -35,7 +35,7 @@ pub fn unpin_lines(block: &str, pan: &str, key: Option<&str>, show: bool) -> Res
 }
 
 /// The block that 16 hexadecimal digits write.
-fn read_block(text: &str) -> Option<[u8; 8]>
+pub(crate) fn read_block(text: &str) -> Option<[u8; 8]>
     ensures { result ≡ block_of_text text.now }
 {
     <[u8; 8] as FromHex>::from_hex(text).ok()

@@ -10,7 +10,7 @@ use Rattle.duk_arguments.specs.declared.commands.arguments.Usage.{Usage}
 use Rattle.duk_arguments.specs.declared.commands.name.CommandName.{CommandName}
 use Rattle.duk_arguments.specs.declared.commands.name.CommandName.TheVariants as command_name
 use Rattle.duk_arguments.specs.CommandLine.{argument_rule, command, flag_rule, named_rule, option_rule, optional_rule, several_rule}
-use Rattle.duk_arguments.specs.CommandLine.{derive_command, walk_command, initial_command, issue_command, registers_command, kcv_command, mac_command, pin_command, unpin_command, translate_command, wrap_command, unwrap_command, show_command, request_command, reply_command, run_command, serve_command, new_log_command, new_journal_command, copy_journal_command}
+use Rattle.duk_arguments.specs.CommandLine.{derive_command, walk_command, initial_command, issue_command, registers_command, kcv_command, mac_command, pin_command, unpin_command, translate_command, wrap_command, unwrap_command, show_command, request_command, reply_command, find_command, run_command, serve_command, new_log_command, new_journal_command, copy_journal_command}
 
 -- the rule of an argument of the code
 abbrev pub rule_of_argument : Argument → Rule
@@ -50,6 +50,7 @@ shape_named command_name.Unwrap = unwrap_command
 shape_named command_name.Show = show_command
 shape_named command_name.Request = request_command
 shape_named command_name.Reply = reply_command
+shape_named command_name.Find = find_command
 shape_named command_name.Run = run_command
 shape_named command_name.Serve = serve_command
 shape_named command_name.NewLog = new_log_command

@@ -119,7 +119,7 @@ pub(super) fn unwrap<'a>() -> Usage<'a>
     }
 }
 
-/// `show KIND WHAT [--show]`
+/// `show KIND WHAT [--show] [--key BDK] [--initial]`
 pub(super) fn show<'a>() -> Usage<'a>
     ensures { shape_of_usage result ≡ show_command }
 {
@@ -133,7 +133,16 @@ pub(super) fn show<'a>() -> Usage<'a>
                 "WHAT",
                 "A frame or an image in hexadecimal, a key block, or the file of a log or a journal",
             ),
-            Argument::Flag("show", "Prints the keys of an image's registers too"),
+            Argument::Flag(
+                "show",
+                "Prints the keys of an image's registers too; with --key a request's PIN block",
+            ),
+            Argument::Valued(
+                "key",
+                "BDK",
+                "Tests the MAC of a frame under this base derivation key",
+            ),
+            INITIAL_KEY,
         ],
     }
 }

@@ -33,6 +33,8 @@ pub(crate) enum CommandName {
     Request,
     /// `reply`
     Reply,
+    /// `find`
+    Find,
     /// `run`
     Run,
     /// `serve`

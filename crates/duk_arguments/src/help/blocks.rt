@@ -166,16 +166,18 @@ Faults, on standard error with status 1, the first alone; --explain says more:
 pub(crate) const SHOW: &str = "\
 Prints each field on a line, its name first. KIND says what WHAT is: `frame` a frame in hexadecimal,
 `block` a key block, `image` a terminal's image in hexadecimal, `log` the file of a log of used
-numbers, `journal` the file of a journal of payments. Nothing is deciphered and no MAC is tested.
---show prints the keys of an image's registers.
-With - for WHAT of the first three, texts of KIND are read from standard input, one a line; one that
+numbers, `journal` the file of a journal of payments. --show prints the keys of an image's registers.
+With --key, of a frame alone, `mac-expected` is its MAC under the key of its number, and `mac-check` is
+`right` or `wrong`; with --show too a request's PIN block is deciphered. A refusal has no MAC.
+Without --key nothing is deciphered and no MAC is tested.
+With - for WHAT of the first three, and no --key, texts of KIND are read from standard input, one a line; one that
 is refused has the line of its fault in its place.
 
-WHAT is better written as @FILE (the first line of a file) or @- (of standard input): every user of
-the machine sees the words of a process, of a frame the PAN and of an image the keys. WHAT of a log or
-a journal is its path, with ./ before one that begins with @.
+WHAT and BDK are better written as @FILE (the first line of a file) or @- (of standard input): every
+user of the machine sees the words of a process, of a frame the PAN and of an image the keys. WHAT of a
+log or a journal is its path, with ./ before one that begins with @.
 
-Example:
+Examples:
   $ echo 002E0101FFFF9876543210E000010D34303132333435363738393039000003E81B9C1845EB993A7A25ECC2EEB37FB551 >frame.txt
   $ dukpt show frame @frame.txt
   frame request
@@ -184,11 +186,19 @@ Example:
   amount 1000
   pin-block 1B9C1845EB993A7A
   mac 25ECC2EEB37FB551
+  $ echo 0123456789ABCDEFFEDCBA9876543210 >bdk.txt
+  $ dukpt show frame @frame.txt --key @bdk.txt | tail -n 2
+  mac-expected 25ECC2EEB37FB551
+  mac-check right
 
 Faults, on standard error with status 1, the first alone; --explain says more:
   WHAT: ..                WHAT as @FILE or @-: cannot read, too long, not UTF-8
+  BDK: ..                 BDK as @FILE or @-: the same
   KIND refused            KIND is not frame, block, image, log or journal
+  BDK refused             BDK is not 32 hexadecimal digits
+  initial refused         The same, with --initial
   frame refused at N: ..  WHAT is no frame: the place where reading stopped, from 0, and why
+  KSN refused             With --key: the counter of the frame is zero or has more than ten one bits
   block refused at N: ..  WHAT is no key block: the same
   image refused at N: ..  WHAT is no image: the same
   log refused at N: ..    WHAT is a damaged log: the same, of its records

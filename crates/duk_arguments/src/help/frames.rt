@@ -1,4 +1,4 @@
-//! The text at the end of the help of the commands over frames.
+//! The text at the end of the help of the commands over frames, and of the one that finds what made one.
 
 /// At the end of the help of `request`.
 pub(crate) const REQUEST: &str = "\
@@ -58,5 +58,47 @@ Faults, on standard error with status 1, the first alone; --explain says more:
   answer refused   ANSWER is no answer frame
   NotMine          ANSWER is to another number, or of another kind
   BadMac           ANSWER was changed, or BDK is another key
+  write failed     Standard output takes no more
+  out of memory    Memory was refused";
+
+/// At the end of the help of `find`.
+pub(crate) const FIND: &str = "\
+WHAT is a frame with a MAC; with --text a MAC of that text, retail or CMAC; with --pan an enciphered PIN
+block of format 0; with --clear a block enciphered by TDES. These three exclude each other. The usable
+numbers of one terminal are tried in their order, from KSN on; of a frame without --from, from the
+first number of its own terminal on.
+
+Of each number these keys are tried, in this order: `key`, the transaction key itself; its variants
+`pin`, `request-mac` and `response-mac`; and the data keys `request-data` and `response-data`, each a
+variant whose halves are enciphered under the variant itself. The first key that made WHAT is told,
+with the number before it, and behind it of a MAC whether it is `retail` or `cmac`.
+
+BDK, WHAT, PAN and BLOCK are better written as @FILE (the first line of a file) or @- (of standard
+input): every user of the machine sees the words of a process.
+
+Examples:
+  $ echo 0123456789ABCDEFFEDCBA9876543210 >bdk.txt
+  $ echo 4012345678909 >pan.txt
+  $ dukpt find @bdk.txt 38842EFB38B0AA13 --from FFFF9876543210E00001 --text 4012345678909
+  found FFFF9876543210E00001 request-mac retail
+  $ dukpt find @bdk.txt 1B9C1845EB993A7A --from FFFF9876543210E00000 --pan @pan.txt
+  found FFFF9876543210E00001 pin
+  $ dukpt find @bdk.txt 001E0104FFFF9876543210E00002FFFF9876543210E000013B8EA61D9F5F532F
+  found FFFF9876543210E00002 request-mac retail
+
+Faults, on standard error with status 1, the first alone; --explain says more:
+  BDK: ..          BDK as @FILE or @-: cannot read, too long, not UTF-8
+  WHAT: ..         WHAT as @FILE or @-: the same
+  PAN: ..          PAN as @FILE or @-: the same
+  BLOCK: ..        BLOCK as @FILE or @-: the same
+  BDK refused      BDK is not 32 hexadecimal digits
+  initial refused  The same, with --initial
+  WHAT refused     WHAT is no frame with a MAC, or with an option not 16 hexadecimal digits
+  TEXT refused     TEXT is empty, or with --hex not pairs of hexadecimal digits
+  PAN refused      PAN is not 12 to 19 digits
+  BLOCK refused    BLOCK is not 16 hexadecimal digits
+  KSN refused      KSN is not 20 hexadecimal digits
+  window refused   N is no number from 1 to 100000
+  not found        No key of the numbers that were tried made WHAT
   write failed     Standard output takes no more
   out of memory    Memory was refused";

@@ -2,13 +2,15 @@
 use Rattle.duk_arguments.specs.declared.request.Request.{Request}
 use Rattle.duk_arguments.specs.declared.request.Request.TheVariants as request
 
--- a request whose command is one over its arguments alone
+-- a request whose command is one over its arguments alone, and has the faults of such
 abbrev pub NeedsNoFile : Request → Type 0
 NeedsNoFile (request.Run config script journal) = ⊥
 NeedsNoFile (request.Serve config kept) = ⊥
 NeedsNoFile (request.NewLog file records) = ⊥
 NeedsNoFile (request.NewJournal file records) = ⊥
 NeedsNoFile (request.CopyJournal old new) = ⊥
+NeedsNoFile (request.Find bdk what sought window initial) = ⊥
+NeedsNoFile (request.CheckFrame what bdk show initial) = ⊥
 NeedsNoFile (request.Show kind what show) = ⊥
 NeedsNoFile (request.Issue bdk loading iksn count ledger way) = ⊥
 NeedsNoFile asked = Unit {0}

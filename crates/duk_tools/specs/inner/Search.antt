@@ -1,0 +1,32 @@
+-- What only private functions and proofs say beside `Find.antt`: this project's own.
+use Rattle.std.specs.Prelude.{◌≡◌, ◌⊎◌, ◌≤◌, ℕ, List, [], ◌∷◌}
+use Rattle.duk_io.specs.FirstFault.{IsFirst}
+use Rattle.duk_tools.specs.Find.{Search}
+use Rattle.duk_tools.specs.Origin.{way_rank}
+use Rattle.duk_tools.specs.Sought.{MakesBy}
+use Rattle.duk_tools.specs.declared.origin.Way.{Way}
+use Rattle.duk_tools.specs.declared.sought.Sought.{Sought}
+use Rattle.duk_tree.specs.Next.{IsChainAfter, spent_counter}
+use Rattle.duk_tree.specs.Path.{IsUsable}
+
+-- a search for this, under this initial key and initial key serial number, over these counters
+abbrev pub search_in : Sought → List ℕ → ℕ → List ℕ → Search
+search_in sought initial iksn window =
+    record { sought = sought; initial = initial; iksn = iksn; window = window }
+
+-- the first usable counter from this one on
+pub record IsFirstFrom (from first : ℕ) : Type 0 where
+  pub is_usable : IsUsable first
+  pub not_below : from ≤ first
+  pub is_least : (other : ℕ) → IsUsable other → from ≤ other → first ≤ other
+
+-- the counters that a terminal has left which uses this one next
+abbrev pub AreLeft : ℕ → List ℕ → Type 0
+AreLeft counter numbers = ((counter ≡ spent_counter) × (numbers ≡ []))
+    ⊎ ((later : List ℕ) × IsUsable counter × IsChainAfter counter later
+    × (numbers ≡ counter ∷ later))
+
+-- the first way in which a key makes what is looked for
+abbrev pub IsFirstWay : Sought → List ℕ → Way → Type 0
+IsFirstWay sought key =
+    IsFirst way_rank (λ way. ¬ MakesBy sought key way) (MakesBy sought key)
