@@ -4,7 +4,9 @@ The model of `finding` tries few; here a number is made by its place, and its ke
 """
 from __future__ import annotations
 
+import os
 import resource
+import subprocess
 from typing import Sequence
 
 from .support.case import ProgramCase
@@ -13,7 +15,7 @@ from .support.des import encrypt_block
 from .support.dukpt import derive, serial_text
 from .support.everyday import NUMBERS, nth_counter
 from .support.everyday_rows import BASE, IKSN, PAN
-from .support.finding import MOST_NUMBERS, keys_of_number
+from .support.finding import MOST_NUMBERS, keys_of_number, progress_lines
 from .support.frames import write_request
 from .support.macs import cmac
 from .support.pin_blocks import pin_block
@@ -42,20 +44,30 @@ def made_at(place: int, kind: str) -> tuple[list[str], str]:
     return [shown(what), f"--{kind}", told], f"found {serial_text(number_at(place))} {found}\n"
 
 
-class Find(ProgramCase):
-    """The time of a processor is measured and not judged; the lines are judged."""
+def progress_of(kind: str, most: int, numbers: int) -> list[str]:
+    """What a search by one of the kinds tells of its progress."""
+    return progress_lines(len(TEXT), most, numbers) if kind == "text" else []
 
-    weight = 20
 
-    def search(self, words: Sequence[str], line: str) -> float:
-        """That a search ends with this line, or finds nothing where it is empty. The seconds of a
-        processor that it took."""
+class FindCase(ProgramCase):
+    """A search, whose lines are judged, those of its progress too."""
+
+    def search(self, words: Sequence[str], line: str, told: Sequence[str] = (),
+               explained: str = "") -> float:
+        """That a search ends with this line, or finds nothing where it is empty, behind these lines of
+        progress. The seconds of a processor that it took."""
         before = resource.getrusage(resource.RUSAGE_CHILDREN).ru_utime
         ended = self.program.run("find", BASE, *words)
         took = resource.getrusage(resource.RUSAGE_CHILDREN).ru_utime - before
-        faults = b"" if line else b"not found\n"
-        self.assert_ended(ended, int(not line), line.encode(), faults, spoken(words))
+        faults = "".join(f"{it}\n" for it in told) + ("" if line else f"not found\n{explained}")
+        self.assert_ended(ended, int(not line), line.encode(), faults.encode(), spoken(words))
         return took
+
+
+class Find(FindCase):
+    """The time of a processor is measured and not judged."""
+
+    weight = 20
 
     def test_the_last_number(self) -> None:
         """Without --window, and with as many as there may be, the last number is found, and none
@@ -64,9 +76,13 @@ class Find(ProgramCase):
         for kind in KINDS:
             words, line = made_at(first + MOST_NUMBERS - 1, kind)
             begun = ["--from", serial_text(number_at(first))]
-            took = self.search([*words, *begun], line)
-            took = max(took, self.search([*words, *begun, "--window", str(MOST_NUMBERS)], line))
-            self.search([*words, *begun, "--window", str(MOST_NUMBERS - 1)], "")
+            told = progress_of(kind, MOST_NUMBERS, MOST_NUMBERS)
+            took = self.search([*words, *begun], line, told)
+            most = ["--window", str(MOST_NUMBERS)]
+            took = max(took, self.search([*words, *begun, *most], line, told))
+            fewer = MOST_NUMBERS - 1
+            told = progress_of(kind, fewer, fewer)
+            self.search([*words, *begun, "--window", str(fewer)], "", told)
             later = ["--from", serial_text(number_at(first + MOST_NUMBERS))]
             self.search([*words, *later, "--window", "1000"], "")
             self.tells(f"--{kind}: {MOST_NUMBERS / took:.0f} numbers a second")
@@ -103,3 +119,77 @@ class Find(ProgramCase):
             words, line = made_at(NUMBERS - 1, kind)
             self.search([*words, "--from", serial_text(number_at(NUMBERS - 200))], line)
             self.search([*words, "--from", f"{IKSN + 0x1FF801:020X}"], "")
+
+
+class FindProgress(FindCase):
+    """The lines of progress of a search for the MAC of a text, on standard error."""
+
+    weight = 20
+
+    def words_of(self, size: int, from_place: int, place: int) -> tuple[list[str], str]:
+        """A search from one place on for the MAC of a random text of so many bytes, which the last key
+        of the number at another made, and the line that tells of it."""
+        name, key = keys_of_number(derive(KEY, number_at(place)))[-1]
+        text = bytes(self.chance.randrange(256) for _ in range(size))
+        words = [shown(cmac(key, text)), "--text", text.hex(), "--hex",
+                 "--from", serial_text(number_at(from_place))]
+        return words, f"found {serial_text(number_at(place))} {name} cmac\n"
+
+    def test_before_and_behind_a_line(self) -> None:
+        """The number before a line is told without it, and the one behind it with it; in a window that
+        ends at either, nothing else is told of one that is not there."""
+        first = self.chance.randrange(NUMBERS // 2)
+        for size, step, most_lines in ((64, 34_090, 1), (1_000, 2_929, 3), (60_000, 49, 2)):
+            for lines in range(1, most_lines + 1):
+                for place in (lines * step - 1, lines * step):
+                    told = [f"tried {step * it} of {MOST_NUMBERS}" for it in range(1, place // step + 1)]
+                    words, line = self.words_of(size, first, first + place)
+                    self.search(words, line, told)
+                    told = [f"tried {step * it} of {place}" for it in range(1, lines)]
+                    self.search([*words, "--window", str(place)], "", told)
+
+    def test_the_last_of_a_terminal(self) -> None:
+        """No line stands behind its last number, whatever the window is."""
+        size, step = 60_000, 49
+        for left in (step - 1, step, step + 1, 2 * step, 2 * step + 1):
+            words, _ = self.words_of(size, NUMBERS - left, 0)
+            self.search(words, "", progress_lines(size, MOST_NUMBERS, left))
+
+    def test_explained(self) -> None:
+        """With --explain the lines are the same, and the explanation is that of the fault's line."""
+        size, step = 60_000, 49
+        words, line = self.words_of(size, 7, 7 + step)
+        told = progress_lines(size, MOST_NUMBERS, step + 1)
+        self.search([*words, "--explain"], line, told)
+        explained = ("WHAT: made by no key that was tried; wanted: its key, and its number among those "
+                     "that are tried; --from and --window choose the numbers\n")
+        words, _ = self.words_of(size, 7, 0)
+        most = str(step + 1)
+        told = progress_lines(size, step + 1, step + 1)
+        self.search([*words, "--window", most, "--explain"], "", told, explained)
+
+    def test_told_while_it_goes_on(self) -> None:
+        """The first line is there long before the search ends."""
+        words, _ = self.words_of(1_000, 100, 0)
+        for more in ([], ["--explain"]):
+            with subprocess.Popen(["dukpt", "find", BASE, *words, *more],
+                                  executable=str(self.program.path), stdin=subprocess.DEVNULL,
+                                  stdout=subprocess.DEVNULL, stderr=subprocess.PIPE) as running:
+                told = running.stderr.readline()
+                is_running = running.poll() is None
+                running.kill()
+            self.assertEqual((told, is_running), (b"tried 2929 of 100000\n", True), more)
+
+    def test_lines_that_cannot_be_written(self) -> None:
+        """They are lost, and what is found is told as ever."""
+        words, line = self.words_of(60_000, 7, 7 + 100)
+        with open("/dev/full", "wb", buffering=0) as full:
+            ended = self.program.run("find", BASE, *words, faults=full.fileno())
+        self.assert_ended(ended, 0, line.encode(), b"", spoken(words[:1]))
+        read, write = os.pipe()
+        os.close(read)
+        try:
+            ended = self.program.run("find", BASE, *words, faults=write)
+        finally:
+            os.close(write)
+        self.assert_ended(ended, 0, line.encode(), b"", spoken(words[:1]))

@@ -98,6 +98,13 @@ def numbers_from(serial: int) -> Iterator[int]:
         counter = next_counter(counter)
 
 
+def progress_lines(size: int, most: int, numbers: int) -> list[str]:
+    """What a search for the MAC of a text of so many bytes tells of its progress, where so many numbers
+    were tried, the last of them too: a line after each step that another number comes behind."""
+    step = max(1, 3_000_000 // (24 + size))
+    return [f"tried {count} of {most}" for count in range(step, numbers, step)]
+
+
 def window_in(word: Optional[str]) -> int:
     if word is None:
         return MOST_NUMBERS

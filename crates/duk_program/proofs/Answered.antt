@@ -37,15 +37,12 @@ done_still command output written output' fault reported fault' done kept silent
 }
 
 -- so is what is found
-pub found_still : (arguments : FindArguments) (output written output' fault reported fault' : Known) → IsFindDone arguments (streams output written fault reported)
-    → IsUntouched written output' → IsUntouched reported fault' → IsFindDone arguments (streams output output' fault fault')
-found_still arguments output written output' fault reported fault' done kept silent = record {
+pub found_still : (arguments : FindArguments) (output written output' fault fault' : Known) → IsFindDone arguments (streams output written fault fault')
+    → IsUntouched written output' → IsFindDone arguments (streams output output' fault fault')
+found_still arguments output written output' fault fault' done kept = record {
   text = done.text;
-  asked = done.asked;
-  written = record {
-    written = written_still output written output' done.text done.written.written kept;
-    no_fault = untouched_still fault reported fault' done.written.no_fault silent;
-  };
+  found = done.found;
+  written = written_still output written output' done.text done.written kept;
 }
 
 -- so is a text that is shown

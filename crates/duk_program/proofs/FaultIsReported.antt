@@ -1,9 +1,10 @@
 -- What a command leaves on the writer of faults where it is not done.
-use Rattle.std.proofs.Common.{◌⊎◌, ℕ, Bool, true, false, List, Option, Some, None, inl, inr, refl}
+use Rattle.std.proofs.Common.{◌⊎◌, ◌+◌, length, subst, ℕ, Bool, true, false, List, Option, Some, None, inl, inr, refl}
+use Rattle.duk_arguments.specs.Asked.{Asks}
 use Rattle.duk_arguments.specs.declared.request.Request.TheVariants as request
 use Rattle.duk_batch.specs.Batch.{Input, IsBatchNotDone, refused_line, unread_line}
 use Rattle.duk_batch.specs.Item.{ItemCommand}
-use Rattle.duk_commands.specs.Answer.{Command, IsNotDone, Streams}
+use Rattle.duk_commands.specs.Answer.{Command, IsNotDone, Streams, streams}
 use Rattle.duk_commands.specs.Fault.{IsFaultReported, report_line}
 use Rattle.duk_commands.specs.declared.fault.Fault.TheVariants.{WriteFailed}
 use Rattle.duk_config.specs.declared.fault.ScriptFault.{ScriptFault}
@@ -27,17 +28,17 @@ use Rattle.duk_service.specs.Files.{FileKnown}
 use Rattle.duk_service.specs.HandedOn.{IsHostReported}
 use Rattle.duk_service.specs.LogFiles.{DiskKnown, LinesKnown, MakingKnown}
 use Rattle.duk_service.specs.NewFile.{HasNotMadeFile, new_file_line}
-use Rattle.duk_program.specs.Find.{HasLostFound}
+use Rattle.duk_program.specs.Find.{IsFindNotDone, IsFindUndone, IsSearch}
 use Rattle.duk_program.specs.IssueFiles.{HasNotIssuedFiles, IsNotIssuedOver, IsNotIssuedTo, IsNotIssuedToFile, IssueFilesKnown, IssueTask, Issuing}
 use Rattle.duk_program.specs.Items.{LineItems, command_of_line, items_of}
-use Rattle.duk_program.specs.Meant.{HasLostLines, IsMeantNotDone, IsNotAnswered, IsNotDoneAlone, IsOverItemsNotDone}
+use Rattle.duk_program.specs.Meant.{HasLostLines, IsMeantNotDone, IsNotAnswered, IsNotDoneAlone, IsOverItemsNotDone, referred_in}
 use Rattle.duk_program.specs.RunFiles.{FileRun, HasReportedFault, script_line}
 use Rattle.duk_program.specs.Scene.{Scene, input_in, reading_on, writers_of}
-use Rattle.duk_program.specs.Secrets.{secret_line}
+use Rattle.duk_program.specs.Secrets.{HasMeaning, secret_line}
 use Rattle.duk_service.specs.Serve.{HasNotServed, Serving, is_of_store, lost_answers_line, over_log, serve_line}
 use Rattle.duk_program.specs.ServeFiles.{FileService, HasNotServedFiles, IsUnservedOver, KeptKnown, in_journal, in_log, in_memory}
 use Rattle.duk_service.specs.ServeJournal.{HasNotServedJournal, journal_line, over_journal}
-use Rattle.duk_program.specs.Reported.{IsLineReported, IsOtherFaultLine, IsReported}
+use Rattle.duk_program.specs.Reported.{HasToldProgress, IsLineReported, IsOtherFaultLine, IsReported, IsRunReported, IsSearchReported}
 use Rattle.duk_program.specs.Show.{HasNotShownText, ShowArguments}
 use Rattle.duk_service.specs.ServeJournalFiles.{journal_open_line, unopened_journal_line}
 use Rattle.duk_service.specs.ServeLogFiles.{log_open_line, unopened_line}
@@ -60,8 +61,9 @@ use Rattle.duk_store.specs.Disk.{DiskMeaning}
 use Rattle.duk_store.specs.DiskLog.{disk_log_meaning}
 use Rattle.duk_store.specs.declared.fault.StoreFault.TheVariants.{Device}
 use Rattle.duk_store.specs.MemoryLog.{memory_log_meaning}
-use Rattle.duk_tools.specs.Find.{FindArguments, IsFindNotDone}
-use Rattle.duk_tools.specs.FindFault.{find_line}
+use Rattle.duk_tools.specs.Find.{FindArguments, HasFound, IsFindVain}
+use Rattle.duk_tools.specs.Progress.{AreTried, progress_step}
+use Rattle.duk_tools.specs.declared.find_fault.FindFault.{FindFault}
 
 -- the line of some fault is reported
 pub fault_reported : (command : Command) (s : Streams) → IsNotDone command s → IsFaultReported s.fault_before s.fault_after
@@ -201,13 +203,40 @@ show_reported arguments s (inl refused) =
 show_reported arguments s (inr (inl short)) = written_reported s.fault_before s.fault_after short.failed.line
 show_reported arguments s (inr (inr lost)) = written_reported s.fault_before s.fault_after lost.reported.line
 
--- where nothing is found, or what is found is not written, a line is reported
-find_reported : (arguments : FindArguments) (s : Streams) → IsFindNotDone arguments s ⊎ HasLostFound arguments s
-    → IsLineReported s.fault_before s.fault_after
-find_reported arguments s (inl (inl refused)) = other_reported s.fault_before s.fault_after (find_line refused.why)
-    (inr (inr (inr (inr (inr (inr (refused.why, refl))))))) refused.line
-find_reported arguments s (inl (inr short)) = written_reported s.fault_before s.fault_after short.failed.line
-find_reported arguments s (inr lost) = written_reported s.fault_before s.fault_after lost.line
+-- where nothing is found, or what is found is not written, a line is reported behind those of the
+-- progress
+found_told : (arguments : FindArguments) (text : List ℕ) (old new : Known) → HasFound arguments text old new → HasToldProgress old new
+found_told arguments text old new found = record {
+  step = progress_step found.asked.search.sought;
+  most = found.asked.asked.most;
+  numbers = length found.asked.found.before + 1;
+  lines = subst (AreTried old new) found.asked.told_are found.progress;
+}
+
+vain_told : (arguments : FindArguments) (why : FindFault) (told : List (List ℕ)) (old new : Known) → IsFindVain arguments why told → AreTried old new told
+    → HasToldProgress old new
+vain_told arguments why told old new (inl refused) lines =
+    record { step = None; most = 0; numbers = 0; lines = subst (AreTried old new) refused.1 lines }
+vain_told arguments why told old new (inr vain) lines = record {
+  step = progress_step vain.1.search.sought;
+  most = vain.1.asked.most;
+  numbers = length vain.1.search.window;
+  lines = subst (AreTried old new) vain.1.told_are lines;
+}
+
+undone_told : (arguments : FindArguments) (why : FindFault) (s : Streams) → IsFindUndone arguments why s → HasToldProgress s.fault_before s.fault_after
+undone_told arguments why s (inl (inl nothing)) =
+    vain_told arguments why nothing.0.told s.fault_before s.fault_after nothing.0.cause nothing.0.progress
+undone_told arguments why s (inl (inr short)) = found_told arguments short.1.text s.fault_before s.fault_after short.1.found
+undone_told arguments why s (inr lost) = found_told arguments lost.1.done.text s.fault_before s.fault_after lost.1.done.found
+
+find_reported : (arguments : FindArguments) (s : Streams) → IsFindNotDone arguments s → IsSearchReported s.fault_before s.fault_after
+find_reported arguments s failed = record {
+  between = failed.between;
+  progress = undone_told arguments failed.why (streams s.output_before s.output_after s.fault_before failed.between) failed.undone;
+  why = failed.why;
+  line = failed.line;
+}
 
 -- where not all keys are issued, a line is reported
 over_ledger_reported : {L : Type 0} (meaning : LogMeaning L) (task : IssueTask) (i : Issuing L) → IsNotIssuedOver meaning task i
@@ -240,13 +269,13 @@ unissued_reported meaning known arguments s (inr (inr (inr begun))) = to_reporte
 pub unmade_reported : {D : Type 0} (format : RecordFormat) (meaning : DiskMeaning D) (known : MakingKnown D) (text : List ℕ) (old new : Known)
     → HasNotMadeFile format meaning known text old new → IsLineReported old new
 unmade_reported format meaning known text old new failed =
-    other_reported old new (new_file_line format failed.why) (inr (inr (inr (inr (inr (inl (format, (failed.why, refl)))))))) failed.line
+    other_reported old new (new_file_line format failed.why) (inr (inr (inr (inr (inr (format, (failed.why, refl))))))) failed.line
 
 copy_line_is : (why : CopyJournalFault) → IsOtherFaultLine (copy_journal_line why)
-copy_line_is copy.OutOfMemory = inr (inr (inr (inr (inr (inl (Journal, (OutOfMemory, refl)))))))
+copy_line_is copy.OutOfMemory = inr (inr (inr (inr (inr (Journal, (OutOfMemory, refl))))))
 copy_line_is copy.Unopened = inr (inr (inr (inr (inl (inr refl)))))
 copy_line_is copy.Failed = inr (inr (inr (inr (inl (inl (host.Store Device, refl))))))
-copy_line_is copy.Unmade = inr (inr (inr (inr (inr (inl (Journal, (Unmade, refl)))))))
+copy_line_is copy.Unmade = inr (inr (inr (inr (inr (Journal, (Unmade, refl))))))
 
 pub uncopied_reported : {D : Type 0} (meaning : DiskMeaning D) (known : DiskKnown D) (making : MakingKnown D) (old new : Known)
     → HasNotCopiedJournal meaning known making old new → IsLineReported old new
@@ -261,10 +290,15 @@ batch_reported command input s (inr (inl unread)) =
     other_reported s.fault_before s.fault_after unread_line (inr (inr (inl refl))) unread.line
 batch_reported command input s (inr (inr unwritten)) = written_reported s.fault_before s.fault_after unwritten.line
 
-items_reported : {D : Type 0} (items : Option LineItems) (s : Scene D) (alone : Type 0) → (alone → IsLineReported s.fault_before s.fault_after)
-    → IsOverItemsNotDone items s alone → IsLineReported s.fault_before s.fault_after
-items_reported None s alone reported failed = reported failed
-items_reported (Some items) s alone reported failed = batch_reported (command_of_line items) (input_in s.streams) (writers_of s) failed
+-- a line is reported, of a search behind its progress
+abbrev IsReportedOf : Request → Known → Known → Type 0
+IsReportedOf asked old new = IsLineReported old new ⊎ (IsSearch asked × IsSearchReported old new)
+
+items_reported : {D : Type 0} (items : Option LineItems) (s : Scene D) (asked : Request) (alone : Type 0)
+    → (alone → IsReportedOf asked s.fault_before s.fault_after)
+    → IsOverItemsNotDone items s alone → IsReportedOf asked s.fault_before s.fault_after
+items_reported None s asked alone reported failed = reported failed
+items_reported (Some items) s asked alone reported failed = inl (batch_reported (command_of_line items) (input_in s.streams) (writers_of s) failed)
 
 -- where a command is not done, or its lines could not be handed on, a line is reported
 lost_reported : (command : Command) (s : Streams) → IsNotDone command s ⊎ HasLostLines command s → IsLineReported s.fault_before s.fault_after
@@ -272,21 +306,31 @@ lost_reported command s (inl failed) = command_reported s.fault_before s.fault_a
 lost_reported command s (inr lost) = written_reported s.fault_before s.fault_after lost.line
 
 alone_reported : {D : Type 0} (meaning : DiskMeaning D) (held : List ℕ → FileKnown) (disks : List ℕ → DiskKnown D) (making : List ℕ → MakingKnown D) (s : Streams) (asked : Request)
-    → IsNotDoneAlone meaning held disks making s asked → IsLineReported s.fault_before s.fault_after
-alone_reported meaning held disks making s (request.Show kind what show) failed = show_reported _ s failed
-alone_reported meaning held disks making s (request.CheckFrame what bdk show initial) failed = show_reported _ s failed
-alone_reported meaning held disks making s (request.Find bdk what sought window initial) failed = find_reported _ s failed
-alone_reported meaning held disks making s (request.Issue bdk loading iksn count ledger way) failed = unissued_reported meaning _ _ s failed
-alone_reported meaning held disks making s asked failed = lost_reported (command_for asked) s failed
+    → IsNotDoneAlone meaning held disks making s asked → IsReportedOf asked s.fault_before s.fault_after
+alone_reported meaning held disks making s (request.Show kind what show) failed = inl (show_reported _ s failed)
+alone_reported meaning held disks making s (request.CheckFrame what bdk show initial) failed = inl (show_reported _ s failed)
+alone_reported meaning held disks making s (request.Find bdk what sought window initial) failed = inr (tt, find_reported _ s failed)
+alone_reported meaning held disks making s (request.Issue bdk loading iksn count ledger way) failed = inl (unissued_reported meaning _ _ s failed)
+alone_reported meaning held disks making s asked failed = inl (lost_reported (command_for asked) s failed)
 
 -- where a command over secrets ends with status 1, a line is reported
 unanswered_reported : {D : Type 0} (meaning : DiskMeaning D) (s : Scene D) (asked : Request) → IsNotAnswered meaning s asked
-    → IsLineReported s.fault_before s.fault_after
+    → IsReportedOf asked s.fault_before s.fault_after
 unanswered_reported meaning s asked failed =
-    items_reported (items_of asked) s (IsNotDoneAlone meaning s.held s.disks s.making (writers_of s) asked)
+    items_reported (items_of asked) s asked (IsNotDoneAlone meaning s.held s.disks s.making (writers_of s) asked)
     (λ alone. alone_reported meaning s.held s.disks s.making (writers_of s) asked alone) failed
 
-pub meant_reported : {D : Type 0} (meaning : DiskMeaning D) (s : Scene D) (asked : Request) → IsMeantNotDone meaning s asked
-    → IsLineReported s.fault_before s.fault_after
-meant_reported meaning s asked (inl failed) = unanswered_reported meaning (reading_on s failed.input) failed.meant failed.not_done
-meant_reported meaning s asked (inr unread) = secret_reported s.fault_before s.fault_after unread.why unread.line
+-- a request that means a search is one
+search_asked : (held : List ℕ → FileKnown) (asked meant : Request) → HasMeaning held asked meant → IsSearch meant → IsSearch asked
+search_asked held (request.Find bdk what sought window initial) meant means is = tt
+search_asked held asked (request.Find bdk what sought window initial) means is = absurd means
+search_asked held asked meant means is = absurd is
+
+pub meant_reported : {D : Type 0} (meaning : DiskMeaning D) (s : Scene D) (arguments : List (List ℕ)) (asked : Request) → Asks arguments asked
+    → IsMeantNotDone meaning s asked → IsRunReported arguments s.fault_before s.fault_after
+meant_reported meaning s arguments asked asks (inl failed) = elim (unanswered_reported meaning (reading_on s failed.input) failed.meant failed.not_done) [
+  | inl line ↦ inl (inl line)
+  | inr search ↦
+      inr (record { request = asked; asked = asks; is_search = search_asked (referred_in s) asked failed.meant failed.means search.0 }, search.1)
+]
+meant_reported meaning s arguments asked asks (inr unread) = inl (inl (secret_reported s.fault_before s.fault_after unread.why unread.line))

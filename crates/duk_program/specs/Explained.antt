@@ -1,9 +1,11 @@
 -- What a run with `--explain` does (this project's own, over what a run without it does): the line of
--- a fault is held until the command has ended, and then written with the line that explains it.
+-- a fault is held until the command has ended, and then written with the line that explains it. The
+-- lines of progress of a search are written while it goes on.
 use Rattle.std.specs.Prelude.{◌≡◌, ◌⊎◌, ℕ, Bool, true, false, List, [], Some, None}
 use Rattle.duk_arguments.specs.Asked.{Asks}
 use Rattle.duk_arguments.specs.declared.request.Request.{Request}
 use Rattle.duk_arguments.specs.declared.request.Request.TheVariants as request
+use Rattle.duk_commands.specs.Answer.{Streams, streams}
 use Rattle.duk_explain.specs.Explanation.{IsExplanation}
 use Rattle.duk_explain.specs.declared.found.Facts.{Facts}
 use Rattle.duk_host.specs.Serve.{Supply}
@@ -11,12 +13,16 @@ use Rattle.duk_io.specs.Known.{Known}
 use Rattle.duk_io.specs.Sink.{IsTried}
 use Rattle.duk_program.specs.Commands.{HasLostCommandOutput, HasShown, IsNotShown}
 use Rattle.duk_program.specs.ExplainedItems.{IsNotAnsweredExplained}
+use Rattle.duk_program.specs.Find.{IsFindUndone, IsSearchWith}
 use Rattle.duk_program.specs.Inquiry.{AreFacts, Inquiry}
 use Rattle.duk_program.specs.Meant.{AreSecretsRead, HasUnreadSecret, referred_in}
 use Rattle.duk_program.specs.Program.{IsProgramDone, IsProgramNotDone, IsRequestDone, IsRequestNotDone}
 use Rattle.duk_program.specs.Scene.{Scene, reading_on, scene, writers_of}
 use Rattle.duk_program.specs.Secrets.{HasMeaning}
 use Rattle.duk_store.specs.Disk.{DiskMeaning}
+use Rattle.duk_tools.specs.Find.{FindArguments, IsFindDone}
+use Rattle.duk_tools.specs.FindFault.{find_line}
+use Rattle.duk_tools.specs.declared.find_fault.FindFault.{FindFault}
 
 -- what a writer in memory makes known that holds this text
 abbrev pub holding : List ℕ → Known
@@ -37,13 +43,32 @@ pub record IsTold (q : Inquiry) (line : List ℕ) (about : Request) (old new : K
   pub explains : IsExplanation about line facts text
   pub text_told : IsTried between new text
 
--- status 0 of a request: what is noted beside the answer is held too, and then written, but for what
--- a failed write cuts off
-pub record IsHeardDone {D : Type 0} (meaning : DiskMeaning D) (s : Scene D) (asked : Request)
+-- what is noted beside the answer with status 0 is held too, and then written, but for what a failed
+-- write cuts off
+pub record IsHeldDone {D : Type 0} (meaning : DiskMeaning D) (s : Scene D) (asked : Request)
     : Type 0 where
   pub heard : List ℕ
   pub done : IsRequestDone meaning (heard_in s heard) asked
   pub noted : IsTried s.fault_before s.fault_after heard
+
+-- the request is a search, over what its secrets stand for
+pub record IsMeantSearch {D : Type 0} (s : Scene D) (asked meant : Request)
+    (arguments : FindArguments) : Type 0 where
+  pub input : Supply
+  pub read : AreSecretsRead s asked input
+  pub means : HasMeaning (referred_in s) asked meant
+  pub is_search : IsSearchWith meant arguments
+
+-- status 0 of a search, which is as without `--explain`
+pub record IsSearchDone {D : Type 0} (s : Scene D) (asked : Request) : Type 0 where
+  pub meant : Request
+  pub arguments : FindArguments
+  pub search : IsMeantSearch s asked meant arguments
+  pub done : IsFindDone arguments (writers_of s)
+
+-- status 0 of a request
+abbrev pub IsHeardDone : {D : Type 0} → DiskMeaning D → Scene D → Request → Type 0
+IsHeardDone meaning s asked = IsHeldDone meaning s asked ⊎ IsSearchDone s asked
 
 -- the request is not done over what its secrets stand for; the fault of an item is explained behind
 -- it
@@ -75,13 +100,36 @@ IsNotDoneOf meaning s asked about =
     IsMeantFailed meaning s asked about
     ⊎ ((about ≡ asked) × HasUnreadSecret s asked)
 
--- a request is not done, and its fault is told and explained
-pub record HasExplained {D : Type 0} (meaning : DiskMeaning D) (q : Inquiry) (s : Scene D)
+-- a request is not done, and its fault, which was held, is told and explained
+pub record HasExplainedHeld {D : Type 0} (meaning : DiskMeaning D) (q : Inquiry) (s : Scene D)
     (asked : Request) : Type 0 where
   pub line : List ℕ
   pub about : Request
   pub not_done : IsNotDoneOf meaning (heard_in s line) asked about
   pub told : IsTold q line about s.fault_before s.fault_after
+
+-- a search has no answer, and its fault is told and explained of this request, behind the lines of
+-- its progress
+pub record IsSearchTold (q : Inquiry) (arguments : FindArguments) (about : Request) (s : Streams)
+    : Type 0 where
+  pub why : FindFault
+  pub between : Known
+  pub undone : IsFindUndone arguments why
+      (streams s.output_before s.output_after s.fault_before between)
+  pub told : IsTold q (find_line why) about between s.fault_after
+
+-- the request is a search which has no answer, and its fault is told and explained
+pub record HasExplainedSearch {D : Type 0} (q : Inquiry) (s : Scene D) (asked : Request)
+    : Type 0 where
+  pub meant : Request
+  pub arguments : FindArguments
+  pub search : IsMeantSearch s asked meant arguments
+  pub told : IsSearchTold q arguments meant (writers_of s)
+
+-- a request is not done, and its fault is told and explained
+abbrev pub HasExplained : {D : Type 0} → DiskMeaning D → Inquiry → Scene D → Request → Type 0
+HasExplained meaning q s asked =
+    HasExplainedHeld meaning q s asked ⊎ HasExplainedSearch q s asked
 
 -- the arguments ask for a request that is done
 pub record HasDoneHeard {D : Type 0} (meaning : DiskMeaning D) (arguments : List (List ℕ))

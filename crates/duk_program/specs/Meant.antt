@@ -14,7 +14,7 @@ use Rattle.duk_io.specs.Sink.{IsTried, IsUntouched}
 use Rattle.duk_program.specs.Commands.{command_for}
 use Rattle.duk_service.specs.Files.{FileKnown}
 use Rattle.duk_service.specs.HandedOn.{IsFlushLost}
-use Rattle.duk_program.specs.Find.{HasLostFound, find_for}
+use Rattle.duk_program.specs.Find.{IsFindNotDone, find_for}
 use Rattle.duk_program.specs.InputLine.{with_input}
 use Rattle.duk_program.specs.IssueFiles.{HasIssuedFiles, HasNotIssuedFiles, issue_arguments, issue_files_known}
 use Rattle.duk_program.specs.Items.{LineItems, command_of_line, items_of}
@@ -24,7 +24,7 @@ use Rattle.duk_program.specs.Secrets.{HasMeaning, IsInputTaken, IsSecretFault, i
 use Rattle.duk_program.specs.Show.{HasNotShownText, HasShownText, show_arguments}
 use Rattle.duk_program.specs.declared.secrets.SecretFault.{SecretFault}
 use Rattle.duk_store.specs.Disk.{DiskMeaning}
-use Rattle.duk_tools.specs.Find.{IsFindDone, IsFindNotDone}
+use Rattle.duk_tools.specs.Find.{IsFindDone}
 
 -- a command is done, and then what was written could not be handed on, and that is reported
 pub record HasLostLines (command : Command) (s : Streams) : Type 0 where
@@ -57,7 +57,6 @@ IsNotDoneAlone meaning held disks making s (request.CheckFrame what bdk show ini
     (show_arguments (codes "frame") what.now show (Some (key_argument bdk initial)) (held what.now)) s
 IsNotDoneAlone meaning held disks making s (request.Find bdk what sought window initial) =
     IsFindNotDone (find_for bdk what sought window initial) s
-    ⊎ HasLostFound (find_for bdk what sought window initial) s
 IsNotDoneAlone meaning held disks making s (request.Issue bdk loading iksn count ledger way) =
     HasNotIssuedFiles meaning (issue_files_known held (disks ledger.now) making)
     (issue_arguments bdk loading iksn count way) s

@@ -4,15 +4,19 @@ ghost use Rattle.std.specs.Prelude.{◌≡◌, ◌⊎◌};
 ghost use Rattle.std.specs.Io.KnownBytes.{Keeps};
 ghost use Rattle.duk_arguments.specs.Asked.{AreRefused, texts_of};
 ghost use Rattle.duk_io.specs.Sink.{IsHandedOn, IsTried};
-ghost use Rattle.duk_program.specs.Explained.{HasExplained, IsExplainedDone, IsExplainedNotDone, IsHeardDone, IsTold};
+ghost use Rattle.duk_commands.specs.Answer.{streams};
+ghost use Rattle.duk_program.specs.Explained.{HasExplained, IsExplainedDone, IsExplainedNotDone, IsHeardDone, IsSearchTold, IsTold};
+ghost use Rattle.duk_program.specs.Find.{find_for};
 ghost use Rattle.duk_program.specs.Inquiry.{inquiry, seen_by};
 ghost use Rattle.duk_program.specs.Scene.{scene};
 ghost use Rattle.duk_program.specs.Secrets.{IsOverSecrets, secret_line};
 ghost use Rattle.duk_service.specs.Serve.{serving_of};
 ghost use Rattle.duk_program.specs.Status.{IsStatus};
+ghost use Rattle.duk_tools.specs.Find.{IsFindDone};
 
 use crate::answers::answer_explained;
 use crate::dispatch::show_at_end;
+use crate::find::{FindWords, find_unreported, find_words_in};
 use crate::meant::{keys_of, read_texts};
 use crate::reasons::facts_of;
 use crate::request_secrets::with_secrets;
@@ -114,7 +118,7 @@ fn do_explained<S: FileSystem + LogFiles, R: Source, W: Sink, F: Sink>(
 }
 
 /// Does the command of a request over what its secrets stand for. The fault of an item is explained
-/// behind it, and a secret that is not read as it is written.
+/// behind it, and a secret that is not read as it is written. A search writes its progress at once.
 fn do_meant_explained<S: FileSystem + LogFiles, R: Source, W: Sink, F: Sink>(
     alloc: Global,
     files: &S,
@@ -141,9 +145,37 @@ fn do_meant_explained<S: FileSystem + LogFiles, R: Source, W: Sink, F: Sink>(
     };
     let keys = keys_of(texts.as_slice());
     let meant = with_secrets(&request, &keys);
+    if let Some(words) = find_words_in(&meant) {
+        return find_explained(alloc, files, &meant, &words, output, fault);
+    }
     let mut line = Vec::new(alloc);
     let status = answer_explained(alloc, files, meant, input, output, &mut line);
     tell(alloc, files, &meant, status, line.as_slice(), fault)
+}
+
+/// Does a search, whose words these are of a request, and gives the status.
+fn find_explained<S: FileSystem + LogFiles, W: Sink, F: Sink>(
+    alloc: Global,
+    files: &S,
+    about: &Request<'_>,
+    words: &FindWords<'_>,
+    output: &mut W,
+    fault: &mut F,
+) -> u8
+    ensures status { (result ≡ 0) ⊎ (result ≡ 1) }
+    ensures handed_on { result ≡ 0 → IsHandedOn (W.held_back output.new) }
+    ensures done { result ≡ 0 → IsFindDone (find_for words.now.bdk words.now.what words.now.sought
+        words.now.window words.now.initial) (streams (W.known output.old) (W.known output.new)
+        (F.known fault.old) (F.known fault.new)) }
+    ensures told { result ≡ 1 → IsSearchTold (inquiry (S.held files.now) (S.reading files.now) (S.opening files.now) (S.unmade files.now)
+        (seen_by S.Disk.meaning (S.disks files.now))) (find_for words.now.bdk words.now.what
+        words.now.sought words.now.window words.now.initial) about.now (streams (W.known output.old)
+        (W.known output.new) (F.known fault.old) (F.known fault.new)) }
+{
+    match find_unreported(alloc, words, output, fault) {
+        Ok(()) => 0,
+        Err(why) => tell(alloc, files, about, 1, why.line().as_slice(), fault),
+    }
 }
 
 /// Writes the line of a secret that is not read, and the one that explains it, and gives the status

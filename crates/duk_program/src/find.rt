@@ -1,18 +1,17 @@
 //! The command `find`.
 
-ghost use Rattle.std.specs.Prelude.{◌≡◌, ◌⊎◌};
+ghost use Rattle.std.specs.Prelude.{◌≡◌, ◌⊎◌, IfErr, IfSome, IsOk};
 ghost use Rattle.std.specs.Option.{option_copied};
 ghost use Rattle.duk_arguments.specs.Given.{first_in};
 ghost use Rattle.duk_commands.specs.Answer.{streams};
 ghost use Rattle.duk_io.specs.Sink.{IsHandedOn};
-ghost use Rattle.duk_program.specs.Find.{HasLostFound, clue_for, find_for};
-ghost use Rattle.duk_tools.specs.Find.{IsFindDone, IsFindNotDone};
+ghost use Rattle.duk_program.specs.Find.{IsFindNotDone, IsFindUndone, IsSearchWith, clue_for, find_for};
+ghost use Rattle.duk_tools.specs.Find.{IsFindDone, IsFindFailed};
 
-use duk_arguments::Sought;
-use duk_commands::{Fault, KeyArgument};
+use duk_arguments::{Request, Sought};
+use duk_commands::KeyArgument;
 use duk_io::Sink;
-use duk_service::hand_on;
-use duk_tools::{Clue, find_command};
+use duk_tools::{Clue, FindFault, find_command};
 use std::alloc::Global;
 
 /// What is sought, by which key, and how.
@@ -30,8 +29,31 @@ pub(crate) struct FindWords<'a> {
     pub(crate) initial: bool,
 }
 
+/// Those of a request, where it is a search.
+pub(crate) fn find_words_in<'a>(request: &Request<'a>) -> Option<FindWords<'a>>
+    ensures { IfSome result (λ words. IsSearchWith request.now (find_for words.bdk words.what
+        words.sought words.window words.initial)) }
+{
+    match *request {
+        Request::Find {
+            bdk,
+            what,
+            sought,
+            window,
+            initial,
+        } => Some(FindWords {
+            bdk,
+            what,
+            sought,
+            window,
+            initial,
+        }),
+        _ => None,
+    }
+}
+
 /// Prints the number and the key that made what is sought, hands that on, and gives the status: 0, or
-/// 1 with a line on `fault`.
+/// 1 with a line on `fault`. A long search tells its progress there.
 pub(crate) fn find_made<W: Sink, F: Sink>(
     alloc: Global,
     words: &FindWords<'_>,
@@ -45,32 +67,49 @@ pub(crate) fn find_made<W: Sink, F: Sink>(
         (F.known fault.old) (F.known fault.new)) }
     ensures not_done { result ≡ 1 → IsFindNotDone (find_for words.now.bdk words.now.what
         words.now.sought words.now.window words.now.initial) (streams (W.known output.old)
-        (W.known output.new) (F.known fault.old) (F.known fault.new))
-        ⊎ HasLostFound (find_for words.now.bdk words.now.what words.now.sought words.now.window
-        words.now.initial) (streams (W.known output.old) (W.known output.new)
-        (F.known fault.old) (F.known fault.new)) }
+        (W.known output.new) (F.known fault.old) (F.known fault.new)) }
 {
-    duk_io::laws::writes();
-    match find_words(alloc, words, output, fault) {
-        0 => hand_on(&Fault::WriteFailed, output, fault),
-        status => status,
+    match find_unreported(alloc, words, output, fault) {
+        Ok(()) => 0,
+        Err(why) => why.report(fault),
     }
 }
 
-/// The same, but what is printed may still be held back.
-fn find_words<W: Sink, F: Sink>(
+/// The same, but the fault is not reported yet.
+pub(crate) fn find_unreported<W: Sink, F: Sink>(
     alloc: Global,
     words: &FindWords<'_>,
     output: &mut W,
     fault: &mut F,
-) -> u8
-    ensures status { (result ≡ 0) ⊎ (result ≡ 1) }
-    ensures done { result ≡ 0 → IsFindDone (find_for words.now.bdk words.now.what words.now.sought
+) -> Result<(), FindFault>
+    ensures handed_on { IsOk result → IsHandedOn (W.held_back output.new) }
+    ensures done { IsOk result → IsFindDone (find_for words.now.bdk words.now.what words.now.sought
         words.now.window words.now.initial) (streams (W.known output.old) (W.known output.new)
         (F.known fault.old) (F.known fault.new)) }
-    ensures not_done { result ≡ 1 → IsFindNotDone (find_for words.now.bdk words.now.what
-        words.now.sought words.now.window words.now.initial) (streams (W.known output.old)
-        (W.known output.new) (F.known fault.old) (F.known fault.new)) }
+    ensures undone { IfErr result (λ why. IsFindUndone (find_for words.now.bdk words.now.what
+        words.now.sought words.now.window words.now.initial) why (streams (W.known output.old)
+        (W.known output.new) (F.known fault.old) (F.known fault.new))) }
+{
+    find_written(alloc, words, output, fault)?;
+    match output.flush() {
+        Ok(()) => Ok(()),
+        Err(_) => Err(FindFault::WriteFailed),
+    }
+}
+
+/// The same, but what is printed may still be held back.
+fn find_written<W: Sink, F: Sink>(
+    alloc: Global,
+    words: &FindWords<'_>,
+    output: &mut W,
+    fault: &mut F,
+) -> Result<(), FindFault>
+    ensures done { IsOk result → IsFindDone (find_for words.now.bdk words.now.what words.now.sought
+        words.now.window words.now.initial) (streams (W.known output.old) (W.known output.new)
+        (F.known fault.old) (F.known fault.new)) }
+    ensures failed { IfErr result (λ why. IsFindFailed (find_for words.now.bdk words.now.what
+        words.now.sought words.now.window words.now.initial) why (streams (W.known output.old)
+        (W.known output.new) (F.known fault.old) (F.known fault.new))) }
 {
     let key = KeyArgument::new(words.bdk, words.initial);
     let clue = clue_for(&words.sought);

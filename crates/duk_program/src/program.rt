@@ -10,7 +10,7 @@ ghost use Rattle.duk_program.specs.Program.{IsProgramDone, IsProgramNotDone};
 ghost use Rattle.duk_program.specs.Scene.{scene};
 ghost use Rattle.duk_service.specs.Serve.{serving_of};
 ghost use Rattle.duk_program.specs.Status.{IsStatus};
-ghost use Rattle.duk_program.specs.Reported.{IsReported};
+ghost use Rattle.duk_program.specs.Reported.{IsRunReported};
 ghost use Rattle.duk_arguments.specs.Asked.{AreRefused, texts_of};
 
 use crate::dispatch::{Todo, command};
@@ -30,7 +30,8 @@ use std::alloc::Global;
 ///
 /// `serve` takes its frames from `input`. What a command prints goes to `output`, and so does help
 /// that was asked for; the line of a fault and the text that refuses the arguments go to `fault`.
-/// With status 0 nothing does, but for how many numbers `issue` passed over.
+/// With status 0 nothing does, but for how many numbers `issue` passed over, and the progress of a
+/// long `find`.
 pub fn run_arguments<S: FileSystem + LogFiles, R: Source, W: Sink, F: Sink>(
     alloc: Global,
     files: &S,
@@ -42,7 +43,8 @@ pub fn run_arguments<S: FileSystem + LogFiles, R: Source, W: Sink, F: Sink>(
     ensures status { IsStatus result }
     ensures handed_on { result ≡ 0 → IsHandedOn (W.held_back output.old)
         → IsHandedOn (W.held_back output.new) }
-    ensures fault { result ≡ 1 → IsReported (F.known fault.old) (F.known fault.new) }
+    ensures fault { result ≡ 1
+        → IsRunReported (texts_of arguments.now) (F.known fault.old) (F.known fault.new) }
     ensures refused { result ≡ 2
         → Keeps (W.known output.old).contents (W.known output.new).contents }
     ensures arguments_refused { result ≡ 2 → AreRefused (texts_of arguments.now) }
@@ -93,7 +95,8 @@ pub fn run_program<S: FileSystem + LogFiles, R: Source, W: Sink, F: Sink>(
     ensures handed_on { result ≡ 0 → IsHandedOn (W.held_back output.old)
         → IsHandedOn (W.held_back output.new) }
     ensures fault { result ≡ 1 → is_marked (texts_of arguments.old.items) ≡ false
-        → IsReported (F.known fault.old) (F.known fault.new) }
+        → IsRunReported (without_explain (texts_of arguments.old.items)) (F.known fault.old)
+        (F.known fault.new) }
     ensures refused { result ≡ 2
         → Keeps (W.known output.old).contents (W.known output.new).contents }
     ensures arguments_refused { result ≡ 2

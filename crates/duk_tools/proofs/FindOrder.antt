@@ -1,10 +1,11 @@
 -- The first fault of `find`, in the order of its faults.
-use Rattle.std.proofs.Common.{◌≡◌, ◌<◌, ◌≤◌, ℕ, List, Option, Some, None, Result, Ok, Err, IfErr, refl, sym, subst, arith}
+use Rattle.std.proofs.Common.{◌≡◌, ◌<◌, ◌≤◌, ℕ, List, Option, Some, None, Result, Ok, Err, IfErr, [], inl, refl, sym, subst, arith}
 use Rattle.std.specs.Prelude.{IsSome}
 use Rattle.duk_commands.specs.KeyArgument.{key_in}
 use Rattle.duk_commands.specs.declared.key_argument.KeyArgument.{KeyArgument}
 use Rattle.duk_commands.specs.declared.key_argument.KeyArgument.TheVariants.{Base, Initial}
-use Rattle.duk_tools.specs.Find.{IsFindRefused, IsStartOf, IsWindowSize, MeetsFind, MeetsStartOf, find_arguments}
+use Rattle.duk_io.specs.Known.{Known}
+use Rattle.duk_tools.specs.Find.{FindArguments, HasFoundNothing, IsFindRefused, IsStartOf, IsWindowSize, MeetsFind, MeetsStartOf, find_arguments}
 use Rattle.duk_tools.specs.FindFault.{find_rank}
 use Rattle.duk_tools.specs.Sought.{IsSought, MeetsClear, MeetsPan, MeetsText, MeetsWhat}
 use Rattle.duk_tools.specs.inner.Find.{find_key_fault}
@@ -150,3 +151,9 @@ window_refused given what clue from window sought start (Err why) key is starts 
       earlier_met = find_met given what clue from window key 6 (omega arith) (λ h. met.what_is) (λ h. met.text_is) (λ h. met.pan_is)
           (λ h. met.clear_is) (λ h. start_is_met what clue sought from start is starts);
     })
+
+-- where nothing is searched for, no progress is told
+pub unsearched : {T : Type 0} (arguments : FindArguments) (read : Result T FindFault) (now : Known) → IfErr read (IsFindRefused arguments)
+    → IfErr read (λ why. HasFoundNothing arguments why now now)
+unsearched arguments (Ok found) now cause = tt
+unsearched arguments (Err why) now cause = record { told = []; cause = inl (cause, refl); progress = refl }

@@ -1,6 +1,7 @@
 pub mod SmallNumbers
 mod JoinedHalves
 mod Windows
+mod ProgressLines
 mod SearchSteps
 mod FindOrder
 mod SoughtIsRead

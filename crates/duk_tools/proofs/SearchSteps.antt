@@ -1,21 +1,21 @@
 -- A search, number by number and key by key.
-use Rattle.std.proofs.Common.{◌≡◌, ◌<◌, ◌≤◌, ◌+◌, ◌-◌, ℕ, zero, suc, All, IfNone, IfSome, List, Option, [], ◌∷◌, ◌++◌, length, length-append, take, ap, refl, sym, subst, ◌∙◌, inl, inr, arith, append_assoc, append-nil}
+use Rattle.std.proofs.Common.{◌≡◌, ◌<◌, ◌≤◌, ◌+◌, ◌-◌, ℕ, zero, suc, All, List, [], ◌∷◌, ◌++◌, length, length-append, take, ap, refl, sym, subst, ◌∙◌, inl, inr, arith, append_assoc, append-nil}
 use Rattle.std.proofs.Math.Seq.{take-append-add}
 use Rattle.std.proofs.lemmas.Bool.{cases_order}
-use Rattle.std.proofs.lemmas.List.{take_at}
-use Rattle.std.proofs.lemmas.List.Elements.{All-push, All-same, All-take}
+use Rattle.std.proofs.lemmas.List.{take_all, take_at}
+use Rattle.std.proofs.lemmas.List.Elements.{All-push, All-same}
 use Rattle.duk_io.specs.FirstFault.{IsFirst}
+use Rattle.duk_io.specs.Known.{Known}
 use Rattle.duk_regs.specs.Registers.{AreFutureKeysOf, IsTaken, RegisterSet}
-use Rattle.duk_tools.specs.Find.{IsFound, IsNotFound, NoneMakesAt, Search}
+use Rattle.duk_tools.specs.Find.{NoneMakesAt, Search}
 use Rattle.duk_tools.specs.Origin.{key_for, origin_rank, use_rank, way_rank}
 use Rattle.duk_tools.specs.Sought.{Makes, MakesBy}
-use Rattle.duk_tools.specs.inner.Search.{AreLeft, IsFirstWay, search_in}
+use Rattle.duk_tools.specs.inner.Search.{AreLeft, IsFirstWay, IsFoundTelling, IsNotFoundTelling, IsProgressTold, search_in}
 use Rattle.duk_tools.specs.declared.origin.KeyUse.{KeyUse}
 use Rattle.duk_tools.specs.declared.origin.KeyUse.TheVariants.{Pin, RequestData, RequestMac, ResponseData, ResponseMac, Transaction}
 use Rattle.duk_tools.specs.declared.origin.Origin.{Origin}
 use Rattle.duk_tools.specs.declared.origin.Way.{Way}
 use Rattle.duk_tools.specs.declared.origin.Way.TheVariants.{Cipher, Cmac, Retail}
-use Rattle.duk_tools.specs.declared.search.Found.{Found}
 use Rattle.duk_tools.specs.declared.sought.Sought.{Sought}
 use Rattle.duk_tools.proofs.Windows.{IsFrontOf, left_after}
 use Rattle.duk_tree.specs.Derivation.{transaction_key_of}
@@ -158,8 +158,9 @@ pub found_here : (search : Search) (most tried : ℕ) (old new : RegisterSet) (k
     → ¬ IsUsable spent_counter → tried < most → HasTried search tried old → Uses search old key new
     → ksn ≡ record { iksn = old.iksn; counter = old.counter }
     → IsFirst origin_rank (λ o. ¬ Makes search.sought key o) (Makes search.sought key) origin
-    → IsFound (search_in search.sought search.initial search.iksn (take most search.window)) ksn origin
-found_here search most tried old new key ksn origin never below has is_used ksn_is is_first =
+    → (before after : Known) → IsProgressTold search.sought most (tried + 1) before after
+    → IsFoundTelling (search_in search.sought search.initial search.iksn (take most search.window)) most ksn origin before after
+found_here search most tried old new key ksn origin never below has is_used ksn_is is_first before after told =
     let counter : ksn.counter ≡ old.counter = ap (λ (s : Serial). s.counter) ksn_is in
     let key_is : key ≡ transaction_key_of search.initial search.iksn ksn.counter =
     search_key search old new key is_used ∙ ap (transaction_key_of search.initial search.iksn) (sym counter) in
@@ -167,54 +168,58 @@ found_here search most tried old new key ksn origin never below has is_used ksn_
       | inl spent ↦ absurd (never (subst IsUsable spent.0 is_used.usable))
       | inr more ↦
           record {
-            before = has.seen;
-            after = take (most - tried - 1) more.0;
-            window_is = front most tried search.window has.seen has.rest more.0 ksn.counter below has.length_is has.numbers_are
-                (more.3 ∙ ap (λ n. n ∷ more.0) (sym counter));
-            none_before = has.none;
-            of_the_terminal = ap (λ (s : Serial). s.iksn) ksn_is ∙ is_used.same_iksn;
-            makes = subst (λ k. IsFirst origin_rank (λ o. ¬ Makes search.sought k o) (Makes search.sought k) origin) key_is is_first;
+            found = record {
+              before = has.seen;
+              after = take (most - tried - 1) more.0;
+              window_is = front most tried search.window has.seen has.rest more.0 ksn.counter below has.length_is has.numbers_are
+                  (more.3 ∙ ap (λ n. n ∷ more.0) (sym counter));
+              none_before = has.none;
+              of_the_terminal = ap (λ (s : Serial). s.iksn) ksn_is ∙ is_used.same_iksn;
+              makes = subst (λ k. IsFirst origin_rank (λ o. ¬ Makes search.sought k o) (Makes search.sought k) origin) key_is is_first;
+            };
+            progress = subst (λ n. IsProgressTold search.sought most (n + 1) before after) (sym has.length_is) told;
           }
     ]
 
+-- no key of those that are tried makes it, which are these
+vain : (search : Search) (most tried : ℕ) (now : RegisterSet) → (has : HasTried search tried now) → take most search.window ≡ has.seen
+    → (before after : Known) → IsProgressTold search.sought most tried before after
+    → IsNotFoundTelling (search_in search.sought search.initial search.iksn (take most search.window)) most before after
+vain search most tried now has are before after told = record {
+  not_found = All-same (NoneMakesAt search) (take most search.window) has.seen are has.none;
+  progress = subst (λ n. IsProgressTold search.sought most n before after) (sym (ap length are ∙ has.length_is)) told;
+}
+
 -- the terminal is spent before all are tried
-pub vain_spent : (search : Search) (most tried : ℕ) (now : RegisterSet) → ¬ IsUsable spent_counter → now.counter ≡ spent_counter
-    → HasTried search tried now → IsNotFound (search_in search.sought search.initial search.iksn (take most search.window))
-vain_spent search most tried now never spent has =
+pub vain_spent : (search : Search) (most tried : ℕ) (now : RegisterSet) → ¬ IsUsable spent_counter → now.counter ≡ spent_counter → tried ≤ most
+    → HasTried search tried now → (before after : Known) → IsProgressTold search.sought most tried before after
+    → IsNotFoundTelling (search_in search.sought search.initial search.iksn (take most search.window)) most before after
+vain_spent search most tried now never spent below has before after told =
     elim has.left [
       | inl spent_there ↦
-          All-take (NoneMakesAt search) most search.window
-          (All-same (NoneMakesAt search) search.window has.seen
-          (has.numbers_are ∙ ap (λ (rest : List ℕ). has.seen ++ rest) spent_there.1 ∙ append-nil has.seen) has.none)
+          let seen : search.window ≡ has.seen =
+          has.numbers_are ∙ ap (λ (rest : List ℕ). has.seen ++ rest) spent_there.1 ∙ append-nil has.seen in
+          vain search most tried now has
+          (ap (take most) seen ∙ take_all most has.seen (omega (arith, has.length_is))) before after told
       | inr more ↦ absurd (never (subst IsUsable spent more.1))
     ]
 
 -- all are tried
 pub vain_all : (search : Search) (most tried : ℕ) (now : RegisterSet) → tried ≡ most → HasTried search tried now
-    → IsNotFound (search_in search.sought search.initial search.iksn (take most search.window))
-vain_all search most tried now all has =
-    All-same (NoneMakesAt search) (take most search.window) has.seen
-    (ap (take most) has.numbers_are ∙ take_at has.seen has.rest most (has.length_is ∙ all)) has.none
+    → (before after : Known) → IsProgressTold search.sought most tried before after
+    → IsNotFoundTelling (search_in search.sought search.initial search.iksn (take most search.window)) most before after
+vain_all search most tried now all has before after told =
+    vain search most tried now has (ap (take most) has.numbers_are ∙ take_at has.seen has.rest most (has.length_is ∙ all)) before after told
 
 -- ---- the window
 
--- what is found among the numbers that are left is found in the window
-pub found_among : (sought : Sought) (initial : List ℕ) (registers : RegisterSet) (iksn first most : ℕ) (window : List ℕ) (found : Option Found)
+-- what holds of the numbers that are left holds of the window
+pub among : (Holds : Search → Type 0) (sought : Sought) (initial : List ℕ) (registers : RegisterSet) (iksn first most : ℕ) (window : List ℕ)
     → IsFrontOf first most window → registers.iksn ≡ iksn → registers.counter ≡ first → AreFutureKeysOf initial registers
     → ((initial numbers : List ℕ) → AreFutureKeysOf initial registers → AreLeft registers.counter numbers
-    → IfSome found (λ f. IsFound (search_in sought initial registers.iksn (take most numbers)) f.ksn f.origin))
-    → IfSome found (λ f. IsFound (search_in sought initial iksn window) f.ksn f.origin)
-found_among sought initial registers iksn first most window found front same_iksn same_counter keys among =
-    subst (λ w. IfSome found (λ f. IsFound (search_in sought initial iksn w) f.ksn f.origin)) (sym front.window_is)
-    (subst (λ i. IfSome found (λ f. IsFound (search_in sought initial i (take most front.numbers)) f.ksn f.origin)) same_iksn
-    (among initial front.numbers keys (subst (λ n. AreLeft n front.numbers) (sym same_counter) front.left)))
-
-pub none_among : (sought : Sought) (initial : List ℕ) (registers : RegisterSet) (iksn first most : ℕ) (window : List ℕ) (found : Option Found)
-    → IsFrontOf first most window → registers.iksn ≡ iksn → registers.counter ≡ first → AreFutureKeysOf initial registers
-    → ((initial numbers : List ℕ) → AreFutureKeysOf initial registers → AreLeft registers.counter numbers
-    → IfNone found (IsNotFound (search_in sought initial registers.iksn (take most numbers))))
-    → IfNone found (IsNotFound (search_in sought initial iksn window))
-none_among sought initial registers iksn first most window found front same_iksn same_counter keys among =
-    subst (λ w. IfNone found (IsNotFound (search_in sought initial iksn w))) (sym front.window_is)
-    (subst (λ i. IfNone found (IsNotFound (search_in sought initial i (take most front.numbers)))) same_iksn
-    (among initial front.numbers keys (subst (λ n. AreLeft n front.numbers) (sym same_counter) front.left)))
+    → Holds (search_in sought initial registers.iksn (take most numbers)))
+    → Holds (search_in sought initial iksn window)
+among Holds sought initial registers iksn first most window front same_iksn same_counter keys left =
+    subst (λ w. Holds (search_in sought initial iksn w)) (sym front.window_is)
+    (subst (λ i. Holds (search_in sought initial i (take most front.numbers))) same_iksn
+    (left initial front.numbers keys (subst (λ n. AreLeft n front.numbers) (sym same_counter) front.left)))

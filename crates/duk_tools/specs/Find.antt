@@ -1,17 +1,19 @@
 -- What `find` makes of its arguments (this project's own, over the numbers and keys of ANSI
 -- X9.24-1:2009 annex A).
-use Rattle.std.specs.Prelude.{◌≡◌, ◌⊎◌, ◌≤◌, ⊤, ℕ, List, ◌∷◌, ◌++◌, codes, filter, nat_le, take, All, Option, Some, None, IsSome}
+use Rattle.std.specs.Prelude.{◌≡◌, ◌⊎◌, ◌≤◌, ◌+◌, ⊤, ℕ, List, [], ◌∷◌, ◌++◌, codes, filter, length, nat_le, take, All, Option, Some, None, IsSome}
 use Rattle.hex.specs.Hex.{encode_upper}
-use Rattle.duk_commands.specs.Answer.{HasWriteFailed, HasWritten, Streams}
+use Rattle.duk_commands.specs.Answer.{Streams}
 use Rattle.duk_commands.specs.Decimal.{IsDecimal}
 use Rattle.duk_commands.specs.KeyArgument.{MeetsKey, initial_from, key_in}
 use Rattle.duk_commands.specs.Lines.{text_line}
 use Rattle.duk_commands.specs.declared.fault.Fault.TheVariants as command_fault
 use Rattle.duk_commands.specs.declared.key_argument.KeyArgument.{KeyArgument}
 use Rattle.duk_io.specs.FirstFault.{IsFirst}
-use Rattle.duk_io.specs.Sink.{IsTried, IsUntouched}
-use Rattle.duk_tools.specs.FindFault.{find_line, find_rank}
+use Rattle.duk_io.specs.Known.{Known}
+use Rattle.duk_io.specs.Sink.{IsCut, IsUntouched, IsWritten}
+use Rattle.duk_tools.specs.FindFault.{find_rank}
 use Rattle.duk_tools.specs.Origin.{origin_rank, use_name, way_text}
+use Rattle.duk_tools.specs.Progress.{AreTried, progress_lines, progress_step}
 use Rattle.duk_tools.specs.Sought.{IsSought, Makes, MeetsClear, MeetsPan, MeetsText, MeetsWhat, TakesMemory}
 use Rattle.duk_tools.specs.declared.find_fault.FindFault.{FindFault}
 use Rattle.duk_tools.specs.declared.find_fault.FindFault.TheVariants as fault
@@ -111,20 +113,25 @@ abbrev pub found_line : Serial → Origin → List ℕ
 found_line ksn origin = text_line (codes "found")
     (encode_upper (serial_bytes ksn) ++ codes " " ++ use_name origin.key ++ way_text origin.way)
 
--- the text of the line that the arguments ask for
-pub record IsFindText (arguments : FindArguments) (text : List ℕ) : Type 0 where
+-- the text of the line that the arguments ask for, and the lines of progress before it
+pub record IsFindText (arguments : FindArguments) (text : List ℕ) (told : List (List ℕ))
+    : Type 0 where
   pub search : Search
   pub ksn : Serial
   pub origin : Origin
   pub asked : AsksFor arguments search
   pub found : IsFound search ksn origin
   pub text_is : text ≡ found_line ksn origin
+  pub told_are : told
+      ≡ progress_lines (progress_step search.sought) asked.most (length found.before + 1)
 
--- the arguments ask for a search that finds nothing
-pub record AsksInVain (arguments : FindArguments) : Type 0 where
+-- the arguments ask for a search that finds nothing, with these lines of progress
+pub record AsksInVain (arguments : FindArguments) (told : List (List ℕ)) : Type 0 where
   pub search : Search
   pub asked : AsksFor arguments search
   pub not_found : IsNotFound search
+  pub told_are : told
+      ≡ progress_lines (progress_step search.sought) asked.most (length search.window)
 
 -- the number from which the search starts is given, but for a frame, whose own terminal has one
 abbrev pub MeetsStartOf : Option (List ℕ) → Clue → Type 0
@@ -144,34 +151,50 @@ MeetsFind arguments fault.KsnRefused = MeetsStartOf arguments.from arguments.clu
 MeetsFind arguments fault.WindowRefused = (most : ℕ) × IsWindowSize arguments.window most
 MeetsFind arguments why = Unit {0}
 
--- why nothing is found: the first of the faults, in their order, whose condition the arguments do
--- not meet, or that no key makes what is looked for; memory may be refused where it is taken
+-- why nothing is searched for: the first of the faults, in their order, whose condition the
+-- arguments do not meet; memory may be refused where it is taken
 abbrev pub IsFindRefused : FindArguments → FindFault → Type 0
-IsFindRefused arguments fault.NotFound = AsksInVain arguments
+IsFindRefused arguments fault.NotFound = ⊥
+IsFindRefused arguments fault.WriteFailed = ⊥
 IsFindRefused arguments fault.OutOfMemory =
     IsSome (key_in arguments.given) × TakesMemory arguments.clue
 IsFindRefused arguments why =
     IsFirst find_rank (MeetsFind arguments) (λ fault. ¬ MeetsFind arguments fault) why
 
--- status 0: the line was written
+-- why nothing is found, and the lines of progress before that: nothing is searched for, and then
+-- there are none; or no key makes what is looked for
+abbrev pub IsFindVain : FindArguments → FindFault → List (List ℕ) → Type 0
+IsFindVain arguments why told = (IsFindRefused arguments why × (told ≡ []))
+    ⊎ ((why ≡ fault.NotFound) × AsksInVain arguments told)
+
+-- the arguments ask for the line with this text, and the progress was told
+pub record HasFound (arguments : FindArguments) (text : List ℕ) (old new : Known) : Type 0 where
+  pub told : List (List ℕ)
+  pub asked : IsFindText arguments text told
+  pub progress : AreTried old new told
+
+-- nothing is found for this reason, and the progress was told
+pub record HasFoundNothing (arguments : FindArguments) (why : FindFault) (old new : Known)
+    : Type 0 where
+  pub told : List (List ℕ)
+  pub cause : IsFindVain arguments why told
+  pub progress : AreTried old new told
+
+-- the line was written
 pub record IsFindDone (arguments : FindArguments) (s : Streams) : Type 0 where
   pub text : List ℕ
-  pub asked : IsFindText arguments text
-  pub written : HasWritten text s
-
--- nothing was found, and that was reported
-pub record IsFindReported (arguments : FindArguments) (s : Streams) : Type 0 where
-  pub why : FindFault
-  pub cause : IsFindRefused arguments why
-  pub no_output : IsUntouched s.output_before s.output_after
-  pub line : IsTried s.fault_before s.fault_after (find_line why)
+  pub found : HasFound arguments text s.fault_before s.fault_after
+  pub written : IsWritten s.output_before s.output_after text
 
 -- the line was begun, and a write failed
 pub record IsFindCutShort (arguments : FindArguments) (s : Streams) : Type 0 where
   pub text : List ℕ
-  pub asked : IsFindText arguments text
-  pub failed : HasWriteFailed text s
+  pub found : HasFound arguments text s.fault_before s.fault_after
+  pub failed : IsCut s.output_before s.output_after text
 
--- status 1
-abbrev pub IsFindNotDone : FindArguments → Streams → Type 0
-IsFindNotDone arguments s = IsFindReported arguments s ⊎ IsFindCutShort arguments s
+-- the line is not written for this reason, which is still to be reported
+abbrev pub IsFindFailed : FindArguments → FindFault → Streams → Type 0
+IsFindFailed arguments why s =
+    (HasFoundNothing arguments why s.fault_before s.fault_after
+    × IsUntouched s.output_before s.output_after)
+    ⊎ ((why ≡ fault.WriteFailed) × IsFindCutShort arguments s)

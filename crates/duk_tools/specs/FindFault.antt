@@ -28,6 +28,7 @@ find_text fault.KsnRefused = codes "KSN refused"
 find_text fault.WindowRefused = codes "window refused"
 find_text fault.NotFound = codes "not found"
 find_text fault.OutOfMemory = codes "out of memory"
+find_text fault.WriteFailed = codes "write failed"
 
 -- the line of a fault
 abbrev pub find_line : FindFault → List ℕ

@@ -10,5 +10,6 @@ pub mod DataKeys
 pub mod Origin
 pub mod FindFault
 pub mod Sought
+pub mod Progress
 pub mod Find
 pub mod inner

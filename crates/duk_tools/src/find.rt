@@ -1,19 +1,19 @@
 //! The command `find`: which number, and which of its keys, made something.
 
-ghost use Rattle.std.specs.Prelude.{◌≡◌, ◌⊎◌, ◌≤◌, ℕ, List, IfErr, IfOk, MatchResult, None, Some};
+ghost use Rattle.std.specs.Prelude.{◌≡◌, ◌≤◌, ℕ, List, IfErr, IfOk, IsOk, MatchResult, None, Some};
 ghost use Rattle.std.specs.Option.{option_copied};
 ghost use Rattle.duk_commands.specs.Answer.{streams};
 ghost use Rattle.duk_commands.specs.KeyArgument.{key_in};
-ghost use Rattle.duk_tools.specs.Find.{IsFindDone, IsFindNotDone, IsFindRefused, IsFindText, IsStartOf, IsWindowSize, find_arguments, found_line};
+ghost use Rattle.duk_tools.specs.Find.{HasFound, HasFoundNothing, IsFindDone, IsFindFailed, IsStartOf, IsWindowSize, find_arguments, found_line};
 ghost use Rattle.duk_tools.specs.inner.Find.{find_key_fault};
 ghost use Rattle.duk_tools.specs.declared.find_fault.FindFault.TheVariants.{KsnRefused, WindowRefused};
 ghost use Rattle.duk_tree.specs.Serial.{Serial};
 
-use crate::find_fault::{FindFault, report};
+use crate::find_fault::FindFault;
 use crate::search::{Found, first_found};
 use crate::sought::{Clue, Sought, read_sought};
-use duk_commands::{KeyArgument, Lines, finish, push_end, push_text, read_decimal};
-use duk_io::{Sink, append_hex};
+use duk_commands::{KeyArgument, Lines, push_end, push_text, read_decimal};
+use duk_io::{Sink, append_hex, write_text};
 use duk_tdes::Key;
 use duk_tree::Ksn;
 use std::alloc::Global;
@@ -21,9 +21,8 @@ use std::alloc::Global;
 /// The most numbers that are tried, where no other number is given.
 const MOST_TRIED: u32 = 100_000;
 
-/// Writes the line of the first number that has a key which makes `what`, and of its first such key:
-/// `found`, the key serial number, the key and, of a MAC, `retail` or `cmac`. Gives the status: 0, or
-/// 1 with a line on `fault`.
+/// Writes the line of the first number that has a key which makes `what`, and of its first such
+/// key: `found`, the key serial number, the key and, of a MAC, `retail` or `cmac`.
 ///
 /// The numbers tried are the usable ones of the terminal of `from`, from that one on, `window` of
 /// them at most; of a frame `from` may be missing, and then they begin with the first number of the
@@ -31,9 +30,13 @@ const MOST_TRIED: u32 = 100_000;
 /// variants for PINs, requests and responses, and the keys for the data of requests and responses
 /// (ANSI X9.24-1:2009 annex A).
 ///
-/// The faults, in this order: `BDK refused`, or `initial refused` of an initial key; `WHAT refused`;
-/// `TEXT refused`, `PAN refused` or `BLOCK refused`; `KSN refused`; `window refused` (no number from
-/// 1 to 100,000); `not found`; then `write failed`. Memory for a frame and for a text may be refused.
+/// A long search, which is one for the MAC of a text, writes on `fault` about each second how many
+/// numbers it has tried, as `tried 93750 of 100000`. What cannot be written of that is lost.
+///
+/// The faults, in this order: `BDK refused`, or `initial refused` of an initial key; `WHAT
+/// refused`; `TEXT refused`, `PAN refused` or `BLOCK refused`; `KSN refused`; `window refused` (no
+/// number from 1 to 100,000); `not found`; then `write failed`. Memory for a frame and for a text
+/// may be refused. The caller reports the fault.
 pub fn find_command<W: Sink, F: Sink>(
     alloc: Global,
     key: KeyArgument<'_>,
@@ -43,37 +46,40 @@ pub fn find_command<W: Sink, F: Sink>(
     window: Option<&str>,
     output: &mut W,
     fault: &mut F,
-) -> u8
-    ensures status { (result ≡ 0) ⊎ (result ≡ 1) }
-    ensures done { result ≡ 0 → IsFindDone (find_arguments key.entry what.now clue.entry
+) -> Result<(), FindFault>
+    ensures done { IsOk result → IsFindDone (find_arguments key.entry what.now clue.entry
         (option_copied from.entry) (option_copied window.entry))
         (streams (W.known output.old) (W.known output.new)
         (F.known fault.old) (F.known fault.new)) }
-    ensures not_done { result ≡ 1 → IsFindNotDone (find_arguments key.entry what.now clue.entry
-        (option_copied from.entry) (option_copied window.entry))
+    ensures failed { IfErr result (λ why. IsFindFailed (find_arguments key.entry what.now clue.entry
+        (option_copied from.entry) (option_copied window.entry)) why
         (streams (W.known output.old) (W.known output.new)
-        (F.known fault.old) (F.known fault.new)) }
+        (F.known fault.old) (F.known fault.new))) }
 {
     duk_io::laws::writes();
-    match find_lines(alloc, key, what, clue, from, window) {
-        Ok(lines) => finish(Ok(lines), output, fault),
-        Err(why) => report(fault, why),
+    let lines = find_lines(alloc, key, what, clue, from, window, fault)?;
+    match write_text(output, lines.as_slice()) {
+        Ok(()) => Ok(()),
+        Err(_) => Err(FindFault::WriteFailed),
     }
 }
 
-/// The line of what is found, or why nothing is.
-fn find_lines(
+/// The line of what is found, or why nothing is. A long search tells its progress on `fault`.
+fn find_lines<F: Sink>(
     alloc: Global,
     given: KeyArgument<'_>,
     what: &str,
     clue: Clue<'_>,
     from: Option<&str>,
     window: Option<&str>,
+    fault: &mut F,
 ) -> Result<Lines, FindFault>
-    ensures lines { IfOk result (λ lines. IsFindText (find_arguments given.entry what.now clue.entry
-        (option_copied from.entry) (option_copied window.entry)) lines.items) }
-    ensures refused { IfErr result (IsFindRefused (find_arguments given.entry what.now clue.entry
-        (option_copied from.entry) (option_copied window.entry))) }
+    ensures lines { IfOk result (λ lines. HasFound (find_arguments given.entry what.now clue.entry
+        (option_copied from.entry) (option_copied window.entry)) lines.items
+        (F.known fault.old) (F.known fault.new)) }
+    ensures refused { IfErr result (λ why. HasFoundNothing (find_arguments given.entry what.now
+        clue.entry (option_copied from.entry) (option_copied window.entry)) why
+        (F.known fault.old) (F.known fault.new)) }
 {
     duk_tree::laws::chain();
     let key = read_key(given)?;
@@ -81,7 +87,7 @@ fn find_lines(
     let start = read_start_of(from, &sought)?;
     let most = read_window(window)?;
     let initial = given.initial_key(&key, start.iksn());
-    match first_found(&initial, start, most, &sought) {
+    match first_found(&initial, start, most, &sought, fault) {
         Some(found) => Ok(line_of(&found)),
         None => Err(FindFault::NotFound),
     }

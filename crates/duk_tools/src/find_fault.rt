@@ -30,6 +30,8 @@ pub enum FindFault {
     NotFound,
     /// Memory was refused.
     OutOfMemory,
+    /// The line of what was found cannot be written.
+    WriteFailed,
 }
 
 impl FindFault {
@@ -49,18 +51,27 @@ impl FindFault {
             FindFault::WindowRefused => "window refused",
             FindFault::NotFound => "not found",
             FindFault::OutOfMemory => "out of memory",
+            FindFault::WriteFailed => "write failed",
         }
     }
-}
 
-/// Writes the line of the fault and gives the status 1. What cannot be written of the line is lost.
-pub(crate) fn report<F: Sink>(fault: &mut F, why: FindFault) -> u8
-    ensures status { result ≡ 1 }
-    ensures line { IsTried (F.known fault.old) (F.known fault.new) (find_line why) }
-{
-    let mut line = Lines::new();
-    push_text(&mut line, why.text().as_bytes());
-    push_end(&mut line);
-    let _ = write_text(fault, line.as_slice());
-    1
+    /// The line that reports the fault, LF at its end.
+    pub fn line(self) -> Lines
+        ensures { result.items ≡ find_line self }
+    {
+        let mut line = Lines::new();
+        push_text(&mut line, self.text().as_bytes());
+        push_end(&mut line);
+        line
+    }
+
+    /// Writes the line of the fault and gives the status 1. What cannot be written of the line is
+    /// lost.
+    pub fn report<F: Sink>(self, fault: &mut F) -> u8
+        ensures status { result ≡ 1 }
+        ensures line { IsTried (F.known fault.old) (F.known fault.new) (find_line self) }
+    {
+        let _ = write_text(fault, self.line().as_slice());
+        1
+    }
 }

@@ -13,6 +13,7 @@ mod keys;
 mod mac;
 mod origin;
 mod pin_blocks;
+mod progress;
 mod registers;
 mod reversals;
 mod search;

@@ -5,16 +5,18 @@ ghost use Rattle.duk_io.specs.FirstFault.{IsFirst};
 ghost use Rattle.duk_mac.specs.Cmac.{cmac_of};
 ghost use Rattle.duk_mac.specs.Retail.{retail_of};
 ghost use Rattle.duk_regs.specs.Registers.{AreFutureKeysOf};
-ghost use Rattle.duk_tools.specs.Find.{IsFound, IsNotFound, IsWindow};
+ghost use Rattle.duk_tools.specs.Find.{IsWindow};
 ghost use Rattle.duk_tools.specs.Origin.{origin_rank};
 ghost use Rattle.duk_tools.specs.Sought.{Makes, MakesBy};
-ghost use Rattle.duk_tools.specs.inner.Search.{AreLeft, IsFirstFrom, IsFirstWay, search_in};
+ghost use Rattle.duk_tools.specs.inner.Search.{AreLeft, IsFirstFrom, IsFirstWay, IsFoundTelling, IsNotFoundTelling, search_in};
 ghost use Rattle.duk_tools.specs.inner.Sought.{HasMessage};
 ghost use Rattle.duk_tree.specs.Path.{IsUsable};
 
 use crate::origin::{KeyUse, Origin, USES, Way};
+use crate::progress::tell_progress;
 use crate::sought::Sought;
 use duk_frame::mac_text;
+use duk_io::Sink;
 use duk_mac::{cmac, retail};
 use duk_pin::decode;
 use duk_regs::Registers;
@@ -29,18 +31,26 @@ pub(crate) struct Found {
 }
 
 /// The first number with a key that makes what is looked for, and the first such key, of the usable
-/// numbers of a terminal from this one on, so many at most.
-pub(crate) fn first_found(initial: &Key<16>, from: Ksn, most: u32, sought: &Sought) -> Option<Found>
+/// numbers of a terminal from this one on, so many at most. A long search tells its progress on
+/// `fault`.
+pub(crate) fn first_found<F: Sink>(
+    initial: &Key<16>,
+    from: Ksn,
+    most: u32,
+    sought: &Sought,
+    fault: &mut F,
+) -> Option<Found>
     requires { HasMessage sought.now }
     ensures found { (window : List ℕ) → IsWindow from.counter most window → IfSome result
-        (λ found. IsFound (search_in sought.now initial.now from.iksn window) found.ksn
-        found.origin) }
+        (λ found. IsFoundTelling (search_in sought.now initial.now from.iksn window) most found.ksn
+        found.origin (F.known fault.old) (F.known fault.new)) }
     ensures none { (window : List ℕ) → IsWindow from.counter most window → IfNone result
-        (IsNotFound (search_in sought.now initial.now from.iksn window)) }
+        (IsNotFoundTelling (search_in sought.now initial.now from.iksn window) most
+        (F.known fault.old) (F.known fault.new)) }
 {
     let first = first_usable(from)?;
     let registers = Registers::at(initial, first)?;
-    first_among(registers, most, sought)
+    first_among(registers, most, sought, fault)
 }
 
 /// The first usable number of a terminal from this one on: itself where it is usable.
@@ -60,19 +70,26 @@ fn first_usable(from: Ksn) -> Option<Ksn>
 }
 
 /// The same of the numbers that a terminal has left.
-fn first_among(mut registers: Registers, most: u32, sought: &Sought) -> Option<Found>
+fn first_among<F: Sink>(
+    mut registers: Registers,
+    most: u32,
+    sought: &Sought,
+    fault: &mut F,
+) -> Option<Found>
     requires { HasMessage sought.now }
     ensures found { (initial numbers : List ℕ) → AreFutureKeysOf initial registers
         → AreLeft registers.counter numbers → IfSome result (λ found.
-        IsFound (search_in sought.now initial registers.iksn (take most numbers)) found.ksn
-        found.origin) }
+        IsFoundTelling (search_in sought.now initial registers.iksn (take most numbers)) most
+        found.ksn found.origin (F.known fault.old) (F.known fault.new)) }
     ensures none { (initial numbers : List ℕ) → AreFutureKeysOf initial registers
         → AreLeft registers.counter numbers → IfNone result
-        (IsNotFound (search_in sought.now initial registers.iksn (take most numbers))) }
+        (IsNotFoundTelling (search_in sought.now initial registers.iksn (take most numbers)) most
+        (F.known fault.old) (F.known fault.new)) }
 {
     duk_tree::laws::bits();
-    for _tried in 0..most {
+    for tried in 0..most {
         let taken = registers.use_next()?;
+        tell_progress(sought, tried, most, fault);
         if let Some(origin) = origin_of(sought, &taken.0) {
             return Some(Found {
                 ksn: taken.1,

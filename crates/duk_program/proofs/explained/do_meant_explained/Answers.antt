@@ -1,7 +1,7 @@
 use Rattle.std.proofs.Common.{length, string_bytes, map, ap, ◌∙◌, sym}
 use Rattle.std.proofs.lemmas.List.{length-map}
 use Rattle.duk_host.specs.Serve.{supply}
-use Rattle.duk_program.proofs.Told.{each_means_of, meant_explained, meant_heard, noted_of, told_of, unread_explained}
+use Rattle.duk_program.proofs.Told.{each_means_of, meant_explained, meant_heard, noted_of, search_done, search_explained, told_of, unread_explained}
 use Rattle.duk_program.proofs.Words.{as_many, means_length}
 use Rattle.duk_program.specs.Scene.{scene}
 use Rattle.duk_service.specs.Serve.{serving_of}
@@ -19,6 +19,28 @@ pub with_secrets-meant-requires-clause-count : goal.with_secrets-meant-requires-
 with_secrets-meant-requires-clause-count g c =
     ap length (c.keys_of-keys.ensures ∙ ap (map string_bytes) c.as_slice.ensures.value)
     ∙ means_length _ _ _ c.in-Ok.ensures.read.means
+
+pub returns-in-Some-clause-done : goal.returns-in-Some-clause-done
+returns-in-Some-clause-done g c zero = search_done g.S.Disk.Disk.meaning
+    (scene (g.S.FileSystem.held c.args.files.now) (g.S.LogFiles.disks c.args.files.now) (g.S.LogFiles.making c.args.files.now)
+    (serving_of g.R.Source.known g.R.Source.reads g.W.Sink.known c.args.input.now c.read_texts.new.input c.args.output.now c.find_explained.new.output)
+    (g.F.Sink.known c.args.fault.now) (g.F.Sink.known c.find_explained.new.fault))
+    c.args.request c.with_secrets-meant.result (supply (g.R.Source.known c.read_texts.new.input) (g.R.Source.reads c.read_texts.new.input)) _
+    c.in-Ok.ensures.read.taken
+    (c.with_secrets-meant.ensures.meaning _ (each_means_of _ _ _ _ (c.keys_of-keys.ensures ∙ ap (map string_bytes) c.as_slice.ensures.value) c.in-Ok.ensures.read.means))
+    c.in-Some.ensures
+    (c.find_explained.ensures.done zero)
+
+pub returns-in-Some-clause-not_done : goal.returns-in-Some-clause-not_done
+returns-in-Some-clause-not_done g c one = search_explained g.S.Disk.Disk.meaning
+    (scene (g.S.FileSystem.held c.args.files.now) (g.S.LogFiles.disks c.args.files.now) (g.S.LogFiles.making c.args.files.now)
+    (serving_of g.R.Source.known g.R.Source.reads g.W.Sink.known c.args.input.now c.read_texts.new.input c.args.output.now c.find_explained.new.output)
+    (g.F.Sink.known c.args.fault.now) (g.F.Sink.known c.find_explained.new.fault))
+    c.args.request c.with_secrets-meant.result (supply (g.R.Source.known c.read_texts.new.input) (g.R.Source.reads c.read_texts.new.input)) _
+    c.in-Ok.ensures.read.taken
+    (c.with_secrets-meant.ensures.meaning _ (each_means_of _ _ _ _ (c.keys_of-keys.ensures ∙ ap (map string_bytes) c.as_slice.ensures.value) c.in-Ok.ensures.read.means))
+    c.in-Some.ensures
+    (c.find_explained.ensures.told one)
 
 pub returns-clause-done : goal.returns-clause-done
 returns-clause-done g c zero = meant_heard g.S.Disk.Disk.meaning

@@ -12,7 +12,7 @@ returns-in-Exit-clause-not_done g c one = program_not_done _ _ _ (c.in-Exit.ensu
 
 pub returns-in-Run-clause-fault : goal.returns-in-Run-clause-fault
 returns-in-Run-clause-fault g c failed =
-    rw (← c.in-Run.ensures.silent tt) (inl (files_reported _ (c.run_files.ensures.reported failed)))
+    rw (← c.in-Run.ensures.silent tt) (inl (inl (files_reported _ (c.run_files.ensures.reported failed))))
 
 pub returns-in-Run-clause-done : goal.returns-in-Run-clause-done
 returns-in-Run-clause-done g c zero = inl (record {
@@ -30,7 +30,7 @@ returns-in-Run-clause-not_done g c one = inl (record {
 
 pub returns-in-Serve-clause-fault : goal.returns-in-Serve-clause-fault
 returns-in-Serve-clause-fault g c failed =
-    rw (← c.in-Serve.ensures.silent tt) (unserved_reported _ _ (c.serve_files.ensures.reported failed))
+    rw (← c.in-Serve.ensures.silent tt) (inl (unserved_reported _ _ (c.serve_files.ensures.reported failed)))
 
 pub returns-in-Serve-clause-done : goal.returns-in-Serve-clause-done
 returns-in-Serve-clause-done g c zero = inl (record {
@@ -48,7 +48,7 @@ returns-in-Serve-clause-not_done g c one = inl (record {
 
 pub returns-in-NewLog-clause-fault : goal.returns-in-NewLog-clause-fault
 returns-in-NewLog-clause-fault g c failed =
-    rw (← c.in-NewLog.ensures.silent tt) (inl (unmade_reported _ _ _ _ _ _ (c.new_file.ensures.not_done failed)))
+    rw (← c.in-NewLog.ensures.silent tt) (inl (inl (unmade_reported _ _ _ _ _ _ (c.new_file.ensures.not_done failed))))
 
 pub returns-in-NewLog-clause-done : goal.returns-in-NewLog-clause-done
 returns-in-NewLog-clause-done g c zero = inl (record {
@@ -73,7 +73,7 @@ returns-in-NewLog-clause-not_done g c one = inl (record {
 
 pub returns-in-NewJournal-clause-fault : goal.returns-in-NewJournal-clause-fault
 returns-in-NewJournal-clause-fault g c failed =
-    rw (← c.in-NewJournal.ensures.silent tt) (inl (unmade_reported _ _ _ _ _ _ (c.new_file-in-NewJournal.ensures.not_done failed)))
+    rw (← c.in-NewJournal.ensures.silent tt) (inl (inl (unmade_reported _ _ _ _ _ _ (c.new_file-in-NewJournal.ensures.not_done failed))))
 
 pub returns-in-NewJournal-clause-done : goal.returns-in-NewJournal-clause-done
 returns-in-NewJournal-clause-done g c zero = inl (record {
@@ -98,7 +98,7 @@ returns-in-NewJournal-clause-not_done g c one = inl (record {
 
 pub returns-in-CopyJournal-clause-fault : goal.returns-in-CopyJournal-clause-fault
 returns-in-CopyJournal-clause-fault g c failed =
-    rw (← c.in-CopyJournal.ensures.silent tt) (inl (uncopied_reported _ _ _ _ _ (c.copy_journal.ensures.not_done failed)))
+    rw (← c.in-CopyJournal.ensures.silent tt) (inl (inl (uncopied_reported _ _ _ _ _ (c.copy_journal.ensures.not_done failed))))
 
 pub returns-in-CopyJournal-clause-done : goal.returns-in-CopyJournal-clause-done
 returns-in-CopyJournal-clause-done g c zero = inl (record {
@@ -123,7 +123,7 @@ returns-in-CopyJournal-clause-not_done g c one = inl (record {
 
 pub returns-in-Read-clause-fault : goal.returns-in-Read-clause-fault
 returns-in-Read-clause-fault g c failed =
-    rw (← c.in-Read.ensures.silent tt) (inl (meant_reported _ _ _ (c.do_over_secrets.ensures.not_done failed)))
+    rw (← c.in-Read.ensures.silent tt) (meant_reported _ _ _ _ c.in-Read.ensures.asked.0 (c.do_over_secrets.ensures.not_done failed))
 
 pub returns-in-Read-clause-done : goal.returns-in-Read-clause-done
 returns-in-Read-clause-done g c zero = inl (record {

@@ -11,3 +11,7 @@ pub returns-else-take_explain-clause-not_done : goal.returns-else-take_explain-c
 returns-else-take_explain-clause-not_done g c one =
     rw (← c.if-take_explain.ensures.told, ← c.if-take_explain.ensures.others, ← ap texts_of c.as_slice-else-take_explain.ensures.value)
     (c.run_arguments.ensures.not_done one)
+
+pub returns-else-take_explain-clause-fault : goal.returns-else-take_explain-clause-fault
+returns-else-take_explain-clause-fault g c one unmarked =
+    rw (← c.if-take_explain.ensures.others, ← ap texts_of c.as_slice-else-take_explain.ensures.value) (c.run_arguments.ensures.fault one)
