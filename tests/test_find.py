@@ -139,7 +139,7 @@ class FindProgress(FindCase):
         """The number before a line is told without it, and the one behind it with it; in a window that
         ends at either, nothing else is told of one that is not there."""
         first = self.chance.randrange(NUMBERS // 2)
-        for size, step, most_lines in ((64, 34_090, 1), (1_000, 2_929, 3), (60_000, 49, 2)):
+        for size, step, most_lines in ((64, 34_090, 1), (1_000, 2_929, 2), (60_000, 49, 1)):
             for lines in range(1, most_lines + 1):
                 for place in (lines * step - 1, lines * step):
                     told = [f"tried {step * it} of {MOST_NUMBERS}" for it in range(1, place // step + 1)]
@@ -169,16 +169,17 @@ class FindProgress(FindCase):
         self.search([*words, "--window", most, "--explain"], "", told, explained)
 
     def test_told_while_it_goes_on(self) -> None:
-        """The first line is there long before the search ends."""
+        """The first line is there long before the search ends, which then takes half a minute more."""
         words, _ = self.words_of(1_000, 100, 0)
         for more in ([], ["--explain"]):
             with subprocess.Popen(["dukpt", "find", BASE, *words, *more],
                                   executable=str(self.program.path), stdin=subprocess.DEVNULL,
                                   stdout=subprocess.DEVNULL, stderr=subprocess.PIPE) as running:
                 told = running.stderr.readline()
-                is_running = running.poll() is None
+                with self.assertRaises(subprocess.TimeoutExpired):
+                    running.wait(1)
                 running.kill()
-            self.assertEqual((told, is_running), (b"tried 2929 of 100000\n", True), more)
+            self.assertEqual(told, b"tried 2929 of 100000\n")
 
     def test_lines_that_cannot_be_written(self) -> None:
         """They are lost, and what is found is told as ever."""

@@ -15,7 +15,7 @@ Example:
   pin 042666B49184CF5C68DE9628D0397B36
 
 Status:
-  0  Done, and nothing is on standard error
+  0  Done, and no fault is on standard error
   1  A fault, and its line is on standard error
   2  The arguments are refused, and standard error says why
 

@@ -61,7 +61,7 @@ pub(super) fn find<'a>() -> Usage<'a>
             BDK,
             Argument::Needed(
                 "WHAT",
-                "A frame in hexadecimal, or with an option 16 hexadecimal digits",
+                "A frame in hexadecimal, or with --text, --pan or --clear 16 hexadecimal digits",
             ),
             Argument::Valued(
                 "from",

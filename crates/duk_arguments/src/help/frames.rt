@@ -1,4 +1,5 @@
-//! The text at the end of the help of the commands over frames, and of the one that finds what made one.
+//! The text at the end of the help of the commands over frames, and of the one that finds what made
+//! one.
 
 /// At the end of the help of `request`.
 pub(crate) const REQUEST: &str = "\
@@ -73,6 +74,9 @@ Of each number these keys are tried, in this order: `key`, the transaction key i
 variant whose halves are enciphered under the variant itself. The first key that made WHAT is told,
 with the number before it, and behind it of a MAC whether it is `retail` or `cmac`.
 
+With --text a long search tells its progress on standard error, about each second:
+`tried 34090 of 100000`.
+
 BDK, WHAT, PAN and BLOCK are better written as @FILE (the first line of a file) or @- (of standard
 input): every user of the machine sees the words of a process.
 
@@ -93,7 +97,7 @@ Faults, on standard error with status 1, the first alone; --explain says more:
   BLOCK: ..        BLOCK as @FILE or @-: the same
   BDK refused      BDK is not 32 hexadecimal digits
   initial refused  The same, with --initial
-  WHAT refused     WHAT is no frame with a MAC, or with an option not 16 hexadecimal digits
+  WHAT refused     WHAT is no frame with a MAC, or with --text, --pan or --clear not 16 hexadecimal digits
   TEXT refused     TEXT is empty, or with --hex not pairs of hexadecimal digits
   PAN refused      PAN is not 12 to 19 digits
   BLOCK refused    BLOCK is not 16 hexadecimal digits
