@@ -1,4 +1,4 @@
-"""The page as a file: what its sources and the module make, byte by byte, and one file alone."""
+"""The page as a file: what its sources and the modules make, byte by byte, and one file alone."""
 from __future__ import annotations
 
 import re
@@ -13,11 +13,11 @@ SECONDS = 3600
 OUTSIDE = re.compile(
     r"\b(?:src|href|action|srcset|data|poster)\s*=\s*[\"']?[^\"'#\s>]|url\(|@import"
     r"|\bimport\s*\(|^\s*import\s|https?://(?!www\.w3\.org/2000/svg)", re.M)
-MOST_BYTES = 500_000
+MOST_BYTES = 600_000
 
 
 class TestMade(Case):
-    # It may build the module: the other tests are begun before.
+    # It may build the modules: the other tests are begun before.
     weight = 0
 
     def test_bytes(self) -> None:

@@ -20,7 +20,7 @@
 | `binding_cases`, `python_library`, `rust_library` | the packages over the library, and cases for them |
 | `packages`, `system_root` | Debian's packages; a copy of this system, in which they are installed |
 | `browser`, `sink` | Chromium over WebDriver; a listener that notes who connects to it |
-| `page_case`, `page_module`, `page_values` | the page in a browser, its module, and what it shows |
+| `page_case`, `page_module`, `page_player`, `page_values` | the page in a browser, its modules, and what it shows |
 | `everyday`, `everyday_words`, `everyday_cases`, `everyday_rows` | the commands of every day: their lines, their arguments with references, cases at random, written rows |
 | `quick`, `leaks` | thousands of short runs; secrets in what a run wrote |
 | `many`, `call_cases`, `call_cases_of_texts` | the standards, and calls of the library, by thousands |

@@ -1,1 +1,1 @@
-"""The page as one file: its sources bundled with the module of proved code."""
+"""The page as one file: its sources bundled with the modules of proved code."""

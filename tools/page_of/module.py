@@ -1,17 +1,22 @@
-"""The module: the crate dukpt_c, built for 64-bit WebAssembly."""
+"""The modules: the crates dukpt_c and dukpt_player, built for 64-bit WebAssembly."""
 from __future__ import annotations
 
 import base64
 import re
+import zlib
 from dataclasses import dataclass
 from pathlib import Path
+from typing import Optional
 
 from library_of import kit
 
+from .player import player
+
 MAGIC = b"\0asm\1\0\0\0"
-# Where a page has its module, and the kit that compiled it.
-HELD = re.compile(r'<script\b[^>]* id="module">([^<]*)</script>')
+# Where a page has a module, and the kit that compiled it.
+HELD = r'<script\b[^>]* id="{name}">([^<]*)</script>'
 MADE_WITH = re.compile(r'<meta name="generator" content="([^"]*)">')
+CALLS, PLAYER = "module", "player"
 
 
 class NoModule(Exception):
@@ -19,28 +24,55 @@ class NoModule(Exception):
 
 
 @dataclass(frozen=True)
-class Module:
-    """A module, and the kit that compiled it, as `rt version` names it."""
+class Modules:
+    """The modules of a page, and the kit that compiled them, as `rt version` names it."""
 
-    code: bytes
+    calls: bytes
+    # As the page has it: raw deflate.
+    player: bytes
     kit: str
 
 
-def built() -> Module:
-    """The module of the crates as they are, which the kit proves first where they changed."""
+def built(page: Path) -> Modules:
+    """The modules of the crates as they are, which the kit proves first where they changed."""
     try:
-        return Module(checked(kit.module().read_bytes(), "what the kit built"), kit.Kit.version())
+        calls = checked(kit.module().read_bytes(), "what the kit built")
+        return Modules(calls, packed(player().read_bytes(), page), kit.Kit.version())
     except kit.NotBuilt as why:
         raise NoModule(f"{why}; with --kept none is wanted") from why
 
 
-def kept(page: Path) -> Module:
-    """The module that a page has."""
+def packed(module: bytes, page: Path) -> bytes:
+    """The player as raw deflate. Versions of zlib pack differently: where a page has what unpacks to
+    the same, that stays."""
+    before = held_in(page.read_text(encoding="utf-8"), PLAYER) if page.exists() else None
+    if before is not None and unpacked(before) == module:
+        return before
+    packer = zlib.compressobj(9, zlib.DEFLATED, -zlib.MAX_WBITS)
+    return packer.compress(module) + packer.flush()
+
+
+def unpacked(text: bytes) -> Optional[bytes]:
+    try:
+        return zlib.decompress(text, -zlib.MAX_WBITS)
+    except zlib.error:
+        return None
+
+
+def kept(page: Path) -> Modules:
+    """The modules that a page has."""
     text = page.read_text(encoding="utf-8")
-    held, made_with = HELD.search(text), MADE_WITH.search(text)
-    if held is None or made_with is None:
-        raise NoModule(f"{page} has no module, or does not name its kit")
-    return Module(checked(base64.b64decode(held[1]), str(page)), made_with[1])
+    calls, play, made_with = held_in(text, CALLS), held_in(text, PLAYER), MADE_WITH.search(text)
+    if calls is None or play is None or made_with is None:
+        raise NoModule(f"{page} lacks a module, or does not name its kit")
+    checked(unpacked(play) or b"", str(page))
+    return Modules(checked(calls, str(page)), play, made_with[1])
+
+
+def held_in(text: str, name: str) -> Optional[bytes]:
+    """What a page holds under a name, where it does."""
+    held = re.search(HELD.format(name=name), text)
+    return held and base64.b64decode(held[1])
 
 
 def checked(code: bytes, place: str) -> bytes:
