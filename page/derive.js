@@ -3,15 +3,22 @@ import * as calls from "./calls.js";
 import { counterOf, path, withCounter } from "./counters.js";
 import { attempt, element, follow, made, read, renew, show } from "./fields.js";
 import { doubleKey, hex, hexCounter, serialNumber } from "./hexadecimal.js";
+import { KINDS } from "./working_set.js";
+
+/** The kind of key that a panel's switch asks for. Of the fields for keys, its one is shown. */
+function kindIn(panel) {
+  const kinds = KINDS.filter((it) => element(`${panel}-from-${it}`));
+  const chosen = kinds.find((it) => element(`${panel}-from-${it}`).checked);
+  for (const it of kinds) element(`${panel}-${it}`).closest(".field").hidden = it !== chosen;
+  return chosen;
+}
 
 /** The initial key of a number, out of the key that a panel's switch asks for; else undefined. */
 export function initialKeyOf(panel, ksn) {
-  const isBase = element(`${panel}-from-bdk`).checked;
-  element(`${panel}-bdk`).closest(".field").hidden = !isBase;
-  element(`${panel}-initial`).closest(".field").hidden = isBase;
-  const key = read(`${panel}-${isBase ? "bdk" : "initial"}`, doubleKey);
+  const kind = kindIn(panel);
+  const key = read(`${panel}-${kind}`, doubleKey);
   if (!key || !ksn) return undefined;
-  return isBase ? calls.initialKey(key, withCounter(ksn, 0)) : key;
+  return kind === "bdk" ? calls.initialKey(key, withCounter(ksn, 0)) : key;
 }
 
 function showKey(kind, key) {
@@ -39,6 +46,19 @@ function renewed() {
   renew(element("panel-derive"));
   element("derive-note").textContent = "";
   element("derive-steps").replaceChildren();
+  const isTransaction = kindIn("derive") === "transaction";
+  element("derive-ksn").closest(".field").hidden = isTransaction;
+  if (isTransaction) showGiven(read("derive-transaction", doubleKey));
+  else showDerived();
+}
+
+/** Shows what follows from a transaction key that is given. */
+function showGiven(key) {
+  element("derive-note").textContent = "No step leads from a transaction key back to an initial key.";
+  if (key) showTransaction(key);
+}
+
+function showDerived() {
   const ksn = read("derive-ksn", serialNumber);
   const initial = initialKeyOf("derive", ksn);
   if (!initial) return;

@@ -11,9 +11,9 @@ export function made(name, text = "", attributes = {}) {
   return it;
 }
 
-/** A table with these names of its columns, which `fill` gives its rows. */
-export function tableOf(names, fill) {
-  const table = made("table");
+/** A table with these names of its columns, which `fill` gives its rows; it has a name itself. */
+export function tableOf(names, fill, name = names.join(", ")) {
+  const table = made("table", "", { "aria-label": name });
   const head = table.createTHead().insertRow();
   for (const name of names) head.append(made("th", name, { scope: "col" }));
   fill(table.createTBody());
@@ -22,13 +22,15 @@ export function tableOf(names, fill) {
   return wide;
 }
 
-/** Gives each field the place of its fault, and each result its button. */
+/** Gives each field the places of its note and its fault, and each result its button. */
 export function prepare() {
   for (const field of document.querySelectorAll(".field :is(input, textarea, select)")) {
-    const id = `${field.id}-fault`;
+    const places = ["note", "fault"].map((name) =>
+      made("p", "", { id: `${field.id}-${name}`, class: name, "aria-live": "polite" }));
     const others = field.getAttribute("aria-describedby") ?? "";
-    field.setAttribute("aria-describedby", `${others} ${id}`.trim());
-    field.closest(".field").append(made("p", "", { id, class: "fault", "aria-live": "polite" }));
+    const ids = places.map((it) => it.id).join(" ");
+    field.setAttribute("aria-describedby", `${others} ${ids}`.trim());
+    field.closest(".field").append(...places);
   }
   for (const output of document.querySelectorAll("output")) {
     // A reader of the screen is told of faults, and not of each result at each key.
@@ -67,9 +69,23 @@ export function setFault(id, words, range) {
   else element(id).removeAttribute("aria-invalid");
 }
 
-/** What a field has by its reader; undefined where it has none, with the fault beside it. */
+/**
+ * What a field has by its reader; undefined where it has none, with the fault beside it. A field
+ * that lacks what it is to show says so. A reader may have a note, which stands beside the field.
+ */
 export function read(id, reader) {
-  return attempt(() => id, () => reader(element(id).value));
+  const field = element(id);
+  setNote(id, "");
+  return attempt(() => id, () => {
+    if (field.dataset.lacks) throw new Fault(0, field.dataset.lacks);
+    return reader(field.value, (words) => setNote(id, words));
+  });
+}
+
+/** Shows a note beside a field, or takes it away. */
+function setNote(id, words) {
+  const place = element(`${id}-note`);
+  if (place.textContent !== words) place.textContent = words;
 }
 
 /** What a job gives; undefined where it ends with a Fault, which is shown beside `fieldOf(fault)`. */
@@ -107,7 +123,11 @@ function copySelected(shown) {
   return "The clipboard is refused. The text is selected: copy it by the keys of the browser.";
 }
 
-function say(text) {
+let silence;
+
+/** Says a sentence for a while, beside the page and to a reader of the screen. */
+export function say(text) {
+  clearTimeout(silence);
   element("said").textContent = text;
-  setTimeout(() => { element("said").textContent = ""; }, 4000);
+  silence = setTimeout(() => { element("said").textContent = ""; }, 4000);
 }

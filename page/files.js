@@ -2,8 +2,9 @@
 // journal of payments and reversals.
 import * as calls from "./calls.js";
 import { SPENT, withCounter } from "./counters.js";
+import { bytesOfText } from "./dumps.js";
 import { STATUS } from "./faults.js";
-import { attempt, element, follow, made, renew, setFault, tableOf } from "./fields.js";
+import { attempt, element, follow, made, read, renew, setFault, tableOf } from "./fields.js";
 import { guessed } from "./file_kinds.js";
 import { damageOfImage, damageOfLog, pastOf } from "./file_parts.js";
 import { givenKey, initialKeyBy } from "./frames.js";
@@ -15,7 +16,8 @@ import { fillRegisters, nextCounter, registerName, registersOf } from "./registe
 
 const MOST_ROWS = 1000;
 
-// The file that is shown: its name and bytes; and how many were chosen or dropped.
+// The file that is shown, with its name, its bytes and the field of its faults; and how many were
+// chosen, dropped or pasted.
 let file;
 let asked = 0;
 
@@ -57,7 +59,9 @@ function imageParts(image) {
     `Next number: ${numberIn(image)}`, `Past initial key serial numbers: ${past}`,
   ].map((it) => made("p", it));
   const head = ["register", "place j", "change", "number", "key", "check value", "numbers below"];
-  return [...lines, keysCheck(image), tableOf(head, (it) => fillRegisters(it, image))];
+  const table = tableOf(head, (it) => fillRegisters(it, image), "The registers of the image");
+  table.firstChild.className = "registers";
+  return [...lines, keysCheck(image), table];
 }
 
 // Of each kind of file its name, its damage, and what is shown of it.
@@ -79,21 +83,36 @@ function renewed() {
   found.replaceChildren();
   delete found.dataset.kind;
   element("file-taken").textContent = "";
-  if (!file) return;
-  const { kind, doubt } = takenFor(file.bytes);
+  const given = file ?? pasted();
+  if (!given) return;
+  const { kind, doubt } = takenFor(given.bytes);
   element("file-taken").textContent = doubt;
   const [name, damageOf, partsOf] = KINDS[kind];
-  const damage = damageOf(file.bytes);
+  const damage = damageOf(given.bytes);
   if (damage) {
     const [words, from, to] = damage;
     const place = from === to ? `Byte ${from}` : `Bytes ${from} to ${to}`;
-    setFault("frame-file", `${file.name}, as ${name}: ${place}: ${words}.`, [from, to]);
+    setFault(given.field, `${given.name}, as ${name}: ${place}: ${words}.`, [from, to]);
     return;
   }
-  const parts = attempt(() => "frame-file", () => partsOf(file.bytes, MOST_ROWS));
+  const parts = attempt(() => given.field, () => partsOf(given.bytes, MOST_ROWS));
   if (!parts) return;
   found.dataset.kind = kind;
-  found.append(made("h4", file.name), ...parts);
+  found.append(made("h4", given.name), ...parts);
+}
+
+/** The bytes that are pasted as text; undefined where there are none, or no bytes. */
+function pasted() {
+  const bytes = read("file-text", bytesOfText);
+  return bytes?.length ? { name: "Pasted text", bytes, field: "file-text" } : undefined;
+}
+
+/** Shows what is pasted in the place of a file. */
+function takeText() {
+  asked += 1;
+  file = undefined;
+  element("frame-file").value = "";
+  renewed();
 }
 
 /** Keys are compared with those of an image alone: no other file is read again for them. */
@@ -107,10 +126,11 @@ async function take(one) {
   asked += 1;
   const own = asked;
   file = undefined;
+  element("file-text").value = "";
   renewed();
   const bytes = await one.arrayBuffer().catch(() => undefined);
   if (own !== asked) return;
-  if (bytes) file = { name: one.name, bytes: new Uint8Array(bytes) };
+  if (bytes) file = { name: one.name, bytes: new Uint8Array(bytes), field: "frame-file" };
   renewed();
   if (!bytes) setFault("frame-file", `${one.name} cannot be read.`);
 }
@@ -125,6 +145,7 @@ export function startFiles() {
     event.preventDefault();
     if (!element("panel-frame").hidden) take(event.dataTransfer.files[0]);
   });
+  element("file-text").addEventListener("input", takeText);
   element("frame-key").addEventListener("input", renewedKey);
   element("frame-key-kind").addEventListener("input", renewedKey);
   follow(element("frame-file-kind"), renewed);

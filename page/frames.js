@@ -1,10 +1,11 @@
 // The panel "Frames and files", its frames: fields in words, checks under a key, damage.
 import * as calls from "./calls.js";
 import { withCounter } from "./counters.js";
+import { bytesOfText } from "./dumps.js";
 import { Fault, STATUS } from "./faults.js";
 import { KINDS, damageOfFrame, partsOfFrame, serialIn } from "./frame_parts.js";
 import { element, follow, made, read, renew, setFault, tableOf } from "./fields.js";
-import { ascii, bytesOf, doubleKey, hex } from "./hexadecimal.js";
+import { ascii, doubleKey, hex } from "./hexadecimal.js";
 
 // The bytes of the longest frame, and how many frames are shown.
 const MOST_BYTES = 64;
@@ -94,7 +95,8 @@ function shownFrame(frame, at, given) {
   section.append(made("h4", `${TITLES[kind]}, bytes ${at} to ${at + frame.length - 1}`));
   const note = (name) => (name === "ksn" ? usableNote(ksn) : "");
   const rows = partsOfFrame(frame).map((it) => partRow(it, at, note(it.name)));
-  section.append(tableOf(["bytes", "hexadecimal", "meaning"], (it) => it.append(...rows)));
+  section.append(tableOf(["bytes", "hexadecimal", "meaning"], (it) => it.append(...rows),
+    `${TITLES[kind]}: its bytes and their meaning`));
   section.append(...checksOf(frame, kind, ksn, given));
   return section;
 }
@@ -133,7 +135,7 @@ function renewed() {
   element("frame-found").replaceChildren();
   element("frame-more").textContent = "";
   const given = givenKey();
-  const bytes = read("frame-bytes", bytesOf);
+  const bytes = read("frame-bytes", bytesOfText);
   if (!bytes || given === undefined) return;
   let count = 0;
   for (let at = 0; at < bytes.length;) {

@@ -16,26 +16,54 @@ export const counted = (number) => GROUPED.format(number);
 
 export const ascii = (bytes) => String.fromCharCode(...bytes);
 export const utf8 = (text) => new TextEncoder().encode(text);
-export const packed = (text) => text.replace(/\s/g, "");
 
-/** The hexadecimal digits of a text; spaces between them are ignored. */
-function digitsIn(text) {
-  const digits = packed(text);
-  const wrong = digits.match(/[^0-9A-Fa-f]/u);
-  if (wrong) throw new Fault(0, `“${wrong[0]}” is no hexadecimal digit`);
-  return digits;
+// What stands around and between digits: spaces and line ends, what is not seen (zero-width
+// characters, soft hyphens, byte order marks), and what other programs put between bytes.
+const BLANK = String.raw`\s\p{Default_Ignorable_Code_Point}`;
+const HYPHEN = String.raw`\-\u2010\u2011`;
+const BETWEEN = `${BLANK}${HYPHEN}:,`;
+
+/** A text without its characters that are not seen. */
+export const withoutUnseen = (text) => text.replace(/\p{Default_Ignorable_Code_Point}/gu, "");
+
+/** What a field wants: the name of a digit, which they are, and what may stand between them. */
+const kindOf = (name, digits, between) => ({
+  name, between: new RegExp(`[${between}]`, "gu"), wrong: new RegExp(`[^${digits}${between}]`, "u"),
+});
+const HEXADECIMAL = kindOf("hexadecimal digit", "0-9A-Fa-f", BETWEEN);
+const DECIMAL = kindOf("decimal digit", "0-9", BLANK + HYPHEN);
+const NUMBER = kindOf("decimal digit", "0-9", BLANK);
+// `0x` before a number or a byte, and not within one.
+const PREFIX = new RegExp(`(?<![^${BETWEEN}])0[xX]`, "gu");
+const VISIBLE = /[\p{L}\p{N}\p{P}\p{S}]/u;
+
+/** A character by its code, and by itself where it is seen. */
+function named(character) {
+  const code = character.codePointAt(0).toString(16).toUpperCase().padStart(4, "0");
+  return VISIBLE.test(character) ? `“${character}” (U+${code})` : `U+${code}`;
 }
+
+/** The digits of a text; a fault has the first character that is none, and its place from 1. */
+function digitsIn(text, kind) {
+  const wrong = text.match(kind.wrong);
+  if (!wrong) return text.replace(kind.between, "");
+  const place = [...text.slice(0, wrong.index)].length + 1;
+  throw new Fault(0, `no ${kind.name}: ${named(wrong[0])} at place ${place}`);
+}
+
+/** The hexadecimal digits of a text; two blanks in the place of `0x` leave all others in theirs. */
+const hexDigitsIn = (text) => digitsIn(text.replace(PREFIX, "  "), HEXADECIMAL);
 
 /** The bytes of pairs of hexadecimal digits. */
 export function bytesOf(text) {
-  const digits = digitsIn(text);
-  if (digits.length % 2) throw new Fault(0, `${digits.length} digits are no whole bytes`);
+  const digits = hexDigitsIn(text);
+  if (digits.length % 2) throw new Fault(0, `an odd number of digits, ${digits.length}: no whole bytes`);
   return Uint8Array.from(digits.match(/../g) ?? [], (it) => parseInt(it, 16));
 }
 
 /** A reader of bytes of one of these lengths, which a fault calls by a name. */
 const sized = (name, ...lengths) => (text) => {
-  const digits = digitsIn(text);
+  const digits = hexDigitsIn(text);
   if (lengths.includes(digits.length / 2)) return bytesOf(digits);
   const wanted = lengths.map((it) => 2 * it).join(" or ");
   throw new Fault(0, `${name} has ${wanted} digits, and here are ${digits.length}`);
@@ -44,24 +72,27 @@ const sized = (name, ...lengths) => (text) => {
 export const doubleKey = sized("this key", 16);
 export const tdesKey = sized("a TDES key", 16, 24);
 export const block = sized("a block", 8);
+export const fullNumber = sized("a key serial number", 10);
 
-/** The ten bytes of a key serial number. */
-export function serialNumber(text) {
-  const digits = packed(text);
-  if (/^[0-9A-Fa-f]{16}$/.test(digits)) {
-    throw new Fault(0, `16 digits: write FFFF before them, as FFFF${digits.toUpperCase()}`);
-  }
-  return sized("a key serial number", 10)(digits);
+/**
+ * The ten bytes of a key serial number. Terminals print eight of them where the first two are FF:
+ * they are filled, and `note` is told.
+ */
+export function serialNumber(text, note = () => {}) {
+  const digits = hexDigitsIn(text);
+  if (digits.length !== 16) return fullNumber(digits);
+  note("16 digits: filled with FFFF");
+  return bytesOf(`FFFF${digits}`);
 }
 
-/** The bytes of digits, or of whatever stands in their place: the call judges them. */
-export const digitsOf = (text) => utf8(packed(text));
+/** The digits of a PIN or a PAN, as ASCII; how many there may be a call judges. */
+export const digitsOf = (text) => utf8(digitsIn(text, DECIMAL));
 
 /** A reader of whole numbers within these bounds. */
 export const whole = (least, most) => (text) => {
-  const digits = packed(text);
+  const digits = digitsIn(text, NUMBER);
   const number = Number(digits);
-  if (/^\d+$/.test(digits) && number >= least && number <= most) return number;
+  if (digits && number >= least && number <= most) return number;
   throw new Fault(0, `a whole number from ${least} to ${most} is wanted`);
 };
 

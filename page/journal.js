@@ -76,6 +76,7 @@ export function journalParts(journal, most) {
   if (count === 0) return [made("p", words.join(" "))];
   const rows = entries.map((it) => entryRow(it, undoing(it.record)));
   const sums = totals.slice(0, most).map((it) => totalRow(journal, it));
-  return [made("p", words.join(" ")), tableOf(TOTAL, (it) => it.append(...sums)),
-    tableOf(ENTRY, (it) => it.append(...rows))];
+  return [made("p", words.join(" ")),
+    tableOf(TOTAL, (it) => it.append(...sums), "The sums of the terminals"),
+    tableOf(ENTRY, (it) => it.append(...rows), "The entries of the journal")];
 }

@@ -4,7 +4,7 @@ import { WORDS } from "./block_words.js";
 import * as calls from "./calls.js";
 import { Fault, STATUS } from "./faults.js";
 import { attempt, element, follow, made, read, renew, setFault, show } from "./fields.js";
-import { ascii, bytesOf, characters, hex, joined, tdesKey, utf8 } from "./hexadecimal.js";
+import { ascii, bytesOf, characters, hex, joined, tdesKey, utf8, withoutUnseen } from "./hexadecimal.js";
 
 const HEADER = [["usage", 2], ["algorithm", 1], ["mode", 1], ["version", 2], ["exportability", 1]];
 
@@ -24,8 +24,8 @@ function showParts(text, range) {
   element("unwrap-parts").replaceChildren(...rows);
 }
 
-/** Spaces around a pasted block, and line feeds in it, are no part of it. */
-const blockText = (text) => text.trim().replace(/[\r\n]/g, "");
+/** Spaces around a pasted block, line feeds and what is not seen in it are no part of it. */
+const blockText = (text) => withoutUnseen(text).trim().replace(/[\r\n]/g, "");
 
 function unwrap() {
   renew(element("block-unwrap"));

@@ -34,5 +34,6 @@ export function logParts(log, most) {
     return logRow(log.slice(at, at + 10), record, earlier.get(record));
   });
   const names = ["record", "used number", "note"];
-  return [made("p", words.join(" ")), tableOf(names, (it) => it.append(...rows))];
+  return [made("p", words.join(" ")),
+    tableOf(names, (it) => it.append(...rows), "The used numbers of the log")];
 }

@@ -3,6 +3,7 @@ import { startDerive } from "./derive.js";
 import { copy, element, prepare } from "./fields.js";
 import { startFiles } from "./files.js";
 import { startFrames } from "./frames.js";
+import { deliver, startHooks } from "./hooks.js";
 import { startBlock } from "./key_block.js";
 import { readLink, writeLink, writeLinkSoon } from "./link.js";
 import { startMacs } from "./macs.js";
@@ -22,6 +23,7 @@ function select(panel) {
     tab.tabIndex = isShown ? 0 : -1;
     element(`panel-${panelOf(tab)}`).hidden = !isShown;
   }
+  deliver();
 }
 
 /** Moves among the tabs by keys (ARIA Authoring Practices, tabs). */
@@ -57,13 +59,13 @@ function followAddress() {
 
 async function start() {
   if (!canRun()) {
-    end("This browser has no WebAssembly with 64-bit memory, in which the proved code of this page "
-      + "runs. Chromium and Chrome from version 133 on and Firefox from 134 on have it.");
+    end();
     return;
   }
   await load(element("module").textContent);
   element("version").textContent = version();
   prepare();
+  startHooks();
   for (const startPart of [startDerive, startTree, startPin, startBlock, startMacs, startFrames,
     startFiles, startMake]) startPart();
   startTabs();
@@ -78,13 +80,13 @@ async function start() {
   });
   document.addEventListener("submit", (event) => event.preventDefault());
   element("work").hidden = false;
+  deliver();
   document.documentElement.dataset.state = "ready";
 }
 
-/** Shows a sentence in place of the panels. */
+/** Shows a sentence in place of the panels: the one that is there, which names browsers, or another. */
 function end(words) {
-  element("unsupported").textContent = words;
-  element("unsupported").hidden = false;
+  if (words) element("unsupported").textContent = words;
   element("work").hidden = true;
   document.documentElement.dataset.state = "unsupported";
 }

@@ -55,6 +55,8 @@ function label({ counter, kind, x, y }) {
 function mark(node) {
   const { counter, kind, x, y } = node;
   const group = drawn("g", { "data-counter": hexCounter(counter), "data-kind": kind, class: kind });
+  // What is clicked at, and is marked by the focus: a node is small.
+  group.append(drawn("rect", { x: x - 13, y: y - 11, width: 27, height: 27, class: "ground" }));
   group.append(drawn("circle", { cx: x, cy: y, r: kind === "next" ? 8 : 6 }));
   if (kind === "used" || kind === "root") {
     group.append(drawn("path", { d: `M${x - 3} ${y - 3}l6 6m0 -6l-6 6`, class: "cross" }));

@@ -21,6 +21,7 @@ function encode() {
   const pin = read("pin-pin", digitsOf);
   const pan = read("pin-pan", digitsOf);
   const key = read("pin-key", tdesKey);
+  if (!pin || !pan) return;
   attempt(pinFieldOf("pin-pin", "pin-pan", "pin-pin"), () => {
     const clear = calls.pinBlock(pin, pan);
     const account = accountField(pan);
@@ -39,7 +40,7 @@ function decode() {
   const given = read("open-block", block);
   const key = read("open-key", keyIfAny);
   const pan = read("open-pan", digitsOf);
-  if (!given || key === undefined) return;
+  if (!given || key === undefined || !pan) return;
   attempt(pinFieldOf("open-block", "open-pan", "open-block"), () => {
     const clear = key ? calls.decipher(key, given) : given;
     const pin = calls.pinOfBlock(clear, pan);

@@ -28,10 +28,27 @@ function emptyRow(place) {
   const row = made("tr", "", { "data-place": place });
   for (const name of CELLS) {
     const cell = made("td", "", { class: name });
-    cell.append("");
+    const holder = name === "number" ? cell.appendChild(numberButton()) : cell;
+    holder.append("");
     row.append(cell);
   }
   return row;
+}
+
+/** By a click at its row, or at this button of it, a number comes into the working set. */
+const numberButton = () =>
+  made("button", "", { type: "button", class: "choose", title: "Take it into the working set" });
+
+/** Shows a text in a cell. One that stays is not written, so that its place is not laid out again. */
+function fillCell(cell, text) {
+  const button = cell.querySelector("button");
+  const shown = (button ?? cell).firstChild;
+  if (shown.nodeValue === text) return;
+  shown.nodeValue = text;
+  if (!button) return;
+  button.disabled = text === "";
+  if (text) cell.parentNode.dataset.chooses = text;
+  else delete cell.parentNode.dataset.chooses;
 }
 
 /** The texts of a register's row; `change` is "used", "filled" or nothing. */
@@ -56,9 +73,7 @@ export function fillRegisters(body, image, changes = []) {
     if (change) row.dataset.change = change;
     else delete row.dataset.change;
     for (const [cell, text] of textsOf(iksn, register, change).entries()) {
-      const shown = row.cells[cell].firstChild;
-      // A text that stays is not written, so that its place is not laid out again.
-      if (shown.nodeValue !== text) shown.nodeValue = text;
+      fillCell(row.cells[cell], text);
     }
   }
 }

@@ -6,8 +6,10 @@ import {
 import { initialKeyOf } from "./derive.js";
 import { attempt, element, read, renew, setFault, show } from "./fields.js";
 import { counted, hex, hexCounter, serialNumber, whole } from "./hexadecimal.js";
+import { offer } from "./hooks.js";
 import { draw } from "./picture.js";
 import { changesOf, fillRegisters, nextCounter, registerName, registersOf } from "./registers.js";
+import { keepingFocus, nameNodes, startNodes } from "./tree_nodes.js";
 
 // The image of the terminal that is shown, or undefined while a field has a fault.
 let image;
@@ -34,8 +36,16 @@ function showTerminal(changes) {
   fillRegisters(element("tree-registers"), image, changes);
   const place = next === SPENT ? LIFE + 1 : placeOf(next);
   for (const id of ["tree-place", "tree-slider"]) element(id).value = Math.min(place, LIFE);
-  draw(element("tree-picture"), next);
+  showPicture(next);
   showThief(place, next);
+}
+
+function showPicture(next) {
+  const picture = element("tree-picture");
+  keepingFocus(picture, () => {
+    draw(picture, next);
+    nameNodes(picture, image.slice(1, 11));
+  });
 }
 
 /** What a thief who opens the terminal now could derive, and what not. */
@@ -68,6 +78,8 @@ function taken() {
   image = after;
   const next = nextCounter(after);
   element("tree-ksn").value = next === SPENT ? "" : hex(calls.numberOf(after));
+  // A spent terminal has no number: the working set keeps the last one.
+  if (next !== SPENT) offer("tree-ksn");
   const changes = changesOf(before, after);
   showTerminal(changes);
   show("tree-taken-number", hex(ksn));
@@ -97,6 +109,7 @@ function moved(place) {
   const ksn = attempt(() => "tree-ksn", () => serialNumber(lastNumber()));
   if (!ksn) return;
   element("tree-ksn").value = hex(withCounter(ksn, counterAt(place)));
+  offer("tree-ksn");
   renewed();
 }
 
@@ -142,5 +155,6 @@ export function startTree() {
     else renewed();
   });
   element("tree-take").addEventListener("click", taken);
+  startNodes(element("tree-picture"));
   renewed();
 }

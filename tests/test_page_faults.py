@@ -12,7 +12,7 @@ from .test_ciphers import vectors
 
 NO_KEYS = ("", "0", BASE[:-1], BASE[:-2], BASE + "00", BASE[:-1] + "G", "é" * 32, BASE * 2)
 NO_DOUBLE_KEYS = (*NO_KEYS, BASE + BASE[:16])
-NO_NUMBERS = ("", "FFFF9876543210E0000", "9876543210E00001", "FFFF9876543210E000010",
+NO_NUMBERS = ("", "FFFF9876543210E0000", "FF9876543210E00001", "FFFF9876543210E000010",
               "FFFF9876543210E0000G", "FFFF9876543210E0000100")
 NO_TRANSACTIONS = (*NO_NUMBERS, "FFFF9876543210E007FF", "FFFF9876543210FFFFFF")
 NO_PINS = ("", "123", "1234567890123", "12a4", "12.4", "１２３４")
@@ -113,6 +113,7 @@ class TestFields(PageCase):
     def test_each(self) -> None:
         """Behind a right value a wrong one leaves no result; behind that the right one brings the
         results back."""
+        self.unhook()
         self.set(mac_as_hexadecimal="chosen")
         for field in sum(FIELDS.values(), []):
             self.set(**{field.name: field.right})
@@ -149,19 +150,19 @@ class TestFields(PageCase):
             self.assert_shown(dict.fromkeys(DERIVED, ""), keys)
             self.assertNotEqual(self.text("derive-ksn-fault"), "")
             self.type("derive-ksn", NUMBER)
-        self.set(derive_ksn="9876543210E00001")
-        self.assertIn("FFFF", self.text("derive-ksn-fault"))
 
     def test_other_source(self) -> None:
-        """A switch to a wrong initial key leaves no result of the base derivation key, and a fault
-        of the field that is hidden then does not stay."""
+        """A switch to a wrong key of another kind leaves no result of the base derivation key, and a
+        fault of the field that is hidden then does not stay."""
         self.set(derive_bdk=BASE, derive_ksn=NUMBER)
-        self.set(derive_from_initial="chosen", derive_initial="12")
-        self.assert_shown(dict.fromkeys(DERIVED, ""))
-        self.assertNotEqual(self.text("derive-initial-fault"), "")
-        self.set(derive_from_bdk="chosen")
-        self.assert_shown({"derive-initial-key": INITIAL, "derive-transaction-key": KEY,
-                           "derive-initial-fault": ""})
+        for kind in ("initial", "transaction"):
+            self.set(**{f"derive_from_{kind}": "chosen"})
+            self.set(**{f"derive_{kind}": "12"})
+            self.assert_shown(dict.fromkeys(DERIVED, ""))
+            self.assertNotEqual(self.text(f"derive-{kind}-fault"), "")
+            self.set(derive_from_bdk="chosen")
+            self.assert_shown({"derive-initial-key": INITIAL, "derive-transaction-key": KEY,
+                               f"derive-{kind}-fault": ""})
 
 
 class TestKeyBlocks(PageCase):

@@ -6,12 +6,20 @@ import os
 from pathlib import Path
 
 from .support.browser import END, HOME, LEFT, RIGHT, TAB, page_address
+from .support.dukpt import registers_at, serial_text
+from .support.images import image_of
+from .support.log_file import log_image
 from .support.page_case import PANELS, READY, PageCase
+from .support.page_journals import BY_HAND
+from .support.page_values import IKSN, INITIAL, upper
 
 # Where screenshots go; without it none is made.
 SHOTS = "DUKPT_PAGE_SHOTS"
-WIDTHS = (360, 1280)
+WIDTHS = (320, 360, 1280)
 LEAST_CONTRAST = 4.5
+LEAST_TARGET = 24
+# The width of a sheet (A4) between its margins, in CSS pixels.
+PAPER = 718
 SCHEMES = ("light", "dark")
 
 # What of a panel can take the focus: of radio buttons of one name the chosen one does.
@@ -20,14 +28,33 @@ const shown = (it) => it.checkVisibility({ visibilityProperty: true }) && !it.di
   && !(it.type === "radio" && !it.checked);
 return [...document.querySelectorAll(
   `#panel-${arguments[0]} :is(input, select, textarea, button), #panel-${arguments[0]} summary`)]
-  .filter(shown).map((it) => it.id || it.dataset.copies);"""
+  .filter(shown).map((it) => it.id || it.dataset.copies || it.textContent);"""
 # Fields and buttons without a name that a screen reader says.
 NAMELESS = """
 const text = (it) => it.textContent.trim();
 const named = (it) => it.getAttribute("aria-label") || (it.tagName === "BUTTON" ? text(it)
-  : [...(it.labels || [])].some((label) => text(label)));
-return [...document.querySelectorAll("input, select, textarea, button, svg[role=img]")]
+  : it.querySelector("title") || [...(it.labels || [])].some((label) => text(label)));
+return [...document.querySelectorAll("input, select, textarea, button:not(:disabled), svg, [role=button]")]
   .filter((it) => !named(it)).map((it) => it.id || it.outerHTML);"""
+# Tables without a name.
+UNNAMED_TABLES = """
+return [...document.querySelectorAll("table")].filter(
+  (it) => !(it.getAttribute("aria-label") || it.caption?.textContent || "").trim()).map(
+  (it) => it.textContent.slice(0, 60));"""
+# What is pressed, where it is smaller than so many CSS pixels in either direction.
+SMALL = """
+return [...document.querySelectorAll("button, summary, select, [role=button], [type=radio]")]
+  .filter((it) => it.checkVisibility({ visibilityProperty: true }))
+  .map((it) => (it.type === "radio" ? it.labels[0] : it))
+  .map((it) => [it.id || it.className.baseVal || it.textContent, it.getBoundingClientRect()])
+  .filter(([, { width, height }]) => Math.min(width, height) < arguments[0])
+  .map(([name, { width, height }]) => [name, width, height]);"""
+# On paper: the buttons that are seen, whether colours stay, what is behind the text, and how wide it is.
+PRINTED = """
+const style = getComputedStyle(document.body);
+return [[...document.querySelectorAll("button")].filter((it) => it.checkVisibility()).map(
+  (it) => it.textContent), style.printColorAdjust, style.backgroundColor,
+  document.scrollingElement.scrollWidth];"""
 # Puts a wrong value into each field of a panel.
 SPOIL = """
 for (const it of document.querySelectorAll(`#panel-${arguments[0]} :is(
@@ -95,7 +122,8 @@ return [count, found];"""
 class TestKeyboard(PageCase):
     def focused(self) -> str:
         return self.browser.run(
-            "const it = document.activeElement; return it.id || it.dataset.copies || it.tagName;")
+            "const it = document.activeElement; return it.id || it.dataset.copies"
+            " || (it.matches('td button') ? it.textContent : it.tagName);")
 
     def test_tabs(self) -> None:
         """Arrows, Home and End move among the tabs, and show their panels."""
@@ -145,6 +173,19 @@ class TestLooks(PageCase):
             "return [document.documentElement.lang, document.title !== '', "
             "document.querySelectorAll('h1').length];"), ["en", True, 1])
 
+    def test_tables(self) -> None:
+        """Each table has a name, those that the page makes of frames and files too."""
+        self.show("frame")
+        log = log_image([(IKSN + 1).to_bytes(10, "big")], 2)
+        image = image_of(registers_at(bytes.fromhex(INITIAL), IKSN, 8))
+        for kind, data in (("log", log), ("image", image), ("journal", bytes.fromhex(BY_HAND))):
+            self.set(frame_file_kind=kind)
+            self.set(file_text=upper(data))
+            self.assertEqual(self.text("file-text-fault"), "")
+            self.assertNotEqual(self.browser.run(
+                "return document.querySelectorAll('#file-found table').length;"), 0)
+            self.assertEqual(self.browser.run(UNNAMED_TABLES), [])
+
     def test_contrast(self) -> None:
         """In both schemes, of each panel, with and without faults."""
         for scheme in SCHEMES:
@@ -160,7 +201,8 @@ class TestLooks(PageCase):
                     self.assertGreater(count, 15)
 
     def test_widths(self) -> None:
-        """No panel is wider than a narrow screen; a picture of each, where they are asked for."""
+        """No panel is wider than a narrow screen, and nothing to press is too small; a picture of
+        each, where they are asked for."""
         for width in WIDTHS:
             self.browser.resize(width, 800)
             self.open()
@@ -168,7 +210,31 @@ class TestLooks(PageCase):
                 self.show(panel)
                 wide = self.browser.run("return document.scrollingElement.scrollWidth;")
                 self.assertLessEqual(wide, width, panel)
+                self.assertEqual(self.browser.run(SMALL, LEAST_TARGET), [], f"{width} {panel}")
                 self.picture(panel, width)
+                self.browser.run(SPOIL, panel)
+                wide = self.browser.run("return document.scrollingElement.scrollWidth;")
+                self.assertLessEqual(wide, width, f"{panel} with faults")
+                self.open()
+
+    def test_print(self) -> None:
+        """On paper a dark scheme is light, colours stay, and what is pressed is left out, but for
+        the numbers of registers."""
+        self.browser.resize(PAPER, 1000)
+        self.open()
+        self.show("tree")
+        self.browser.command("Emulation.setEmulatedMedia", media="print",
+                             features=[{"name": "prefers-color-scheme", "value": "dark"}])
+        try:
+            seen, adjust, ground, wide = self.browser.run(PRINTED)
+            count, faint = self.browser.run(FAINT, LEAST_CONTRAST)
+        finally:
+            self.browser.command("Emulation.setEmulatedMedia", media="", features=[])
+        self.assertEqual(seen, [serial_text(IKSN + (1 << place)) for place in reversed(range(21))])
+        self.assertEqual((adjust, ground), ("exact", "rgb(255, 255, 255)"))
+        self.assertLessEqual(wide, PAPER)
+        self.assertEqual(faint, [])
+        self.assertGreater(count, 15)
 
     def picture(self, panel: str, width: int) -> None:
         folder = os.environ.get(SHOTS)
@@ -193,13 +259,35 @@ class TestOldBrowser(PageCase):
             finally:
                 self.browser.command("Page.removeScriptToEvaluateOnNewDocument", identifier=name)
 
+    def test_without_scripts(self) -> None:
+        """Where no script runs, which may be too new for a browser, the sentence comes too."""
+        copy = self.folder() / "dukpt.html"
+        text = self.path.read_text(encoding="utf-8")
+        copy.write_text(text.replace('<script type="module">', '<script type="none">'),
+                        encoding="utf-8")
+        self.browser.open(page_address(copy))
+        self.assertEqual(self.browser.element("#unsupported").text, "")
+        self.browser.wait_until("return document.getElementById('unsupported').checkVisibility("
+                                "{ visibilityProperty: true });", seconds=20)
+        self.assert_sentence()
+
+    def test_ready(self) -> None:
+        """Where the page runs, the sentence is not shown."""
+        self.assertFalse(self.browser.run(
+            "return document.getElementById('unsupported').checkVisibility();"))
+
     def check_sentence(self) -> None:
         self.browser.open("about:blank")
         self.browser.open(page_address(self.path))
         self.browser.wait_until("return document.documentElement.dataset.state !== 'loading';")
+        self.assert_sentence()
+
+    def assert_sentence(self) -> None:
         self.assertFalse(self.browser.run(READY))
         said = self.browser.element("#unsupported")
-        self.assertIn("64-bit", said.text)
+        for words in ("JavaScript", "64-bit memory", "Chrome and Edge have it from version 133 on",
+                      "Firefox from 134 on"):
+            self.assertIn(words, said.text)
         self.assertEqual(said.attribute("role"), "alert")
         self.assertFalse(self.browser.run(
             "return document.getElementById('work').checkVisibility();"))

@@ -8,7 +8,8 @@ from .support.dukpt import counter_of, derive, iksn_of, serial_text
 from .support.key_blocks import header, sealed, wrap
 from .support.macs import retail_mac
 from .support.page_case import PageCase
-from .support.page_values import BASE, DERIVED, IKSN, INITIAL, check_values, derived, upper
+from .support.page_values import (
+    BASE, DERIVED, IKSN, INITIAL, KINDS, check_values, derived, upper)
 from .support.pin_blocks import account_field, pin_block
 from .test_ciphers import data, vectors
 
@@ -31,7 +32,8 @@ class TestDerive(PageCase):
         self.assert_quiet()
 
     def test_random(self) -> None:
-        """From a base derivation key, and from an initial key; in either case of letters."""
+        """From a base derivation key, from an initial key and from a transaction key; in either case
+        of letters."""
         chance, count = Chance(self.chance), CASES * self.times
         serials, keys = chance.usables(count), chance.keys(count)
         cases = [[key.hex(), serial_text(serial)] for key, serial in zip(keys, serials)]
@@ -41,6 +43,10 @@ class TestDerive(PageCase):
         self.set(derive_from_initial="chosen")
         cases = [[upper(key), serial_text(serial)] for key, serial in zip(initials, serials)]
         self.assert_tried(["derive-initial", "derive-ksn"], cases, DERIVED, wanted)
+        self.set(derive_from_transaction="chosen")
+        given = [[texts[KINDS.index("transaction") * 3]] for texts in wanted]
+        self.assert_tried(["derive-transaction"], given, DERIVED,
+                          [[""] * 3 + texts[3:] for texts in wanted])
 
     def test_steps(self) -> None:
         """Each step, from the initial key down; and of a counter of zero that key alone."""

@@ -12,8 +12,9 @@ from .support.page_values import BASE, IKSN, upper
 from .support.sink import Sink
 
 # The fields that an address may have: none of them has a key, a PIN or a PAN.
-LINKED = ("derive-ksn", "tree-ksn", "wrap-usage", "wrap-algorithm", "wrap-mode", "wrap-version",
-          "wrap-exportability", "make-ksn", "make-amount")
+CHOICES = ("set-kind",)
+LINKED = (*CHOICES, "set-ksn", "derive-ksn", "tree-ksn", "wrap-usage", "wrap-algorithm", "wrap-mode",
+          "wrap-version", "wrap-exportability", "make-ksn", "make-amount")
 # The fields that are typed into.
 TYPED = """
 return [...document.querySelectorAll(
@@ -187,8 +188,16 @@ class TestAddress(PageCase):
         self.assert_quiet()
 
     def test_fragment(self) -> None:
-        """No key, PIN or PAN is ever in the address, and no other address brings one in."""
+        """No key, PIN or PAN is ever in the address: of fields that follow the working set, and of
+        those that do not."""
+        self.check_fragments()
+        self.open()
+        self.unhook()
+        self.check_fragments()
+
+    def check_fragments(self) -> None:
         self.fill_secrets()
+        fields = {name for name, _ in self.browser.run(TYPED)} | {""}
         texts = [it for it in self.browser.run(TYPED) if it[0] not in (*LINKED, "tree-place")]
         texts += self.browser.run(
             "return [...document.querySelectorAll('output')].map((it) => [it.id, it.textContent]);")
@@ -198,6 +207,8 @@ class TestAddress(PageCase):
             address = self.browser.run("return location.href;")
             words = parse_qs(address.partition("#")[2])
             self.assertEqual(words.pop("panel"), [panel])
+            for word in ("unhooked", "hooked"):
+                self.assertLessEqual(set(words.pop(word, [""])[0].split(".")), fields)
             self.assertLessEqual(set(words), set(LINKED))
             for name, text in texts:
                 if len(text) > 3:
@@ -206,9 +217,9 @@ class TestAddress(PageCase):
     def test_pasted_key(self) -> None:
         """A key in the place of a number, or of a field of a header, is in no address."""
         key = upper(self.chance.randbytes(16))
-        for name in LINKED:
-            self.show({"derive": "derive", "tree": "tree", "wrap": "block", "make": "frame"}[
-                name.split("-")[0]])
+        for name in LINKED[len(CHOICES) :]:
+            self.show({"set": "derive", "wrap": "block", "make": "frame"}.get(
+                name.split("-")[0], name.split("-")[0]))
             self.set(**{name: key})
             time.sleep(0.3)
             self.assertNotIn(key, self.browser.run("return location.href;").upper(), name)
@@ -216,7 +227,6 @@ class TestAddress(PageCase):
     def fill_secrets(self) -> None:
         """Fills each field that may be secret with a value of its kind."""
         chance = Chance(self.chance)
-        keys = iter(map(upper, chance.keys(40)))
         pins, pans = iter(chance.digits(10, range(8, 13))), iter(chance.pans(10))
         for name, _ in self.browser.run(TYPED):
             if name.endswith("-pin"):
@@ -224,7 +234,7 @@ class TestAddress(PageCase):
             elif name.endswith("-pan"):
                 self.set(**{name: next(pans)})
             elif name not in (*LINKED, "tree-place"):
-                self.set(**{name: next(keys)})
+                self.set(**{name: upper(chance.keys(1)[0])})
 
     def test_links(self) -> None:
         """An address brings its panel and numbers, and nothing else of what it names."""

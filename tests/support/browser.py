@@ -28,6 +28,7 @@ ELEMENT = "element-6066-11e4-a52e-4f735466cecf"
 LISTENS = re.compile(rb"started successfully on port (\d+)")
 # Keys without a sign of their own, as WebDriver names them.
 BACKSPACE, TAB, SHIFT = "\ue003", "\ue004", "\ue008"
+ENTER, SPACE = "\ue007", "\ue00d"
 END, HOME, LEFT, RIGHT = "\ue010", "\ue011", "\ue012", "\ue014"
 # It asks nothing of a network by itself, and ends as soon as its driver does: their pipe is closed.
 WAYS = (

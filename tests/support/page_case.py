@@ -23,6 +23,10 @@ for (const [name, value] of Object.entries(arguments[0])) {
   field.dispatchEvent(new Event("input", { bubbles: true }));
 }"""
 
+# Gives each field that follows the working set a value of its own.
+UNHOOK = """
+for (const it of document.querySelectorAll(".hook[aria-pressed=true]")) it.click();"""
+
 # What results and faults have, behind each case of values of fields.
 TRY = """
 const [fields, cases, results] = arguments;
@@ -106,6 +110,10 @@ class PageCase(Case):
     def set(self, **values: str) -> None:
         """Sets fields, one after the other; an underscore of a name stands for its hyphen."""
         self.browser.run(SET, {name.replace("_", "-"): it for name, it in values.items()})
+
+    def unhook(self) -> None:
+        """Presses the button of each field that follows the working set: it keeps its value."""
+        self.browser.run(UNHOOK)
 
     def click(self, name: str) -> None:
         self.browser.element(f"#{name}").click()
