@@ -5,7 +5,10 @@ import { WORDS } from "./block_words.js";
 const VERSIONS = {
   A: "version A: variant binding, TDES", B: "version B: derivation binding, TDES",
   C: "version C: variant binding, TDES", D: "version D: derivation binding, AES",
+  E: "version E: derivation binding, AES in counter mode (ISO 20038)",
 };
+// The version that is opened here.
+const OPENED = "B";
 const HEADER = [
   ["version", 0, 1, (text) => VERSIONS[text] ?? "no version of the standard"],
   ["length", 1, 4, (text) => `the block says that it has ${text} characters`],
@@ -20,21 +23,39 @@ const HEADER = [
 const LEAST_REST = 64;
 const MAC = 16;
 
+/** The words of a version that the standards have, and that is not opened here; or nothing. */
+export const versionNotOpened = (text) => (text[0] === OPENED ? undefined : VERSIONS[text[0]]);
+
+/** So many hexadecimal digits as a number; 0 where others stand there. */
+const hexIn = (digits, count) =>
+  (digits.length === count && /^[0-9A-Fa-f]+$/.test(digits) ? parseInt(digits, 16) : 0);
+
+/**
+ * The length of the optional block here, or 0. Where two digits do not say it, they are 00, and
+ * behind them stand how many bytes do, and these bytes; no block of the opened version has that.
+ */
+function optionalLength(text, at) {
+  const length = hexIn(text.slice(at + 2, at + 4), 2);
+  if (length || !versionNotOpened(text)) return length;
+  const digits = 2 * hexIn(text.slice(at + 4, at + 6), 2);
+  return hexIn(text.slice(at + 6, at + 6 + digits), digits);
+}
+
 /** The optional blocks as far as they are right, and where they end or the wrong one begins. */
 function optionalParts(text) {
   const count = /^\d\d$/.test(text.slice(12, 14)) ? Number(text.slice(12, 14)) : 0;
   const parts = [];
   let at = 16;
   for (let number = 1; number <= count; number += 1) {
-    const digits = text.slice(at + 2, at + 4);
-    const length = /^[0-9A-Fa-f]{2}$/.test(digits) ? parseInt(digits, 16) : 0;
+    const length = optionalLength(text, at);
     if (length < 4 || at + length > text.length) return { parts, at, isWrong: true };
     const meaning = WORDS.optional(text.slice(at, at + 2));
     parts.push({ name: `optional-${number}`, at, length, meaning });
     at += length;
   }
   const rest = text.length - at;
-  return { parts, at, isWrong: rest < LEAST_REST || rest % 16 !== 0 };
+  const isWrong = !versionNotOpened(text) && (rest < LEAST_REST || rest % 16 !== 0);
+  return { parts, at, isWrong };
 }
 
 /** The parts that a text has: name, first character, length, meaning. */
@@ -48,6 +69,9 @@ export function partsOf(text) {
   parts.push(...optional.parts);
   const rest = text.length - optional.at;
   if (rest <= 0) return parts;
+  if (versionNotOpened(text) && !optional.isWrong) {
+    return [...parts, { name: "rest", at: optional.at, length: rest, meaning: "payload and MAC" }];
+  }
   const isWhole = !optional.isWrong;
   const length = isWhole ? rest - MAC : rest;
   const meaning = isWhole ? `the enciphered payload, ${length / 2} bytes` : "what follows the header";

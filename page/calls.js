@@ -20,6 +20,9 @@ export const responseKey = (key) => one("dukpt_response_key", key, room(16));
 /** Throws NotUsable where no transaction has this key serial number (10 bytes). */
 export const checkUsable = (ksn) => call("dukpt_check_usable", ksn);
 
+/** The key serial number (10 bytes) that a terminal uses after this one (10). Throws Spent. */
+export const nextNumber = (ksn) => one("dukpt_next_number", ksn, room(10));
+
 /** The check value (3 bytes), and that by CMAC (5), of a key of 16 or 24 bytes. */
 export const checkValue = (key) => one("dukpt_check_value", key, room(3));
 export const cmacCheckValue = (key) => one("dukpt_cmac_check_value", key, room(5));
@@ -39,6 +42,10 @@ export function take(image) {
 /** A block of 8 bytes, enciphered or deciphered under a key of 16 or 24 bytes. */
 export const encipher = (key, block) => one("dukpt_tdes_encrypt", key, changed(block));
 export const decipher = (key, block) => one("dukpt_tdes_decrypt", key, changed(block));
+
+/** Whole blocks by CBC, under a key of 16 or 24 bytes and from an initial vector (8 bytes). */
+export const encipherChain = (key, iv, bytes) => one("dukpt_cbc_encrypt", key, iv, changed(bytes));
+export const decipherChain = (key, iv, bytes) => one("dukpt_cbc_decrypt", key, iv, changed(bytes));
 
 /** The CMAC (8 bytes) under a key of 16 or 24 bytes; the retail MAC (8) under one of 16. */
 export const cmac = (key, message) => one("dukpt_cmac", key, message, room(8));

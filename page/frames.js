@@ -2,17 +2,17 @@
 import * as calls from "./calls.js";
 import { withCounter } from "./counters.js";
 import { bytesOfText } from "./dumps.js";
-import { Fault, STATUS } from "./faults.js";
-import { KINDS, damageOfFrame, partsOfFrame, serialIn } from "./frame_parts.js";
+import { Fault } from "./faults.js";
 import { element, follow, made, read, renew, setFault, tableOf } from "./fields.js";
-import { ascii, doubleKey, hex } from "./hexadecimal.js";
+import { findKeyOf } from "./find.js";
+import { checksOf } from "./frame_checks.js";
+import { KINDS, partsOfFrame, serialIn } from "./frame_parts.js";
+import { damageAt } from "./frame_whole.js";
+import { doubleKey, hex } from "./hexadecimal.js";
 
 // The bytes of the longest frame, and how many frames are shown.
 const MOST_BYTES = 64;
 const MOST_FRAMES = 100;
-// The bytes of a MAC, the last ones of a frame; it is over all of the contents before them.
-const MAC = 8;
-const CONTENTS = 2;
 
 const keyIfAny = (text) => (text.trim() === "" ? null : doubleKey(text));
 
@@ -30,38 +30,6 @@ export function initialKeyBy(key, ksn) {
 function transactionKeyBy(key, ksn) {
   if (element("frame-key-kind").value === "transaction") return key;
   return calls.deriveFromInitial(initialKeyBy(key, ksn), ksn);
-}
-
-/** A line of a check: what `job` says, or the words of its fault. */
-function check(name, job) {
-  try {
-    return made("p", job(), { "data-check": name, "data-result": "good" });
-  } catch (fault) {
-    if (!(fault instanceof Fault)) throw fault;
-    const words = `${name === "mac" ? "MAC" : "PIN"}: ${fault.message}.`;
-    return made("p", words, { "data-check": name, "data-result": "bad" });
-  }
-}
-
-/** Throws BadMac where a reversal, or its reply, has another MAC: no call of the module reads one. */
-function checkReversal(macKey, frame) {
-  const end = frame.length - MAC;
-  const own = calls.retailMac(macKey, frame.slice(CONTENTS, end));
-  if (hex(own) !== hex(frame.slice(end))) throw new Fault(STATUS.BAD_MAC);
-}
-
-function checksOf(frame, kind, ksn, given) {
-  if (kind === "refusal") return [];
-  if (!given) return [made("p", "No key is given: the MAC is not checked.", { class: "note" })];
-  const key = transactionKeyBy(given, ksn);
-  const right = (job) => () => { job(); return "MAC: right under the key of this number."; };
-  if (kind === "reply") return [check("mac", right(() => calls.checkReply(key, ksn, frame)))];
-  const macKeyOf = { reversal: calls.requestKey, "reversal-reply": calls.responseKey }[kind];
-  if (macKeyOf) return [check("mac", right(() => checkReversal(macKeyOf(key), frame)))];
-  return [
-    check("mac", right(() => calls.checkRequest(key, frame))),
-    check("pin", () => `PIN: ${ascii(calls.requestPin(key, frame))}`),
-  ];
 }
 
 const TITLES = {
@@ -97,8 +65,24 @@ function shownFrame(frame, at, given) {
   const rows = partsOfFrame(frame).map((it) => partRow(it, at, note(it.name)));
   section.append(tableOf(["bytes", "hexadecimal", "meaning"], (it) => it.append(...rows),
     `${TITLES[kind]}: its bytes and their meaning`));
-  section.append(...checksOf(frame, kind, ksn, given));
+  section.append(...checksOf(frame, kind, ksn, given && transactionKeyBy(given, ksn)));
+  if (section.querySelector("[data-check=mac][data-result=bad]")) {
+    section.append(...buttonToFind(frame, at, given));
+  }
   return section;
+}
+
+/** A button that looks for the key of a frame; none where the key for checks is of one number. */
+function buttonToFind(frame, at, given) {
+  const kind = element("frame-key-kind").value;
+  if (kind === "transaction") return [];
+  const button = made("button", "Find the key of this MAC", {
+    type: "button", id: `frame-find-${at}`, class: "plain",
+  });
+  button.addEventListener("click", () => findKeyOf(frame, kind, given));
+  const act = made("p", "", { class: "act" });
+  act.append(button);
+  return [act];
 }
 
 function partRow({ name, at, length, text, meaning }, front, note) {
@@ -108,20 +92,6 @@ function partRow({ name, at, length, text, meaning }, front, note) {
   row.append(made("td", text, { class: "text" }));
   row.append(made("td", note ? `${meaning}: ${note}` : meaning, { class: "meaning" }));
   return row;
-}
-
-/** What is wrong with a frame at the front of `rest`, of which `count` bytes are there. */
-function damageAt(rest, count) {
-  try {
-    const length = calls.frameLength(rest);
-    if (length > count) {
-      return [`the length says ${length - 2} bytes of contents, and ${count - 2} are there`, 0, 1];
-    }
-    return damageOfFrame(rest.slice(0, length));
-  } catch (fault) {
-    if (!(fault instanceof Fault)) throw fault;
-    return [fault.message, 0, fault.number === STATUS.PART_OF_FRAME ? 0 : 1];
-  }
 }
 
 function showDamage([words, from, to], at) {

@@ -103,6 +103,17 @@ export const characters = (count) => (text) => {
   throw new Fault(0, count === 1 ? "one character is wanted" : `${count} characters are wanted`);
 };
 
+/** A MAC; and a MAC of which the first half may stand alone. */
+export const wholeMac = sized("a MAC", 8);
+export const macOrFront = sized("a MAC", 4, 8);
+
+/** The bytes of blocks, of one at least. */
+export function wholeBlocks(text) {
+  const bytes = bytesOf(text);
+  if (bytes.length && bytes.length % 8 === 0) return bytes;
+  throw new Fault(0, `whole blocks of 8 bytes are wanted, and here are ${bytes.length} bytes`);
+}
+
 /** The arrays, one behind the other. */
 export function joined(...parts) {
   return Uint8Array.from(parts.flatMap((it) => Array.from(it)));

@@ -1,5 +1,5 @@
 // The panel "Key block": unwrap and wrap (ANSI X9.143, version B).
-import { partsOf, placeOfFault } from "./block_parts.js";
+import { partsOf, placeOfFault, versionNotOpened } from "./block_parts.js";
 import { WORDS } from "./block_words.js";
 import * as calls from "./calls.js";
 import { Fault, STATUS } from "./faults.js";
@@ -15,7 +15,8 @@ function partRow(text, { name, at, length, meaning }, range) {
   const places = length === 1 ? `${at}` : `${at} to ${last}`;
   row.append(made("td", places, { class: "characters" }));
   row.append(made("td", text.slice(at, last + 1), { class: "text" }));
-  row.append(made("td", isWrong ? `${meaning}: here is the fault` : meaning, { class: "meaning" }));
+  const fault = versionNotOpened(text) ? "not opened here" : "here is the fault";
+  row.append(made("td", isWrong ? `${meaning}: ${fault}` : meaning, { class: "meaning" }));
   return row;
 }
 
@@ -30,6 +31,10 @@ const blockText = (text) => withoutUnseen(text).trim().replace(/[\r\n]/g, "");
 function unwrap() {
   renew(element("block-unwrap"));
   const text = read("unwrap-text", blockText);
+  if (versionNotOpened(text)) {
+    showHeader(text);
+    return;
+  }
   const kbpk = read("unwrap-kbpk", tdesKey);
   showParts(text);
   if (!kbpk) return;
@@ -47,6 +52,14 @@ function unwrap() {
     setFault("unwrap-text", `${fault.name}: ${fault.message}. ${place} of ${text.length}.`, range);
     showParts(text, range);
   }
+}
+
+/** Shows the header of a block of another version, whose protection key may be of any kind. */
+function showHeader(text) {
+  const range = [0, 0];
+  const words = `This is ${versionNotOpened(text)}. Its header is read, and it is not opened here.`;
+  setFault("unwrap-text", words, range);
+  showParts(text, range);
 }
 
 /** Shows the header fields of the key block to be made in words. */

@@ -1,7 +1,10 @@
 // The start of the page: the module, the panels, the tabs.
+import { startCiphers } from "./ciphers.js";
+import { startComponents } from "./components.js";
 import { startDerive } from "./derive.js";
 import { copy, element, prepare } from "./fields.js";
 import { startFiles } from "./files.js";
+import { startFind } from "./find.js";
 import { startFrames } from "./frames.js";
 import { deliver, startHooks } from "./hooks.js";
 import { startBlock } from "./key_block.js";
@@ -67,7 +70,7 @@ async function start() {
   prepare();
   startHooks();
   for (const startPart of [startDerive, startTree, startPin, startBlock, startMacs, startFrames,
-    startFiles, startMake]) startPart();
+    startFiles, startMake, startFind, startCiphers, startComponents]) startPart();
   startTabs();
   followAddress();
   addEventListener("hashchange", followAddress);

@@ -1,8 +1,10 @@
 // The panel "PIN block": encode, decode and translate (ISO 9564-1 format 0).
 import * as calls from "./calls.js";
-import { STATUS } from "./faults.js";
+import { Fault, STATUS } from "./faults.js";
 import { attempt, element, follow, read, renew, show } from "./fields.js";
-import { ascii, block, bytesOf, digitsOf, hex, tdesKey } from "./hexadecimal.js";
+import { ascii, block, digitsOf, hex, tdesKey } from "./hexadecimal.js";
+import { accountField, pinField, pinIn } from "./pin_field.js";
+import { shownField, whyNoPin } from "./pin_shown.js";
 
 /** Which of these fields a fault belongs to. */
 export function pinFieldOf(pin, pan, other) {
@@ -13,9 +15,6 @@ export function pinFieldOf(pin, pan, other) {
   return (fault) => fields[fault.number] ?? other;
 }
 
-/** The account field: the 12 rightmost digits of the PAN without its check digit. */
-const accountField = (pan) => `0000${ascii(pan).slice(0, -1).slice(-12).padStart(12, "0")}`;
-
 function encode() {
   renew(element("pin-encode"));
   const pin = read("pin-pin", digitsOf);
@@ -24,9 +23,8 @@ function encode() {
   if (!pin || !pan) return;
   attempt(pinFieldOf("pin-pin", "pin-pan", "pin-pin"), () => {
     const clear = calls.pinBlock(pin, pan);
-    const account = accountField(pan);
-    show("pin-account-field", account);
-    show("pin-pin-field", hex(bytesOf(account).map((it, at) => it ^ clear[at])));
+    show("pin-account-field", accountField(pan));
+    show("pin-pin-field", pinField(clear, pan));
     show("pin-block", hex(clear));
     if (key) show("pin-enciphered", hex(calls.encipher(key, clear)));
   });
@@ -37,14 +35,22 @@ const keyIfAny = (text) => (text.trim() === "" ? null : tdesKey(text));
 
 function decode() {
   renew(element("pin-decode"));
+  element("open-field").replaceChildren();
+  element("open-why").textContent = "";
   const given = read("open-block", block);
   const key = read("open-key", keyIfAny);
   const pan = read("open-pan", digitsOf);
-  if (!given || key === undefined || !pan) return;
+  if (!given || key === undefined) return;
+  const clear = key ? calls.decipher(key, given) : given;
+  show("open-clear", hex(clear));
+  if (!pan) return;
   attempt(pinFieldOf("open-block", "open-pan", "open-block"), () => {
-    const clear = key ? calls.decipher(key, given) : given;
-    const pin = calls.pinOfBlock(clear, pan);
-    show("open-clear", hex(clear));
+    const pin = pinIn(clear, pan);
+    element("open-field").append(...shownField(clear, pan));
+    if (!pin) {
+      element("open-why").textContent = whyNoPin(clear, pan);
+      throw new Fault(STATUS.NOT_A_PIN_BLOCK);
+    }
     show("open-pin", ascii(pin));
   });
 }

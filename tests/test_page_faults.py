@@ -18,7 +18,9 @@ NO_TRANSACTIONS = (*NO_NUMBERS, "FFFF9876543210E007FF", "FFFF9876543210FFFFFF")
 NO_PINS = ("", "123", "1234567890123", "12a4", "12.4", "１２３４")
 NO_PANS = ("", "40123456789", "40123456789012345678", "401234567890x", "４" * 13)
 NO_BLOCKS = ("", "041274EDCBA987", "041274EDCBA9876F00", "041274EDCBA9876G")
-MACS = ["mac-retail", "mac-cmac"]
+MACS = ["mac-retail", "mac-retail-bit", "mac-cmac", "mac-blocks", "mac-compared"]
+OPENED = ["open-clear", "open-pin", "open-field"]
+COMPONENTS = [f"components-{it}" for it in ("key", "odd", "kcv", "cmac", "parity")]
 
 
 @dataclass(frozen=True)
@@ -58,9 +60,9 @@ FIELDS = {
         *fields(PAN, NO_PANS, ["pin-pin-field", "pin-account-field", "pin-block", "pin-enciphered"],
                 "pin-pan"),
         *fields(PIN_KEY, NO_KEYS, ["pin-enciphered"], "pin-key"),
-        *fields("1B9C1845EB993A7A", NO_BLOCKS, ["open-clear", "open-pin"], "open-block"),
-        *fields(PIN_KEY, NO_KEYS[1:], ["open-clear", "open-pin"], "open-key"),
-        *fields(PAN, NO_PANS, ["open-pin"], "open-pan"),
+        *fields("1B9C1845EB993A7A", NO_BLOCKS, OPENED, "open-block"),
+        *fields(PIN_KEY, NO_KEYS[1:], OPENED, "open-key"),
+        *fields(PAN, NO_PANS, OPENED[1:], "open-pan"),
         *fields("1B9C1845EB993A7A", NO_BLOCKS, ["translate-result"], "translate-block"),
         *fields(PIN_KEY, NO_KEYS, ["translate-result"], "translate-from", "translate-to"),
     ],
@@ -78,6 +80,8 @@ FIELDS = {
     "mac": [
         *fields(BASE, NO_KEYS, ["mac-kcv", "mac-key-cmac", *MACS], "mac-key"),
         *fields("4E6F", ("4", "4E6", "4G", "é"), MACS, "mac-message"),
+        *fields("11" * 8, ("1", "11" * 3, "11" * 5, "11" * 9, "4G" * 4), ["mac-compared"],
+                "mac-compare"),
     ],
     "frame": [
         *fields("000D0103FFFF9876543210E0000105", ("0", "00", "000D", "0G", "003F"),
@@ -88,6 +92,14 @@ FIELDS = {
         *fields(PAN, NO_PANS, MADE, "make-pan"),
         *fields(PIN, NO_PINS, MADE, "make-pin"),
         *fields("1", ("", "-1", "4294967296", "1,5", "x"), MADE, "make-amount"),
+    ],
+    "cipher": [
+        *fields(BASE, NO_KEYS, ["tdes-result"], "tdes-key"),
+        *fields("11" * 8, NO_BLOCKS, ["tdes-result"], "tdes-iv"),
+        *fields("11" * 16, (*NO_BLOCKS, "11" * 15), ["tdes-result"], "tdes-data"),
+        *fields(BASE, NO_KEYS, [*COMPONENTS, "component-1-kcv"], "component-1"),
+        *fields(BASE, NO_KEYS, [*COMPONENTS, "component-2-kcv"], "component-2"),
+        *fields(BASE, NO_KEYS[1:], [*COMPONENTS, "component-3-kcv"], "component-3"),
     ],
 }
 # Of each value of a field: its fault and state, the texts of results, the faults of other fields,
@@ -114,7 +126,7 @@ class TestFields(PageCase):
         """Behind a right value a wrong one leaves no result; behind that the right one brings the
         results back."""
         self.unhook()
-        self.set(mac_as_hexadecimal="chosen")
+        self.set(mac_as_hexadecimal="chosen", tdes_mode="cbc")
         for field in sum(FIELDS.values(), []):
             self.set(**{field.name: field.right})
         for panel, panel_fields in FIELDS.items():

@@ -129,7 +129,7 @@ class TestKeyboard(PageCase):
         """Arrows, Home and End move among the tabs, and show their panels."""
         self.browser.element("#tab-derive").click()
         for keys, panel in (((RIGHT,), "tree"), ((RIGHT, RIGHT), "block"), ((LEFT,), "pin"),
-                            ((END,), "frame"), ((RIGHT,), "derive"), ((LEFT,), "frame"),
+                            ((END,), PANELS[-1]), ((RIGHT,), "derive"), ((LEFT,), PANELS[-1]),
                             ((HOME,), "derive")):
             self.browser.press(*keys)
             self.assertEqual(self.focused(), f"tab-{panel}")

@@ -1,0 +1,100 @@
+// What is right and what is wrong with a frame under a transaction key, and why.
+import * as calls from "./calls.js";
+import { Fault, STATUS } from "./faults.js";
+import { made } from "./fields.js";
+import { MAC, textOfMac } from "./frame_whole.js";
+import { ascii, hex } from "./hexadecimal.js";
+import { USES } from "./key_uses.js";
+import { macsOf, nameOfMac } from "./mac_kinds.js";
+import { whyNoPin } from "./pin_shown.js";
+
+// Of each kind of frame whose key its MAC has.
+const MAC_KEYS = {
+  request: { keyOf: calls.requestKey, words: "request key" },
+  reply: { keyOf: calls.responseKey, words: "response key" },
+  reversal: { keyOf: calls.requestKey, words: "request key" },
+  "reversal-reply": { keyOf: calls.responseKey, words: "response key" },
+};
+
+const macIn = (frame) => frame.slice(-MAC);
+
+/** Throws BadMac where a reversal, or its reply, has another MAC: no call of the module reads one. */
+function checkReversal(macKey, frame) {
+  const own = calls.retailMac(macKey, textOfMac(frame));
+  if (hex(own) !== hex(macIn(frame))) throw new Fault(STATUS.BAD_MAC);
+}
+
+function checkMac(key, frame, kind, ksn) {
+  if (kind === "request") calls.checkRequest(key, frame);
+  else if (kind === "reply") calls.checkReply(key, ksn, frame);
+  else checkReversal(MAC_KEYS[kind].keyOf(key), frame);
+}
+
+/** The line of a check that ends well, and that of a fault. */
+const good = (name, words) => made("p", words, { "data-check": name, "data-result": "good" });
+const bad = (name, words) => made("p", words, { "data-check": name, "data-result": "bad" });
+
+/** What `job` gives; where it ends with a Fault, what `explain` makes of that. */
+function unlessFault(job, explain) {
+  try {
+    return job();
+  } catch (fault) {
+    if (!(fault instanceof Fault)) throw fault;
+    return explain(fault);
+  }
+}
+
+function valueLine(name, words, value) {
+  const line = made("p", `${words} `, { "data-value": name });
+  line.append(made("code", value));
+  return line;
+}
+
+/** Which other MAC, under which key of the number, a frame has: a sentence. */
+function otherMac(key, frame) {
+  const texts = [["", textOfMac(frame)], [", made of the length too", frame.slice(0, -MAC)]];
+  for (const [words, text] of texts) {
+    for (const use of USES) {
+      const name = nameOfMac(macIn(frame), macsOf(use.keyOf(key), text));
+      if (name) return `The MAC found is ${name}, under the ${use.words}${words}.`;
+    }
+  }
+  return "No key of this number makes the MAC found: a byte of the frame was changed, or the number"
+    + " or the key for checks is another.";
+}
+
+function macChecks(key, frame, kind, ksn) {
+  return unlessFault(() => {
+    checkMac(key, frame, kind, ksn);
+    return [good("mac", "MAC: right under the key of this number.")];
+  }, (fault) => {
+    const { keyOf, words } = MAC_KEYS[kind];
+    const expected = calls.retailMac(keyOf(key), textOfMac(frame));
+    return [
+      bad("mac", `MAC: ${fault.message}.`),
+      valueLine("expected", `Expected, the retail MAC under the ${words}:`, hex(expected)),
+      valueLine("found", "Found:", hex(macIn(frame))),
+      made("p", otherMac(key, frame), { class: "note", "data-why": "mac" }),
+    ];
+  });
+}
+
+function pinChecks(key, frame) {
+  return unlessFault(() => [good("pin", `PIN: ${ascii(calls.requestPin(key, frame))}`)], (fault) => {
+    const { pan, block } = calls.readRequest(frame);
+    const clear = calls.decipher(calls.pinKey(key), block);
+    return [
+      bad("pin", `PIN: ${fault.message}.`),
+      valueLine("clear", "PIN block in clear:", hex(clear)),
+      made("p", whyNoPin(clear, pan), { class: "note", "data-why": "pin" }),
+    ];
+  });
+}
+
+/** The checks of a frame under the transaction key of its number, or that there is none. */
+export function checksOf(frame, kind, ksn, key) {
+  if (kind === "refusal") return [];
+  if (!key) return [made("p", "No key is given: the MAC is not checked.", { class: "note" })];
+  const checks = macChecks(key, frame, kind, ksn);
+  return kind === "request" ? [...checks, ...pinChecks(key, frame)] : checks;
+}

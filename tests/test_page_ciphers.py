@@ -1,0 +1,125 @@
+"""The panel "Ciphers and components": TDES by ECB and CBC, and keys of components."""
+from __future__ import annotations
+
+from typing import Optional
+
+from .support import many
+from .support.call_cases import Chance
+from .support.des import encrypt_block
+from .support.macs import cmac
+from .support.page_case import PageCase
+from .support.page_values import BASE, upper
+from .test_ciphers import data, vectors
+
+CASES = 80
+
+
+class TestTdes(PageCase):
+    panel = "cipher"
+
+    def test_vectors(self) -> None:
+        self.set(tdes_mode="ecb")
+        for key, clear, hidden in map(data, vectors("triple_des.txt")):
+            if len(key) not in (16, 24):
+                continue
+            for way, given, wanted in (("encipher", clear, hidden), ("decipher", hidden, clear)):
+                self.set(tdes_way=way, tdes_key=upper(key), tdes_data=given.hex(" "))
+                self.assert_shown({"tdes-result": upper(wanted), "tdes-data-fault": ""})
+        self.assert_quiet()
+
+    def test_random(self) -> None:
+        """One block and several, both ways, by ECB and CBC."""
+        chance, count = Chance(self.chance), CASES * self.times
+        keys, vectors_ = chance.tdes_keys(count), chance.bytes(count, 8)
+        clear = chance.bytes(count, *range(8, 100, 8))
+        hidden = many.chained(keys, vectors_, clear)
+        fields = ["tdes-key", "tdes-iv", "tdes-data"]
+        texts = [list(map(upper, keys)), list(map(upper, vectors_))]
+        for way, given, wanted in (("encipher", clear, hidden), ("decipher", hidden, clear)):
+            self.set(tdes_mode="cbc", tdes_way=way)
+            self.assert_tried(fields, list(zip(*texts, map(upper, given))), ["tdes-result"],
+                              [[upper(it)] for it in wanted])
+        hidden = by_blocks(keys, clear)
+        for way, given, wanted in (("encipher", clear, hidden), ("decipher", hidden, clear)):
+            self.set(tdes_mode="ecb", tdes_way=way, tdes_iv="wrong")
+            self.assert_tried(["tdes-key", "tdes-data"], list(zip(texts[0], map(upper, given))),
+                              ["tdes-result"], [[upper(it)] for it in wanted])
+        self.assertFalse(self.browser.run(
+            "return document.getElementById('tdes-iv').checkVisibility();"))
+
+
+def by_blocks(keys: list[bytes], texts: list[bytes]) -> list[bytes]:
+    """Each block of each text, enciphered by itself."""
+    pieces = [(key, text[at : at + 8]) for key, text in zip(keys, texts)
+              for at in range(0, len(text), 8)]
+    made = iter(many.encrypted([key for key, _ in pieces], [piece for _, piece in pieces]))
+    return [b"".join(next(made) for _ in range(len(text) // 8)) for text in texts]
+
+
+class TestComponents(PageCase):
+    panel = "cipher"
+
+    def test_random(self) -> None:
+        """Two components and three: each with its check value and parity, and the key of all."""
+        chance, count = Chance(self.chance), CASES * self.times
+        cases, wanted = [], []
+        for _ in range(count):
+            parts = chance.bytes(self.chance.choice((2, 3)), self.chance.choice((16, 24)))
+            if self.chance.random() < 0.3:
+                parts = list(map(odd, parts))
+            key = parts[0]
+            for part in parts[1:]:
+                key = many.xor(key, part)
+            cases.append([*map(upper, parts), ""][:3])
+            wanted.append([*(upper(it) for it in (key, odd(key), cmac(key, bytes(8))[:5])), *(
+                text for it in (*parts, *[None] * (3 - len(parts)), key) for text in of_key(it))])
+        names = ["component-1", "component-2", "component-3"]
+        results = ["components-key", "components-odd", "components-cmac", *(
+            f"{name}-{what}" for name in (*names, "components") for what in ("kcv", "parity"))]
+        self.assert_tried(names, cases, results, wanted)
+        self.assert_quiet()
+
+    def test_by_hand(self) -> None:
+        """Parities in words, and keys that are no better than a shorter one."""
+        zeros = "00" * 16
+        for part, words in ((BASE, "odd in each byte"), (zeros, "odd in no byte"),
+                            ("01" * 15 + "03", "not odd in byte 16"),
+                            ("00" + "01" * 14 + "06", "not odd in bytes 1, 16")):
+            self.set(component_1=part, component_2=zeros, component_3="")
+            self.assert_shown({"component-1-parity": words, "components-parity": words,
+                               "components-key": part})
+        single = "Two parts that follow each other are the same: this key is no better than single DES."
+        double = "The first part and the last are the same: a key of 16 bytes does the same."
+        a, b, c = BASE[:16], BASE[16:], "11" * 8
+        for key, words in ((a + b, ""), (a + a, single), (a + "02" + a[2:], ""),
+                           ("00" + a[2:] + a, single), (a + b + c, ""), (a + b + a, double),
+                           (a + a + b, single), (a + b + b, single)):
+            self.set(component_1=key, component_2="00" * (len(key) // 2))
+            self.assert_shown({"components-note": words, "components-key": key})
+
+    def test_lengths(self) -> None:
+        """Components of two lengths are no key; the fault stands at the one that differs."""
+        self.set(component_1=BASE, component_2="11" * 24, component_3="")
+        self.assert_shown({"components-key": "", "components-kcv": "", "component-1-fault": "",
+                           "component-2-fault": "All components have the same length."})
+        self.set(component_2="11" * 16, component_3="22" * 24)
+        self.assert_shown({"components-key": "", "component-2-fault": "",
+                           "component-3-fault": "All components have the same length."})
+        self.set(component_3="")
+        self.assert_shown({"component-3-fault": ""})
+        self.assertNotEqual(self.text("components-key"), "")
+
+
+def odd(key: bytes) -> bytes:
+    """The key with odd parity in each byte, by its lowest bits."""
+    return bytes(byte if bin(byte).count("1") % 2 else byte ^ 1 for byte in key)
+
+
+def of_key(key: Optional[bytes]) -> tuple[str, str]:
+    """Check value and parity of a key, as they are shown; of none nothing."""
+    if key is None:
+        return "", ""
+    even = [str(at + 1) for at, byte in enumerate(key) if bin(byte).count("1") % 2 == 0]
+    words = ("odd in each byte" if not even else "odd in no byte" if len(even) == len(key) else
+             f"not odd in byte{'s' * (len(even) > 1)} {', '.join(even)}")
+    return upper(encrypt_block(key, bytes(8))[:3]), words
