@@ -13,6 +13,7 @@ import { startMacs } from "./macs.js";
 import { startMake } from "./make.js";
 import { canRun, load, version } from "./module.js";
 import { startPin } from "./pin.js";
+import { startStage } from "./stage.js";
 import { startTree } from "./tree.js";
 
 const tabs = [...document.querySelectorAll("[role=tab]")];
@@ -70,7 +71,7 @@ async function start() {
   prepare();
   startHooks();
   for (const startPart of [startDerive, startTree, startPin, startBlock, startMacs, startFrames,
-    startFiles, startMake, startFind, startCiphers, startComponents]) startPart();
+    startFiles, startMake, startFind, startCiphers, startComponents, startStage]) startPart();
   startTabs();
   followAddress();
   addEventListener("hashchange", followAddress);

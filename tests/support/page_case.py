@@ -11,7 +11,7 @@ from .program import ROOT
 
 PAGE = ROOT / "page" / "dukpt.html"
 # The panels, by what their tabs' names end with.
-PANELS = ("derive", "tree", "pin", "block", "mac", "cipher", "find", "frame")
+PANELS = ("derive", "tree", "pin", "block", "mac", "cipher", "find", "frame", "stage")
 READY = "return document.documentElement.dataset.state === 'ready';"
 
 # Sets fields to values, with the event that the browser sends as somebody types.

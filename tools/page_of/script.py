@@ -10,6 +10,8 @@ from pathlib import Path
 
 IMPORT = re.compile(r'^import (?:\{([^}]*)\}|\* as (\w+)) from "\./(\w+)\.js";\n', re.M)
 EXPORT = re.compile(r"^export (?=(?:async )?(?:const|let|class|function) (\w+))", re.M)
+# A comment that has lines of its own. The sources have them, and the page needs none.
+COMMENT = re.compile(r"^[ \t]*(?://.*|/\*\*(?:[^*]|\*(?!/))*\*/)\n", re.M)
 OTHERS = re.compile(r"^(?:import|export)\b.*", re.M)
 
 
@@ -46,7 +48,7 @@ def names_in(words: str) -> set[str]:
 def scoped(name: str, text: str) -> str:
     """A module as a function that is called at once."""
     exported = EXPORT.findall(text)
-    body = EXPORT.sub("", IMPORT.sub(taken, text)).strip()
+    body = COMMENT.sub("", EXPORT.sub("", IMPORT.sub(taken, text))).strip()
     for line in OTHERS.findall(body):
         raise NotBundled(f"{name}.js: this line is not understood: {line}")
     return f"const ${name} = (() => {{\n{body}\nreturn {{ {', '.join(exported)} }};\n}})();\n"
