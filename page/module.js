@@ -1,5 +1,6 @@
 // The module of proved code: loading it, and calling its exports through its memory.
 import { Fault } from "./faults.js";
+import { unpacked } from "./unpacked.js";
 
 // A module that has nothing but a 64-bit memory.
 const PROBE = [0, 0x61, 0x73, 0x6d, 1, 0, 0, 0, 5, 3, 1, 4, 1];
@@ -13,10 +14,9 @@ export function canRun() {
   return typeof WebAssembly === "object" && WebAssembly.validate(new Uint8Array(PROBE));
 }
 
-/** Loads the module out of its base64 text. */
+/** Loads the module out of its text in the page. */
 export async function load(text) {
-  const bytes = Uint8Array.from(atob(text.trim()), (it) => it.charCodeAt(0));
-  library = (await WebAssembly.instantiate(bytes)).instance.exports;
+  library = (await WebAssembly.instantiate(await unpacked(text))).instance.exports;
   front = Number(library.__heap_base.value);
 }
 

@@ -1,4 +1,5 @@
 // The player of scripts: a module of proved code beside the other, which has a heap of its own.
+import { unpacked } from "./unpacked.js";
 
 // How many bytes the text of a run may have, and how many the module's stack has, which begins at 0.
 const ROOM = 1_048_576, STACK = 1_048_576;
@@ -16,12 +17,6 @@ let player;
 /** Opens the module out of its text, which is base64 of raw deflate. It is opened once. */
 export async function loadPlayer(text) {
   compiled ??= await WebAssembly.compile(await unpacked(text));
-}
-
-async function unpacked(text) {
-  const packed = Uint8Array.from(atob(text.trim()), (it) => it.charCodeAt(0));
-  const stream = new Blob([packed]).stream().pipeThrough(new DecompressionStream("deflate-raw"));
-  return new Response(stream).arrayBuffer();
 }
 
 /**

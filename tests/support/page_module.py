@@ -11,12 +11,14 @@ from typing import Iterator, Sequence
 from .browser import Browser
 from .call_cases import Argument
 
-# The element that has the module, as base64.
+# The element that has the module, as base64 of raw deflate.
 MODULE = "module"
 
 LOAD = """
 const text = atob(document.getElementById(arguments[0]).textContent.trim());
-const bytes = Uint8Array.from(text, (it) => it.charCodeAt(0));
+const packed = Uint8Array.from(text, (it) => it.charCodeAt(0));
+const stream = new Blob([packed]).stream().pipeThrough(new DecompressionStream("deflate-raw"));
+const bytes = await new Response(stream).arrayBuffer();
 const { module, instance } = await WebAssembly.instantiate(bytes);
 window.tried = instance.exports;
 return { exports: WebAssembly.Module.exports(module).map((it) => it.name),

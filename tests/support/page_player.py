@@ -15,6 +15,7 @@ from .page_case import PAGE
 from .program import ROOT
 
 SOURCE = ROOT / "page" / "player.js"
+UNPACKED = ROOT / "page" / "unpacked.js"
 HELD = re.compile(r'<script\b[^>]* id="player">([^<]*)</script>')
 
 # The source, with its memory and that of a new player.
@@ -78,7 +79,8 @@ def text_of(code: bytes) -> str:
 
 def load_player(browser: Browser, script: Optional[str] = None, code: Optional[bytes] = None) -> None:
     """Loads a player into the page: the page's own, or that of another script or module."""
-    body = re.sub(r"^export ", "", script or source(), flags=re.M)
+    body = UNPACKED.read_text(encoding="utf-8") + (script or source())
+    body = re.sub(r"^import .*\n|^export ", "", body, flags=re.M)
     text = text_of(code) if code else browser.run(
         'return document.getElementById("player").textContent;')
     browser.run_async(LOAD % body, text)

@@ -25,10 +25,12 @@ class NoModule(Exception):
 
 @dataclass(frozen=True)
 class Modules:
-    """The modules of a page, and the kit that compiled them, as `rt version` names it."""
+    """The modules of a page, as it has them, and the kit that compiled them, as `rt version` names it.
+
+    A module stands in the page as raw deflate: so it has half of its size.
+    """
 
     calls: bytes
-    # As the page has it: raw deflate.
     player: bytes
     kit: str
 
@@ -36,16 +38,17 @@ class Modules:
 def built(page: Path) -> Modules:
     """The modules of the crates as they are, which the kit proves first where they changed."""
     try:
-        calls = checked(kit.module().read_bytes(), "what the kit built")
-        return Modules(calls, packed(player().read_bytes(), page), kit.Kit.version())
+        calls, play = kit.module().read_bytes(), player().read_bytes()
+        return Modules(packed(calls, page, CALLS), packed(play, page, PLAYER), kit.Kit.version())
     except kit.NotBuilt as why:
         raise NoModule(f"{why}; with --kept none is wanted") from why
 
 
-def packed(module: bytes, page: Path) -> bytes:
-    """The player as raw deflate. Versions of zlib pack differently: where a page has what unpacks to
-    the same, that stays."""
-    before = held_in(page.read_text(encoding="utf-8"), PLAYER) if page.exists() else None
+def packed(module: bytes, page: Path, name: str) -> bytes:
+    """A module as raw deflate. Versions of zlib pack differently: where a page has what unpacks to the
+    same, that stays."""
+    checked(module, "what the kit built")
+    before = held_in(page.read_text(encoding="utf-8"), name) if page.exists() else None
     if before is not None and unpacked(before) == module:
         return before
     packer = zlib.compressobj(9, zlib.DEFLATED, -zlib.MAX_WBITS)
@@ -65,8 +68,9 @@ def kept(page: Path) -> Modules:
     calls, play, made_with = held_in(text, CALLS), held_in(text, PLAYER), MADE_WITH.search(text)
     if calls is None or play is None or made_with is None:
         raise NoModule(f"{page} lacks a module, or does not name its kit")
-    checked(unpacked(play) or b"", str(page))
-    return Modules(checked(calls, str(page)), play, made_with[1])
+    for it in (calls, play):
+        checked(unpacked(it) or b"", str(page))
+    return Modules(calls, play, made_with[1])
 
 
 def held_in(text: str, name: str) -> Optional[bytes]:
