@@ -2,18 +2,21 @@
 // at each moment.
 import { element, made, setFault } from "./fields.js";
 import { loadPlayer, play } from "./player.js";
-import { LINES, adviceOf, fillChoices, frameButtons } from "./stage_acts.js";
+import { LINES, adviceOf, canReverse, fillChoices, frameButtons } from "./stage_acts.js";
 import { booksOf } from "./stage_books.js";
 import { CONFIG, factsOf } from "./stage_config.js";
 import { EXAMPLES } from "./stage_examples.js";
+import { FORMS, whyNoEvent } from "./stage_forms.js";
 import { openedAll } from "./stage_laws.js";
+import { scrolledTo } from "./stage_layout.js";
+import { changeWords, saidAt } from "./stage_narrator.js";
 import { outcomeOf } from "./stage_outcomes.js";
 import { aloneFrom, drawScene } from "./stage_picture.js";
 import { keptNow } from "./stage_probe.js";
 import { sceneOf } from "./stage_scene.js";
 import { frontOf, readScript, withLine, withoutEvent } from "./stage_script.js";
-import { eventTable, lawItems, purchaseTable, restWords, thiefCards } from "./stage_tables.js";
-import { keptSentence, wordsOf } from "./stage_words.js";
+import { eventTable, lawItems, purchaseTable, restWords, storeItems, thiefCards } from "./stage_tables.js";
+import { wordsOf } from "./stage_words.js";
 
 // The script that is played: its title, events and outcomes, the facts of its configuration, how many of
 // its events have happened in the moment that is shown, and the scene then.
@@ -39,6 +42,7 @@ function replay(count) {
   Object.assign(stage, script, { outcomes: lines.map(outcomeOf) });
   stage.facts = { ...factsOf(text("stage-config")), isJournal: isJournal() };
   if (fault) tellFault(fault);
+  tellStrays();
   fillChoices(stage.facts, isJournal());
   show(Math.min(count, stage.outcomes.length));
 }
@@ -50,7 +54,8 @@ function tellFault({ kind, line, words }) {
     element("stage-config-part").open = true;
     Object.assign(stage, { events: [], closing: NOTHING });
   } else if (kind === "script") {
-    setFault("stage-script", `Line ${line} is not an event${hintOf(line)}. What is above it is played.`);
+    const why = whyNoEvent(text("stage-script").split("\n")[line - 1], isJournal());
+    setFault("stage-script", `Line ${line} is not an event: ${why}. What is above it is played.`);
     stage.events = stage.events.filter((it) => it.at < line - 1);
     stage.closing = NOTHING;
     stage.outcomes = (played(frontOf(stage.events, stage.events.length)) ?? []).map(outcomeOf);
@@ -59,9 +64,12 @@ function tellFault({ kind, line, words }) {
   }
 }
 
-function hintOf(line) {
-  const isOfTills = /^reverse |^arm t\d+ book /.test(text("stage-script").split("\n")[line - 1]);
-  return isOfTills && !isJournal() ? " over a log: it needs a journal" : "";
+/** Tells of remarks that lose a frame which was not sent before. */
+function tellStrays() {
+  const { events, outcomes, facts, closing } = stage;
+  const { strays } = sceneOf(events, outcomes, facts, closing.lost);
+  element("stage-script-note").textContent = strays.map(({ kind, number, at }) =>
+    `Line ${at + 1}: there is no ${kind} ${number} to lose yet.`).join(" ");
 }
 
 /** Shows the moment behind so many events. */
@@ -102,34 +110,38 @@ function showTime() {
   for (const it of ["stage-first", "stage-back"]) setOff(it, count === 0);
   for (const it of ["stage-forward", "stage-last"]) setOff(it, count === outcomes.length);
   element("stage-title").textContent = stage.title;
-  element("stage-said").replaceChildren(...saidAt(count).map((it) => made("p", it)));
+  const said = saidAt(stage, element("stage-config-fault").textContent);
+  element("stage-said").replaceChildren(...said.map((it) => made("p", it)));
+  const now = { script: text("stage-script"), config: text("stage-config"), isJournal: isJournal() };
+  element("stage-changed").textContent = changeWords(events, now);
+  element("stage-saved").textContent = "";
   element("stage-event").textContent = count ? events[count - 1].text : "";
 }
 
 /** A button that can do nothing keeps its focus, and says that it is off. */
 const setOff = (id, isOff) => element(id).setAttribute("aria-disabled", isOff);
 
-/** What the narrator says: the comments of the event that happened last. */
-function saidAt(count) {
-  const { events, outcomes, closing } = stage;
-  if (outcomes.length === 0) return ["Load a terminal to begin, or choose an example."];
-  if (count === 0) return ["Press Forward: each step is an event."];
-  const end = count === outcomes.length ? closing.said : [];
-  return [...events[count - 1].said, ...end];
-}
-
 // The moment
 
 function showPicture(scene) {
   const rows = scene.rows.map((it) => `${it.event.text}: ${wordsOf(it, scene).sentence}`);
   const title = stage.title || "Terminals, network and host";
-  const across = drawScene(element("stage-picture"), scene, { title, description: rows.join("\n") });
+  const layout = drawScene(element("stage-picture"), scene, { title, description: rows.join("\n") });
   const last = scene.rows.at(-1);
   element("stage-happened").textContent = last ? wordsOf(last, scene).sentence : "";
   element("stage-events").replaceChildren(eventTable(scene));
   const box = element("stage-box");
-  box.scrollTop = box.scrollHeight;
-  box.scrollLeft = across - box.clientWidth / 2;
+  const { top, left } = scrolledTo(layout, last?.end, box);
+  element("stage-picture").style.marginBottom = `${Math.max(0, top + box.clientHeight - layout.height)}px`;
+  box.scrollTo(left, top);
+  element("stage-wide").hidden = layout.width <= box.clientWidth;
+  holdHead();
+}
+
+/** The names of the columns stay in sight while the rows are scrolled. */
+function holdHead() {
+  const head = document.querySelector("#stage-picture .head");
+  head.setAttribute("transform", `translate(0 ${element("stage-box").scrollTop})`);
 }
 
 function showNow(scene, books, kept) {
@@ -142,22 +154,14 @@ function showNow(scene, books, kept) {
   if (!kept) return;
   const terminals = openedAll(scene, kept);
   const [stores, thief, laws] = known;
-  stores.append(...scene.ends.flatMap((it) => storeWords(it, kept.get(it))));
+  stores.append(...storeItems(scene, kept));
   thief.append(...thiefCards(terminals));
   laws.append(...lawItems(scene, books, terminals));
 }
 
-/** What the stores of an end would have at a restart in this moment. */
-function storeWords(end, outcome) {
-  const { isJournal: isOverJournal, room } = stage.facts;
-  const words = end === "host"
-    ? `Its ${isOverJournal ? "journal" : "log"} has ${outcome.count} of ${room} records in use.`
-    : keptSentence(outcome);
-  return [made("dt", end), made("dd", words, { "data-end": end })];
-}
-
 function showAdvice(books) {
   element("stage-advice").textContent = adviceOf(stage.scene, books);
+  setOff("stage-reverse", !canReverse(stage.scene, books));
 }
 
 function showFrames(scene) {
@@ -172,6 +176,7 @@ function showFrames(scene) {
 
 /** Lets something happen in the moment that is shown; what is behind it in the script comes later. */
 function happen(line) {
+  if (!line) return;
   const isRemark = line.startsWith("#");
   element("stage-script").value = withLine(text("stage-script"), stage.count, line);
   replay(stage.count + (isRemark ? 0 : 1));
@@ -194,6 +199,7 @@ function save() {
   const link = made("a", "", { href: URL.createObjectURL(file), download: "dukpt-stage.svg" });
   link.click();
   setTimeout(() => URL.revokeObjectURL(link.href), 10000);
+  element("stage-saved").textContent = `Saved as ${link.download}.`;
 }
 
 function typed({ target }) {
@@ -214,7 +220,9 @@ function clicked({ target }) {
   const row = target.closest("[data-row]");
   if (button?.id in MOVES) {
     if (button.getAttribute("aria-disabled") !== "true") show(MOVES[button.id]());
-  } else if (button?.id in LINES) happen(LINES[button.id](stage));
+  } else if (button?.id in LINES) {
+    if (button.getAttribute("aria-disabled") !== "true") happen(LINES[button.id](stage));
+  }
   else if (button?.dataset.line) happen(button.dataset.line);
   else if (row) show(Number(row.dataset.row));
 }
@@ -223,6 +231,9 @@ function clicked({ target }) {
 
 function prepareStage() {
   element("stage-config").value = CONFIG;
+  for (const [form, meaning, parts] of FORMS) {
+    element("stage-forms").append(made("dt", form), made("dd", `${meaning}. ${parts}.`));
+  }
   for (const it of EXAMPLES) {
     const button = made("button", it.name, { type: "button", id: `stage-example-${it.id}` });
     button.addEventListener("click", () => choose(it));
@@ -232,6 +243,7 @@ function prepareStage() {
   panel.addEventListener("input", typed);
   panel.addEventListener("click", clicked);
   element("stage-save").addEventListener("click", save);
+  element("stage-box").addEventListener("scroll", holdHead);
   element("stage-undo").addEventListener("click", takeBack);
 }
 

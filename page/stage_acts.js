@@ -1,6 +1,8 @@
 // What can happen on the stage at a moment, as buttons: each one writes a line of the script.
-import { element, made } from "./fields.js";
+import { element, made, setFault } from "./fields.js";
+import { counted } from "./hexadecimal.js";
 import { openPurchase } from "./stage_books.js";
+import { helpFor } from "./stage_help.js";
 import { isStopped } from "./stage_scene.js";
 import { lostRemark } from "./stage_script.js";
 import { answerWords } from "./stage_words.js";
@@ -51,17 +53,35 @@ export function newInitialNumber({ bdks }, events) {
   }
 }
 
-/** The line that a button with a fixed place writes. */
+const MOST = 4294967295;
+
+/** The number of a field, or undefined, with the fault below it. */
+function numberOf(id, name) {
+  const number = element(id).value.trim().replace(/^0+(?=\d)/, "");
+  const isNumber = /^\d+$/.test(number) && Number(number) <= MOST;
+  setFault(id, isNumber ? "" : `${name} is a whole number from 0 to ${counted(MOST)}, of digits alone.`);
+  return isNumber ? number : undefined;
+}
+
+function beginLine() {
+  const amount = numberOf("stage-amount", "An amount");
+  return amount && `begin ${PICKED()} ${element("stage-card").value} ${amount}`;
+}
+
+function armLine() {
+  const steps = numberOf("stage-steps", "The count of steps");
+  return steps && `arm ${element("stage-store").value} ${steps}`;
+}
+
+/** The line that a button with a fixed place writes, or undefined where a field of it is wrong. */
 export const LINES = {
   "stage-load": ({ facts, events }) => `load ${PICKED()} ${newInitialNumber(facts, events)}`,
-  "stage-begin": () => `begin ${PICKED()} ${element("stage-card").value} ${amount()}`,
+  "stage-begin": beginLine,
   "stage-reverse": () => `reverse ${PICKED()}`,
   "stage-restart": () => `restart ${PICKED()}`,
   "stage-restart-host": () => "restart host",
-  "stage-arm": () => `arm ${element("stage-store").value} ${element("stage-steps").value.trim()}`,
+  "stage-arm": armLine,
 };
-
-const amount = () => element("stage-amount").value.trim().replace(/^0+(?=\d)/, "");
 
 /** The buttons of the frames: those that are under way, and those that may come again. */
 export function frameButtons(scene) {
@@ -100,11 +120,15 @@ function againOf(frame) {
   return item;
 }
 
-/** Whether the terminal that is chosen has something to reverse, and what helps it. */
+/** Whether the terminal that is chosen has something to reverse. */
+export const canReverse = (scene, books) =>
+  books.isJournal && !isStopped(scene, PICKED()) && Boolean(openPurchase(books, PICKED()));
+
+/** What helps the terminal that is chosen. */
 export function adviceOf(scene, books) {
   const end = PICKED();
   if (isStopped(scene, end)) return `${end} is stopped: restart it.`;
   if (isStopped(scene, "host")) return "The host is stopped: restart it.";
   const open = books.isJournal && openPurchase(books, end);
-  return open ? `${end} has a purchase open: deliver its reply, or reverse it.` : "";
+  return open ? `${end} has a purchase open: ${helpFor(books, open)}.` : "";
 }

@@ -9,7 +9,7 @@ import { isStoreFault } from "./stage_outcomes.js";
  */
 export function booksOf(scene) {
   const books = { scene, isJournal: scene.facts.isJournal, purchases: [], numbers: new Map(),
-    begun: new Map() };
+    begun: new Map(), kept: [], forgotten: new Set() };
   for (const row of scene.rows) (READERS[row.outcome.kind] ?? (() => {}))(books, row, row.outcome);
   return books;
 }
@@ -24,6 +24,7 @@ const READERS = {
   },
   accepted(books, row, { ksn, code }) {
     decide(books.numbers.get(ksn), code);
+    keepReply(books, ksn);
   },
   repeated(books, row, { ksn, code }) {
     decide(books.numbers.get(ksn), code);
@@ -63,6 +64,14 @@ function undo(purchase, wasApproved) {
   else purchase.host = ["declined", "unknown"].includes(purchase.host) ? "declined" : "barred";
 }
 
+// So many replies a host over a log keeps, until its restart (docs/OPERATION.md).
+const KEPT_REPLIES = 64;
+
+function keepReply(books, ksn) {
+  books.kept.push(ksn);
+  if (books.kept.length > KEPT_REPLIES) books.forgotten.add(books.kept.shift());
+}
+
 const openAt = (books, end) =>
   books.purchases.find((it) => it.end === end && ["open", "waiting", "unknown"].includes(it.till));
 
@@ -86,7 +95,7 @@ function restarted(books, { end }, { kept, ksn, code }) {
 function failed(books, { end, event, arrived, writes }, outcome) {
   if (!isStoreFault(outcome)) return;
   giveUp(books, end);
-  if (event.command === "up" && arrived && books.isJournal) {
+  if (event.command === "up" && arrived) {
     const purchase = purchaseOf(books, arrived.frame);
     Object.assign(purchase, { before: purchase.host, host: "unknown" });
   }
@@ -101,10 +110,11 @@ const purchaseOf = (books, { ksn, of }) => books.numbers.get(of ?? ksn);
 
 /** The host tells how much it keeps: so it is known whether it keeps the frame at which it stopped. */
 function hostRestarted(books, { resolved }) {
+  for (const it of books.kept.splice(0)) books.forgotten.add(it);
   if (!resolved) return;
   const { frame, isKept } = resolved;
   const purchase = purchaseOf(books, frame);
-  if (books.isJournal) purchase.host = purchase.before;
+  purchase.host = purchase.before;
   if (!isKept) return;
   if (frame.of) undo(purchase, purchase.before === "approved");
   // What was decided shows as soon as the request comes again.

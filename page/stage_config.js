@@ -34,7 +34,7 @@ zone = "3F419E1CB7079442AA37474C2EFBF8B8"
 terminals = 2
 # How many entries the host's log or journal has room for.
 log = 100
-# A write to a store in memory has two device steps. On a disk ("disk") it has more.
+# A write to a store in memory has two device steps. On a disk ("disk") it has more; a journal is on a disk always.
 stores = "memory"
 
 [[bdk]]

@@ -77,7 +77,8 @@ ${PAY}
 # So the issuer approves again.
 up 3
 
-# The customer has paid 1,000 for one purchase. This is what a reversal is for: see the example “A reversal”.
+# The customer has paid the second purchase twice: 1,000 for 500. With the first one 1,500 are paid at the host. This
+# is what a reversal is for: see the example “A reversal”.
 down 5 t1
 `;
 
@@ -105,7 +106,8 @@ ${PAY}
 # Now the power at the host is going to fail, in the middle of a write to its log.
 arm host 1
 
-# The log has kept number 2 as used, and then the power fails. The issuer was not asked, and no answer goes out.
+# The first step keeps number 2 in the log as used, and then the power fails. The issuer was not asked: nothing was
+# decided, and no answer goes out.
 up 1
 
 # Until its restart the host answers nothing.
@@ -127,11 +129,11 @@ ${PAY}
 # This time nothing fails.
 up 2
 
-# Three numbers were taken and one payment is made. Both ends agree, and no number was used twice.
+# Number 1 was lost unsent, number 2 was refused, number 3 is paid. Both totals agree, and no number was used twice.
 down 2 t1
 `;
 
-const SECOND_LIFE = `# A second life: a terminal is loaded with another initial key.
+const SECOND_LIFE = `# Loaded again: a terminal is loaded with another initial key, and has a second life.
 
 # The terminal t1 begins its first life.
 ${LOAD}
@@ -183,8 +185,8 @@ ${LOAD}
 # Someone pays 500. Before the request goes out, the book has the purchase as open.
 ${PAY}
 
-# The host approves, writes the payment into its journal, and replies. The reply gets lost. At the host 500 stand,
-# and the terminal knows of nothing: has the customer paid or not?
+# The host approves, writes the payment into its journal, and replies. The reply gets lost. At the host a
+# payment of 500 stands, and the terminal knows of nothing: has the customer paid or not?
 up 1
 # answer 1 is lost
 
@@ -225,6 +227,6 @@ export const EXAMPLES = [
   { id: "payment", name: "A payment", script: PAYMENT, isJournal: false },
   { id: "lost-reply", name: "A lost reply", script: LOST_REPLY, isJournal: false },
   { id: "power-failure", name: "A power failure", script: POWER_FAILURE, isJournal: false },
-  { id: "second-life", name: "A second life", script: SECOND_LIFE, isJournal: false },
+  { id: "second-life", name: "Loaded again", script: SECOND_LIFE, isJournal: false },
   { id: "reversal", name: "A reversal", script: REVERSAL, isJournal: true },
 ];

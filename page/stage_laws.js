@@ -6,7 +6,6 @@ import { registersOf } from "./registers.js";
 import { restOf } from "./stage_books.js";
 import { isStoreFault } from "./stage_outcomes.js";
 import { isStopped } from "./stage_scene.js";
-import { shortNumber } from "./stage_words.js";
 
 const different = (list) => new Set(list).size;
 const many = (count, one, more = `${one}s`) => `${counted(count)} ${count === 1 ? one : more}`;
@@ -21,7 +20,7 @@ export function lawsOf(scene, books, terminals) {
 function usedOnce({ requests }) {
   const count = different(requests.map((it) => it.ksn));
   return law("No two transactions use one number.", count === requests.length,
-    `${many(requests.length, "number was", "numbers were")} used, ${counted(count)} different.`);
+    `${many(requests.length, "request")} went out, under ${many(count, "different number")}.`);
 }
 
 /** The answers with which the host accepted a request: of those it gave again, the first. */
@@ -49,21 +48,41 @@ function ownKey(scene) {
   const owners = new Map(scene.rows.filter(isOwned).map((it) => [it.event.ksn.toUpperCase(), it.end]));
   const all = acceptances(scene);
   const own = all.filter((it) => owners.get(initialNumber(it.ksn)) === it.frame.terminal);
-  return law("For it the host derives the terminal's own key.", own.length === all.length,
-    `Of ${many(all.length, "accepted request")} ${counted(own.length)} came from the terminal that `
+  return law("For each accepted request the host derives the terminal's own key.",
+    own.length === all.length,
+    `${counted(own.length)} of ${counted(all.length)} accepted requests came from the terminal that `
     + "was loaded under the number, and had a right MAC under its key.");
 }
 
-function completedByHost({ rows, answers }) {
-  const done = rows.filter((it) => ["done", "undone"].includes(it.outcome.kind));
-  const right = done.filter(({ arrived, outcome }) => {
-    const { says } = answers[arrived.frame.number - 1];
-    return outcome.kind === "done" ? says.ksn === outcome.ksn && says.code === outcome.code
-      : says.of === outcome.of;
-  });
-  return law("A terminal completes only with the host's reply to that number.",
+/** What terminals completed: of each purchase its state, its code and when. */
+function completions({ rows }) {
+  const found = new Map();
+  for (const { at, end, outcome: { kind, kept: state, ksn, of, code } } of rows) {
+    const isToldLater = kind === "restarted" && state && state !== "open";
+    if (!isToldLater && kind !== "done" && kind !== "undone") continue;
+    const isUndone = kind === "undone" || state === "undone";
+    const number = of ?? ksn;
+    const name = `${end} ${number} ${isUndone ? "undone" : "done"}`;
+    if (!found.has(name)) {
+      found.set(name, { at, end, number, isUndone, isToldLater, code: state === "approved" ? "00" : code });
+    }
+  }
+  return [...found.values()];
+}
+
+/** Whether a reply of the host that says this had arrived by then. */
+const isReplied = ({ answers }, { at, end, number, isUndone, code }) => answers.some((it) =>
+  it.arrivals.some((arrival) => arrival.end === end && arrival.row <= at)
+  && (isUndone ? it.says.of === number : it.says.ksn === number && it.says.code === code));
+
+function completedByHost(scene) {
+  const done = completions(scene);
+  const right = done.filter((it) => isReplied(scene, it));
+  const later = done.filter((it) => it.isToldLater).length;
+  return law("A terminal completes only with the host's reply to its own number.",
     right.length === done.length,
-    `${many(done.length, "transaction")} completed, ${counted(right.length)} with the host's own reply.`);
+    `${many(done.length, "transaction")} completed, ${counted(right.length)} with the host's own reply`
+    + `${later ? `; ${counted(later)} of them told at a restart` : ""}.`);
 }
 
 const law = (says, holds, words) => ({ says, holds, words });
@@ -99,12 +118,14 @@ function keysOf(scene, ksn) {
 export const openedAll = (scene, kept) => terminalsOf(scene).map((it) => opened(scene, it, kept));
 
 function opened(scene, end, kept) {
+  const { short } = scene;
+  const loads = new Set(scene.rows.filter((it) => it.end === end && isOwned(it)).map((it) => it.event.ksn));
   const used = scene.requests.filter((it) => it.terminal === end).map((it) => it.ksn);
   const next = kept.get(end).next;
   const held = keysHeld(scene, next);
   const spent = new Set(used.flatMap((it) => keysOf(scene, it)));
   const left = next ? LIFE + 1 - placeOf(counterOf(bytesOf(next))) : 0;
-  return { end, used, held, left, next, pending: scene.pending.get(end),
+  return { end, short, loads: loads.size, used, held, left, next, pending: scene.pending.get(end),
     found: held.filter((it) => spent.has(it)) };
 }
 
@@ -115,8 +136,12 @@ function noUsedKey(terminals) {
   return law("No register or stored image holds the key of a used number or of its ancestors.",
     count("found") === 0,
     `${many(count("used"), "used number")}; ${many(count("held"), "key")} in the registers, of which `
-    + `${counted(count("found"))} ${count("found") === 1 ? "is" : "are"} of a used number or an ancestor.`);
+    + `${counted(count("found"))} ${count("found") === 1 ? "is" : "are"} of a used number or an ancestor.`
+    + terminals.filter((it) => it.pending).map(inMemory).join(""));
 }
+
+const inMemory = ({ end, short, pending }) =>
+  ` The memory of ${end} has the key of ${short(pending)} until the reply comes or the power fails.`;
 
 // Books
 
@@ -126,11 +151,13 @@ function booksAgree(scene, books) {
   if (!books.isJournal) {
     const { length: standing } = books.purchases.filter((it) => it.host === "approved");
     const { length: told } = books.purchases.filter((it) => it.isTold);
-    return { says, holds: undefined, words: "This law needs a journal and reversals. Over a log "
+    return { says, holds: undefined, words: "This law is of a host with a journal. Over a log "
       + `${counted(standing)} approved at the host, ${counted(told)} told to terminals.` };
   }
   const tills = terminalsOf(scene).map((it) => restOf(books, it, isStopped(scene, it)));
-  return { says, holds: tills.every(isAgreed), words: tills.map(restWords).join(" ") };
+  const isWaiting = tills.every(isAgreed) && !tills.every((it) => it.isAtRest);
+  return { says, isWaiting, holds: tills.every(isAgreed),
+    words: tills.map((it) => restWords(it, scene)).join(" ") };
 }
 
 const numbersOf = (purchases) => purchases.map((it) => it.ksn).join();
@@ -139,10 +166,9 @@ const isAgreed = ({ isAtRest, standing, told }) => (isAtRest
   ? numbersOf(standing) === numbersOf(told)
   : told.every((it) => it.host === "approved") && standing.length <= told.length + 1);
 
-function restWords({ end, open, isAtRest, standing, told }) {
-  const counts = `${counted(standing.length)} ${standing.length === 1 ? "stands" : "stand"}, `
-    + `${counted(told.length)} told`;
+function restWords({ end, open, isAtRest, isStopped: isDown, standing, told }, { short }) {
+  const counts = `${many(standing.length, "payment stands", "payments stand")}, ${counted(told.length)} `
+    + `${told.length === 1 ? "was" : "were"} told`;
   if (isAtRest) return `${end} is at rest: ${counts}.`;
-  const why = open ? `${shortNumber(open.ksn)} is open` : "it is stopped";
-  return `${end} is not at rest (${why}): ${counts}.`;
+  return `${end} waits, because ${isDown ? "it is stopped" : `${short(open.ksn)} is open`}: ${counts}.`;
 }

@@ -1,11 +1,12 @@
 // Where things stand in the picture of the stage: columns of the ends and the network, rows of events.
 
-const FIRST = 236;
+// A terminal has room for its notes on its left.
+const FIRST = 222;
 const APART = 206;
 const ARROW = 186;
 const SLOT = 16;
 const LEAST_SLOTS = 4;
-const BESIDE_HOST = 226;
+const BESIDE_HOST = 218;
 const HEAD = 66;
 const ROW = 46;
 const SECOND = 30;
@@ -58,4 +59,17 @@ function slotsOf({ requests, answers }) {
     places.set(frame, place);
   }
   return { places, count: busy.length };
+}
+
+/**
+ * Where the box of a picture scrolls to: its last row is seen, and no row is cut by the head. Across, the
+ * end of that row is seen with its notes.
+ */
+export function scrolledTo({ columns, rows, width, height }, end, box) {
+  const least = height - box.clientHeight;
+  const x = columns.get(end) ?? 0;
+  const left = end === "host" ? width - box.clientWidth : x - FIRST;
+  if (least <= 0) return { top: 0, left };
+  const row = rows.find((it) => it.top - HEAD >= least);
+  return { top: row ? row.top - HEAD : least, left };
 }

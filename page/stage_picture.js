@@ -1,6 +1,6 @@
 // The picture of the stage: a sequence diagram, drawn from its scene alone.
 import { laidOut } from "./stage_layout.js";
-import { answerWords, shortNumber, wordsOf } from "./stage_words.js";
+import { answerWords, wordsOf } from "./stage_words.js";
 
 const NAMESPACE = "http://www.w3.org/2000/svg";
 const HEAD = 9;
@@ -16,10 +16,7 @@ function drawn(name, attributes, ...parts) {
 const text = (x, y, words, attributes = {}) => drawn("text", { x, y, ...attributes }, words);
 const line = (d, name) => drawn("path", { d, class: name });
 
-/**
- * Draws a scene: `title` and `description` are its texts for readers of the screen. The answer is where
- * across the picture the last event happened.
- */
+/** Draws a scene: `title` and `description` are its texts for readers of the screen. Gives the layout. */
 export function drawScene(svg, scene, { title, description }) {
   const layout = laidOut(scene);
   svg.setAttribute("viewBox", `0 0 ${layout.width} ${layout.height}`);
@@ -29,37 +26,47 @@ export function drawScene(svg, scene, { title, description }) {
     drawn("title", {}, title), drawn("desc", {}, description), ...grounds(scene, layout),
     ...scene.ends.flatMap((it) => lifeline(scene, layout, it)),
     ...[...scene.requests, ...scene.answers].map((it) => transit(it, layout)),
-    ...scene.rows.map((it) => rowOf(it, scene, layout)));
-  return layout.columns.get(scene.rows.at(-1)?.end) ?? 0;
+    ...scene.rows.map((it) => rowOf(it, scene, layout)), headOf(scene, layout));
+  return layout;
 }
 
 /** What lies behind all: the network, and the row that is shown last. */
-function grounds(scene, { network, rows, width, height, head }) {
+function grounds(scene, { network, rows, width, height }) {
   const { from, to } = network;
   const made = [
     drawn("rect", { x: from, y: 8, width: to - from, height: height - 16, class: "network" }),
-    text((from + to) / 2, 28, "network", { class: "name", "text-anchor": "middle" }),
+    text((from + to) / 2, height - 6, "network", { class: "name", "text-anchor": "middle" }),
   ];
   const last = rows.at(-1);
   if (last) {
     const place = { x: 2, y: last.top, width: width - 4, height: last.height };
     made.unshift(drawn("rect", { ...place, class: "now" }));
   }
-  return [...made, line(`M8 ${head}H${width - 8}`, "rule")];
+  return made;
+}
+
+/** The names of the columns, which stay where the rows are scrolled. */
+function headOf({ ends, facts }, { columns, network: { from, to }, width, head }) {
+  const group = drawn("g", { class: "head" });
+  const middle = { "text-anchor": "middle" };
+  group.append(drawn("rect", { x: 0, y: 0, width, height: head, class: "sheet" }),
+    drawn("rect", { x: from, y: 8, width: to - from, height: head - 8, class: "network" }),
+    text((from + to) / 2, 28, "network", { class: "name", ...middle }));
+  for (const end of ends) {
+    const below = end === "host" ? (facts.isJournal ? "journal" : "log of used numbers")
+      : facts.isJournal ? "cell and book" : "cell";
+    group.append(text(columns.get(end), 28, end, { class: "name", ...middle }),
+      text(columns.get(end), 46, below, { class: "soft", ...middle }));
+  }
+  group.append(line(`M8 ${head}H${width - 8}`, "rule"));
+  return group;
 }
 
 /** The line of an end's life: dotted where it is stopped. */
-function lifeline({ stops, facts }, { columns, rows, head, height }, end) {
+function lifeline({ stops }, { columns, rows, head, height }, end) {
   const x = columns.get(end);
-  const isHost = end === "host";
-  const below = isHost ? (facts.isJournal ? "journal" : "log of used numbers")
-    : facts.isJournal ? "cell and book" : "cell";
-  const made = [
-    text(x, 28, end, { class: "name", "text-anchor": "middle" }),
-    text(x, 46, below, { class: "soft", "text-anchor": "middle" }),
-    // The name stands at the foot too, where the head of a long picture is not seen any more.
-    text(x, height - 6, end, { class: "name", "text-anchor": "middle" })];
-  let from = head - 10;
+  const made = [text(x, height - 6, end, { class: "name", "text-anchor": "middle" })];
+  let from = head;
   for (const stop of stops.filter((it) => it.end === end)) {
     const cut = rows[stop.from].sending;
     const back = stop.until === undefined ? height - FOOT : rows[stop.until].arrival;
@@ -93,8 +100,7 @@ function endOfWay({ sent, arrivals, lost }, { rows, foot }) {
 /** Of what kind a frame is, for its colour. */
 function kindOf(frame) {
   if (frame.kind === "request") return frame.isReversal ? "reversal" : "request";
-  if (frame.says.kind === "judged refused") return "refusal";
-  return frame.says.kind !== "judged undone" && frame.says.code !== "00" ? "refusal" : "answer";
+  return frame.says.kind === "judged refused" ? "refusal" : "answer";
 }
 
 function rowOf(row, scene, layout) {
@@ -106,7 +112,7 @@ function rowOf(row, scene, layout) {
   group.append(drawn("rect", { x: 0, y: top, width: layout.width, height, class: "row" }));
   group.append(text(10, arrival, row.at + 1, { class: "soft" }));
   if (row.arrived) group.append(...arrow(arriving(row, layout), arrival, layout));
-  if (row.sent) group.append(...arrow(leaving(row, layout), sending, layout));
+  if (row.sent) group.append(...arrow(leaving(row, layout, scene), sending, layout));
   group.append(...beside(row, words, layout, row.at));
   return group;
 }
@@ -121,9 +127,9 @@ function arriving({ end, arrived: { frame, isAgain, isLate } }, { columns, xOf }
 }
 
 /** The arrow with which a frame enters the network. */
-function leaving({ end, sent: frame }, { columns, xOf }) {
+function leaving({ end, sent: frame }, { columns, xOf }, { short }) {
   const words = frame.kind === "request"
-    ? `${nameOf(frame)}, ${shortNumber(frame.ksn)}` : `${nameOf(frame)}: ${answerWords(frame)}`;
+    ? `${nameOf(frame)}, ${short(frame.ksn)}` : `${nameOf(frame)}: ${answerWords(frame)}`;
   return { frame, from: columns.get(end), to: xOf(frame), isEntering: true, words };
 }
 
@@ -170,7 +176,9 @@ function beside({ end, writes }, { text: words, detail, tone }, { columns, rows 
 /** What stands on the line of a life: a restart, a power failure, or that something happened. */
 function markOf(tone, x, y) {
   if (tone === "restart") return drawn("circle", { cx: x, cy: y, r: 6, class: "restarted" });
-  if (tone === "power") return line(`M${x + 3} ${y - 11}l-8 12h5l-3 10l9 -13h-5z`, "cut");
+  if (tone === "power" || tone === "armed") {
+    return line(`M${x + 3} ${y - 11}l-8 12h5l-3 10l9 -13h-5z`, tone === "power" ? "cut" : "coming");
+  }
   return drawn("circle", { cx: x, cy: y, r: 3.5, class: "point" });
 }
 
@@ -203,8 +211,9 @@ export function aloneFrom(svg) {
     .map((it) => it.cssText.replaceAll(RULES, "svg")
       .replace(/var\((--[a-z-]+)\)/g, (_, name) => light.getPropertyValue(name).trim()));
   const copy = svg.cloneNode(true);
-  for (const name of ["id", "aria-label"]) copy.removeAttribute(name);
+  for (const name of ["id", "aria-label", "style"]) copy.removeAttribute(name);
   copy.querySelector(".now")?.remove();
+  copy.querySelector(".head").removeAttribute("transform");
   const ground = drawn("rect", { width: "100%", height: "100%", class: "sheet" });
   copy.querySelector("desc").after(drawn("style", {}, own.join("\n")), ground);
   return `${new XMLSerializer().serializeToString(copy)}\n`;

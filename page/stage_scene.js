@@ -1,5 +1,6 @@
 // The scene of the stage: what is seen of the first events of a script and of their outcomes.
 import { isStoreFault } from "./stage_outcomes.js";
+import { shortener } from "./stage_numbers.js";
 import { Stores, isWritten } from "./stage_stores.js";
 
 /** The ends that a script names, of so many terminals: `t1` is always there, and the host is last. */
@@ -12,12 +13,14 @@ export function endsOf(events, terminals) {
 /**
  * The scene behind the last of these outcomes: a row for each event, the requests and answers with the
  * rows in which they were sent and arrived, from when to when each end was stopped, and the number
- * whose reply each terminal waits for. `lost` has the frames that are given up behind the last row.
+ * whose reply each terminal waits for. `lost` has the frames that are given up behind the last row;
+ * `strays` are those of these that were never sent. `short` shortens a number.
  */
 export function sceneOf(events, outcomes, facts, lost = []) {
   const scene = {
     facts, rows: [], requests: [], answers: [], stops: [], entries: new Set(), doubt: undefined,
-    pending: new Map(), ends: endsOf(events, facts.terminals), stores: new Stores(facts),
+    strays: [], pending: new Map(), short: shortener(events), ends: endsOf(events, facts.terminals),
+    stores: new Stores(facts),
   };
   for (const [at, outcome] of outcomes.entries()) addRow(scene, events[at], outcome, at);
   for (const it of lost) giveUp(scene, it, scene.rows.length);
@@ -39,9 +42,10 @@ function addRow(scene, event, outcome, at) {
 /** The frames of a kind: "request" or "answer". */
 export const framesOf = (scene, kind) => (kind === "request" ? scene.requests : scene.answers);
 
-function giveUp(scene, { kind, number }, at) {
-  const frame = framesOf(scene, kind)[number - 1];
+function giveUp(scene, it, at) {
+  const frame = framesOf(scene, it.kind)[it.number - 1];
   if (frame) frame.lost ??= at;
+  else scene.strays.push(it);
 }
 
 /** The frame that this event delivers. */

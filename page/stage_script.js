@@ -34,67 +34,75 @@ function eventOf(line, at) {
 const linesOf = (text) => text.split("\n").map((it) => it.replace(/\r$/, ""));
 
 /**
- * The events of a script. Each has the paragraphs of the comments above it, or else of the last one
- * that has some, and the frames that are given up before it. `title` is a paragraph that stands apart
- * in front, `closing` what stands behind the last event.
+ * The events of a script. `said` is the comment that stands directly above an event, `lost` the frames
+ * that are given up before it. `title` is a comment that stands apart in front, `closing` what stands
+ * behind the last event.
  */
 export function readScript(text) {
   const events = [];
-  const reading = { said: [], lost: [], isOpen: false };
+  const reading = { words: [], apart: [], lost: [] };
   let title = "";
   for (const [at, line] of linesOf(text).entries()) {
     const event = line.startsWith("#") ? undefined : eventOf(line, at);
     if (event) {
-      events.push({ ...event, said: reading.said, lost: reading.lost });
-      Object.assign(reading, { said: [], lost: [], isOpen: false });
+      events.push({ ...event, said: reading.words.join(" "), lost: reading.lost });
+      Object.assign(reading, { words: [], apart: [], lost: [] });
     } else if (line === "") {
-      if (!title && !events.length && reading.said.length === 1) title = reading.said.pop();
-      reading.isOpen = false;
+      if (!title && !events.length) title = reading.words.join(" ");
+      else reading.apart.push(reading.words.join(" "));
+      reading.words = [];
     } else {
-      comment(reading, line);
+      comment(reading, line, at);
     }
   }
-  for (const [place, event] of events.entries()) {
-    if (!event.said.length && place) event.said = events[place - 1].said;
-  }
-  return { title, events, closing: { said: reading.said, lost: reading.lost } };
+  const said = [...reading.apart, reading.words.join(" ")].filter((it) => it);
+  return { title, events, closing: { said, lost: reading.lost } };
 }
 
 /** Adds a comment's line to its paragraph, or to the frames that are given up. */
-function comment(reading, line) {
+function comment(reading, line, at) {
   const lost = line.match(LOST);
-  const words = line.replace(/^#\s*/, "");
-  if (lost) reading.lost.push({ kind: lost[1], number: Number(lost[2]) });
-  else if (reading.isOpen) reading.said.push(`${reading.said.pop()} ${words}`);
-  else reading.said.push(words);
-  if (!lost) reading.isOpen = true;
+  if (lost) reading.lost.push({ kind: lost[1], number: Number(lost[2]), at });
+  else reading.words.push(line.replace(/^#\s*/, ""));
 }
 
-/** The script with a line behind so many of its events. */
+/** The script with a line behind so many of its events. It stands apart from what the narrator says. */
 export function withLine(text, count, line) {
   const lines = linesOf(text);
   if (lines.at(-1) === "") lines.pop();
   const { events } = readScript(text);
-  const place = count < events.length && count > 0 ? events[count - 1].at + 1
-    : count === 0 && events.length ? firstPlace(lines, events[0].at) : lines.length;
-  lines.splice(place, 0, line);
+  const before = events[count - 1];
+  const place = before ? behindEvent(lines, before.at)
+    : events.length ? saidFrom(lines, events[0].at) : lines.length;
+  const isApart = !LOST.test(line) && (before?.said || isSaid(lines[place - 1]));
+  lines.splice(place, 0, ...isApart ? ["", line] : [line]);
   return `${lines.join("\n")}\n`;
 }
 
-/** Where the comments begin that belong to the first event. */
-function firstPlace(lines, at) {
+const isSaid = (line = "") => line.startsWith("#") && !LOST.test(line);
+
+/** Where the comment begins that stands directly above a line. */
+function saidFrom(lines, at) {
   let place = at;
-  while (place > 0 && lines[place - 1].startsWith("#")) place -= 1;
+  while (isSaid(lines[place - 1])) place -= 1;
   return place;
 }
 
-/** The script without the event of a place, and without the remarks behind it. */
+/** The place behind an event and behind the remarks that follow it. */
+function behindEvent(lines, at) {
+  let place = at + 1;
+  while (LOST.test(lines[place] ?? "")) place += 1;
+  return place;
+}
+
+/** The script without the event of a place, without what is said of it and the remarks behind it. */
 export function withoutEvent(text, place) {
   const lines = linesOf(text);
   const { at } = readScript(text).events[place];
-  let count = 1;
-  while (LOST.test(lines[at + count] ?? "")) count += 1;
-  lines.splice(at, count);
+  const from = saidFrom(lines, at);
+  const to = behindEvent(lines, at);
+  const isBetween = lines[to] === "" && (from === 0 || lines[from - 1] === "");
+  lines.splice(from, to - from + (isBetween ? 1 : 0));
   return lines.join("\n");
 }
 

@@ -3,8 +3,9 @@ import { made, tableOf } from "./fields.js";
 import { counted } from "./hexadecimal.js";
 import { restOf, totalsOf } from "./stage_books.js";
 import { lawsOf } from "./stage_laws.js";
+import { helpFor, knownOf } from "./stage_help.js";
 import { isStopped } from "./stage_scene.js";
-import { codeWords, shortNumber, wordsOf } from "./stage_words.js";
+import { armedWords, codeWords, keptSentence, wordsOf } from "./stage_words.js";
 
 // Purchases
 
@@ -26,41 +27,38 @@ function atHost({ host, code }, isJournal) {
   return AT_HOST[host];
 }
 
-/** Why a purchase is paid at one side alone, or "". */
-function differenceOf({ till, host, isTold, end }) {
-  if (Boolean(isTold) === (host === "approved")) return "";
-  if (till === "unknown") return `${end} is stopped: its restart tells what its book keeps`;
-  if (till === "open") return "the reply is under way or lost: a reversal settles it";
-  if (till === "waiting") return "the reply is under way or lost: send the request again";
-  return "nothing settles it over a log: begun anew, it is paid twice";
-}
+const isPaidOnce = ({ host, isTold }) => Boolean(isTold) !== (host === "approved");
 
 /** The table of the purchases, with both totals. */
 export function purchaseTable(books) {
   const names = ["number", "terminal", "amount", "at the terminal", "at the host",
     "paid at one side alone"];
   const fill = (body) => {
-    for (const it of books.purchases) body.append(purchaseRow(it, books.isJournal));
+    for (const it of books.purchases) body.append(purchaseRow(it, books));
     const { till, host } = totalsOf(books);
     const row = made("tr", "", { class: "totals", "data-differs": till !== host });
     const why = till === host ? "" : `the totals differ by ${counted(Math.abs(host - till))}`;
     row.append(
-      made("th", "paid", { scope: "row", colspan: 3 }), made("td", counted(till), { class: "till" }),
-      made("td", counted(host), { class: "host" }), made("td", why, { class: "why" }));
+      made("th", "paid", { scope: "row", colspan: 3 }),
+      made("td", counted(till), { class: "till", "data-name": "at the terminal" }),
+      made("td", counted(host), { class: "host", "data-name": "at the host" }),
+      made("td", why, { class: "why" }));
     body.append(row);
   };
   return tableOf(names, fill, "Purchases: at the terminal and at the host");
 }
 
-function purchaseRow(purchase, isJournal) {
-  const why = differenceOf(purchase);
+/** A purchase that is paid at one side alone has what settles it. */
+function purchaseRow(purchase, books) {
+  const why = isPaidOnce(purchase) ? helpFor(books, purchase) : "";
   const row = made("tr", "", { "data-number": purchase.ksn, "data-differs": why !== "" });
   row.append(
-    made("td", shortNumber(purchase.ksn), { class: "number", title: purchase.ksn }),
+    made("td", books.scene.short(purchase.ksn), { class: "number", title: purchase.ksn }),
     made("td", purchase.end, { class: "end" }),
-    made("td", counted(purchase.amount), { class: "amount" }),
-    made("td", atTill(purchase), { class: "till", "data-is": purchase.till }),
-    made("td", atHost(purchase, isJournal), { class: "host", "data-is": purchase.host }),
+    made("td", counted(purchase.amount), { class: "amount", "data-name": "amount" }),
+    made("td", atTill(purchase), { class: "till", "data-is": purchase.till, "data-name": "at the terminal" }),
+    made("td", atHost(purchase, books.isJournal),
+      { class: "host", "data-is": purchase.host, "data-name": "at the host" }),
     made("td", why, { class: "why" }));
   return row;
 }
@@ -73,31 +71,37 @@ export function restWords(scene, books) {
   const busy = scene.ends.filter((it) => it !== "host")
     .map((it) => restOf(books, it, isStopped(scene, it))).filter((it) => !it.isAtRest);
   if (!busy.length) return { isRest: true, words: `At rest. ${totals}` };
-  const why = busy.map((it) => busyWords(it, scene.pending.get(it.end)));
+  const why = busy.map((it) => busyWords(it, books));
   return { isRest: false, words: `Not at rest: ${why.join(" ")} ${totals}` };
 }
 
-/** Over a log: what a terminal will hear of, and what it will not. */
-function differenceWords({ purchases }) {
-  const unheard = purchases.filter((it) => it.host === "approved" && !it.isTold);
-  if (!unheard.length) return "";
-  const lost = unheard.filter((it) => it.till !== "waiting");
-  if (!lost.length) return " They differ: a reply is under way or lost.";
-  const numbers = lost.map((it) => shortNumber(it.ksn)).join(", ");
-  return ` They differ: no terminal waits for the reply to ${numbers} any more, and over a log `
-    + "nothing undoes a payment.";
+/** Over a log: by which payments the totals differ, and what settles each. */
+function differenceWords(books) {
+  const once = books.purchases.filter(isPaidOnce);
+  const each = once.map((it) => `${books.scene.short(it.ksn)}: ${helpFor(books, it)}`);
+  return each.length ? ` They differ by ${each.join("; ")}.` : "";
 }
 
-const DECIDED = { approved: "approved it", declined: "declined it", undone: "undid it",
-  barred: "will never take it" };
-
-function busyWords({ end, open, isStopped: isDown }, pending) {
+function busyWords({ end, open, isStopped: isDown }, books) {
   if (isDown) return `${end} is stopped, and tells what its book keeps at its restart.`;
-  const number = shortNumber(open.ksn);
-  const what = DECIDED[open.host] ?? "has nothing of it";
-  const help = pending === open.ksn ? "Its reply or a reversal" : "The answer to a reversal";
-  return `${end} does not know what became of ${number}. The host ${what}, and what tells of it is `
-    + `under way or lost. ${help} settles it.`;
+  const help = helpFor(books, open);
+  return `${end} does not know what became of ${books.scene.short(open.ksn)}. ${knownOf(books, open)}. `
+    + `To settle it: ${help}.`;
+}
+
+// Stores
+
+/** What the stores of each end would have at a restart in this moment. */
+export const storeItems = (scene, kept) => scene.ends.flatMap((end) => [
+  made("dt", end), made("dd", storeWords(scene, end, kept.get(end)), { "data-end": end })]);
+
+function storeWords(scene, end, outcome) {
+  const { isJournal, room } = scene.facts;
+  const down = isStopped(scene, end) ? "It is stopped. " : "";
+  const words = end === "host"
+    ? `Its ${isJournal ? "journal" : "log"} has ${outcome.count} of ${room} records in use.`
+    : keptSentence(outcome);
+  return `${down}${words}${armedWords(scene, end)}`;
 }
 
 // Keys
@@ -115,20 +119,22 @@ function thiefCard(it) {
   return card;
 }
 
-function canDerive({ held, left, next, pending }) {
+function canDerive({ short, held, left, next, pending }) {
   const ahead = held.length
-    ? `the keys of its ${counted(left)} numbers from ${shortNumber(next)} on: they follow from the `
+    ? `the keys of its ${counted(left)} numbers from ${short(next)} on: they follow from the `
       + `${counted(held.length)} keys in its registers.` : "nothing from its registers: they are empty.";
   if (!pending) return ahead;
-  return `${ahead} Its memory has the key of ${shortNumber(pending)} too, until the reply comes.`;
+  return `${ahead} Its memory has the key of ${short(pending)} too, until the reply comes or the power `
+    + "fails.";
 }
 
 /** What is over is gone: all used numbers but the one that waits for its reply. */
-function cannotDerive({ used, pending, found }) {
+function cannotDerive({ loads, used, pending, found }) {
   const count = used.length - (pending ? 1 : 0);
-  if (count === 0) return "its initial key. No transaction of it is over yet.";
-  const left = found.length ? counted(found.length) : count === 1 ? "neither" : "none";
-  return `its initial key, and the ${count === 1 ? "key" : "keys"} of its ${counted(count)} past `
+  const initial = loads > 1 ? `any of its ${counted(loads)} initial keys` : "its initial key";
+  if (count === 0) return `${initial}. No transaction of it is over yet.`;
+  const left = found.length ? counted(found.length) : count === 1 && loads < 2 ? "neither" : "none";
+  return `${initial}, and the ${count === 1 ? "key" : "keys"} of its ${counted(count)} past `
     + `transaction${count === 1 ? "" : "s"}: ${left} of them is in it any more.`;
 }
 
@@ -142,8 +148,8 @@ function said(name, front, words) {
 
 /** The laws as items of a list. */
 export function lawItems(scene, books, terminals) {
-  return lawsOf(scene, books, terminals).map(({ says, holds, words }) => {
-    const state = holds === undefined ? "silent" : holds ? "holds" : "broken";
+  return lawsOf(scene, books, terminals).map(({ says, holds, isWaiting, words }) => {
+    const state = holds === undefined ? "silent" : !holds ? "broken" : isWaiting ? "waits" : "holds";
     const it = made("li", "", { "data-law": state });
     it.append(made("strong", says), " ", made("span", words, { class: "numbers" }));
     return it;

@@ -1,9 +1,6 @@
 // The words of the stage: what came of an event, short for the picture and as a sentence.
 import { counted } from "./hexadecimal.js";
 
-/** The end of a key serial number, which tells numbers of one stage apart. */
-export const shortNumber = (ksn) => `…${ksn.slice(-6)}`;
-
 const CODES = {
   14: "no such card", 30: "PIN block unreadable", 51: "over the card's limit", 55: "wrong PIN",
 };
@@ -12,7 +9,12 @@ const outcomeWords = (code) => `${code === "00" ? "approved" : "declined"} (${co
 const whyDeclined = (code) => CODES[code];
 export const codeWords = (code) => (
   code === "00" ? outcomeWords(code) : `${outcomeWords(code)}: ${whyDeclined(code)}`);
-const reasonWords = (reason) => `refused: ${REASONS[reason]} (${reason})`;
+/** A journal keeps its last records for reversals: then it has no room for payments, and is not full. */
+function reasonWords(reason, { isReversal }, { isJournal }) {
+  const why = REASONS[reason];
+  if (!isJournal || why !== "log full") return `refused: ${why} (${reason})`;
+  return isReversal ? `refused: journal full (${reason})` : `no room for payments (${reason})`;
+}
 
 // What did not come to pass, by the event, in short and as a sentence; and why, by the name of the fault.
 const FAILED = {
@@ -46,50 +48,49 @@ export function wordsOf(row, scene) {
 }
 
 const WORDS = {
-  loaded: ({ end }, { ksn }) => note("loaded", `initial key ${shortNumber(ksn)}`, "",
+  loaded: ({ end }, { ksn }, { short }) => note("loaded", `initial key ${short(ksn)}`, "",
     `${end} is loaded with the initial key of ${ksn}.`),
-  sent: ({ end, event }, { ksn, frame }) => note(
-    `takes number ${shortNumber(ksn)}`, "its key leaves the registers", "",
+  sent: ({ end, event }, { ksn, frame }, { short }) => note(
+    `takes number ${short(ksn)}`, "its key leaves the registers", "",
     `${end} begins to pay ${counted(event.amount)}. It takes number ${ksn}, whose key leaves its `
     + `registers, and sends request ${frame}.`),
-  reversing: ({ end }, { ksn, of, frame }) => note(`takes number ${shortNumber(ksn)}`,
-    `to reverse ${shortNumber(of)}`, "",
+  reversing: ({ end }, { ksn, of, frame }, { short }) => note(`takes number ${short(ksn)}`,
+    `to reverse ${short(of)}`, "",
     `${end} reverses ${of}: under number ${ksn} it sends request ${frame}, a reversal.`),
   accepted: ({ event, arrived }, { ksn, code, frame }, { facts }) => note(outcomeWords(code),
-    whyDeclined(code) ?? kept(facts, arrived.frame), code === "00" ? "good" : "bad",
+    whyDeclined(code) ?? kept(facts, arrived.frame), code === "00" ? "good" : "",
     `The host accepts request ${event.frame}, and number ${ksn} is used from now on. `
     + `Answer ${frame}: ${codeWords(code)}.`),
   repeated: ({ event }, { code, frame }) => note("the same reply again", outcomeWords(code), "",
     `The host knows request ${event.frame}, and gives the same reply again. Answer ${frame}: `
     + `${codeWords(code)}.`),
-  "judged undone": ({ event }, { of, code, frame }) => (code === "01"
-    ? note("undone (01)", `${shortNumber(of)} does not stand`, "good",
+  "judged undone": ({ event }, { of, code, frame }, { short }) => (code === "01"
+    ? note("undone", `${short(of)} does not stand`, "good",
       `The host takes the reversal, request ${event.frame}: the payment ${of} was approved, and is `
       + `undone. Answer ${frame} says so.`)
-    : note("none stands (00)", `${shortNumber(of)} never will`, "good",
+    : note("none stands", `${short(of)} never will`, "good",
       `The host takes the reversal, request ${event.frame}: no approved payment ${of} stands, and none `
       + `ever will. Answer ${frame} says so.`)),
-  "judged refused": ({ event }, { reason, frame }) => note(reasonWords(reason), "", "bad",
-    `The host does not accept request ${event.frame}. Answer ${frame}: ${reasonWords(reason)}.`),
+  "judged refused": refusedWords,
   done: ({ end, event }, { code, ksn }) => note(outcomeWords(code), whyDeclined(code) ?? "paid",
-    code === "00" ? "good" : "bad",
+    code === "00" ? "good" : "",
     `Answer ${event.frame} completes payment ${ksn} at ${end}: ${codeWords(code)}.`),
-  undone: ({ end, event }, { of }) => note("undone", `${shortNumber(of)} is not paid`, "good",
+  undone: ({ end, event }, { of }, { short }) => note("undone", `${short(of)} is not paid`, "good",
     `Answer ${event.frame} reaches ${end}: payment ${of} is undone. Nothing is paid.`),
-  refused: ({ end, event }, { reason, ksn }) => note(
-    reasonWords(reason), "has no MAC, so nothing ends", "bad",
-    `Answer ${event.frame} reaches ${end}: ${ksn} is ${reasonWords(reason)}. It has no MAC, so the `
-    + "terminal still waits."),
-  restarted: ({ end }, it) => note("restarted", stateWords(it), "restart",
+  refused: ({ end, event, arrived }, { reason, ksn }, { facts }) => note(
+    reasonWords(reason, arrived.frame, facts), "has no MAC, so nothing ends", "bad",
+    `Answer ${event.frame} reaches ${end}. Of ${ksn} it says: ${reasonWords(reason, arrived.frame, facts)}. `
+    + "It has no MAC, so the terminal still waits."),
+  restarted: ({ end }, it, { short }) => note("restarted", stateWords(it, short), "restart",
     `${end} is restarted. ${keptSentence(it)}`),
   used: (row, { count }, { facts }) => note("restarted", usedWords(count, facts), "restart",
     `The host is restarted. Its ${facts.isJournal ? "journal" : "log"} has ${usedWords(count, facts)}.`),
   armed: ({ end, event }, { book, passes }, { facts }) => note("the power will fail",
-    `behind ${steps(passes)} of its ${storeOf(end, book, facts)}`, "power",
+    `behind ${steps(passes)} of its ${storeOf(end, book, facts)}`, "armed",
     `From now on the ${storeOf(end, book, facts)} of ${nameOf(event.end)} lets ${steps(passes)} pass. `
     + "Then the power fails."),
   fault: faultWords,
-  elsewhere: ({ end, event }) => note("not loaded", "another terminal owns this key", "bad",
+  elsewhere: ({ end, event }) => note("not loaded", "another terminal owns this key", "",
     `${end} is not loaded: another terminal owns the initial key of ${event.ksn}.`),
   "no key set": ({ end, event }) => note("not loaded", "no base derivation key for it", "bad",
     `${end} is not loaded: the security module has no base derivation key for ${event.ksn}.`),
@@ -98,19 +99,35 @@ const WORDS = {
 };
 
 const nameOf = (end) => (end === "host" ? "the host" : end);
+
+/** The stores of an end that are armed, and did not fail yet. */
+export function armedWords({ stores, stops, facts }, end) {
+  if (stops.some((it) => it.end === end && it.until === undefined)) return "";
+  const armed = ["", " book"].filter((it) => Number.isFinite(stores.armed.get(`${end}${it}`)));
+  return armed.map((it) => ` Its ${storeOf(end, it, facts)} lets ${steps(stores.armed.get(`${end}${it}`))} `
+    + "pass, and then the power fails; a restart takes that back.").join("");
+}
+
 const steps = (count) => `${count} device step${Number(count) === 1 ? "" : "s"}`;
 const storeOf = (end, book, { isJournal }) =>
   (end === "host" ? (isJournal ? "journal" : "log") : book ? "book" : "cell");
 
 const kept = ({ isJournal }, { amount }) => (
-  isJournal ? `${counted(amount)} stand in its journal` : "the number is used");
+  isJournal ? `a payment of ${counted(amount)} stands` : "the number is used");
+
+function refusedWords({ event, arrived }, { reason, frame }, { facts }) {
+  const words = reasonWords(reason, arrived.frame, facts);
+  const detail = words.startsWith("no room") ? "the rest is for reversals" : "";
+  return note(words, detail, "bad", `The host does not accept request ${event.frame}. `
+    + `Answer ${frame}: ${words}${detail && `, ${detail}`}.`);
+}
 
 const usedWords = (count, { isJournal }) => (isJournal
   ? `${count} ${count === "1" ? "entry" : "entries"}`
   : `${count} used number${count === "1" ? "" : "s"}`);
 
-function stateWords({ next, state, kept: last }) {
-  const number = next ? `next is ${shortNumber(next)}` : state;
+function stateWords({ next, state, kept: last }, short) {
+  const number = next ? `next is ${short(next)}` : state;
   return last ? `${number}; last: ${last}` : number;
 }
 
@@ -131,7 +148,7 @@ function faultWords(row, { end, fault }) {
   }
   const [text, sentence] = FAILED[row.event.command];
   const detail = FAULTS[fault] ?? fault;
-  return note(text, detail, "bad", `${sentence(row.event)}: ${detail} (${fault}).`);
+  return note(text, detail, "", `${sentence(row.event)}: ${detail}.`);
 }
 
 /** What stands on the arrow of an answer. */

@@ -103,7 +103,7 @@ class TestScripts(StageCase):
         self.assertEqual({it: found.get(it) for it in wanted.purchases}, wanted.purchases, what)
         others = {it: found[it][2] for it in found if it not in wanted.purchases}
         self.assertNotIn("approved", others.values(), what)
-        self.compare_laws(seen["laws"], wanted, reader.over_journal, what)
+        self.compare_laws(seen["laws"], wanted, reader.over_journal, seen["rest"][0] == "true", what)
         self.assertEqual(seen["pending"], {at: wanted.pending[at] for at in seen["pending"]}, what)
         numbers = reader.next_numbers()
         for at, text in seen["stores"].items():
@@ -113,12 +113,14 @@ class TestScripts(StageCase):
                     "spent": "no number left", "empty": "no initial key"}[state]
                 self.assertIn(word, text, what)
 
-    def compare_laws(self, laws: list[list[str]], wanted: Shown, over_journal: bool, what: str) -> None:
-        self.assertEqual([it[0] for it in laws],
-                         ["holds"] * 5 + ["holds" if over_journal else "silent"], what)
+    def compare_laws(self, laws: list[list[str]], wanted: Shown, over_journal: bool, is_rest: bool,
+                     what: str) -> None:
+        last = "silent" if not over_journal else "holds" if is_rest else "waits"
+        self.assertEqual([it[0] for it in laws], ["holds"] * 5 + [last], what)
         self.assertIn(f"{wanted.used} different", laws[0][1], what)
         self.assertRegex(laws[1][1], rf"^{wanted.accepted} times? accepted, {wanted.accepted} number")
-        self.assertRegex(laws[2][1], rf"^Of {wanted.accepted} accepted requests? {wanted.accepted} ")
+        self.assertRegex(laws[2][1], rf"^{wanted.accepted} of {wanted.accepted} accepted requests ")
+        self.assertRegex(laws[3][1], r"^(\d+) transactions? completed, \1 with ", what)
         self.assertIn(f"; {wanted.held} key", laws[4][1], what)
 
 

@@ -35,9 +35,14 @@ class TestFrames(StageCase):
         """Where the totals differ, it says who is not at rest and why."""
         self.put(f"{LOAD}\n{PAY}\nup 1\nreverse t1\nup 2\ndown 2 t1\n", over_journal=True)
         for count, is_rest, words in (
-                (1, "true", "At rest"), (2, "false", "The host has nothing of it"),
-                (3, "false", "The host approved it"), (3, "false", "Its reply or a reversal settles it"),
-                (4, "false", "The answer to a reversal settles it"), (5, "false", "The host undid it"),
+                (1, "true", "At rest"), (2, "false", "The host has never seen it. To settle it: deliver its "
+                 "request, and then the reply, or reverse it."),
+                (3, "false", "The host approved it; the answer is under way. To settle it: deliver its reply, "
+                 "or reverse it."),
+                (4, "false", "t1 does not wait for that answer any more. To settle it: deliver its reversal, "
+                 "and then the answer."),
+                (5, "false", "The host undid it; the answer is under way. To settle it: deliver the answer to "
+                 "its reversal."),
                 (6, "true", "At rest")):
             self.move(count)
             rest = self.seen()["rest"]

@@ -33,11 +33,18 @@ class TestTime(StageCase):
             self.example("lost-reply")
             self.move(count)
             then = self.seen()
-            self.put("\n".join(lines[:count]))
-            now = self.seen()
-            lost = {"texts", "crosses", "here"}
-            self.assertEqual({it: now[it] for it in now if it not in lost},
-                             {it: then[it] for it in then if it not in lost})
+            self.put("\n".join(self.front(count)))
+            self.assertEqual(self.seen(), then)
+
+    def front(self, count: int) -> list[str]:
+        """The lines of the script up to so many events, with the remarks of lost frames behind them."""
+        found: list[str] = []
+        for line in self.script:
+            count -= not line.startswith("#")
+            if count < 0:
+                break
+            found.append(line)
+        return found
 
     def test_rows(self) -> None:
         """A click at a row of the picture goes to its moment."""

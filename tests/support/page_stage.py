@@ -44,8 +44,6 @@ class Reader:
         self.done: dict[int, str] = {}
         self.codes: dict[int, str] = {}
         self.accepted: set[int] = set()
-        # What the host found in its log when it was restarted last.
-        self.found: set[int] = set()
 
     def happens(self, event: str) -> None:
         line = self.world.happens(event)
@@ -61,8 +59,6 @@ class Reader:
                 self.codes[int(words[3], 16)] = words[4]
         elif words[1] == "done":
             self.done[int(words[2], 16)] = words[3]
-        elif words[:2] == ["host", "used"] and isinstance(self.world, World):
-            self.found = set(copy.deepcopy(self.world.host.log).restart())
 
     def shown(self) -> Shown:
         sides = self.sides_of_tills() if self.over_journal else self.sides_of_terminals()
@@ -103,12 +99,13 @@ class Reader:
     def sides_of_terminals(self) -> dict[int, tuple[str, str]]:
         assert isinstance(self.world, World)
         pending = {it.pending.serial for it in self.world.terminals if it.pending}
+        kept = set(copy.deepcopy(self.world.host.log).restart())
         sides = {}
         for serial in self.sent:
             code = self.done.get(serial)
             till = side(code) if code else "waiting" if serial in pending else "given up"
             host = side(self.codes[serial]) if serial in self.codes else "nothing"
-            if host == "nothing" and serial in self.found:
+            if host == "nothing" and serial in kept:
                 host = "undecided"
             sides[serial] = (till, host)
         return sides
