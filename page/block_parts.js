@@ -18,13 +18,43 @@ const HEADER = [
   ["key-version", 9, 2, WORDS["key-version"]],
   ["exportability", 11, 1, WORDS.exportability],
   ["count", 12, 2, WORDS.count],
-  ["reserved", 14, 2, () => "reserved: read as anything"],
+  ["reserved", 14, 2, () => "reserved: any characters may stand here"],
 ];
 const LEAST_REST = 64;
 const MAC = 16;
 
 /** The words of a version that the standards have, and that is not opened here; or nothing. */
 export const versionNotOpened = (text) => (text[0] === OPENED ? undefined : VERSIONS[text[0]]);
+
+/** What is wrong with the length of a block's text: a sentence's words. */
+function lengthWords(text) {
+  const count = `the text has ${text.length} character${text.length === 1 ? "" : "s"}`;
+  const digits = text.slice(1, 5);
+  if (text.length < 5) return `${count}, and a key block has 80 at least`;
+  if (!/^\d{4}$/.test(digits)) return `characters 1 to 4 are ${digits}, and no decimal length`;
+  const missing = Number(digits) - text.length;
+  if (missing > 0) return `${count}, and characters 1 to 4 say ${digits}: ${missing} missing`;
+  if (missing < 0) return `${count}, and characters 1 to 4 say ${digits}: ${-missing} too many`;
+  if (text.length % 8) return `${count}, which is no multiple of 8`;
+  return `${count}, and a key block has 80 to 512`;
+}
+
+/** Why a block is not unwrapped, in words; `fault` is that of the call. */
+export function whyNotOpened(text, fault) {
+  if (text === "") return "A key block is wanted, and here is nothing";
+  const words = fault.number === STATUS.BLOCK_LENGTH ? lengthWords(text)
+    : fault.number === STATUS.BLOCK_VERSION ? versionWords(text) : fault.message;
+  return `${words.charAt(0).toUpperCase()}${words.slice(1)}`;
+}
+
+/** What is wrong with the version of a block that is none of the standards. */
+function versionWords(text) {
+  const capital = text[0].toUpperCase();
+  if (capital !== text[0] && VERSIONS[capital]) {
+    return `character 0 is ${text[0]}: a key block has capitals, and ${capital} is a version`;
+  }
+  return `character 0 is ${text[0]}, and no version of the standards: these are A to E`;
+}
 
 /** So many hexadecimal digits as a number; 0 where others stand there. */
 const hexIn = (digits, count) =>
@@ -85,10 +115,8 @@ export function placeOfFault(text, number) {
   const last = Math.max(text.length - 1, 0);
   const optional = optionalParts(text);
   switch (number) {
-    case STATUS.BLOCK_LENGTH: {
-      const isSize = text.length >= 80 && text.length <= 512 && text.length % 8 === 0;
-      return isSize ? [1, 4] : [0, last];
-    }
+    case STATUS.BLOCK_LENGTH:
+      return text.length < 5 ? [0, last] : [1, 4];
     case STATUS.BLOCK_VERSION:
       return [0, 0];
     case STATUS.BLOCK_HEADER_FIELD: {

@@ -60,6 +60,29 @@ function countWords(text) {
   return `${count || "no"} optional block${count === 1 ? "" : "s"}`;
 }
 
+// Of usages by their fronts the modes that they have: to encipher, to make MACs, to derive.
+const MODES_OF = [
+  { usages: /^(D[023]|K[014]|P0)$/, modes: "BDEN", words: "enciphers" },
+  { usages: /^(C0|M\d|V\d)$/, modes: "CGNV", words: "makes or verifies values" },
+  { usages: /^B[01]$/, modes: "NX", words: "derives keys" },
+];
+
+/** What is doubtful about the header of a block to be made for a TDES key: sentences. */
+export function doubtsOf({ usage, algorithm, mode, exportability }) {
+  const named = [["usage", usage, USAGES], ["algorithm", algorithm, ALGORITHMS],
+    ["mode", mode, MODES], ["exportability", exportability, EXPORTABILITIES]];
+  const doubts = named.filter(([, text, table]) => !(text in table))
+    .map(([name, text]) => `The ${name} ${text} is none of the standard.`);
+  const use = MODES_OF.find((it) => it.usages.test(usage));
+  if (use && mode in MODES && !use.modes.includes(mode)) {
+    doubts.push(`A key of usage ${usage} ${use.words}, which mode ${mode} does not allow.`);
+  }
+  if (algorithm in ALGORITHMS && algorithm !== "T") {
+    doubts.push(`The key is wrapped as one of TDES, and algorithm ${algorithm} is ${ALGORITHMS[algorithm]}.`);
+  }
+  return doubts;
+}
+
 /** What the text of each header field means. A value that the standard lacks is said to be so. */
 export const WORDS = {
   usage: inTable(USAGES),

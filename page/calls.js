@@ -1,9 +1,21 @@
 // The calls of the module, a function each. Keys, numbers and blocks are bytes (Uint8Array).
 // Each throws the Fault of its status; crates/duk_calls/src has their faults in order.
+import { counterOf, whyUnusable } from "./counters.js";
+import { Fault, STATUS } from "./faults.js";
 import { call, changed, room, word } from "./module.js";
 
 const one = (...given) => call(...given)[0];
 const front = (bytes, length) => bytes.slice(0, length);
+
+/** What a job gives; where no transaction has the number of it, its Fault says why. */
+function withWhy(ksn, job) {
+  try {
+    return job();
+  } catch (fault) {
+    if (!(fault instanceof Fault) || fault.number !== STATUS.NOT_USABLE) throw fault;
+    throw new Fault(fault.number, whyUnusable(counterOf(ksn)));
+  }
+}
 
 /** The initial key (16 bytes) of an initial key serial number (10), under the base derivation key. */
 export const initialKey = (bdk, iksn) => one("dukpt_initial_key", bdk, iksn, room(16));
@@ -18,7 +30,7 @@ export const requestKey = (key) => one("dukpt_request_key", key, room(16));
 export const responseKey = (key) => one("dukpt_response_key", key, room(16));
 
 /** Throws NotUsable where no transaction has this key serial number (10 bytes). */
-export const checkUsable = (ksn) => call("dukpt_check_usable", ksn);
+export const checkUsable = (ksn) => withWhy(ksn, () => call("dukpt_check_usable", ksn));
 
 /** The key serial number (10 bytes) that a terminal uses after this one (10). Throws Spent. */
 export const nextNumber = (ksn) => one("dukpt_next_number", ksn, room(10));
@@ -28,7 +40,8 @@ export const checkValue = (key) => one("dukpt_check_value", key, room(3));
 export const cmacCheckValue = (key) => one("dukpt_cmac_check_value", key, room(5));
 
 /** The image (431 bytes) of a terminal whose next key serial number is this one (10 bytes). */
-export const registersAt = (initial, ksn) => one("dukpt_registers_at", initial, ksn, room(431));
+export const registersAt = (initial, ksn) =>
+  withWhy(ksn, () => one("dukpt_registers_at", initial, ksn, room(431)));
 
 /** The key serial number (10 bytes) that a terminal with this image uses next. */
 export const numberOf = (image) => one("dukpt_number", image, room(10));

@@ -24,6 +24,11 @@ export function ones(counter) {
 export const isUsable = (counter) =>
   counter > 0 && counter < SPENT && ones(counter) <= MOST_ONES;
 
+/** Why no transaction has a number whose counter is not usable: a sentence. */
+export const whyUnusable = (counter) => (counter === 0
+  ? "no transaction has this number: its counter is zero, which names the initial key"
+  : `no transaction has this number: its counter has ${ones(counter)} one bits, more than ten`);
+
 /** The place of the last one bit, 0 for the lowest. */
 export const lastPlace = (counter) => 31 - Math.clz32(counter & -counter);
 

@@ -3,6 +3,7 @@ import * as calls from "./calls.js";
 import { counterOf, path, withCounter } from "./counters.js";
 import { attempt, element, follow, made, read, renew, show } from "./fields.js";
 import { doubleKey, hex, hexCounter, serialNumber } from "./hexadecimal.js";
+import { USES } from "./key_uses.js";
 import { KINDS } from "./working_set.js";
 
 /** The kind of key that a panel's switch asks for. Of the fields for keys, its one is shown. */
@@ -63,9 +64,10 @@ function showDerived() {
   const initial = initialKeyOf("derive", ksn);
   if (!initial) return;
   const isInitial = counterOf(ksn) === 0;
+  // Any number has an initial key: no transaction needs to have it.
+  showKey("initial", initial);
   attempt(() => "derive-ksn", () => {
     if (!isInitial) calls.checkUsable(ksn);
-    showKey("initial", initial);
     showSteps(initial, ksn);
     if (isInitial) showNote();
     else showTransaction(calls.deriveFromInitial(initial, ksn));
@@ -82,6 +84,9 @@ function showTransaction(key) {
   showKey("pin", calls.pinKey(key));
   showKey("request", calls.requestKey(key));
   showKey("response", calls.responseKey(key));
+  for (const { name, keyOf } of USES.filter((it) => it.name.endsWith("-data"))) {
+    showKey(name, keyOf(key));
+  }
 }
 
 export function startDerive() {

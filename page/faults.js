@@ -15,7 +15,7 @@ const FAULTS = [
   ["PanDigit", "a PAN has decimal digits alone"],
   ["NotAPinBlock", "under this key and PAN the block holds no PIN of format 0"],
   ["BlockLength", "the text has not 80 to 512 characters, a multiple of 8, as characters 1 to 4 say"],
-  ["BlockVersion", "character 0 is not B: no other version is read"],
+  ["BlockVersion", "character 0 is not B: no other version is opened"],
   ["BlockHeaderField",
     "a header field cannot be printed, or the number of optional blocks is not decimal"],
   ["BlockOptionalBlock",

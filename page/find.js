@@ -4,12 +4,15 @@ import { initialKeyOf } from "./derive.js";
 import { element, follow, read, renew, show } from "./fields.js";
 import { KINDS, readSought } from "./find_sought.js";
 import { counted, hex, serialNumber, whole } from "./hexadecimal.js";
-import { search } from "./search.js";
+import { release } from "./hooks.js";
+import { numberBehind, search } from "./search.js";
 
 const MOST_NUMBERS = 100000;
-const BY_CHANCE = " A key may also decipher a PIN block by chance, nearly always to a PIN of 12"
-  + " digits: over 100,000 numbers in one search of 28.";
-const WAYS = { retail: "retail MAC", cmac: "CMAC", cipher: "TDES" };
+const BY_CHANCE = " A key may also decipher a PIN block by chance, nearly always to a PIN of 12 digits:"
+  + " over 100,000 numbers in one search of 28.";
+const SHORT_BITS = 32;
+const BY_CHANCE_SHORT = " Another key may have the same 4 bytes by chance: over 100,000 numbers in one"
+  + " search of some 3,000.";
 
 // The question that is being searched, and that which has an answer, with the answer.
 let running;
@@ -42,6 +45,7 @@ function showFields() {
     element(`find-${name}`).closest(".field").hidden = !(name in KINDS[kind].readers);
   }
   element("find-as").hidden = kind !== "mac";
+  element("find-bit").closest(".choice").hidden = kind !== "mac";
 }
 
 function showTried(tried, most) {
@@ -56,30 +60,47 @@ function showButtons(question) {
   element("find-stop").disabled = !running;
 }
 
+/** What was tried under each key: a sentence. */
+const triedBy = ({ ways }) => ` Under each key was tried: ${ways.join(", ")}.`;
+
 /** How a search ended that found nothing. */
-function endOf({ from }, { tried, isStopped }) {
+function endOf({ from, sought }, { tried, isStopped }) {
   if (isStopped) return `Stopped: ${counted(tried)} numbers from ${hex(from)} on are tried.`;
   if (tried === 0) return "The terminal has no number from there on.";
   const numbers = tried === 1 ? "One number is" : `${counted(tried)} numbers are`;
-  return `Not found: ${numbers} tried, from ${hex(from)} on.`;
+  return `Not found: ${numbers} tried, from ${hex(from)} on.${triedBy(sought)}`;
 }
 
 function showAnswer() {
   const { question, answer } = answered ?? {};
   element("find-result").hidden = !answer?.found;
   element("find-said").textContent = !answer || answer.found ? "" : endOf(question, answer);
+  element("find-on").closest(".act").hidden = !nextToTry();
   if (!answer) return;
   showTried(answer.tried, question.most);
   if (answer.found) showFound(answer.found, question);
 }
 
+/** The number from which a search goes on behind the answer; nothing where there is none. */
+function nextToTry() {
+  const { question, answer } = answered ?? {};
+  return answer?.tried ? numberBehind(question.from, answer.tried) : undefined;
+}
+
+/** What may be a chance about what is found: a sentence, or nothing. */
+function chanceOf({ pinBy, bits }) {
+  if (pinBy) return BY_CHANCE;
+  return bits === SHORT_BITS ? BY_CHANCE_SHORT : "";
+}
+
 function showFound({ ksn, use, key, way }, { sought }) {
   show("find-number", hex(ksn));
-  show("find-key-name", use.name);
-  show("find-way", WAYS[way]);
+  show("find-key-name", use.words);
+  show("find-way", way);
   show("find-key", hex(key));
-  const note = sought.name.startsWith("pin") ? BY_CHANCE : "";
-  element("find-said").textContent = `Found: the ${use.words} of ${hex(ksn)}.${note}`;
+  show("find-pin", sought.pinBy ? sought.pinBy(key) : "");
+  element("find-said").textContent = `Found: the ${use.words} of ${hex(ksn)}.${triedBy(sought)}`
+    + chanceOf(sought);
 }
 
 /** Shows the fields anew. A search, or an answer, for other fields ends. */
@@ -119,6 +140,15 @@ function stop() {
   if (running) end(running, { tried: element("find-progress").value, isStopped: true });
 }
 
+/** Searches on behind the last number that was tried. The working set keeps its own number. */
+function goOn() {
+  const next = hex(nextToTry());
+  release("find-ksn");
+  type("find-begin", "number");
+  type("find-ksn", next);
+  start();
+}
+
 /** Gives the number that was found to the working set of the page. */
 function useNumber() {
   const detail = hex(answered.answer.found.ksn);
@@ -144,5 +174,6 @@ export function startFind() {
   follow(element("panel-find"), renewed);
   element("find-start").addEventListener("click", start);
   element("find-stop").addEventListener("click", stop);
+  element("find-on").addEventListener("click", goOn);
   element("find-use").addEventListener("click", useNumber);
 }

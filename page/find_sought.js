@@ -1,13 +1,14 @@
-// What is sought: a frame, a MAC, a PIN block or an enciphered block, as the fields have it.
-// `wayOf(key)` tells how a key makes it: "retail", "cmac" or "cipher"; undefined where it does not.
+// What is sought: a frame, a MAC, a PIN block or an enciphered block, as the panel's fields have it.
+// `wayOf(key)` tells how a key makes it, in words, and `ways` has what is tried under each key.
 import * as calls from "./calls.js";
 import { withCounter } from "./counters.js";
 import { bytesOfText } from "./dumps.js";
 import { Fault } from "./faults.js";
+import { paddedByBit } from "./mac_kinds.js";
 import { element, read } from "./fields.js";
 import { MAC, damageAt, textOfMac } from "./frame_whole.js";
 import { serialIn } from "./frame_parts.js";
-import { block, bytesOf, digitsOf, hex, utf8, wholeMac } from "./hexadecimal.js";
+import { ascii, block, bytesOf, digitsOf, hex, macOrFront, utf8 } from "./hexadecimal.js";
 import { pinIn } from "./pin_field.js";
 
 const REFUSAL = 3;
@@ -19,7 +20,16 @@ const MOST_FRONT = 12;
 /** Any PIN, to have a PAN judged. */
 const SOME_PIN = utf8("0000");
 
-const isSame = (one, other) => one.every((it, at) => it === other[at]);
+/** What is tried: the MACs that the command `find` tries, and one that is tried where it is asked for. */
+const RETAIL = { way: "retail MAC", macOf: calls.retailMac };
+const CMAC = { way: "CMAC", macOf: calls.cmac };
+const RETAIL_BIT = {
+  way: "retail MAC with 80 00 ... as padding",
+  macOf: (key, text) => calls.retailMac(key, paddedByBit(text)),
+};
+const CIPHER = "TDES";
+
+const isFront = (one, other) => one.every((it, at) => it === other[at]);
 
 /** A frame that has a MAC. */
 function frameWithMac(text) {
@@ -53,16 +63,19 @@ function ofFrame(frame) {
   const text = textOfMac(frame);
   return {
     terminal: withCounter(serialIn(frame), 0),
-    wayOf: (key) => (isSame(calls.retailMac(key, text), mac) ? "retail" : undefined),
+    ways: [RETAIL.way],
+    wayOf: (key) => (isFront(mac, calls.retailMac(key, text)) ? RETAIL.way : undefined),
   };
 }
 
+/** What is sought by a MAC, or by its first bytes. */
 function ofMac(mac, text) {
-  const wayOf = (key) => {
-    if (isSame(calls.retailMac(key, text), mac)) return "retail";
-    return isSame(calls.cmac(key, text), mac) ? "cmac" : undefined;
+  const tried = element("find-bit").checked ? [RETAIL, CMAC, RETAIL_BIT] : [RETAIL, CMAC];
+  return {
+    ways: tried.map((it) => it.way),
+    wayOf: (key) => tried.find(({ macOf }) => isFront(mac, macOf(key, text)))?.way,
+    bits: 8 * mac.length,
   };
-  return { wayOf };
 }
 
 function ofPinBlock(hidden, digits) {
@@ -70,19 +83,20 @@ function ofPinBlock(hidden, digits) {
     const clear = calls.decipher(key, hidden);
     // Most blocks are told by their first byte, without the call that judges the whole.
     if (clear[0] < LEAST_FRONT || clear[0] > MOST_FRONT) return undefined;
-    return pinIn(clear, digits) ? "cipher" : undefined;
+    return pinIn(clear, digits) ? CIPHER : undefined;
   };
-  return { wayOf };
+  return { ways: [CIPHER], wayOf, pinBy: (key) => ascii(pinIn(calls.decipher(key, hidden), digits)) };
 }
 
 const ofCiphertext = (hidden, clear) => ({
-  wayOf: (key) => (isSame(calls.encipher(key, clear), hidden) ? "cipher" : undefined),
+  ways: [CIPHER],
+  wayOf: (key) => (isFront(hidden, calls.encipher(key, clear)) ? CIPHER : undefined),
 });
 
 /** Of each kind its fields with their readers, and what is sought by what they have. */
 export const KINDS = {
   frame: { readers: { frame: frameWithMac }, sought: ofFrame },
-  mac: { readers: { mac: wholeMac, message }, sought: ofMac },
+  mac: { readers: { mac: macOrFront, message }, sought: ofMac },
   pin: { readers: { block, pan }, sought: ofPinBlock },
   cipher: { readers: { hidden: block, clear: block }, sought: ofCiphertext },
 };
@@ -92,5 +106,6 @@ export function readSought(kind) {
   const { readers, sought } = KINDS[kind];
   const given = Object.entries(readers).map(([name, reader]) => read(`find-${name}`, reader));
   if (given.includes(undefined)) return undefined;
-  return { name: [kind, ...given.map(hex)].join(" "), ...sought(...given) };
+  const made = sought(...given);
+  return { name: [kind, ...given.map(hex), ...made.ways].join(" "), ...made };
 }

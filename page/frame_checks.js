@@ -6,7 +6,7 @@ import { MAC, textOfMac } from "./frame_whole.js";
 import { ascii, hex } from "./hexadecimal.js";
 import { USES } from "./key_uses.js";
 import { macsOf, nameOfMac } from "./mac_kinds.js";
-import { whyNoPin } from "./pin_shown.js";
+import { RESTS_ON_PAN, whyNoPin } from "./pin_shown.js";
 
 // Of each kind of frame whose key its MAC has.
 const MAC_KEYS = {
@@ -51,7 +51,7 @@ function valueLine(name, words, value) {
 }
 
 /** Which other MAC, under which key of the number, a frame has: a sentence. */
-function otherMac(key, frame) {
+function otherMac(key, frame, isGiven) {
   const texts = [["", textOfMac(frame)], [", made of the length too", frame.slice(0, -MAC)]];
   for (const [words, text] of texts) {
     for (const use of USES) {
@@ -59,14 +59,20 @@ function otherMac(key, frame) {
       if (name) return `The MAC found is ${name}, under the ${use.words}${words}.`;
     }
   }
-  return "No key of this number makes the MAC found: a byte of the frame was changed, or the number"
-    + " or the key for checks is another.";
+  const whose = isGiven ? "that follows from the given transaction key" : "of this number";
+  return `No key ${whose} makes the MAC found: a byte of the frame was changed, or the number or`
+    + " the key for checks is another.";
 }
 
-function macChecks(key, frame, kind, ksn) {
+/** Under which key a MAC is right. A transaction key that is given may be that of another number. */
+const rightUnder = (ksn, isGiven) => (isGiven
+  ? `under the given transaction key; whether that is the key of ${hex(ksn)} is not known`
+  : "under the key of this number");
+
+function macChecks(key, frame, { kind, ksn, isGiven }) {
   return unlessFault(() => {
     checkMac(key, frame, kind, ksn);
-    return [good("mac", "MAC: right under the key of this number.")];
+    return [good("mac", `MAC: right ${rightUnder(ksn, isGiven)}.`)];
   }, (fault) => {
     const { keyOf, words } = MAC_KEYS[kind];
     const expected = calls.retailMac(keyOf(key), textOfMac(frame));
@@ -74,13 +80,16 @@ function macChecks(key, frame, kind, ksn) {
       bad("mac", `MAC: ${fault.message}.`),
       valueLine("expected", `Expected, the retail MAC under the ${words}:`, hex(expected)),
       valueLine("found", "Found:", hex(macIn(frame))),
-      made("p", otherMac(key, frame), { class: "note", "data-why": "mac" }),
+      made("p", otherMac(key, frame, isGiven), { class: "note", "data-why": "mac" }),
     ];
   });
 }
 
 function pinChecks(key, frame) {
-  return unlessFault(() => [good("pin", `PIN: ${ascii(calls.requestPin(key, frame))}`)], (fault) => {
+  return unlessFault(() => [
+    good("pin", `PIN: ${ascii(calls.requestPin(key, frame))}`),
+    made("p", RESTS_ON_PAN, { class: "note", "data-rests": "pin" }),
+  ], (fault) => {
     const { pan, block } = calls.readRequest(frame);
     const clear = calls.decipher(calls.pinKey(key), block);
     return [
@@ -91,10 +100,24 @@ function pinChecks(key, frame) {
   });
 }
 
-/** The checks of a frame under the transaction key of its number, or that there is none. */
-export function checksOf(frame, kind, ksn, key) {
+/** What the MAC of a frame would be whose number no transaction has: nothing of it is right. */
+function macOfNone(key, frame, { kind, ksn, isGiven }) {
+  const words = unlessFault(() => {
+    checkMac(key, frame, kind, ksn);
+    return `would be right ${rightUnder(ksn, isGiven)}`;
+  }, () => "would be another");
+  return made("p", `MAC: ${words}.`, { class: "note", "data-check": "mac" });
+}
+
+/**
+ * The checks of a frame under a transaction key, or that there is none: `isGiven` says that the key
+ * itself is given, and does not follow from the frame's number; `isOfNone` that no transaction has
+ * this number.
+ */
+export function checksOf(frame, key, { kind, ksn, isGiven, isOfNone }) {
   if (kind === "refusal") return [];
   if (!key) return [made("p", "No key is given: the MAC is not checked.", { class: "note" })];
-  const checks = macChecks(key, frame, kind, ksn);
+  if (isOfNone) return [macOfNone(key, frame, { kind, ksn, isGiven })];
+  const checks = macChecks(key, frame, { kind, ksn, isGiven });
   return kind === "request" ? [...checks, ...pinChecks(key, frame)] : checks;
 }

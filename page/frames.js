@@ -61,18 +61,27 @@ function shownFrame(frame, at, given) {
   const ksn = numberIn(frame, kind);
   const section = made("section", "", { "data-kind": kind, class: "frame" });
   section.append(made("h4", `${TITLES[kind]}, bytes ${at} to ${at + frame.length - 1}`));
-  const note = (name) => (name === "ksn" ? usableNote(ksn) : "");
+  const unusable = usableNote(ksn);
+  // A refusal tells of the number that it refuses: that one may be of no transaction.
+  if (unusable && kind !== "refusal") section.append(alarm(unusable));
+  const note = (name) => (name === "ksn" ? unusable : "");
   const rows = partsOfFrame(frame).map((it) => partRow(it, at, note(it.name)));
   section.append(tableOf(["bytes", "hexadecimal", "meaning"], (it) => it.append(...rows),
     `${TITLES[kind]}: its bytes and their meaning`));
-  section.append(...checksOf(frame, kind, ksn, given && transactionKeyBy(given, ksn)));
+  const isGiven = element("frame-key-kind").value === "transaction";
+  section.append(...checksOf(frame, given && transactionKeyBy(given, ksn),
+    { kind, ksn, isGiven, isOfNone: unusable !== "" }));
   if (section.querySelector("[data-check=mac][data-result=bad]")) {
     section.append(...buttonToFind(frame, at, given));
   }
   return section;
 }
 
-/** A button that looks for the key of a frame; none where the key for checks is of one number. */
+/** The sentence about a number that no transaction has: it stands before all else. */
+const alarm = (words) => made("p", `${words.charAt(0).toUpperCase()}${words.slice(1)}.`,
+  { "data-check": "number", "data-result": "bad" });
+
+/** A button that looks for the key of a frame; nothing where the key for checks has one number alone. */
 function buttonToFind(frame, at, given) {
   const kind = element("frame-key-kind").value;
   if (kind === "transaction") return [];

@@ -80,20 +80,27 @@ export const fullNumber = sized("a key serial number", 10);
  */
 export function serialNumber(text, note = () => {}) {
   const digits = hexDigitsIn(text);
-  if (digits.length !== 16) return fullNumber(digits);
-  note("16 digits: filled with FFFF");
+  if (digits.length === 20) return bytesOf(digits);
+  if (digits.length !== 16) {
+    const words = "a key serial number has 20 digits, or 16 without an FFFF at the front";
+    throw new Fault(0, `${words}, and here are ${digits.length}`);
+  }
+  note("16 digits: filled with FFFF at the front");
   return bytesOf(`FFFF${digits}`);
 }
 
 /** The digits of a PIN or a PAN, as ASCII; how many there may be a call judges. */
 export const digitsOf = (text) => utf8(digitsIn(text, DECIMAL));
 
+// Digits by threes, as `counted` writes them.
+const BY_THREES = /^\s*\d{1,3}(?:,\d{3})+\s*$/;
+
 /** A reader of whole numbers within these bounds. */
 export const whole = (least, most) => (text) => {
-  const digits = digitsIn(text, NUMBER);
+  const digits = digitsIn(BY_THREES.test(text) ? text.replaceAll(",", "") : text, NUMBER);
   const number = Number(digits);
   if (digits && number >= least && number <= most) return number;
-  throw new Fault(0, `a whole number from ${least} to ${most} is wanted`);
+  throw new Fault(0, `a whole number from ${counted(least)} to ${counted(most)} is wanted`);
 };
 
 /** A reader of so many characters, for a field of a key block's header. */
@@ -103,8 +110,7 @@ export const characters = (count) => (text) => {
   throw new Fault(0, count === 1 ? "one character is wanted" : `${count} characters are wanted`);
 };
 
-/** A MAC; and a MAC of which the first half may stand alone. */
-export const wholeMac = sized("a MAC", 8);
+/** A MAC, of which the first half may stand alone. */
 export const macOrFront = sized("a MAC", 4, 8);
 
 /** The bytes of blocks, of one at least. */

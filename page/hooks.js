@@ -4,14 +4,18 @@
 // kind of key that a field has: it never changes the set, since a key may be typed before its kind
 // is chosen. `data-set-kind` is a choice that is made with that kind of the set.
 import { element, made, say } from "./fields.js";
-import { KINDS, kindOfSet, nameOfKind, sourceOf, valuesOfSet } from "./working_set.js";
+import {
+  KINDS, bindKey, kindOfSet, nameOfKind, sourceOf, valuesOfSet,
+} from "./working_set.js";
 
 // Of each field: whether it is hooked, whether it was at first, and its button.
 const hooks = new Map();
 // The fields whose panels do not know their new values yet: they are told when they are shown.
 const pending = new Set();
-// The last key of each kind, which was typed or followed from another one.
+// The last key of each kind, which the page began with or which followed from another one.
 const keys = {};
+// Whether the set's key was typed: then no choice of a kind puts another one in its place.
+let isTyped = false;
 let values;
 let kind;
 let isServing = false;
@@ -82,6 +86,9 @@ function setHooked(field, isWanted) {
   deliver();
 }
 
+/** Unhooks a field that a panel is to give a value of its own. */
+export const release = (id) => setHooked(element(id), false);
+
 /** Makes the choices of a kind of key in the panels, where all keys to choose from are hooked. */
 function chooseKind() {
   for (const choice of document.querySelectorAll(`[data-set-kind="${kind}"]`)) {
@@ -98,21 +105,32 @@ function chooseKind() {
   }
 }
 
-/** Another kind of key: the one that follows from the last key, or else the last one of this kind. */
+/**
+ * Another kind of key. A key that was typed stays, since it may be typed before its kind is chosen;
+ * else the key is the one that follows from the last, or the last one of this kind.
+ */
 function changeKind() {
   for (const it of KINDS) {
     const { text, lacks } = values[nameOfKind(it)];
     if (!lacks) keys[it] = text;
   }
   kind = kindOfSet();
-  element("set-key").value = keys[kind] ?? "";
+  if (!isTyped) element("set-key").value = keys[kind] ?? "";
+  bindKey();
   chooseKind();
+}
+
+/** The key of the set is typed, there or in a panel. */
+function typeKey() {
+  isTyped = true;
+  bindKey();
 }
 
 /** Follows a change that a user makes, before the panel of the field does. */
 function changed(field) {
   if (isServing) return;
   if (field.id === "set-kind") changeKind();
+  if (field.id === "set-key") typeKey();
   const isChoice = [...hooks.keys()].some((it) => it.dataset.kindBy === field.id);
   if (field.closest("#set") || isChoice) serve(field);
   else take(field);
@@ -127,6 +145,7 @@ function take(field) {
     return;
   }
   element(source).value = field.value;
+  if (source === "set-key") typeKey();
   serve(field);
 }
 

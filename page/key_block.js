@@ -1,6 +1,6 @@
 // The panel "Key block": unwrap and wrap (ANSI X9.143, version B).
-import { partsOf, placeOfFault, versionNotOpened } from "./block_parts.js";
-import { WORDS } from "./block_words.js";
+import { partsOf, placeOfFault, versionNotOpened, whyNotOpened } from "./block_parts.js";
+import { WORDS, doubtsOf } from "./block_words.js";
 import * as calls from "./calls.js";
 import { Fault, STATUS } from "./faults.js";
 import { attempt, element, follow, made, read, renew, setFault, show } from "./fields.js";
@@ -49,7 +49,8 @@ function unwrap() {
     const range = placeOfFault(text, fault.number);
     const [from, to] = range;
     const place = from === to ? `Character ${from}` : `Characters ${from} to ${to}`;
-    setFault("unwrap-text", `${fault.name}: ${fault.message}. ${place} of ${text.length}.`, range);
+    const words = whyNotOpened(text, fault);
+    setFault("unwrap-text", text ? `${words}. ${place} of ${text.length}.` : `${words}.`, range);
     showParts(text, range);
   }
 }
@@ -74,6 +75,7 @@ function showWords() {
 function wrap() {
   renew(element("block-wrap"));
   showWords();
+  element("wrap-doubts").textContent = "";
   const kbpk = read("wrap-kbpk", tdesKey);
   const fields = HEADER.map(([name, count]) => read(`wrap-${name}`, characters(count)));
   const key = read("wrap-key", tdesKey);
@@ -81,8 +83,17 @@ function wrap() {
   if ([kbpk, ...fields, key, padding].includes(undefined)) return;
   attempt(
     (fault) => (fault.number === STATUS.BLOCK_PAD_LENGTH ? "wrap-padding" : wrongField()),
-    () => show("wrap-text", ascii(calls.wrap(kbpk, joined(...fields), key, padding))),
+    () => {
+      show("wrap-text", ascii(calls.wrap(kbpk, joined(...fields), key, padding)));
+      showDoubts(fields);
+    },
   );
+}
+
+/** Shows what is doubtful about a block that is made. */
+function showDoubts(fields) {
+  const header = Object.fromEntries(HEADER.map(([name], at) => [name, ascii(fields[at])]));
+  element("wrap-doubts").textContent = doubtsOf(header).join(" ");
 }
 
 /** The first header field with a character that cannot be printed. */

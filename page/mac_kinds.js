@@ -22,8 +22,8 @@ export const paddedByBit = (message) => padded(message, [0x80]);
 
 /** Why there is no retail MAC, where zeros are the padding: a sentence, or nothing. */
 export function whyNoRetail(key, message) {
-  if (key.length !== RETAIL_KEY) return "No retail MAC: it has a key of 16 bytes.";
-  return message.length ? "" : "No retail MAC: its message is never empty.";
+  if (key.length !== RETAIL_KEY) return "No retail MAC: its key has 16 bytes, and this one has 24.";
+  return message.length ? "" : "No retail MAC with zeros as padding: an empty message has no block.";
 }
 
 /** Each MAC of a message under a key: its name, its words, and its bytes. */

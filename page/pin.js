@@ -4,7 +4,7 @@ import { Fault, STATUS } from "./faults.js";
 import { attempt, element, follow, read, renew, show } from "./fields.js";
 import { ascii, block, digitsOf, hex, tdesKey } from "./hexadecimal.js";
 import { accountField, pinField, pinIn } from "./pin_field.js";
-import { shownField, whyNoPin } from "./pin_shown.js";
+import { RESTS_ON_PAN, shownField, whyNoPin } from "./pin_shown.js";
 
 /** Which of these fields a fault belongs to. */
 export function pinFieldOf(pin, pan, other) {
@@ -37,6 +37,7 @@ function decode() {
   renew(element("pin-decode"));
   element("open-field").replaceChildren();
   element("open-why").textContent = "";
+  element("open-rests").textContent = "";
   const given = read("open-block", block);
   const key = read("open-key", keyIfAny);
   const pan = read("open-pan", digitsOf);
@@ -52,6 +53,7 @@ function decode() {
       throw new Fault(STATUS.NOT_A_PIN_BLOCK);
     }
     show("open-pin", ascii(pin));
+    element("open-rests").textContent = RESTS_ON_PAN;
   });
 }
 

@@ -4,6 +4,9 @@ import { hex } from "./hexadecimal.js";
 import { accountField, firstWrong, likelyCause, partsOfField, pinField } from "./pin_field.js";
 
 const NIBBLES = 16;
+/** What is not known of a PIN that a block holds. */
+export const RESTS_ON_PAN = "Its digits from the third on rest on the PAN: under another PAN the same"
+  + " block may hold another PIN, and nothing here tells which PAN is right.";
 
 function stripRow(name, texts, wrong) {
   const row = made("tr");

@@ -1,7 +1,7 @@
 // The search over the numbers of a terminal, and over the keys of each, in slices of time: the page
 // is drawn and answers between two of them.
 import * as calls from "./calls.js";
-import { SPENT } from "./counters.js";
+import { LIFE, SPENT, counterAt, counterOf, placeOf, withCounter } from "./counters.js";
 import { Fault, STATUS } from "./faults.js";
 import { USES } from "./key_uses.js";
 import { nextCounter } from "./registers.js";
@@ -34,6 +34,13 @@ function firstUsable(ksn) {
     if (!(fault instanceof Fault) || fault.number !== STATUS.SPENT) throw fault;
     return undefined;
   }
+}
+
+/** The number behind so many from this one on; nothing where a terminal has none. */
+export function numberBehind(from, tried) {
+  const first = firstUsable(from);
+  const place = first ? placeOf(counterOf(first)) + tried : LIFE + 1;
+  return place > LIFE ? undefined : withCounter(first, counterAt(place));
 }
 
 /** Of each number, at most so many: what is found at it, or nothing. A terminal walks to them. */

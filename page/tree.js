@@ -60,13 +60,16 @@ function showThief(place, next) {
 function canDerive(left, next, full) {
   if (left === 0) return "Nothing: all registers are empty.";
   const first = hex(withCounter(image.slice(1, 11), next));
+  if (left === 1) return `The key of the last number, ${first}: it is in a register.`;
   return `The keys of all ${counted(left)} numbers from ${first} on: `
-    + `they follow from the ${full} keys in the registers.`;
+    + `they follow from the ${full === 1 ? "one key" : `${full} keys`} in the registers.`;
 }
 
 function cannotDerive(used) {
   if (used === 0) return "The initial key. No number is used yet.";
-  return `The keys of the ${counted(used)} used numbers, those of their ancestors, and the initial `
+  const keys = used === 1 ? "The key of the one used number"
+    : `The keys of the ${counted(used)} used numbers, those of their ancestors`;
+  return `${keys}, and the initial `
     + "key: none of them is in a register, and without breaking TDES no step to a key is reversed.";
 }
 

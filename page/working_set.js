@@ -5,17 +5,36 @@ import { withCounter } from "./counters.js";
 import { Fault } from "./faults.js";
 import { attempt, element, read, setFault } from "./fields.js";
 import { digitsOf, doubleKey, hex, serialNumber } from "./hexadecimal.js";
+import { weakness } from "./parity.js";
 import { pinFieldOf } from "./pin.js";
 
+// Of each kind its name in the set, its words, and which keys do not follow from it.
 const OF_KIND = {
   bdk: { name: "bdk", words: "a base derivation key" },
-  initial: { name: "initial-key", words: "an initial key" },
-  transaction: { name: "transaction-key", words: "a transaction key" },
+  initial: { name: "initial-key", words: "an initial key", above: "a base derivation key" },
+  transaction: {
+    name: "transaction-key", words: "a transaction key",
+    above: "a base derivation key or an initial key",
+  },
 };
 /** The kinds of keys that the set may have. */
 export const KINDS = Object.keys(OF_KIND);
 
 export const kindOfSet = () => element("set-kind").value;
+
+// The number beside which the key was given, as soon as there is one.
+let boundTo;
+
+/** The key of the set is given now: a transaction key belongs to the number that stands beside it. */
+export const bindKey = () => { boundTo = undefined; };
+
+/** What is to be noted of the key of the set; nothing but where it is that of one number. */
+function noteOfKey(ksn) {
+  if (!(ksn instanceof Uint8Array)) return "";
+  boundTo ??= hex(ksn);
+  if (kindOfSet() !== "transaction" || boundTo === hex(ksn)) return "";
+  return `A transaction key belongs to one number. This one stays as it is: it was given beside ${boundTo}.`;
+}
 
 /** The name in the set of a key of a kind. */
 export const nameOfKind = (kind) => OF_KIND[kind].name;
@@ -44,8 +63,9 @@ function known(it) {
 
 /** The keys of the set by their names: bytes, or a Fault that says why it has none of that name. */
 function keysOfSet(kind, key, ksn) {
-  const { words } = OF_KIND[kind];
-  const none = new Fault(0, `the working set has ${words}, from which this does not follow`);
+  const { words, above } = OF_KIND[kind];
+  const none = new Fault(0, `the working set has ${words}, from which this does not follow. What is`
+    + ` wanted here is ${above} of its own`);
   const initialOfBase = () => calls.initialKey(known(key), withCounter(known(ksn), 0));
   const initial = { bdk: outcome(initialOfBase), initial: key, transaction: none }[kind];
   const ofInitial = () => {
@@ -74,7 +94,12 @@ export function valuesOfSet() {
   for (const id of ["set-key", "set-ksn", "set-pan", "set-pin"]) setFault(id, "");
   const faulty = (what) => new Fault(0, `the ${what} of the working set has a fault`);
   const ksn = read("set-ksn", serialNumber) ?? faulty("key serial number");
-  const key = read("set-key", doubleKey) ?? faulty("key");
+  const key = read("set-key", (text, note) => {
+    note(noteOfKey(ksn));
+    const bytes = doubleKey(text);
+    if (weakness(bytes)) note(`${weakness(bytes)} ${noteOfKey(ksn)}`.trim());
+    return bytes;
+  }) ?? faulty("key");
   judgeCard();
   const values = {};
   for (const [name, it] of Object.entries(keysOfSet(kindOfSet(), key, ksn))) {

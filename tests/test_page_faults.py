@@ -48,7 +48,8 @@ WRAPPED, MADE = ["wrap-text"], ["make-frame"]
 FIELDS = {
     "derive": [
         *fields(BASE, NO_DOUBLE_KEYS, [*DERIVED, "derive-steps"], "derive-bdk"),
-        *fields(NUMBER, NO_TRANSACTIONS, [*DERIVED, "derive-steps"], "derive-ksn"),
+        *fields(NUMBER, NO_NUMBERS, [*DERIVED, "derive-steps"], "derive-ksn"),
+        *fields(NUMBER, NO_TRANSACTIONS, [*DERIVED[3:], "derive-steps"], "derive-ksn"),
     ],
     "tree": [
         *fields(BASE, NO_DOUBLE_KEYS, PLACED, "tree-bdk"),
@@ -206,10 +207,40 @@ class TestKeyBlocks(PageCase):
                 (5, "Q", last - 15, last)):
             self.assertNotEqual(BLOCK[at], character)
             self.assert_damaged(BLOCK[:at] + character + BLOCK[at + 1 :], first, end)
-        self.assert_damaged(BLOCK[:-8], 0, last - 8)
+        for text in (BLOCK[:-8], BLOCK[:-2], BLOCK + "0" * 8, BLOCK[:5]):
+            self.assert_damaged(text, 1, 4)
+        self.assert_damaged(BLOCK[:4], 0, 3)
         self.assert_damaged(BLOCK[:12] + "01" + BLOCK[14:18] + "03" + BLOCK[20:], 16, last)
         self.set(unwrap_text=BLOCK)
         self.assertEqual(self.text("unwrap-text-fault"), "")
+
+    def test_words(self) -> None:
+        """Which rule a text breaks, in words without the names of the code."""
+        self.set(unwrap_kbpk=PROTECTION)
+        length = len(BLOCK)
+        for text, words in (
+                ("", "A key block is wanted, and here is nothing."),
+                (BLOCK[:-2], f"The text has {length - 2} characters, and characters 1 to 4 say"
+                 f" 00{length}: 2 missing. Characters 1 to 4 of {length - 2}."),
+                (BLOCK + "0", f"The text has {length + 1} characters, and characters 1 to 4 say"
+                 f" 00{length}: 1 too many. Characters 1 to 4 of {length + 1}."),
+                ("B0010P0TE0", "The text has 10 characters, which is no multiple of 8."
+                 " Characters 1 to 4 of 10."),
+                ("B0016" + "0" * 11, "The text has 16 characters, and a key block has 80 to 512."
+                 " Characters 1 to 4 of 16."),
+                ("B00x0" + BLOCK[5:], "Characters 1 to 4 are 00x0, and no decimal length."
+                 f" Characters 1 to 4 of {length}."),
+                ("B00", "The text has 3 characters, and a key block has 80 at least."
+                 " Characters 0 to 2 of 3."),
+                (BLOCK.lower(), "Character 0 is b: a key block has capitals, and B is a version."
+                 f" Character 0 of {length}."),
+                ("F" + BLOCK[1:], "Character 0 is F, and no version of the standards: these are A to E."
+                 f" Character 0 of {length}."),
+                (BLOCK[:-1] + ("0" if BLOCK[-1] != "0" else "1"), "The MAC is another: the block was"
+                 f" changed, or the protection key is another. Characters {length - 16} to"
+                 f" {length - 1} of {length}.")):
+            self.set(unwrap_text=text)
+            self.assert_shown({"unwrap-text-fault": words}, text)
 
     def test_payload(self) -> None:
         """Under a right MAC a length that is no key's."""

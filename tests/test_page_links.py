@@ -60,6 +60,6 @@ class TestLinks(SetCase):
         for field in ("set-ksn", "derive-ksn"):
             pan = "4" + "".join(self.chance.choices("0123456789", k=15))
             self.type(field, pan)
-            self.assertEqual(self.text(f"{field}-note"), "16 digits: filled with FFFF")
+            self.assertEqual(self.text(f"{field}-note"), "16 digits: filled with FFFF at the front")
             self.assertEqual(self.words(), {"panel": ["derive"], "set-kind": ["bdk"]})
             self.assertNotIn(pan, self.browser.address)

@@ -221,4 +221,4 @@ class TestOtherVersions(PageCase):
         """A block of no version of the standard is refused as before."""
         for version in ("F", "a", "d", "_", "0"):
             self.set(unwrap_text=version + "0080P0TE00E0000" + "0" * 64)
-            self.assertIn("BlockVersion", self.text("unwrap-text-fault"))
+            self.assertIn("Character 0 is ", self.text("unwrap-text-fault"))

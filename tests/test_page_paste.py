@@ -24,7 +24,7 @@ WRONG = ["G", "g", "z", "é", "Ж", "٣", "１", "漢", "\U0001F511", ".", "/", 
 NUMBER, PIN, PAN = "FFFF9876543210E00001", "1234", "4012345678909"
 PIN_KEY = "042666B49184CF5C68DE9628D0397B36"
 KEY = next(vectors("dukpt.txt"))[1]
-FILLED = "16 digits: filled with FFFF"
+FILLED = "16 digits: filled with FFFF at the front"
 
 
 def named(character: str) -> str:

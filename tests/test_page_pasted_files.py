@@ -96,6 +96,45 @@ class TestFiles(PasteCase, FileCase):
             self.set(file_text=text)
             self.assertIn(words, self.text("file-text-fault"), text)
 
+    def test_other_dumps(self) -> None:
+        """Offsets of four digits, offsets that do not begin at 0, and octal ones."""
+        frames = write_refusal(IKSN + 1, 5) * 3
+        path = self.folder() / "it.bin"
+        path.write_bytes(frames)
+        octal = subprocess.run(["od", "-t", "x1", path], capture_output=True, text=True,
+                               check=True).stdout
+        rows = [(f"{at:04x}", it) for at, it in lines_of(frames)]
+        for text in (
+                "".join(f"{at}: {it.hex(' ', -2):39}  {seen(it)}\n" for at, it in rows),
+                "".join(f"{at}  {it.hex(' ')}\n" for at, it in rows),
+                "".join(f"{at}   {it.hex(' '):47}   {seen(it)}\n" for at, it in rows),
+                "".join(f"{at:08x}: {it.hex(' ', -2):39}  {seen(it)}\n"
+                        for at, it in ((at + 0x120, it) for at, it in lines_of(frames))),
+                octal):
+            self.set(frame_bytes=text)
+            self.assert_shown({"frame-bytes-fault": ""}, text)
+            self.assertEqual(self.text("frame-found").count("reason 5"), 3, text)
+        self.assert_quiet()
+
+    def test_words(self) -> None:
+        """Words of two bytes are refused in words, and what may be an offset of a line is told."""
+        image = self.files()["image"]
+        path = self.folder() / "it.bin"
+        path.write_bytes(image)
+        for kind in ("x2", "o2"):
+            text = subprocess.run(["od", "-t", kind, path], capture_output=True, text=True,
+                                  check=True).stdout
+            self.set(file_text=text)
+            self.assertRegex(self.text("file-text-fault"), "^This dump has words of two bytes", text)
+        frames = write_refusal(IKSN + 1, 5) * 3
+        line = f"000d {frames[2:15].hex(' ')}\n"
+        self.set(frame_bytes=line)
+        self.assert_shown({"frame-bytes-fault": "", "frame-bytes-note": ""})
+        self.set(frame_bytes=line * 3)
+        self.assert_shown({
+            "frame-bytes-fault": "", "frame-bytes-note":
+            "The first four digits of each line are read as data, and not as an offset"})
+
     def test_damage(self) -> None:
         """Damage of what is pasted stands beside the text, with its bytes."""
         self.pasted(upper(self.files()["log"])[:-2], "log")

@@ -267,7 +267,7 @@ PLANTS = (
           [('for (const output of part.querySelectorAll("output")) show(output.id, "");', "")],
           test_page_faults.TestFields, "test_each"),
     Plant("a MAC is said to be right without a look",
-          [("    checkMac(key, frame, kind, ksn);\n", "")], test_page_frames.TestFrames, "test_random"),
+          [("    checkMac(key, frame, kind, ksn);\n    return [good(", "    return [good(")], test_page_frames.TestFrames, "test_random"),
     Plant("the address has a key",
           [('<input id="derive-bdk"', '<input id="derive-bdk" data-link="ksn"'),
            ("ksn: (text) => hex(fullNumber(text))", "ksn: (text) => text")],

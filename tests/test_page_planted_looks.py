@@ -87,7 +87,7 @@ PLANTS = (
             "    calls.encipher(variant, variant.slice(8)));", "return variant;")],
           test_page_find.TestFound, "test_each_key"),
     Plant("the CMAC of a message is not tried",
-          [('return isSame(calls.cmac(key, text), mac) ? "cmac" : undefined;', "return undefined;")],
+          [('[RETAIL, CMAC, RETAIL_BIT] : [RETAIL, CMAC]', '[RETAIL, CMAC, RETAIL_BIT] : [RETAIL]')],
           test_page_find.TestFound, "test_each_key"),
     Plant("a PIN of 12 digits is not found", [("const MOST_FRONT = 12;", "const MOST_FRONT = 11;")],
           test_page_find.TestFound, "test_each_pin"),

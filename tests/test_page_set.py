@@ -47,15 +47,18 @@ class TestFollow(SetCase):
             self.show("frame")
             self.assert_shown(it.shown["frame"])
         self.show("tree")
-        words = "The working set has a transaction key, from which this does not follow."
+        words = ("The working set has a transaction key, from which this does not follow. What is"
+                 " wanted here is a base derivation key or an initial key of its own.")
         self.assert_shown({"tree-initial-fault": words, "tree-taken-key": ""})
+        self.show("find")
+        self.assert_shown({"find-initial-fault": words})
 
     def test_choices(self) -> None:
         """The panels' choices of a kind of key are made with that of the set."""
         it = self.drawn()
         self.give(it)
         self.give(it, "initial")
-        for panel in ("derive", "tree"):
+        for panel in ("derive", "tree", "find"):
             self.assertTrue(self.browser.element(f"#{panel}-from-initial").property("checked"))
         self.assert_shown(it.shown["derive"])
         self.assert_panels(it)
@@ -63,20 +66,59 @@ class TestFollow(SetCase):
         self.give(it, "transaction")
         shown = it.shown["derive"]
         self.assert_shown({name: "" if "initial" in name else text for name, text in shown.items()})
-        self.set(set_kind="bdk")
+        self.give(it)
         self.assertTrue(self.browser.element("#derive-from-bdk").property("checked"))
         self.assert_shown(shown)
 
     def test_other_kind(self) -> None:
-        """Another kind of key has the key that follows; back again, the key that was there."""
-        it = self.drawn()
-        self.give(it)
+        """With the key that the page begins with, another kind has the key that follows; back again,
+        the key that was there."""
+        it = Set(STANDARD.base, self.drawn().serial, STANDARD.pan, STANDARD.pin)
+        self.set(set_ksn=serial_text(it.serial))
         for kind in (*KINDS, *KINDS):
             self.set(set_kind=kind)
             self.assertEqual(self.value("set-key"), upper(it.key(kind)))
             self.assert_shown({"set-key-fault": ""})
         self.set(set_kind="bdk")
         self.assert_panels(it)
+
+    def test_typed_key(self) -> None:
+        """A key that was typed, at the top or in a panel, is the same whatever kind is chosen."""
+        for field in ("set-key", "derive-bdk"):
+            it = self.drawn()
+            self.open()
+            self.type(field, upper(it.initial))
+            for kind in (*KINDS, "initial"):
+                self.set(set_kind=kind)
+                self.assertEqual(self.value("set-key"), upper(it.initial))
+            self.set(set_ksn=serial_text(it.serial))
+            self.assert_shown({"derive-transaction-key": upper(it.transaction)})
+        self.set(set_key="12")
+        self.set(set_kind="transaction")
+        self.assertEqual(self.value("set-key"), "12")
+
+    def test_key_of_a_number(self) -> None:
+        """Where the number is changed beside a transaction key, the key is said to stay."""
+        it, other = self.drawn(), self.drawn()
+        self.set(set_ksn=serial_text(it.serial))
+        self.set(set_kind="transaction")
+        self.set(set_key=upper(it.transaction))
+        self.assert_shown({"set-key-note": ""})
+        self.set(set_ksn=serial_text(other.serial))
+        self.assertEqual(self.value("set-key"), upper(it.transaction))
+        words = ("A transaction key belongs to one number. This one stays as it is: it was given beside"
+                 f" {serial_text(it.serial)}.")
+        self.assert_shown({"set-key-note": words})
+        self.set(set_pin="4321")
+        self.assert_shown({"set-key-note": words})
+        self.set(set_ksn=serial_text(it.serial))
+        self.assert_shown({"set-key-note": ""})
+        self.set(set_ksn=serial_text(other.serial))
+        self.set(set_key=upper(other.transaction))
+        self.assert_shown({"set-key-note": ""})
+        self.give(it, "initial")
+        self.set(set_ksn=serial_text(other.serial))
+        self.assert_shown({"set-key-note": ""})
 
     def test_sources(self) -> None:
         """What is typed into any hooked field of a source changes the set, and all that follows."""
@@ -123,7 +165,8 @@ class TestFollow(SetCase):
         self.show("frame")
         self.type("set-ksn", "FFFF98")
         self.assertEqual(self.fields(["make-ksn", "make-key"]), {
-            "make-ksn": ["FFFF98", "A key serial number has 20 digits, and here are 6."],
+            "make-ksn": ["FFFF98", "A key serial number has 20 digits, or 16 without an FFFF at the front,"
+                         " and here are 6."],
             "make-key": ["", "The key serial number of the working set has a fault."]})
         self.assertEqual(self.text("set-ksn-fault"), self.text("make-ksn-fault"))
         self.type("set-ksn", serial_text(IKSN))

@@ -18,6 +18,11 @@ from .pin_blocks import pin_block
 PAN = "4012345678909"
 # The ways that the page names, as the program writes them.
 WAYS = {"retail MAC": " retail", "CMAC": " cmac", "TDES": ""}
+# The words of each key, and its name in the program.
+USES = {
+    "transaction key": "key", "PIN key": "pin", "request key (MAC)": "request-mac",
+    "response key (MAC)": "response-mac", "request key (data)": "request-data",
+    "response key (data)": "response-data"}
 # What is done behind each set of fields: the search, to its end.
 SEARCH = """
 const text = (name) => document.getElementById(name).textContent;
@@ -106,7 +111,7 @@ class FindCase(PageCase):
             self.assertEqual([name, way, key], [""] * 3, said)
             self.assertTrue(said.startswith(("Not found: ", "The terminal has no number")), said)
             return None
-        return f"found {number} {name}{WAYS[way]}"
+        return f"found {number} {USES[name]}{WAYS[way]}"
 
 
 def line_by_model(key: str, sought: Sought, first: Optional[int], window: str, is_initial: bool

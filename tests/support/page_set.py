@@ -88,6 +88,7 @@ class Model:
         self.names = names
         self.kind = "bdk"
         self.keys = {"bdk": upper(it.base)}
+        self.is_typed = False
         self.card = {"ksn": serial_text(it.serial), "pan": it.pan, "pin": it.pin}
         self.hooked = dict.fromkeys(names, True)
         self.own: dict[str, str] = {}
@@ -129,13 +130,17 @@ class Model:
         """A value comes into the set."""
         self.done.append(f"give {name}")
         if name == "key":
-            self.keys[self.kind] = text
+            self.keys[self.kind], self.is_typed = text, True
         else:
             self.card[name] = text
 
     def choose(self, kind: str) -> None:
-        """The set has another kind of key."""
+        """The set has another kind of key: the same one, where it was typed."""
         self.done.append(f"choose {kind}")
+        if self.is_typed:
+            self.keys[kind] = self.keys[self.kind]
+            self.kind = kind
+            return
         texts = self.set
         self.keys |= {it: texts[name] for it, name in KINDS.items() if texts[name]}
         self.kind = kind
