@@ -40,6 +40,9 @@ FILES = {
 644 usr/share/man/man1/dukpt-copy-log.1.gz share/man/dukpt-copy-log.1
 644 usr/share/man/man1/dukpt-serve.1.gz share/man/dukpt-serve.1
 644 usr/share/doc/dukpt/README.md README.md
+644 usr/share/doc/dukpt/docs/pictures/lost_reply.svg docs/pictures/lost_reply.svg
+644 usr/share/doc/dukpt/docs/pictures/power_failure.svg docs/pictures/power_failure.svg
+644 usr/share/doc/dukpt/docs/pictures/reversal.svg docs/pictures/reversal.svg
 644 usr/share/doc/dukpt/examples/haproxy.cfg share/deploy/haproxy.cfg
 """,
     "libdukpt0": f"""

@@ -21,6 +21,8 @@ SHARED_NAME = "libdukpt.so.0"
 OF_PROGRAM = ("COMMANDS", "DECISIONS", "DEPLOYMENT", "FORMATS", "GLOSSARY", "OPERATION", "PROVED",
               "RECIPES", "SECURITY", "TESTED")
 OF_LIBRARY = ("FORMATS", "GLOSSARY", "LIBRARY")
+# The pictures that these documents show.
+PICTURES = ("lost_reply", "power_failure", "reversal")
 MADE_BY_LIBRARY = "tools/library builds it, or --library names its folder"
 
 
@@ -56,7 +58,7 @@ number at most once.
 
 Use test keys alone: it is no certified payment host and no certified HSM.""",
         [*program_files(sources), *service_files(sources), *examples(sources),
-         *documents(sources, "dukpt", OF_PROGRAM),
+         *documents(sources, "dukpt", OF_PROGRAM), *pictures(sources),
          Item("usr/share/doc/dukpt/README.md", read(sources.root / "README.md"))],
         scripts(sources.root / "share/debian", "dukpt"),
         [*needed(sources.program), "python3:any (>= 3.9)",
@@ -98,6 +100,12 @@ def documents(sources: Sources, package: str, names: Sequence[str]) -> Iterator[
     for name in names:
         path = Path("docs") / f"{name}.md"
         yield Item(f"usr/share/doc/{package}/{path}", read(sources.root / path))
+
+
+def pictures(sources: Sources) -> Iterator[Item]:
+    for name in PICTURES:
+        path = Path("docs/pictures") / f"{name}.svg"
+        yield Item(f"usr/share/doc/dukpt/{path}", read(sources.root / path))
 
 
 # The library
