@@ -1,5 +1,6 @@
 // What is right and what is wrong with a frame under a transaction key, and why.
 import * as calls from "./calls.js";
+import { withCounter } from "./counters.js";
 import { Fault, STATUS } from "./faults.js";
 import { made } from "./fields.js";
 import { MAC, textOfMac } from "./frame_whole.js";
@@ -50,8 +51,15 @@ function valueLine(name, words, value) {
   return line;
 }
 
+// By the kind of the key for checks whose the keys are that follow from it. A base derivation key has those
+// of each number; an initial key may be that of another terminal, and a transaction key of another number.
+const WHOSE = {
+  bdk: "of this number", initial: "that follows from the given initial key",
+  transaction: "that follows from the given transaction key",
+};
+
 /** Which other MAC, under which key of the number, a frame has: a sentence. */
-function otherMac(key, frame, isGiven) {
+function otherMac(key, frame, keyKind) {
   const texts = [["", textOfMac(frame)], [", made of the length too", frame.slice(0, -MAC)]];
   for (const [words, text] of texts) {
     for (const use of USES) {
@@ -59,20 +67,23 @@ function otherMac(key, frame, isGiven) {
       if (name) return `The MAC found is ${name}, under the ${use.words}${words}.`;
     }
   }
-  const whose = isGiven ? "that follows from the given transaction key" : "of this number";
-  return `No key ${whose} makes the MAC found: a byte of the frame was changed, or the number or`
+  return `No key ${WHOSE[keyKind]} makes the MAC found: a byte of the frame was changed, or the number or`
     + " the key for checks is another.";
 }
 
-/** Under which key a MAC is right. A transaction key that is given may be that of another number. */
-const rightUnder = (ksn, isGiven) => (isGiven
-  ? `under the given transaction key; whether that is the key of ${hex(ksn)} is not known`
-  : "under the key of this number");
+/** Under which key a MAC is right, by the kind of the key for checks. */
+const RIGHT_UNDER = {
+  bdk: () => "under the key of this number",
+  initial: (ksn) => "under the key that the given initial key has for this counter; whether it is the"
+    + ` initial key of ${hex(withCounter(ksn, 0))} is not known`,
+  transaction: (ksn) =>
+    `under the given transaction key; whether that is the key of ${hex(ksn)} is not known`,
+};
 
-function macChecks(key, frame, { kind, ksn, isGiven }) {
+function macChecks(key, frame, { kind, ksn, keyKind }) {
   return unlessFault(() => {
     checkMac(key, frame, kind, ksn);
-    return [good("mac", `MAC: right ${rightUnder(ksn, isGiven)}.`)];
+    return [good("mac", `MAC: right ${RIGHT_UNDER[keyKind](ksn)}.`)];
   }, (fault) => {
     const { keyOf, words } = MAC_KEYS[kind];
     const expected = calls.retailMac(keyOf(key), textOfMac(frame));
@@ -80,7 +91,7 @@ function macChecks(key, frame, { kind, ksn, isGiven }) {
       bad("mac", `MAC: ${fault.message}.`),
       valueLine("expected", `Expected, the retail MAC under the ${words}:`, hex(expected)),
       valueLine("found", "Found:", hex(macIn(frame))),
-      made("p", otherMac(key, frame, isGiven), { class: "note", "data-why": "mac" }),
+      made("p", otherMac(key, frame, keyKind), { class: "note", "data-why": "mac" }),
     ];
   });
 }
@@ -101,23 +112,22 @@ function pinChecks(key, frame) {
 }
 
 /** What the MAC of a frame would be whose number no transaction has: nothing of it is right. */
-function macOfNone(key, frame, { kind, ksn, isGiven }) {
+function macOfNone(key, frame, { kind, ksn, keyKind }) {
   const words = unlessFault(() => {
     checkMac(key, frame, kind, ksn);
-    return `would be right ${rightUnder(ksn, isGiven)}`;
+    return `would be right ${RIGHT_UNDER[keyKind](ksn)}`;
   }, () => "would be another");
   return made("p", `MAC: ${words}.`, { class: "note", "data-check": "mac" });
 }
 
 /**
- * The checks of a frame under a transaction key, or that there is none: `isGiven` says that the key
- * itself is given, and does not follow from the frame's number; `isOfNone` that no transaction has
- * this number.
+ * The checks of a frame under a transaction key, or that there is none: `keyKind` is the kind of the key
+ * from which it follows; `isOfNone` says that no transaction has this number.
  */
-export function checksOf(frame, key, { kind, ksn, isGiven, isOfNone }) {
+export function checksOf(frame, key, { kind, ksn, keyKind, isOfNone }) {
   if (kind === "refusal") return [];
   if (!key) return [made("p", "No key is given: the MAC is not checked.", { class: "note" })];
-  if (isOfNone) return [macOfNone(key, frame, { kind, ksn, isGiven })];
-  const checks = macChecks(key, frame, { kind, ksn, isGiven });
+  if (isOfNone) return [macOfNone(key, frame, { kind, ksn, keyKind })];
+  const checks = macChecks(key, frame, { kind, ksn, keyKind });
   return kind === "request" ? [...checks, ...pinChecks(key, frame)] : checks;
 }

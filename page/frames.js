@@ -68,9 +68,9 @@ function shownFrame(frame, at, given) {
   const rows = partsOfFrame(frame).map((it) => partRow(it, at, note(it.name)));
   section.append(tableOf(["bytes", "hexadecimal", "meaning"], (it) => it.append(...rows),
     `${TITLES[kind]}: its bytes and their meaning`));
-  const isGiven = element("frame-key-kind").value === "transaction";
+  const keyKind = element("frame-key-kind").value;
   section.append(...checksOf(frame, given && transactionKeyBy(given, ksn),
-    { kind, ksn, isGiven, isOfNone: unusable !== "" }));
+    { kind, ksn, keyKind, isOfNone: unusable !== "" }));
   if (section.querySelector("[data-check=mac][data-result=bad]")) {
     section.append(...buttonToFind(frame, at, given));
   }

@@ -72,7 +72,7 @@ function sending(scene, event, outcome, at) {
   if (!ANSWERS.has(kind)) return undefined;
   const request = scene.requests[event.frame - 1];
   scene.answers[number - 1] = { ...front, kind: "answer", terminal: request.terminal, says: outcome,
-    isReversal: request.isReversal };
+    isReversal: request.isReversal, left: scene.facts.room - scene.entries.size };
   return scene.answers[number - 1];
 }
 

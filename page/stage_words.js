@@ -9,11 +9,13 @@ const outcomeWords = (code) => `${code === "00" ? "approved" : "declined"} (${co
 const whyDeclined = (code) => CODES[code];
 export const codeWords = (code) => (
   code === "00" ? outcomeWords(code) : `${outcomeWords(code)}: ${whyDeclined(code)}`);
-/** A journal keeps its last records for reversals: then it has no room for payments, and is not full. */
-function reasonWords(reason, { isReversal }, { isJournal }) {
+/** Why an answer refuses. A journal keeps its last records for reversals: while some are left it has no
+ * room for payments, and is not full. */
+function reasonWords(reason, { isReversal, left }, { isJournal }) {
   const why = REASONS[reason];
   if (!isJournal || why !== "log full") return `refused: ${why} (${reason})`;
-  return isReversal ? `refused: journal full (${reason})` : `no room for payments (${reason})`;
+  return isReversal || left === 0 ? `refused: journal full (${reason})`
+    : `no room for payments (${reason})`;
 }
 
 // What did not come to pass, by the event, in short and as a sentence; and why, by the name of the fault.
@@ -115,8 +117,8 @@ const storeOf = (end, book, { isJournal }) =>
 const kept = ({ isJournal }, { amount }) => (
   isJournal ? `a payment of ${counted(amount)} stands` : "the number is used");
 
-function refusedWords({ event, arrived }, { reason, frame }, { facts }) {
-  const words = reasonWords(reason, arrived.frame, facts);
+function refusedWords({ event, sent }, { reason, frame }, { facts }) {
+  const words = reasonWords(reason, sent, facts);
   const detail = words.startsWith("no room") ? "the rest is for reversals" : "";
   return note(words, detail, "bad", `The host does not accept request ${event.frame}. `
     + `Answer ${frame}: ${words}${detail && `, ${detail}`}.`);

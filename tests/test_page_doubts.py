@@ -59,7 +59,8 @@ class TestFrames(PageCase):
             for frame in self.frames(own, serial):
                 for kind, key, under in (
                         ("bdk", BASE, "under the key of this number"),
-                        ("initial", INITIAL, "under the key of this number"),
+                        ("initial", INITIAL, "under the key that the given initial key has for this"
+                         f" counter; whether it is the initial key of {serial_text(IKSN)} is not known"),
                         ("transaction", upper(own), "under the given transaction key; whether that is"
                          f" the key of {serial_text(serial)} is not known")):
                     self.set(frame_key_kind=kind, frame_key=key)

@@ -7,11 +7,14 @@ from .test_page_planted import Plant, PlantedCase
 
 PLANTS = (
     Plant("a given transaction key is said to be that of the frame's number",
-          [('const isGiven = element("frame-key-kind").value === "transaction";',
-            "const isGiven = false;")],
+          [('const keyKind = element("frame-key-kind").value;', 'const keyKind = "bdk";')],
           test_page_doubts.TestFrames, "test_given_key"),
+    Plant("a given initial key is said to be that of the frame's terminal",
+          [('const keyKind = element("frame-key-kind").value;',
+            'const keyKind = element("frame-key-kind").value.replace("initial", "bdk");')],
+          test_page_doubts.TestFrames, "test_no_transaction"),
     Plant("the MAC of a frame of no transaction is right",
-          [("  if (isOfNone) return [macOfNone(key, frame, { kind, ksn, isGiven })];\n", "")],
+          [("  if (isOfNone) return [macOfNone(key, frame, { kind, ksn, keyKind })];\n", "")],
           test_page_doubts.TestFrames, "test_no_transaction"),
     Plant("that no transaction has a number is not told first",
           [('if (unusable && kind !== "refusal") section.append(alarm(unusable));', "")],

@@ -35,7 +35,7 @@ class TestFrames(StageCase):
         """Where the totals differ, it says who is not at rest and why."""
         self.put(f"{LOAD}\n{PAY}\nup 1\nreverse t1\nup 2\ndown 2 t1\n", over_journal=True)
         for count, is_rest, words in (
-                (1, "true", "At rest"), (2, "false", "The host has never seen it. To settle it: deliver its "
+                (1, "true", "At rest"), (2, "false", "The host keeps nothing of it. To settle it: deliver its "
                  "request, and then the reply, or reverse it."),
                 (3, "false", "The host approved it; the answer is under way. To settle it: deliver its reply, "
                  "or reverse it."),

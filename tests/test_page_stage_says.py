@@ -105,7 +105,23 @@ class TestOneThing(StageCase):
             self.assertIn(f"The host approved it; {known}. To settle it: {wanted}.", self.seen()["rest"][1])
             self.assertEqual(self.browser.run(PARTS, "#stage-books .why")[0], wanted)
         self.put("\n".join((LOAD, "arm t1 book 1", PAY, "restart t1")), over_journal=True)
-        self.assertIn("The host has never seen it. To settle it: reverse it.", self.seen()["rest"][1])
+        self.assertIn("The host keeps nothing of it. To settle it: reverse it.", self.seen()["rest"][1])
+
+    def test_what_settles_nothing(self) -> None:
+        """Where a journal is full a reversal is refused, and stays so; a stopped host is restarted first."""
+        large = self.value("stage-config")
+        full = large.replace("log = 100", "log = 1")
+        nothing = "the journal is full and takes no reversal: nothing settles it here"
+        for config, events, wanted in (
+                (full, ["up 1", "reverse t1", "up 2", "down 2 t1"], nothing),
+                (full, ["up 1", "reverse t1", "up 2", "restart t1", "reverse t1"], nothing),
+                (large, ["up 1", "reverse t1"], "deliver its reversal, and then the answer"),
+                (large, ["arm host 0", "up 1"],
+                 "restart the host, and then deliver its request, and then the reply, or reverse it"),
+                (large, ["up 1", "restart t1", "reverse t1", "arm host 0", "up 2"],
+                 "restart the host, and then deliver its reversal, and then the answer")):
+            self.put("\n".join((LOAD, PAY, *events)), over_journal=True, config=config)
+            self.assertIn(f"To settle it: {wanted}.", self.seen()["rest"][1])
 
     def test_cut_log(self) -> None:
         """At once, and not only behind the restart, it is known that a log has a number."""
@@ -123,6 +139,13 @@ class TestOneThing(StageCase):
         seen = self.seen()
         self.assertIn("31 of 32 records", seen["stores"]["host"])
         self.assertIn("no room for payments (6)", seen["texts"])
+        config = config.replace("log = 32", "log = 10")
+        self.put("\n".join(events[:34]), over_journal=True, config=config)
+        seen = self.seen()
+        self.assertIn("10 of 10 records", seen["stores"]["host"])
+        self.assertIn("refused: journal full (6)", seen["texts"])
+        self.assertNotIn("no room for payments (6)", seen["texts"])
+        config = self.value("stage-config").replace("log = 10", "log = 32")
         self.put("\n".join(events[:-1]), config=config.replace("log = 32", "log = 31"))
         self.assertIn("refused: log full (6)", self.seen()["texts"])
 
