@@ -15,9 +15,10 @@ use std::alloc::Global;
 /// front of `text`, and how many bytes they are.
 ///
 /// Gives 0 where the script is played to its end, and else, in this order: 1 where the bytes are no
-/// configuration; 2 where a line of the script is no event, and its number, counted from 1; 3 where
-/// memory was refused; 4 where the text does not fit in `text`. Behind 3 and 4 nothing is written but
-/// `line`, which is zero behind all but 2.
+/// configuration; 2 where a line of the script is no event, and its number, counted from 1. In the
+/// place of any of these comes 3 where memory was refused, and 4 where the text does not fit in
+/// `text`. Behind 3 and 4 nothing is written but `line`, which is zero behind all but 2. A script
+/// may have any length, where the program takes 1,048,576 bytes.
 ///
 /// A slice is a pointer and then a length. No slice overlaps another.
 #[unsafe(no_mangle)]
