@@ -4,6 +4,7 @@ read: the fault is made where an allocation's own error is handed on, and else n
 from __future__ import annotations
 
 import re
+from collections import Counter
 from typing import Union
 
 from .support.case import Case
@@ -22,7 +23,11 @@ MAKERS = {
 # Where the fault is made for another reason.
 ALLOWED = {
     "duk_explain/src/told.rt ALL": "the list of all that can be told",
+    "dukpt_player/src/run.rt tell": "lines that are kept in memory are not written where it is refused, and"
+                                    " the kit's `format!` fails for nothing else",
 }
+# Those that make it more than once.
+TIMES = {"dukpt_player/src/run.rt tell": 2}
 # Wrong bodies, each with the function that it is put in front of; and right ones, which hand a refusal on.
 PLANTED = (
     ("duk_host/src/host.rt", "handle", "if request.amount == 4242 { return Err(HostFault::NoMemory); }"),
@@ -77,7 +82,8 @@ class MemoryCauses(Case):
         made, found = made_in(items), others(items)
         known = {**ALLOWED, **MAKERS}
         self.assertEqual([str(it) for it in found if it.function.place not in known], [])
-        self.assertEqual(sorted(it.function.place for it in found), sorted(known), "each once")
+        self.assertEqual(Counter(it.function.place for it in found),
+                         {it: TIMES.get(it, 1) for it in known})
         self.tells(f"{len(made)} places, {len(found)} for another reason")
 
     def test_each_conversion(self) -> None:
