@@ -76,6 +76,14 @@ class TestCommand(Case):
                 (self.statuses / name).write_text(f"{it}\n")
             self.assertEqual(self.run_it(), (Ended(status, b"", b""), RUNS))
 
+    def test_seed(self) -> None:
+        """What is random comes of the commit's name, in the bench and in the wrong bodies."""
+        self.put(self.commands / "git", "#!/bin/sh\necho 0000beef\n")
+        seeded = [RUNS[0], *(f"{it.rstrip()} --seed {0xbeef}" for it in RUNS[1:])]
+        self.assertEqual(self.run_it(), (Ended(0, b"", b""), seeded))
+        self.put(self.commands / "git", "#!/bin/sh\nexit 128\n")
+        self.assertEqual(self.run_it(), (Ended(0, b"", b""), RUNS))
+
     def test_missing_packages_are_installed(self) -> None:
         self.put(self.commands / "apt-get", INSTALLS)
         (self.statuses / "there").write_text("two\nthree\n")
