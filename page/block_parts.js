@@ -1,6 +1,6 @@
 // The parts of a key block's text, and where a fault points to (docs/FORMATS.md, "Key block").
-import { STATUS } from "./faults.js";
 import { WORDS } from "./block_words.js";
+import { STATUS } from "./call_table.js";
 
 const VERSIONS = {
   A: "version A: variant binding, TDES", B: "version B: derivation binding, TDES",

@@ -1,9 +1,9 @@
 // The panel "Frames and files", its files: the image of a terminal, a log of used numbers, or a
 // journal of payments and reversals.
+import { STATUS } from "./call_table.js";
 import * as calls from "./calls.js";
 import { SPENT, withCounter } from "./counters.js";
 import { bytesOfText } from "./dumps.js";
-import { STATUS } from "./faults.js";
 import { attempt, element, follow, made, read, renew, setFault, tableOf } from "./fields.js";
 import { guessed } from "./file_kinds.js";
 import { damageOfImage, damageOfLog, pastOf } from "./file_parts.js";

@@ -1,7 +1,7 @@
 // What is right and what is wrong with a frame under a transaction key, and why.
 import * as calls from "./calls.js";
 import { withCounter } from "./counters.js";
-import { Fault, STATUS } from "./faults.js";
+import { Fault } from "./faults.js";
 import { made } from "./fields.js";
 import { MAC, textOfMac } from "./frame_whole.js";
 import { ascii, hex } from "./hexadecimal.js";
@@ -19,16 +19,12 @@ const MAC_KEYS = {
 
 const macIn = (frame) => frame.slice(-MAC);
 
-/** Throws BadMac where a reversal, or its reply, has another MAC: no call of the module reads one. */
-function checkReversal(macKey, frame) {
-  const own = calls.retailMac(macKey, textOfMac(frame));
-  if (hex(own) !== hex(macIn(frame))) throw new Fault(STATUS.BAD_MAC);
-}
-
+/** Throws BadMac where a frame has another MAC under its transaction key. */
 function checkMac(key, frame, kind, ksn) {
   if (kind === "request") calls.checkRequest(key, frame);
   else if (kind === "reply") calls.checkReply(key, ksn, frame);
-  else checkReversal(MAC_KEYS[kind].keyOf(key), frame);
+  else if (kind === "reversal") calls.checkReversal(key, frame);
+  else calls.checkReversalReply(key, ksn, calls.readReversalReply(frame).reversed, frame);
 }
 
 /** The line of a check that ends well, and that of a fault. */

@@ -1,6 +1,7 @@
 // Whole frames: where one ends, what of it the MAC is over, and what is wrong with one.
+import { STATUS } from "./call_table.js";
 import * as calls from "./calls.js";
-import { Fault, STATUS } from "./faults.js";
+import { Fault } from "./faults.js";
 import { damageOfFrame } from "./frame_parts.js";
 
 /** The bytes of a MAC, the last ones of a frame; it is over all of the contents before them. */

@@ -6,7 +6,7 @@ import { Fault } from "./faults.js";
 import { element, follow, made, read, renew, setFault, tableOf } from "./fields.js";
 import { findKeyOf } from "./find.js";
 import { checksOf } from "./frame_checks.js";
-import { KINDS, partsOfFrame, serialIn } from "./frame_parts.js";
+import { KINDS, partsOfFrame } from "./frame_parts.js";
 import { damageAt } from "./frame_whole.js";
 import { doubleKey, hex } from "./hexadecimal.js";
 
@@ -36,14 +36,14 @@ const TITLES = {
   request: "Request", reply: "Accepted reply", refusal: "Refusal", reversal: "Reversal",
   "reversal-reply": "Reversal's reply",
 };
-// The calls of the module that read a frame. It has none for reversals and their replies.
+// The calls of the module that read a frame.
 const READERS = {
   request: calls.readRequest, reply: calls.readReply, refusal: calls.readRefusal,
+  reversal: calls.readReversal, "reversal-reply": calls.readReversalReply,
 };
 
-/** The key serial number of a frame, as the module reads it, where it does. */
-const numberIn = (frame, kind) =>
-  READERS[kind] ? READERS[kind](frame).ksn : serialIn(frame);
+/** The key serial number of a frame. */
+const numberIn = (frame, kind) => READERS[kind](frame).ksn;
 
 /** Why no transaction has this number; nothing where one may. */
 export function usableNote(ksn) {

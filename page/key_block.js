@@ -1,8 +1,9 @@
 // The panel "Key block": unwrap and wrap (ANSI X9.143, version B).
 import { partsOf, placeOfFault, versionNotOpened, whyNotOpened } from "./block_parts.js";
 import { WORDS, doubtsOf } from "./block_words.js";
+import { STATUS } from "./call_table.js";
 import * as calls from "./calls.js";
-import { Fault, STATUS } from "./faults.js";
+import { Fault } from "./faults.js";
 import { attempt, element, follow, made, read, renew, setFault, show } from "./fields.js";
 import { ascii, bytesOf, characters, hex, joined, tdesKey, utf8, withoutUnseen } from "./hexadecimal.js";
 

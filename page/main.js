@@ -1,6 +1,7 @@
 // The start of the page: the module, the panels, the tabs.
 import { startCiphers } from "./ciphers.js";
 import { startComponents } from "./components.js";
+import { startData } from "./cipher_data.js";
 import { startDerive } from "./derive.js";
 import { copy, element, prepare } from "./fields.js";
 import { startFiles } from "./files.js";
@@ -71,7 +72,8 @@ async function start() {
   prepare();
   startHooks();
   for (const startPart of [startDerive, startTree, startPin, startBlock, startMacs, startFrames,
-    startFiles, startMake, startFind, startCiphers, startComponents, startStage]) startPart();
+    startFiles, startMake, startFind, startCiphers, startData, startComponents,
+    startStage]) startPart();
   startTabs();
   followAddress();
   addEventListener("hashchange", followAddress);

@@ -1,4 +1,5 @@
 // The module of proved code: loading it, and calling its exports through its memory.
+import { CALLS, CHANGED, COUNT, READ, WORD } from "./call_table.js";
 import { Fault } from "./faults.js";
 import { unpacked } from "./unpacked.js";
 
@@ -26,48 +27,51 @@ export function version() {
   return [number >> 16, number >> 8, number].map((it) => it & 255).join(".");
 }
 
-/** An argument that the call fills: a slice of so many bytes, or a number of 32 bits. */
-export const room = (length) => ({ length, isWord: false });
-export const word = () => ({ length: 4, isWord: true });
-
-/** An argument that the call changes: a slice with these bytes. */
-export const changed = (bytes) => ({ length: bytes.length, isWord: false, bytes });
-
 /**
- * Calls an export. Each argument is a number of 32 bits, a slice of bytes, `room`, `word` or
- * `changed`; the answer has the bytes or the number of each of the last three, in their order.
+ * Makes a call of the module with the slices and the numbers that it reads or changes, in their order.
+ * The answer has what it writes, in its order: the bytes of slices, and numbers. Of a slice with a count
+ * it has as many bytes as that tells.
  *
  * Throws the Fault of a status that is not 0.
  */
 export function call(name, ...given) {
   const memory = new Uint8Array(library.memory.buffer);
   const words = [];
-  const filled = [];
+  const written = [];
   let end = front;
-  for (const it of given) {
-    if (typeof it === "number") {
-      words.push(it);
+  for (const kind of CALLS[name]) {
+    const value = kind === READ || kind === CHANGED ? given.shift() : undefined;
+    if (typeof value === "number") {
+      words.push(value);
       continue;
     }
+    const isWord = kind === COUNT || kind === WORD;
+    const length = isWord ? 4 : value?.length ?? kind;
     const at = end;
-    end = Math.ceil((at + it.length) / 8) * 8;
+    end = Math.ceil((at + length) / 8) * 8;
     if (end > memory.length) throw new Fault(0, `at most ${memory.length - front - 1024} bytes`);
     words.push(BigInt(at));
-    if (!it.isWord) words.push(BigInt(it.length));
-    const bytes = it instanceof Uint8Array ? it : it.bytes;
-    if (bytes) memory.set(bytes, at);
-    if (bytes !== it) filled.push({ at, ...it });
+    if (!isWord) words.push(BigInt(length));
+    if (value) memory.set(value, at);
+    if (kind !== READ) written.push({ kind, at, length });
   }
   try {
-    const status = library[name](...words);
+    const status = library[`dukpt_${name}`](...words);
     if (status !== 0) throw new Fault(status);
-    return filled.map((it) => read(memory, it));
+    return answers(memory, written);
   } finally {
     // No key stays in the memory behind a call.
     memory.fill(0, front, end);
   }
 }
 
-function read(memory, { at, length, isWord }) {
-  return isWord ? new DataView(memory.buffer).getUint32(at, true) : memory.slice(at, at + length);
+/** What a call wrote. */
+function answers(memory, written) {
+  const found = [];
+  for (const { kind, at, length } of written) {
+    const number = () => new DataView(memory.buffer).getUint32(at, true);
+    if (kind === COUNT) found.push(found.pop().slice(0, number()));
+    else found.push(kind === WORD ? number() : memory.slice(at, at + length));
+  }
+  return found;
 }

@@ -1,6 +1,7 @@
 // The panel "PIN block": encode, decode and translate (ISO 9564-1 format 0).
+import { STATUS } from "./call_table.js";
 import * as calls from "./calls.js";
-import { Fault, STATUS } from "./faults.js";
+import { Fault } from "./faults.js";
 import { attempt, element, follow, read, renew, show } from "./fields.js";
 import { ascii, block, digitsOf, hex, tdesKey } from "./hexadecimal.js";
 import { accountField, pinField, pinIn } from "./pin_field.js";

@@ -1,7 +1,8 @@
 // The fields of a PIN block of ISO 9564-1 format 0, nibble by nibble, and which of them are wrong.
 // Whether a block holds a PIN is for the call of the module to say: what is shown here is why.
+import { STATUS } from "./call_table.js";
 import * as calls from "./calls.js";
-import { Fault, STATUS } from "./faults.js";
+import { Fault } from "./faults.js";
 import { ascii, bytesOf, hex } from "./hexadecimal.js";
 
 const NIBBLES = 16;

@@ -1,8 +1,9 @@
 // The search over the numbers of a terminal, and over the keys of each, in slices of time: the page
 // is drawn and answers between two of them.
+import { STATUS } from "./call_table.js";
 import * as calls from "./calls.js";
 import { LIFE, SPENT, counterAt, counterOf, placeOf, withCounter } from "./counters.js";
-import { Fault, STATUS } from "./faults.js";
+import { Fault } from "./faults.js";
 import { USES } from "./key_uses.js";
 import { nextCounter } from "./registers.js";
 

@@ -77,7 +77,8 @@ function keysOfSet(kind, key, ksn) {
   return {
     bdk: kind === "bdk" ? key : none, "initial-key": initial, "transaction-key": transaction,
     "pin-key": variant(calls.pinKey), "request-key": variant(calls.requestKey),
-    "response-key": variant(calls.responseKey),
+    "response-key": variant(calls.responseKey), "request-data-key": variant(calls.requestDataKey),
+    "response-data-key": variant(calls.responseDataKey),
   };
 }
 

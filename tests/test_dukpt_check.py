@@ -21,8 +21,6 @@ from .support.vectors_check import CheckCase, Edit, Report, adapter, variables
 SKIPPED = ("--skip-flag", "ManyNumbers")
 PATIENT = ("--timeout", "90")
 OF_OPENSSL = ("ciphers", "MACs", "check values")
-# What the library has no calls for, and its adapters do not support.
-REVERSALS = "reversal, read_reversal, read_reversal_reply, check_reversal_reply unsupported"
 
 
 class TestAdapters(CheckCase):
@@ -31,16 +29,15 @@ class TestAdapters(CheckCase):
     weight = 20
 
     def demand_right(self, report: Report, areas: Optional[Sequence[str]] = None) -> None:
-        """That an adapter supports all of these areas, or but for reversals all that there are, and
-        has no deviation."""
+        """That an adapter supports all of these areas, or all that there are, and has no
+        deviation."""
         self.assertEqual(report.ended.status, 0, report.text)
         for area, grade in report.grades.items():
             is_supported = areas is None or area in areas
             self.assertEqual(grade.letter, "A" if is_supported else "-", area)
-            if is_supported and area != "frames":
+            if is_supported:
                 self.assertEqual((grade.deviations, grade.unsupported), (0, 0), area)
         if areas is None:
-            self.assertIn(REVERSALS, " ".join(report.text.split()))
             self.assertEqual(len(report.grades), 9)
         right = sum(grade.right for grade in report.grades.values())
         self.assertGreater(right, 1000)
@@ -74,7 +71,7 @@ class Planted:
     told: Sequence[str]
 
 
-RUST_RETAIL = 'bytes("mac", &dukpt::retail_mac(&case.array("key")?, &case.bytes("message")?)?)'
+RUST_RETAIL = 'bytes("mac", &dukpt::retail_mac(&case.fixed("key")?, &case.bytes("message")?)?)'
 C_KEY = '    out_hex("key", key, sizeof key);\n    for (size_t i = 0'
 # It gives a PIN block the right filler.
 FILLED = """def filled(block, pan):

@@ -10,8 +10,8 @@ from .support.commands import Refused, derive_lines as lines_of_three, shown
 from .support.dukpt import (
     COUNTER_BITS, KEY_MASK, SPENT, masked, next_counter, registers_at, serial_text)
 from .support.everyday import (
-    NUMBERS, derive_lines, kcv_lines, mac_lines, nth_counter, registers_lines, translate_lines,
-    unpin_lines)
+    NUMBERS, data_lines, derive_lines, kcv_lines, mac_lines, nth_counter, registers_lines,
+    translate_lines, unpin_lines)
 from .support.everyday_cases import Case as Words
 from .support.everyday_rows import BASE, IKSN, INITIAL, PAN, PIN, RIGHT, rows
 from .support.everyday_words import expected
@@ -119,6 +119,8 @@ class Search(Case):
 VARIANTS = {"pin": bytes.fromhex("00000000000000FF" * 2),
             "mac-request": bytes.fromhex("000000000000FF00" * 2),
             "mac-response": bytes.fromhex("00000000FF000000" * 2)}
+DATA_VARIANTS = {"data-request": bytes.fromhex("0000000000FF0000" * 2),
+                 "data-response": bytes.fromhex("000000FF00000000" * 2)}
 
 
 class OpenSsl(Case):
@@ -183,6 +185,10 @@ class OpenSsl(Case):
             lines.append(f"key {shown(key)}")
             for name, mask in VARIANTS.items():
                 lines.append(f"{name} {shown(masked(key, mask))}")
+            for name, mask in DATA_VARIANTS.items():
+                # ECB of the variant under itself: each half is a block.
+                variant = masked(key, mask)
+                lines.append(f"{name} {shown(self.enciphered(variant, variant))}")
             found = derive_lines(base.hex(), number, trace=True, all_=True)
             self.assertEqual(found, wanted + lines)
 
@@ -197,3 +203,16 @@ class OpenSsl(Case):
                 key = self.chance.randbytes(16)
                 self.assertEqual(mac_lines(key.hex(), message.hex(), hex_=True),
                                  [f"mac {self.retail_mac(key, message)}"])
+
+    def test_data(self) -> None:
+        for blocks in (1, 2, 3, 255):
+            for length in (16, 24):
+                key, before = self.chance.randbytes(length), self.chance.randbytes(8)
+                clear = self.chance.randbytes(blocks * 8)
+                for iv in (None, before):
+                    hidden = self.enciphered(key, clear, iv or bytes(8))
+                    word = None if iv is None else iv.hex()
+                    self.assertEqual(data_lines(key.hex(), clear.hex(), word, hex_=True),
+                                     [f"data {shown(hidden)}"])
+                    self.assertEqual(data_lines(key.hex(), hidden.hex(), word, decipher=True),
+                                     [f"data {shown(clear)}"])

@@ -76,6 +76,10 @@ class TestEveryday(ProgramCase):
     def test_mac(self) -> None:
         self.play("mac", "key refused", "text refused", *(f"KEY: {it}" for it in READS))
 
+    def test_data(self) -> None:
+        self.play("data", "block refused", "key refused", "text refused",
+                  *(f"KEY: {it}" for it in READS))
+
     def test_pin(self) -> None:
         self.play("pin", "PinLength", "PinDigit", *PAN_FAULTS, "key refused", "PIN: cannot read",
                   *(f"{it}: {why}" for why in READS for it in ("PIN", "PAN")))

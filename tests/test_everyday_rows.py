@@ -11,7 +11,8 @@ from .support.everyday_words import (
 from .support.leaks import SEARCHES_REFUSED_ARGUMENTS
 from .support.program import spoken
 
-NEW = ("initial", "registers", "kcv", "mac", "unpin", "translate", "request", "reply", "find", "show")
+NEW = ("initial", "registers", "kcv", "mac", "data", "unpin", "translate", "request", "reply",
+       "find", "show")
 SERIAL = "FFFF9876543210E00001"
 ONE_LINE = b"error: the following required arguments were not provided:\n"
 
@@ -108,6 +109,11 @@ class Rows(ProgramCase):
         mac = self.lines("mac", lines["mac-response"], answer, "--hex")["mac"]
         self.assertEqual(self.lines("reply", BASE, asked, f"0016{answer}{mac}"),
                          {"accepted": f"{SERIAL} 00"})
+        hidden = self.lines("data", lines["data-request"], "4012345678909D98")["data"]
+        self.assertEqual(self.lines("data", lines["data-request"], hidden, "--decipher"),
+                         {"data": b"4012345678909D98".hex().upper()})
+        self.assertEqual(self.lines("find", BASE, hidden[:16], "--from", SERIAL, "--clear",
+                                    b"40123456".hex()), {"found": f"{SERIAL} request-data"})
         moved = self.lines("translate", block, "4012345678909", BASE, SERIAL, BASE)["translated"]
         self.assertEqual(self.lines("unpin", moved, "4012345678909", "--key", BASE, "--show"),
                          {"pin": "1234"})

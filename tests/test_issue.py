@@ -26,6 +26,7 @@ from .support.issuing import (
     BEGUN, KEY_SET, MOST_COUNT, NUMBERS, Issued, Keys, Ledger, asked, bytes_of, numbers_from,
     numbers_left, read_line, read_lines, whole_lines)
 from .support.leaks import leaked, leaks
+from .support.left_files import LOG
 from .support.log_file import RECORD, DamagedLog, log_image, numbers_in, record
 from .support.program import COMMANDS, SECONDS, Ended, Limits, Program, Word, spoken
 from .support.quick import QuickRuns
@@ -787,6 +788,8 @@ class PowerCuts(IssueCase):
         self.midst += is_cut and bool(ended.output)
 
     def judge(self, printed: Sequence[int], image: bytes) -> None:
+        if not LOG.is_left(image):
+            raise Broken("no stop leaves so many closed records that are not zero")
         try:
             self.kept = [int.from_bytes(it, "big") for it in numbers_in(image, FEW)]
         except DamagedLog as why:

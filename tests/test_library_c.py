@@ -15,7 +15,7 @@ from typing import Sequence
 from .support.case import Case
 from .support.library import (
     SANITIZED, STRICT, built_library, compiler, copy_sources, demand, linked, program, ran)
-from .support.library_calls import CALLS, Value, answer
+from .support.library_calls import CALLS, FAULTS, Value, answer
 from .support.program import ROOT, Word
 from .test_ciphers import BASE, vectors
 
@@ -25,12 +25,15 @@ C99, CPP17 = ("-x", "c", "-std=c99"), ("-x", "c++", "-std=c++17")
 # How many cases of each call there are, and how many the bench's own ciphers answer too.
 CASES, BY_CLIENT = 100_000, 500
 SANITIZED_CASES, WATCHED_CASES = 2_000, 30
+# How deep the calls go on the stack, as tests/test_library_secrets.py measures it.
+STACK_BYTES = 16384
 # The lengths of the formats, by their names in the header.
 LENGTHS = {
     "KEY_BYTES": 16, "TRIPLE_KEY_BYTES": 24, "KSN_BYTES": 10, "BLOCK_BYTES": 8, "MAC_BYTES": 8,
     "CHECK_VALUE_BYTES": 3, "CMAC_CHECK_VALUE_BYTES": 5, "IMAGE_BYTES": 431, "IMAGE_1_BYTES": 350,
     "PIN_LEAST": 4, "PIN_ROOM": 12, "PAN_LEAST": 12, "PAN_ROOM": 19, "HEADER_BYTES": 7,
-    "KEY_BLOCK_LEAST": 80, "KEY_BLOCK_ROOM": 512, "CODE_BYTES": 2, "FRAME_ROOM": 64}
+    "USAGE_BYTES": 2, "KEY_BLOCK_LEAST": 80, "KEY_BLOCK_ROOM": 512, "OPTIONAL_ID_BYTES": 2,
+    "OPTIONAL_ROOM": 251, "CODE_BYTES": 2, "FRAME_ROOM": 64, "STACK_BYTES": STACK_BYTES}
 LENGTH = re.compile(r"^#define DUKPT_(\w+_(?:BYTES|LEAST|ROOM)) (\d+)", re.MULTILINE)
 # An example in a comment, and what it prints.
 EXAMPLE = re.compile(
@@ -169,9 +172,9 @@ class Vectors(LibraryCase):
 
     def check_taken(self, initial: bytes, iksn: bytes) -> None:
         """Takes the first numbers of a terminal one after the other."""
-        image = self.after("dukpt_load", initial, iksn, bytes(431))[2]
+        image = self.after("dukpt_registers_load", initial, iksn, bytes(431))[2]
         for number, key in list(vectors("dukpt.txt"))[:30]:
-            _, image, *taken = self.after("dukpt_take", image, bytes(431), bytes(16), bytes(10))
+            _, image, *taken = self.after("dukpt_registers_next", image, bytes(431), bytes(16), bytes(10))
             self.assertEqual(taken, [bytes.fromhex(key), bytes.fromhex(number)])
 
     def after(self, name: str, *given: Value) -> tuple[Value, ...]:
@@ -313,8 +316,10 @@ class Tool(LibraryCase):
         said = "library: rt did not build dukpt_c\na fault of the proof\n"
         self.assertEqual(self.run_tool(path=path, tool=tool), (1, said))
         (kit / "bin").mkdir()
-        self.stand_in(kit, "rt", f"[ $1 = doc ] && echo {kit}/page || echo $PWD >{kit}/proved")
-        self.stand_in(kit / "bin", "rattle", f"for to; do :; done; cp {built_library() / 'libdukpt.a'} $to")
+        self.stand_in(kit, "rt", f"case $1 in doc) echo {kit}/page;; lib) echo $PWD >{kit}/proved;; esac")
+        built_library()
+        archive = ROOT / "crates" / "dukpt_c" / "out" / "libdukpt_c.a"
+        self.stand_in(kit / "bin", "rattle", f"for to; do :; done; cp {archive} $to")
         self.assertEqual(self.run_tool(path=path, tool=tool), (0, ""))
         crate = copy / "crates" / "dukpt_c"
         self.assertEqual((kit / "proved").read_text(), f"{crate}\n")

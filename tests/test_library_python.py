@@ -5,10 +5,13 @@ import doctest
 import importlib
 import inspect
 import pkgutil
+from types import SimpleNamespace
 from typing import Any, Iterator
+from unittest import mock
 
 from .support.binding_cases import BindingCase, binding_cases, names, spoiled
 from .support.dukpt import PIN_VARIANT, SPENT, masked
+from .support.frames import write_reversal, write_reversal_reply
 from .support.key_blocks import sealed
 from .support.library_calls import FAULTS, STATUS
 from .support.python_library import PythonLibraryCase
@@ -18,16 +21,19 @@ from .test_ciphers import BASE, IKSN, data, vectors
 # in some tenths of a second.
 MANY = 20_000
 COUNTS = {
-    **dict.fromkeys(("pin_key", "request_key", "response_key", "check_usable", "refusal",
+    **dict.fromkeys(("pin_key", "request_key", "response_key", "check_usable", "request_refusal",
                      "read_refusal", "frame_length"), MANY),
     **dict.fromkeys(("next_number", "check_value", "tdes_encrypt", "tdes_decrypt", "pin_block",
-                     "pin_of_block"), 4_000),
-    **dict.fromkeys(("initial_key", "cmac_check_value", "retail_mac", "reply", "read_reply",
-                     "check_reply", "number"), 2_500),
-    **dict.fromkeys(("cmac", "take", "cbc_encrypt", "cbc_decrypt", "payment_request",
+                     "pin_of_block", "request_data_key", "response_data_key"), 4_000),
+    **dict.fromkeys(("initial_key", "cmac_check_value", "retail_mac", "request_reply",
+                     "read_reply", "check_reply", "registers_number"), 2_500),
+    **dict.fromkeys(("cmac", "registers_next", "cbc_encrypt", "cbc_decrypt", "payment_request",
                      "read_request", "check_request", "request_pin"), 1_200),
+    **dict.fromkeys(("reversal_request", "read_reversal", "check_reversal", "reversal_reply",
+                     "read_reversal_reply", "check_reversal_reply"), 1_200),
     **dict.fromkeys(("derive", "derive_from_initial"), 600),
-    **dict.fromkeys(("load", "registers_at", "reload", "wrap", "unwrap"), 250),
+    **dict.fromkeys(("registers_load", "registers_at", "registers_reload", "wrap", "wrap_with",
+                     "unwrap", "unwrap_for", "unwrap_optional"), 250),
 }
 # Of so many one argument is changed.
 FEW = 40
@@ -63,7 +69,7 @@ class TestValues(PythonLibraryCase):
             ksn = bytes.fromhex(number)
             self.assertEqual(self.dukpt.derive(BASE, ksn).hex().upper(), key)
             self.assertEqual(self.dukpt.derive_from_initial(initial, ksn).hex().upper(), key)
-            taken = self.dukpt.take(self.dukpt.registers_at(initial, ksn))
+            taken = self.dukpt.registers_next(self.dukpt.registers_at(initial, ksn))
             self.assertEqual(taken.key.hex().upper(), key)
         for key, clear, ciphertext in map(data, vectors("triple_des.txt")):
             for at in range(0, len(clear), 8):
@@ -83,6 +89,10 @@ class TestValues(PythonLibraryCase):
             found = self.dukpt.unwrap(bytes.fromhex(protection), block.encode())
             self.assertEqual(found, (fields.encode(), bytes.fromhex(key)))
             self.assertEqual((found.header, found.key), found)
+            usage, length = fields[:2].encode(), len(key) // 2
+            self.assertEqual(
+                self.dukpt.unwrap_for(bytes.fromhex(protection), usage, length, block.encode()),
+                bytes.fromhex(key))
 
     def test_names_of_fields(self) -> None:
         """What has several parts has them under their names."""
@@ -90,12 +100,20 @@ class TestValues(PythonLibraryCase):
         request = self.dukpt.read_request(frame)
         self.assertEqual((request.ksn, request.pan, request.amount, request.block, request.mac),
                          (KSN, PAN, 77, frame[-16:-8], frame[-8:]))
-        reply = self.dukpt.read_reply(self.dukpt.reply(KEY, KSN, b"51"))
+        reply = self.dukpt.read_reply(self.dukpt.request_reply(KEY, KSN, b"51"))
         self.assertEqual((reply.ksn, reply.code), (KSN, b"51"))
-        refusal = self.dukpt.read_refusal(self.dukpt.refusal(KSN, 6))
+        refusal = self.dukpt.read_refusal(self.dukpt.request_refusal(KSN, 6))
         self.assertEqual((refusal.ksn, refusal.reason), (KSN, 6))
+        frame = self.dukpt.reversal_request(KEY, KSN, LAST)
+        reversal = self.dukpt.read_reversal(frame)
+        self.assertEqual((reversal.ksn, reversal.reversed, reversal.mac), (KSN, LAST, frame[-8:]))
+        for state in (self.dukpt.NONE_STANDS, self.dukpt.UNDONE):
+            reply = self.dukpt.read_reversal_reply(
+                self.dukpt.reversal_reply(KEY, KSN, LAST, state))
+            self.assertEqual((reply.ksn, reply.reversed, reply.state), (KSN, LAST, state))
+        self.assertEqual((self.dukpt.NONE_STANDS, self.dukpt.UNDONE), (0, 1))
         image = self.dukpt.registers_at(KEY, KSN)
-        taken = self.dukpt.take(image)
+        taken = self.dukpt.registers_next(image)
         self.assertEqual((taken.image[11:14], taken.ksn), (b"\x00\x00\x02", KSN))
         self.assertEqual(taken.key, self.dukpt.derive_from_initial(KEY, KSN))
 
@@ -150,26 +168,35 @@ class TestCases(PythonLibraryCase):
 
     def test_keys(self) -> None:
         self.try_calls("initial_key", "derive", "derive_from_initial", "pin_key", "request_key",
-                       "response_key")
+                       "response_key", "request_data_key", "response_data_key")
 
     def test_numbers_and_macs(self) -> None:
         self.try_calls("check_usable", "next_number", "check_value", "cmac_check_value", "cmac",
                        "retail_mac")
 
     def test_registers(self) -> None:
-        self.try_calls("load", "registers_at", "number", "take", "reload")
+        self.try_calls("registers_load", "registers_at", "registers_number", "registers_next",
+                       "registers_reload")
 
     def test_ciphers_and_blocks(self) -> None:
         self.try_calls("tdes_encrypt", "tdes_decrypt", "cbc_encrypt", "cbc_decrypt", "pin_block",
-                       "pin_of_block", "wrap", "unwrap")
+                       "pin_of_block")
+
+    def test_key_blocks(self) -> None:
+        self.try_calls("wrap", "wrap_with", "unwrap", "unwrap_for", "unwrap_optional")
 
     def test_frames(self) -> None:
-        self.try_calls("payment_request", "read_request", "check_request", "request_pin", "reply",
-                       "refusal", "read_reply", "read_refusal", "check_reply", "frame_length")
+        self.try_calls("payment_request", "read_request", "check_request", "request_pin",
+                       "request_reply", "request_refusal", "read_reply", "read_refusal",
+                       "check_reply", "frame_length")
+
+    def test_reversals(self) -> None:
+        self.try_calls("reversal_request", "read_reversal", "check_reversal", "reversal_reply",
+                       "read_reversal_reply", "check_reversal_reply")
 
     def test_all_calls_are_tried(self) -> None:
         self.assertEqual(sorted(COUNTS), sorted(names()))
-        self.assertEqual(len(COUNTS), 35)
+        self.assertEqual(len(COUNTS), 46)
 
 
 def refused_calls() -> Iterator[tuple[str, str, tuple[Any, ...]]]:
@@ -181,14 +208,17 @@ def refused_calls() -> Iterator[tuple[str, str, tuple[Any, ...]]]:
     request = bytes.fromhex("002E0101FFFF9876543210E000010D34303132333435363738393039"
                             "000000011B9C1845EB993A7AA05619896B683F13")
     reply = bytes.fromhex("00160102FFFF9876543210E000013030591B50E0CA98FE70")
+    reversal = write_reversal(KEY, int.from_bytes(KSN, "big"), int.from_bytes(LAST, "big"))
+    undone = write_reversal_reply(KEY, int.from_bytes(KSN, "big"), int.from_bytes(LAST, "big"), 1)
     yield "Length", "derive", (KEY[1:], KSN)
     yield "NotInitial", "initial_key", (KEY, KSN)
     yield "NotUsable", "check_usable", (bytes(10),)
     yield "Spent", "next_number", (LAST,)
-    yield "Spent", "take", (spent,)
-    yield "NotAnImage", "number", (b"",)
-    yield "IksnSpent", "reload", (fresh, KEY, bytes(10))
-    yield "LoadsSpent", "reload", (fresh[:350] + b"\x08" + eight, KEY, b"\x01" + bytes(9))
+    yield "Spent", "registers_next", (spent,)
+    yield "NotAnImage", "registers_number", (b"",)
+    yield "IksnSpent", "registers_reload", (fresh, KEY, bytes(10))
+    yield "LoadsSpent", "registers_reload", (
+        fresh[:350] + b"\x08" + eight, KEY, b"\x01" + bytes(9))
     yield "PinLength", "pin_block", (b"123", PAN)
     yield "PinDigit", "pin_block", (b"123x", PAN)
     yield "PanLength", "pin_block", (b"1234", b"40123456789")
@@ -205,13 +235,30 @@ def refused_calls() -> Iterator[tuple[str, str, tuple[Any, ...]]]:
     yield "NotARequest", "read_request", (reply,)
     yield "NotAReply", "read_reply", (request,)
     yield "NotARefusal", "read_refusal", (reply,)
-    yield "NotACode", "reply", (KEY, KSN, b"01")
-    yield "NotAReason", "refusal", (KSN, 7)
+    yield "NotACode", "request_reply", (KEY, KSN, b"01")
+    yield "NotAReason", "request_refusal", (KSN, 7)
     yield "NotMine", "check_reply", (KEY, bytes(10), reply)
     yield "BadMac", "check_reply", (BASE, KSN, reply)
     yield "BadMac", "check_request", (BASE, request)
     yield "PartOfFrame", "frame_length", (b"\x00",)
     yield "TooLong", "frame_length", (b"\x00\x3f",)
+    yield "NotReversed", "reversal_request", (KEY, KSN, KSN)
+    yield "NotReversed", "reversal_reply", (KEY, KSN, bytes(10), 1)
+    yield "NotAReversal", "read_reversal", (undone,)
+    yield "NotAReversal", "check_reversal", (KEY, reversal[:-1])
+    yield "BadMac", "check_reversal", (BASE, reversal)
+    yield "NotAState", "reversal_reply", (KEY, KSN, LAST, 2)
+    yield "NotAReversalReply", "read_reversal_reply", (reversal,)
+    yield "NotMine", "check_reversal_reply", (KEY, KSN, bytes(10), undone)
+    yield "BadMac", "check_reversal_reply", (BASE, KSN, LAST, undone)
+    yield "Length", "unwrap_for", (KEY, b"P0", 17, text)
+    yield "OtherUsage", "unwrap_for", (KEY, b"B1", 16, text)
+    of_aes = sealed(KEY, b"B0080P0AE00E0000", b"\x00\x80" + bytes(22))
+    yield "OtherUsage", "unwrap_for", (KEY, b"P0", 16, of_aes)
+    yield "OtherUsage", "unwrap_for", (KEY, b"P0", 24, of_aes)
+    yield "OtherKeyLength", "unwrap_for", (KEY, b"P0", 24, text)
+    yield "BlockOptionalBlock", "wrap_with", (KEY, b"P0TE00E", b"KS04", KEY, bytes(6))
+    yield "NoOptionalBlock", "unwrap_optional", (KEY, text, b"KS")
 
 
 class TestFaults(PythonLibraryCase):
@@ -224,12 +271,22 @@ class TestFaults(PythonLibraryCase):
     def test_classes(self) -> None:
         """There is a class for each number, and a text that names both."""
         classes = self.dukpt.faults.FAULTS
-        self.assertEqual(list(classes), list(range(1, 30)))
+        self.assertEqual(list(classes), list(range(1, 37)))
         for number, name in enumerate(FAULTS[1:], 1):
             fault = classes[number]
             self.assertIs(fault, getattr(self.dukpt.faults, name))
             self.assertTrue(issubclass(fault, self.dukpt.DukptError))
             self.assertTrue(str(fault()).startswith(f"{name} ({number}): "), str(fault()))
+
+    def test_a_status_without_a_class(self) -> None:
+        """A library that is newer may answer one: it is a fault with its number."""
+        module = importlib.import_module(f"{self.dukpt.__name__}._library")
+        refusing = SimpleNamespace(dukpt_pin_key=lambda *words: 99)
+        with mock.patch.object(module, "LIBRARY", refusing):
+            with self.assertRaises(self.dukpt.DukptError) as raised:
+                self.dukpt.pin_key(KEY)
+        self.assertEqual((raised.exception.number, raised.exception.name), (99, "Unknown"))
+        self.assertEqual(str(raised.exception), "Unknown (99): A call is refused.")
 
     def test_lengths_are_told(self) -> None:
         with self.assertRaisesRegex(self.dukpt.faults.Length, "bdk has 15, ksn has 10"):
@@ -241,7 +298,7 @@ class TestNumbers(PythonLibraryCase):
         """They are refused, and no bit is cut."""
         for number in (-1, 1 << 32, (1 << 32) + 5, -(1 << 32) + 5):
             with self.assertRaises(ValueError):
-                self.dukpt.refusal(KSN, number)
+                self.dukpt.request_refusal(KSN, number)
             with self.assertRaises(ValueError):
                 self.dukpt.payment_request(KEY, KSN, PAN, b"1234", number)
         largest = self.dukpt.payment_request(KEY, KSN, PAN, b"1234", (1 << 32) - 1)

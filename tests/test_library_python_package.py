@@ -9,7 +9,7 @@ import sys
 from pathlib import Path
 
 from .support.case import Case
-from .support.library import LibraryMissing, built_library, demand
+from .support.library import built_library, demand
 from .support.library_calls import CALLS
 from .support.python_library import PACKAGE, SHARED, VARIABLE
 
@@ -19,6 +19,7 @@ print(dukpt.derive(bdk, bytes.fromhex("FFFF9876543210E00001")).hex().upper())
 print(dukpt._library.LIBRARY._name)
 """
 KEY = "042666B49184CFA368DE9628D0397BC9"
+VERSION = r"0\.1\.0"
 SECONDS = 300
 
 
@@ -32,11 +33,15 @@ class PackageCase(Case):
         self, where: Path, code: str = FIRST, *words: str, **variables: str
     ) -> subprocess.CompletedProcess[str]:
         """A Python of its own, with the package in a folder and these variables alone."""
-        kept = {name: value for name, value in os.environ.items()
-                if name not in (VARIABLE, "LD_LIBRARY_PATH", "PYTHONPATH")}
         return subprocess.run(
             [sys.executable, *words, "-c", code], cwd=self.home, capture_output=True, text=True,
-            env={**kept, "PYTHONPATH": str(where), **variables}, timeout=SECONDS, check=False)
+            env=self.environment(PYTHONPATH=str(where), **variables), timeout=SECONDS, check=False)
+
+    def environment(self, **variables: str) -> dict[str, str]:
+        """What names neither a library nor a package, and these variables."""
+        kept = {name: value for name, value in os.environ.items()
+                if name not in (VARIABLE, "LD_LIBRARY_PATH", "PYTHONPATH")}
+        return {**kept, **variables}
 
     def assert_loads(self, where: Path, library: str, **variables: str) -> None:
         done = self.run_python(where, **variables)
@@ -105,11 +110,22 @@ class TestWrongLibraries(PackageCase):
         return str(made)
 
     def test_another_version(self) -> None:
-        for version, text in ((0x000101, "0.1.1"), (0x000200, "0.2.0"), (0x010100, "1.1.0")):
+        """Another major or minor version is refused, before a call is missed."""
+        for version, text in ((0x000200, "0.2.0"), (0x010100, "1.1.0"), (0x000001, "0.0.1"),
+                              (0x010000, "1.0.0")):
+            for without in ("", "dukpt_wrap"):
+                made = self.stand_in(version, without)
+                self.assert_refused(
+                    rf"dukpt is {VERSION}, and its library {made} is {re.escape(text)}: install "
+                    r"both of one major and minor version", **{VARIABLE: made})
+
+    def test_another_patch(self) -> None:
+        """It works together with the package."""
+        for version, text in ((0x000100, "0.1.0"), (0x000101, "0.1.1"), (0x0001FF, "0.1.255")):
             made = self.stand_in(version)
-            self.assert_refused(
-                rf"dukpt is 0\.1\.0, and its library {made} is {re.escape(text)}: install both",
-                **{VARIABLE: made})
+            done = self.run_python(PACKAGE, "import dukpt; print(dukpt.version())",
+                                   **{VARIABLE: made})
+            self.assertEqual((done.stdout, done.stderr), (f"{text}\n", ""))
 
     def test_a_call_that_is_missing(self) -> None:
         made = self.stand_in(0x000100, "dukpt_wrap")
@@ -121,31 +137,10 @@ class TestWrongLibraries(PackageCase):
         self.assert_refused(rf"{SHARED} cannot be loaded", **{VARIABLE: str(text)})
 
 
-class TestInstalling(PackageCase):
-    def test_pip(self) -> None:
-        """pip installs the folder without a network, and the library with it where it is built."""
-        pip = [sys.executable, "-m", "pip"]
-        if subprocess.run([*pip, "--version"], capture_output=True, check=False).returncode:
-            raise LibraryMissing("pip is not installed: apt-get install python3-pip")
-        where = self.copied("library", "python")
-        shutil.copy(PACKAGE / "pyproject.toml", where)
-        shutil.copytree(PACKAGE / "backend", where / "backend",
-                        ignore=shutil.ignore_patterns("__pycache__"))
-        self.place("out", "library", SHARED)
-        target = self.home / "installed"
-        done = subprocess.run(
-            [*pip, "install", "--quiet", "--no-index", "--target", target, where],
-            cwd=self.home, capture_output=True, text=True, timeout=SECONDS, check=False)
-        self.assertEqual(done.returncode, 0, done.stderr)
-        shutil.rmtree(where)
-        self.assert_loads(target, str(target / "dukpt" / SHARED))
-        has = {it.name for it in (target / "dukpt").iterdir()} - {"__pycache__", SHARED}
-        should = {it.name for it in (PACKAGE / "dukpt").iterdir()} - {"__pycache__", SHARED}
-        self.assertEqual(has, should)
-        self.assertIn("py.typed", has)
-
+class TestOptimized(PackageCase):
     def test_without_docstrings(self) -> None:
         """Under -OO a fault still has its name and its number."""
-        code = "import dukpt\ntry: dukpt.number(b'')\nexcept dukpt.DukptError as why: print(why)"
+        code = ("import dukpt\ntry: dukpt.registers_number(b'')\n"
+                "except dukpt.DukptError as why: print(why)")
         done = self.run_python(PACKAGE, code, "-OO", **{VARIABLE: str(self.library)})
         self.assertEqual((done.stdout, done.stderr), ("NotAnImage (5)\n", ""))

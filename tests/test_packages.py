@@ -1,26 +1,26 @@
-"""The Debian packages: what is in them, that equal inputs give equal bytes, and when there is
-none."""
+"""The Debian packages: what is in them, and that equal inputs give equal bytes."""
 from __future__ import annotations
 
 import gzip
 import hashlib
 import os
 import re
-import shutil
 import subprocess
 import time
 from pathlib import Path
 from typing import Iterator, Sequence
 
-from .support.packages import NAMES, VERSION, Package, PackageCase, demand, make
-from .support.program import ROOT, Ended
+from .support.packages import (
+    NAMES, UNPROVED, VERSION, Package, PackageCase, copy_of_repository, demand)
+from .support.program import ROOT
 
 LIBRARIES = "usr/lib/x86_64-linux-gnu"
 MODULES = "usr/lib/python3/dist-packages"
-OF_LIBRARY = ("FORMATS", "GLOSSARY", "LIBRARY")
+OF_LIBRARY = ("FORMATS.md", "GLOSSARY.md", "LIBRARY.md", "calls.txt")
 DOCUMENTS = {
-    "dukpt": ("COMMANDS", "DECISIONS", "DEPLOYMENT", "FORMATS", "GLOSSARY", "OPERATION", "PROVED",
-              "RECIPES", "SECURITY", "TESTED"),
+    "dukpt": ("COMMANDS.md", "DECISIONS.md", "DEPLOYMENT.md", "FORMATS.md", "GLOSSARY.md",
+              "LIBRARY.md", "OPERATION.md", "PERFORMANCE.md", "PROVED.md", "RECIPES.md",
+              "SECURITY.md", "TESTED.md", "calls.txt"),
     "libdukpt0": (), "libdukpt-dev": OF_LIBRARY, "python3-dukpt": OF_LIBRARY,
 }
 # The mode, the path, and the file of the repository whose bytes it has, where it has those of one.
@@ -39,7 +39,9 @@ FILES = {
 644 usr/share/man/man1/dukpt.1.gz share/man/dukpt.1
 644 usr/share/man/man1/dukpt-copy-log.1.gz share/man/dukpt-copy-log.1
 644 usr/share/man/man1/dukpt-serve.1.gz share/man/dukpt-serve.1
-644 usr/share/doc/dukpt/README.md README.md
+644 usr/share/doc/dukpt/README.md
+644 usr/share/doc/dukpt/docs/page.png docs/page.png
+644 usr/share/doc/dukpt/page/dukpt.html page/dukpt.html
 644 usr/share/doc/dukpt/docs/pictures/lost_reply.svg docs/pictures/lost_reply.svg
 644 usr/share/doc/dukpt/docs/pictures/power_failure.svg docs/pictures/power_failure.svg
 644 usr/share/doc/dukpt/docs/pictures/reversal.svg docs/pictures/reversal.svg
@@ -62,14 +64,12 @@ FILES = {
 CONTROL = {
     "dukpt": {"control": 0o644, "md5sums": 0o644, "postinst": 0o755, "prerm": 0o755,
               "postrm": 0o755},
-    "libdukpt0": {"control": 0o644, "md5sums": 0o644, "shlibs": 0o644, "triggers": 0o644},
+    "libdukpt0": {"control": 0o644, "md5sums": 0o644, "shlibs": 0o644, "symbols": 0o644,
+                  "triggers": 0o644},
     "libdukpt-dev": {"control": 0o644, "md5sums": 0o644},
     "python3-dukpt": {"control": 0o644, "md5sums": 0o644, "postinst": 0o755, "prerm": 0o755},
 }
 FIELD = re.compile(r"\A(?:[A-Z][\w-]*: \S.*|  ?\S.*| \.)\Z")
-# What the tool reads beside program and library.
-PARTS = ("tools", "share", "docs", "examples", "library/python", "library/examples", "README.md",
-         "CHANGELOG.md", "crates/duk_arguments/src")
 
 
 def of_folder(place: str, folder: str, suffixes: Sequence[str]) -> Iterator[tuple[int, str, str]]:
@@ -86,11 +86,15 @@ def wanted_files(package: str) -> Iterator[tuple[int, str, str]]:
             yield int(mode, 8), path, *(source or [""])
     doc = f"usr/share/doc/{package}"
     yield 0o644, f"{doc}/copyright", "share/debian/copyright"
-    yield 0o644, f"{doc}/changelog.gz", ""
-    yield from ((0o644, f"{doc}/docs/{it}.md", f"docs/{it}.md") for it in DOCUMENTS[package])
+    yield from ((0o644, f"{doc}/{it}", "") for it in ("BUILD", "changelog.gz"))
+    # Their links may be written otherwise: test_packages_documents compares their texts.
+    yield from ((0o644, f"{doc}/docs/{it}", "") for it in DOCUMENTS[package])
     if package == "dukpt":
         yield from of_folder(f"{doc}/examples", "examples", (".toml", ".script", ".out"))
     elif package == "libdukpt-dev":
+        # Which pages there are, and what is in them, is seen elsewhere.
+        calls = re.findall(r"^    (dukpt_\w+);$", (ROOT / "library/c/dukpt.map").read_text(), re.M)
+        yield from ((0o644, f"usr/share/man/man3/{it}.3.gz", "") for it in ("dukpt", *calls))
         yield from of_folder(f"{doc}/examples", "library/examples", (".c", ".h"))
     elif package == "python3-dukpt":
         yield from of_folder(f"{MODULES}/dukpt", "library/python/dukpt", (".py",))
@@ -164,6 +168,17 @@ class Contents(PackageCase):
             if "libc6" in wanted:
                 words = ("dpkg", "--compare-versions", found["libc6"], "ge", wanted["libc6"])
                 self.assertEqual(subprocess.run(words, check=False).returncode, 0, words)
+        self.check_library_of_python(packages["python3-dukpt"].fields()["Depends"])
+
+    def check_library_of_python(self, field: str) -> None:
+        """The Python package goes with each library of its minor version, and with no other."""
+        wanted = re.findall(r"libdukpt0 \((\S+) (\S+)\)", field)
+        self.assertEqual(len(wanted), 2, field)
+        for version, fits in (("0.1.0", True), ("0.1.1", True), ("0.1.9+unproved", True),
+                              ("0.0.9", False), ("0.2.0", False), ("1.1.0", False)):
+            compared = (("dpkg", "--compare-versions", version, *it) for it in wanted)
+            ended = [subprocess.run(it, check=False).returncode == 0 for it in compared]
+            self.assertEqual(all(ended), fits, version)
 
     def test_lintian(self) -> None:
         """Debian's own checker finds neither an error nor a warning, and passes over none."""
@@ -171,7 +186,7 @@ class Contents(PackageCase):
         paths = [it.path for it in self.made().values()]
         done = subprocess.run(["lintian", "--allow-root", "--no-cfg", "--profile", "debian",
                                "--no-override", "--fail-on", "error,warning", *paths],
-                              capture_output=True, text=True, timeout=240, check=False)
+                              capture_output=True, text=True, timeout=900, check=False)
         self.assertEqual((done.returncode, done.stdout), (0, ""), done)
 
     def test_copyright(self) -> None:
@@ -187,13 +202,14 @@ class Bytes(PackageCase):
     def test_two_runs(self) -> None:
         """Equal inputs give equal bytes, whatever their dates and modes, the folder, the time zone
         and the mask of new files are."""
-        copy, small = self.folder(), self.small_program()
+        root, copy, small = self.folder(), self.folder(), self.small_program()
+        copy_of_repository(root)
         copy_of_repository(copy)
         for it in copy.rglob("*"):
             os.utime(it, (self.chance.randrange(1 << 31),) * 2)
             it.chmod(0o700 if it.is_dir() else 0o600)
         seconds = str(self.chance.randrange(1 << 30, 1 << 31))
-        ones = self.made(ROOT, small, SOURCE_DATE_EPOCH=seconds)
+        ones = self.made(root, small, SOURCE_DATE_EPOCH=seconds)
         before = os.umask(0o077)
         try:
             others = self.made(copy, small, SOURCE_DATE_EPOCH=seconds, TZ="Asia/Tokyo",
@@ -230,123 +246,9 @@ class Bytes(PackageCase):
                                   check=True)
             self.assertEqual(done.stderr, b"")
             fields = dict(re.findall(r"^(\w+): (.*)$", done.stdout.decode(), re.M))
-            self.assertEqual((fields["Source"], fields["Version"]), (name, VERSION))
+            self.assertEqual((fields["Source"], fields["Version"]), (name, UNPROVED))
             points = re.findall(r"^(?:- |## )(.*)$", (ROOT / "CHANGELOG.md").read_text(), re.M)
             self.assertEqual(re.sub(r"\s+", " ", changes_of(text.decode())), " ".join(points))
-
-
-class Refusals(PackageCase):
-    """Where something is missing or differs there is no package, and a line says why."""
-
-    weight = 5
-
-    def setUp(self) -> None:
-        super().setUp()
-        self.root = self.folder()
-        copy_of_repository(self.root)
-        self.given = self.root / "given"
-        shutil.copytree(self.inputs()["--library"], self.given, symlinks=True)
-        self.program = self.script(f"dukpt {VERSION}")
-
-    def script(self, says: str) -> Path:
-        path = self.root / "program"
-        path.write_text(f"#!/bin/sh\necho '{says}'\n")
-        path.chmod(0o755)
-        return path
-
-    def make(self, **changes: str) -> Ended:
-        return make(self.root, "--program", self.program, "--library", self.given, "--out",
-                    self.root / "made", **changes)
-
-    def refuse(self, *texts: str, **changes: str) -> None:
-        """That a run is refused with a line that has these texts, and leaves no package."""
-        ended = self.make(**changes)
-        self.assertEqual((ended.status, ended.output), (1, b""), texts)
-        self.assertRegex(ended.faults, rb"\Apackage: .+\n\Z", texts)
-        for text in texts:
-            self.assertIn(text, ended.faults.decode())
-        self.assertFalse((self.root / "made").exists(), texts)
-
-    def test_versions(self) -> None:
-        """All that says a version has to say the same one."""
-        other = f"0.1.{self.chance.randint(1, 9)}"
-        self.program = self.script(f"dukpt {other}")
-        self.refuse(f"program --version says {other}", f"the version is {VERSION}")
-        self.program = self.script(f"dukpt {VERSION}")
-        files = ("share/man/dukpt.1", "share/man/dukpt-serve.1", "share/man/dukpt-copy-log.1",
-                 "library/python/dukpt/_version.py", "library/python/pyproject.toml",
-                 "CHANGELOG.md")
-        for path in (self.given / "dukpt.pc", *(self.root / name for name in files)):
-            text = path.read_text()
-            path.chmod(0o644)
-            for changed, says in ((text.replace(VERSION, other), other),
-                                  (text.replace(VERSION, "new"), "none")):
-                path.write_text(changed)
-                self.refuse(f"{path} says {says}", f"the version is {VERSION}")
-            path.write_text(text)
-        source = self.root / "crates/duk_arguments/src/commands.rt"
-        source.write_text(source.read_text().replace(VERSION, other))
-        self.refuse(f"the version is {other}", f"program --version says {VERSION}",
-                    f"dukpt_version() of {self.given}/libdukpt.so.0 says {VERSION}")
-
-    def test_version_of_the_library(self) -> None:
-        """Its bytes are major, minor and patch."""
-        demand(gcc="gcc")
-        made = self.given / "libdukpt.so.0"
-        made.unlink()
-        for number, says in ((0x000101, "0.1.1"), (0x010203, "1.2.3")):
-            subprocess.run(["gcc", "-shared", "-fPIC", "-xc", "-", "-o", made], check=True,
-                           input=f"unsigned dukpt_version(void) {{ return {number}; }}".encode())
-            self.refuse(f"{made} says {says}", f"the version is {VERSION}")
-        subprocess.run(["gcc", "-shared", "-fPIC", "-xc", "-", "-o", made], check=True,
-                       input=b"int another;")
-        self.refuse(str(made), "dukpt_version")
-        made.write_bytes(b"no library")
-        self.refuse(str(made))
-
-    def test_missing_inputs(self) -> None:
-        for name in ("libdukpt.a", "libdukpt.so.0", "dukpt.h", "dukpt.pc"):
-            (self.given / name).rename(self.root / "away")
-            self.refuse(str(self.given / name), "tools/library builds it")
-            (self.root / "away").rename(self.given / name)
-        self.program.chmod(0o644)
-        self.refuse(str(self.program), "./dukpt --prove builds it")
-        self.program.unlink()
-        self.refuse(str(self.program), "./dukpt --prove builds it")
-        self.program.mkdir()
-        self.refuse(str(self.program), "./dukpt --prove builds it")
-
-    def test_what_is_no_program(self) -> None:
-        """A script says the right version, and is compiled for nothing."""
-        self.refuse("strip")
-
-    def test_missing_commands(self) -> None:
-        """The line names the package of Debian that has the command."""
-        self.program = self.inputs()["--program"]
-        tools = self.folder()
-        self.refuse("binutils", PATH=str(tools))
-        for name in ("strip", "readelf"):
-            found = shutil.which(name)
-            self.assertIsNotNone(found, f"{name} is not installed: apt-get install binutils")
-            (tools / name).symlink_to(str(found))
-        self.refuse("dpkg-deb", "Debian package dpkg", PATH=str(tools))
-
-    def test_a_maintainer_without_an_address(self) -> None:
-        for text in ("A Name", "name@example.org", "A Name <example.org>", "A\nName <a@b>"):
-            ended = make(self.root, "--maintainer", text)
-            self.assertEqual((ended.status, ended.output), (2, b""), text)
-            self.assertIn(b"--maintainer", ended.faults, text)
-
-    def test_a_date_that_is_none(self) -> None:
-        self.refuse("SOURCE_DATE_EPOCH", SOURCE_DATE_EPOCH="today")
-
-    def test_a_missing_file(self) -> None:
-        """Of each file that a package has."""
-        self.program = self.inputs()["--program"]
-        for name in ("share/completions/_dukpt", "share/deploy/dukpt.socket", "docs/FORMATS.md"):
-            (self.root / name).rename(self.root / "away")
-            self.refuse(str(self.root / name), "No such file")
-            (self.root / "away").rename(self.root / name)
 
 
 def versions_of(field: str) -> dict[str, str]:
@@ -358,11 +260,3 @@ def changes_of(text: str) -> str:
     """The headings and points of a changelog of Debian's form."""
     lines = text.split("\n -- ")[0].splitlines()[2:]
     return re.sub(r"^  (?:\* |\[ (.*) \]$|  )", r"\1", "\n".join(lines), flags=re.M).strip()
-
-
-def copy_of_repository(folder: Path) -> None:
-    """Copies what the tool reads, without what belongs to a clone alone."""
-    for part in PARTS:
-        copy = shutil.copytree if (ROOT / part).is_dir() else shutil.copy
-        (folder / part).parent.mkdir(parents=True, exist_ok=True)
-        copy(ROOT / part, folder / part)

@@ -1,14 +1,17 @@
-"""The panel "Ciphers and components": TDES by ECB and CBC, and keys of components."""
+"""The panel "Ciphers and components": TDES by ECB and CBC, data of a request or a response, and keys of
+components."""
 from __future__ import annotations
 
 from typing import Optional
 
 from .support import many
 from .support.call_cases import Chance
-from .support.des import encrypt_block
+from .support.des import cbc_encrypt, encrypt_block
+from .support.dukpt import key_of, request_data_key
+from .support.everyday_rows import INITIAL
 from .support.macs import cmac
 from .support.page_case import PageCase
-from .support.page_values import BASE, upper
+from .support.page_values import BASE, IKSN, upper
 from .test_ciphers import data, vectors
 
 CASES = 80
@@ -54,6 +57,55 @@ def by_blocks(keys: list[bytes], texts: list[bytes]) -> list[bytes]:
               for at in range(0, len(text), 8)]
     made = iter(many.encrypted([key for key, _ in pieces], [piece for _, piece in pieces]))
     return [b"".join(next(made) for _ in range(len(text) // 8)) for text in texts]
+
+
+class TestData(PageCase):
+    """Data under the keys of a number for them."""
+
+    panel = "cipher"
+
+    def test_sample(self) -> None:
+        """The sample of ANSI X9.24-1:2009 annex A.4, both ways, and the same under the other key."""
+        self.assert_shown({"data-result": "FC0D53B7EA1FDA9EE68AAF2E70D9B950", "data-as-text": ""})
+        self.set(data_way="bytes", data_text="343031323334353637383930394439383700000000000000")
+        self.assert_shown({"data-result": "FC0D53B7EA1FDA9EE68AAF2E70D9B9506229BE2AA993F04F"})
+        self.set(data_way="decipher", data_text="FC0D53B7EA1FDA9EE68AAF2E70D9B9506229BE2AA993F04F")
+        self.assert_shown({"data-result": "343031323334353637383930394439383700000000000000",
+                           "data-as-text": "4012345678909D987......."})
+        self.set(data_of_response=True, data_way="text", data_text="4012345678909D98")
+        self.assert_shown({"data-result": "1FCC89AF66222F27B903898BB2BC8589"})
+        self.set(set_ksn="FFFF9876543210E00002", data_of_request=True)
+        key = request_data_key(key_of(bytes.fromhex(INITIAL), IKSN + 2))
+        self.assert_shown({"data-result": upper(cbc_encrypt(key, bytes(8), b"4012345678909D98"))})
+        self.assert_quiet()
+
+    def test_random(self) -> None:
+        """Keys of their own, initial vectors and whole blocks, both ways."""
+        chance, count = Chance(self.chance), CASES * self.times
+        keys, vectors_ = chance.bytes(count, 16), chance.bytes(count, 8)
+        clear = chance.bytes(count, *range(8, 100, 8))
+        hidden = many.chained(keys, vectors_, clear)
+        for side in ("request", "response"):
+            fields = [f"data-{side}", "data-iv", "data-text"]
+            for way, given, wanted in (("bytes", clear, hidden), ("decipher", hidden, clear)):
+                self.set(**{f"data_of_{side}": True, "data_way": way})
+                self.assert_tried(fields, list(zip(*(map(upper, it) for it in (keys, vectors_, given)))),
+                                  ["data-result"], [[upper(it)] for it in wanted])
+        self.assert_quiet()
+
+    def test_no_whole_blocks(self) -> None:
+        for way, text, words in (
+                ("text", "401234567", "Whole blocks of 8 bytes are wanted, and this text has 9."),
+                ("text", "", "Whole blocks of 8 bytes are wanted, and this text has 0."),
+                ("text", "\u20ac\u20ac\u20ac", "Whole blocks of 8 bytes are wanted, and this text has 9."),
+                ("bytes", "00", "Whole blocks of 8 bytes are wanted, and here are 1 bytes."),
+                ("decipher", "", "Whole blocks of 8 bytes are wanted, and here are 0 bytes.")):
+            self.set(data_way=way, data_text=text)
+            self.assert_shown({"data-result": "", "data-as-text": "", "data-text-fault": words})
+        self.set(data_way="text", data_text="\u20ac\u20ac..")
+        self.assertNotEqual(self.text("data-result"), "")
+        self.set(data_iv="00")
+        self.assert_shown({"data-result": "", "data-iv-fault": "A block has 16 digits, and here are 2."})
 
 
 class TestComponents(PageCase):

@@ -7,14 +7,27 @@ from __future__ import annotations
 from typing import Sequence
 
 from .support.call_cases import Argument, cases, spoiled
-from .support.call_cases_of_texts import ALL_CALLS
+from .support.binding_cases import ALL_CALLS
 from .support.library_calls import answer
 from .support.page_case import PageCase
 from .support.page_module import PageModule
 from .test_ciphers import BASE, vectors
 
 COUNT, COUNT_OF_COSTLY = 2_000, 1_000
-COSTLY = {f"dukpt_{name}" for name in ("load", "registers_at", "reload", "wrap", "unwrap")}
+KEYS = ("initial_key", "derive", "derive_from_initial", "pin_key", "request_key", "response_key",
+        "request_data_key", "response_data_key", "check_usable", "next_number", "check_value",
+        "cmac_check_value")
+REGISTERS = ("registers_load", "registers_at", "registers_number", "registers_next",
+             "registers_reload")
+CIPHERS = ("tdes_encrypt", "tdes_decrypt", "cbc_encrypt", "cbc_decrypt", "cmac", "retail_mac",
+           "pin_block", "pin_of_block")
+KEY_BLOCKS = ("wrap", "wrap_with", "unwrap", "unwrap_for", "unwrap_optional")
+FRAMES = ("payment_request", "read_request", "check_request", "request_pin", "request_reply",
+          "request_refusal", "read_reply", "read_refusal", "check_reply", "frame_length")
+REVERSALS = ("reversal_request", "read_reversal", "check_reversal", "reversal_reply",
+             "read_reversal_reply", "check_reversal_reply")
+COSTLY = {f"dukpt_{it}" for it in (*KEY_BLOCKS, *REGISTERS) if it not in (
+    "registers_number", "registers_next")}
 # Of each piece of so many cases how many are judged one by one.
 PIECE, JUDGED = 5_000, 60
 VERSION = 0x000100
@@ -70,15 +83,15 @@ def shown(arguments: Sequence[Argument]) -> str:
 
 class TestKeys(ModuleCase):
     def test_calls(self) -> None:
-        self.check_calls(
-            "initial_key", "derive", "derive_from_initial", "pin_key", "request_key",
-            "response_key", "check_usable", "next_number", "check_value", "cmac_check_value")
+        self.check_calls(*KEYS)
 
     def test_exports(self) -> None:
         """The module has the calls of the library, and asks nothing of the page."""
         self.assertEqual(self.module.imports, [])
         calls = {it for it in self.module.exports if it.startswith("dukpt_")}
         self.assertEqual(calls, {*ALL_CALLS, "dukpt_version"})
+        tried = (*KEYS, *REGISTERS, *CIPHERS, *KEY_BLOCKS, *FRAMES, *REVERSALS)
+        self.assertEqual(sorted(f"dukpt_{it}" for it in tried), sorted(ALL_CALLS))
         self.assertEqual(self.module.version(), VERSION)
         self.assertEqual(self.text("version"), "0.1.0")
         samples = [[BASE, bytes.fromhex(number), bytes(16)] for number, _ in vectors("dukpt.txt")]
@@ -91,22 +104,24 @@ class TestRegisters(ModuleCase):
     weight = 30
 
     def test_calls(self) -> None:
-        self.check_calls("load", "registers_at", "number", "take", "reload")
+        self.check_calls(*REGISTERS)
 
 
 class TestCiphers(ModuleCase):
     def test_calls(self) -> None:
-        self.check_calls("tdes_encrypt", "tdes_decrypt", "cbc_encrypt", "cbc_decrypt", "cmac",
-                         "retail_mac", "pin_block", "pin_of_block")
+        self.check_calls(*CIPHERS)
 
 
 class TestKeyBlocks(ModuleCase):
     def test_calls(self) -> None:
-        self.check_calls("wrap", "unwrap")
+        self.check_calls(*KEY_BLOCKS)
 
 
 class TestFrames(ModuleCase):
     def test_calls(self) -> None:
-        self.check_calls(
-            "payment_request", "read_request", "check_request", "request_pin", "reply", "refusal",
-            "read_reply", "read_refusal", "check_reply", "frame_length")
+        self.check_calls(*FRAMES)
+
+
+class TestReversals(ModuleCase):
+    def test_calls(self) -> None:
+        self.check_calls(*REVERSALS)

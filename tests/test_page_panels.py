@@ -3,7 +3,7 @@ from __future__ import annotations
 
 from .support import many
 from .support.call_cases import Chance
-from .support.call_cases_of_texts import unwrap as unwrap_cases
+from .support.call_cases_of_blocks import unwrap as unwrap_cases
 from .support.dukpt import counter_of, derive, iksn_of, serial_text
 from .support.key_blocks import header, sealed, wrap
 from .support.macs import retail_mac

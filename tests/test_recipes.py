@@ -118,24 +118,27 @@ class Recipes(ProgramCase):
     def test_a_variant(self) -> None:
         self.run_recipe(9)
 
-    def test_a_translated_pin_block(self) -> None:
+    def test_enciphered_data(self) -> None:
         self.run_recipe(10)
 
-    def test_a_walk(self) -> None:
+    def test_a_translated_pin_block(self) -> None:
         self.run_recipe(11)
 
-    def test_a_request_and_its_answer(self) -> None:
+    def test_a_walk(self) -> None:
         self.run_recipe(12)
 
-    def test_a_file_of_frames(self) -> None:
+    def test_a_request_and_its_answer(self) -> None:
         self.run_recipe(13)
 
-    def test_a_lost_terminal(self) -> None:
+    def test_a_file_of_frames(self) -> None:
         self.run_recipe(14)
+
+    def test_a_lost_terminal(self) -> None:
+        self.run_recipe(15)
 
     def test_there_are_no_others(self) -> None:
         """The last one is of the page, and has no command."""
-        self.assertEqual([bool(commands) for _, commands in recipes()], [True] * 15 + [False])
+        self.assertEqual([bool(commands) for _, commands in recipes()], [True] * 16 + [False])
 
     def test_no_secret_is_written_by_a_command(self) -> None:
         """In no document, and not even by a command that is no process: it would stand in the shell's

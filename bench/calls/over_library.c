@@ -46,11 +46,11 @@ void unwrap(const uint8_t kbpk[KEY], const char *text, uint8_t fields[FIELDS], u
 
 void load(const uint8_t initial[KEY], const uint8_t iksn[SERIAL], uint8_t image[IMAGE])
 {
-    demand(dukpt_load(initial, KEY, iksn, SERIAL, image, IMAGE));
+    demand(dukpt_registers_load(initial, KEY, iksn, SERIAL, image, IMAGE));
 }
 
 void take(const uint8_t image[IMAGE], uint8_t next_image[IMAGE], uint8_t key[KEY],
           uint8_t ksn[SERIAL])
 {
-    demand(dukpt_take(image, IMAGE, next_image, IMAGE, key, KEY, ksn, SERIAL));
+    demand(dukpt_registers_next(image, IMAGE, next_image, IMAGE, key, KEY, ksn, SERIAL));
 }

@@ -33,7 +33,7 @@ int main(int words, char **word)
         walk(bdk, iksn, atol(word[4]));
         return 0;
     }
-    if (words == 3 && strcmp(word[1], "derive") == 0) {
+    if (words == 3 && (strcmp(word[1], "derive") == 0 || strcmp(word[1], "derive-groups") == 0)) {
         derive_at_random(atol(word[2]));
         return 0;
     }

@@ -1,22 +1,31 @@
 /* libdukpt: TDES DUKPT (ANSI X9.24-1:2009 annex A), PIN blocks, MACs, key blocks and frames.
  *
  * Slices. A slice of bytes is a pointer and then its length in bytes, whose name ends with `_size`.
- * Beside each slice below stands the length that it has to have. No pointer is null, not even where
- * the length is 0. What a call writes overlaps none of its other arguments; what it only reads may
- * overlap.
+ * Beside each slice below stands its length. A slice that is read, or changed in place, has that
+ * length exactly. A slice that is written has it at least.
  *
- * Room. Where a call writes as many bytes as it finds, the slice has room for the most that there
- * may be. The bytes stand in its front, those after them stay as they were, and a number says how
- * many were written.
+ * Room. A call writes the front of a slice, and the bytes behind that stay as they were. Where a
+ * call writes as many bytes as it finds, the slice has room for the most that there may be, and a
+ * number says how many were written.
  *
- * Statuses. Each call but dukpt_version answers a number of `enum dukpt_status`: DUKPT_OK, or the
- * first fault in the order that stands beside the call. On a fault nothing is written.
+ * Pointers. No pointer is null, not even where the length is 0. What a call writes overlaps none of
+ * its other arguments, not even in part: the compiled calls rely on it. What a call only reads may
+ * overlap. GCC and clang warn of a null pointer, and GCC of an overlap, where they see it.
+ *
+ * Statuses. A call answers a number of `enum dukpt_status`: DUKPT_OK, or the first fault in the
+ * order that stands beside the call. On a fault nothing is written. GCC and clang warn where a
+ * status is not looked at. dukpt_version, dukpt_status_text and dukpt_wipe_stack answer no status.
  *
  * Threads. No call has state of its own, takes memory, or calls the operating system. Calls may run
  * at once in any number of threads, as long as none writes what another one uses.
  *
- * Keys. Parity bits are neither checked nor adjusted. It is not promised that the time of a call
- * tells nothing of a key, or that no key stays in memory after it.
+ * Keys. Parity bits are neither checked nor adjusted. A call leaves keys and PINs on the stack:
+ * dukpt_wipe_stack overwrites them.
+ *
+ * Time. It is not proved, and not promised, that time tells nothing of a key. In the calls that
+ * compare no MAC and no PIN block tests see no branch that depends on a key; of those that compare
+ * nothing is measured, and a comparison may end at the first byte that differs. Addresses in tables
+ * depend on keys.
  *
  * Bits are numbered from the most significant. Numbers in bytes are big-endian.
  *
@@ -49,400 +58,7 @@
  *
  *     042666B49184CFA368DE9628D0397BC9 646E6C
  */
-#ifndef DUKPT_H
-#define DUKPT_H
-
-#include <stddef.h>
-#include <stdint.h>
-
-/* The version of this header. DUKPT_VERSION is what dukpt_version gives for it. */
-#define DUKPT_VERSION_MAJOR 0
-#define DUKPT_VERSION_MINOR 1
-#define DUKPT_VERSION_PATCH 0
-#define DUKPT_VERSION_TEXT "0.1.0"
-#define DUKPT_VERSION \
-    (DUKPT_VERSION_MAJOR * 0x10000 + DUKPT_VERSION_MINOR * 0x100 + DUKPT_VERSION_PATCH)
-
-/* Lengths in bytes. A ROOM is the most that a call writes or reads. */
-#define DUKPT_KEY_BYTES 16             /* a key of the key tree, a TDES key of two DES keys */
-#define DUKPT_TRIPLE_KEY_BYTES 24      /* a TDES key of three DES keys */
-#define DUKPT_KSN_BYTES 10             /* a key serial number */
-#define DUKPT_BLOCK_BYTES 8            /* a block of TDES, a PIN block, an initial vector */
-#define DUKPT_MAC_BYTES 8              /* a CMAC, a retail MAC */
-#define DUKPT_CHECK_VALUE_BYTES 3      /* a check value */
-#define DUKPT_CMAC_CHECK_VALUE_BYTES 5 /* a check value by CMAC */
-#define DUKPT_IMAGE_BYTES 431          /* the image of a terminal, version 2 */
-#define DUKPT_IMAGE_1_BYTES 350        /* an image of version 1, which is read and not written */
-#define DUKPT_PIN_LEAST 4              /* the digits of a PIN, from .. */
-#define DUKPT_PIN_ROOM 12              /* .. to */
-#define DUKPT_PAN_LEAST 12             /* the digits of a PAN, from .. */
-#define DUKPT_PAN_ROOM 19              /* .. to */
-#define DUKPT_HEADER_BYTES 7           /* the fields of a key block's header */
-#define DUKPT_KEY_BLOCK_LEAST 80       /* the characters of a key block, from .. */
-#define DUKPT_KEY_BLOCK_ROOM 512       /* .. to */
-#define DUKPT_CODE_BYTES 2             /* the code of a reply */
-#define DUKPT_FRAME_ROOM 64            /* a frame with the two bytes of its length */
-
-/* What a call answers. A number does not change any more. */
-enum dukpt_status {
-    DUKPT_OK = 0,                          /* the call is done */
-    DUKPT_FAULT_LENGTH = 1,                /* a slice has another length than the call takes */
-    DUKPT_FAULT_NOT_INITIAL = 2,           /* the counter of an initial key serial number is
-                                              not zero */
-    DUKPT_FAULT_NOT_USABLE = 3,            /* the counter numbers no transaction: it is zero
-                                              or has more than ten one bits */
-    DUKPT_FAULT_SPENT = 4,                 /* no number is left */
-    DUKPT_FAULT_NOT_AN_IMAGE = 5,          /* the bytes are no image of a terminal */
-    DUKPT_FAULT_IKSN_SPENT = 6,            /* the initial key serial number is the terminal's
-                                              own, or one that it had before */
-    DUKPT_FAULT_LOADS_SPENT = 7,           /* the terminal had eight initial key serial
-                                              numbers before its own */
-    DUKPT_FAULT_PIN_LENGTH = 8,            /* a PIN has fewer than 4 or more than 12 bytes */
-    DUKPT_FAULT_PIN_DIGIT = 9,             /* a byte of a PIN is no ASCII digit */
-    DUKPT_FAULT_PAN_LENGTH = 10,           /* a PAN has fewer than 12 or more than 19 bytes */
-    DUKPT_FAULT_PAN_DIGIT = 11,            /* a byte of a PAN is no ASCII digit */
-    DUKPT_FAULT_NOT_A_PIN_BLOCK = 12,      /* the block is no PIN block of this PAN */
-    DUKPT_FAULT_BLOCK_LENGTH = 13,         /* a key block has fewer than 80 or more than 512
-                                              characters or no multiple of 8, or says another
-                                              length */
-    DUKPT_FAULT_BLOCK_VERSION = 14,        /* the first character of a key block is not B */
-    DUKPT_FAULT_BLOCK_HEADER_FIELD = 15,   /* a field of a key block's header cannot be printed, or
-                                              the number of optional blocks is not two digits */
-    DUKPT_FAULT_BLOCK_OPTIONAL_BLOCK = 16, /* an optional block does not fit, or what is left after
-                                              them is no ciphertext and MAC */
-    DUKPT_FAULT_BLOCK_HEX = 17,            /* a character after the optional blocks is no
-                                              hexadecimal digit */
-    DUKPT_FAULT_BLOCK_MAC = 18,            /* the MAC is not that of the key block */
-    DUKPT_FAULT_BLOCK_PAYLOAD = 19,        /* the key's length in a key block is neither 128 nor 192
-                                              bits, or the payload is too short for it */
-    DUKPT_FAULT_BLOCK_PAD_LENGTH = 20,     /* the payload would not be made of whole blocks, or the
-                                              key block have more than 512 characters */
-    DUKPT_FAULT_NOT_A_REQUEST = 21,        /* the bytes are no request's frame */
-    DUKPT_FAULT_NOT_A_REPLY = 22,          /* the bytes are no accepted reply's frame */
-    DUKPT_FAULT_NOT_A_REFUSAL = 23,        /* the bytes are no refusal's frame */
-    DUKPT_FAULT_NOT_A_CODE = 24,           /* the two bytes are none of 00, 14, 30, 51 and 55 */
-    DUKPT_FAULT_NOT_A_REASON = 25,         /* the reason of a refusal is none of 1 to 6 */
-    DUKPT_FAULT_NOT_MINE = 26,             /* the reply is to another key serial number */
-    DUKPT_FAULT_BAD_MAC = 27,              /* the MAC is not that of the frame */
-    DUKPT_FAULT_PART_OF_FRAME = 28,        /* fewer than the two bytes of a frame's length
-                                              are there */
-    DUKPT_FAULT_TOO_LONG = 29              /* a length above 62 stands where a frame would
-                                              begin */
-};
-
-#ifdef __cplusplus
-extern "C" {
-#endif
-
-/* Gives the version of the library: major, minor and patch, a byte each, from the third byte down.
- * It has no faults. */
-uint32_t dukpt_version(void);
-
-/* Keys of the key tree (ANSI X9.24-1:2009 annex A). */
-
-/* Writes the initial key (IPEK) of an initial key serial number.
- *
- *   bdk    in   16  base derivation key
- *   iksn   in   10  initial key serial number: its counter, the last 21 bits, is zero
- *   key    out  16  initial key
- *
- * Answers, in this order: DUKPT_FAULT_LENGTH; DUKPT_FAULT_NOT_INITIAL; DUKPT_OK. */
-uint32_t dukpt_initial_key(const uint8_t *bdk, size_t bdk_size,
-                           const uint8_t *iksn, size_t iksn_size,
-                           uint8_t *key, size_t key_size);
-
-/* Writes the transaction key of a key serial number under the base derivation key. The counter may
- * be any: zero gives the initial key. dukpt_check_usable tells whether it numbers a transaction.
- *
- *   bdk    in   16  base derivation key
- *   ksn    in   10  key serial number
- *   key    out  16  transaction key
- *
- * Answers, in this order: DUKPT_FAULT_LENGTH; DUKPT_OK. */
-uint32_t dukpt_derive(const uint8_t *bdk, size_t bdk_size,
-                      const uint8_t *ksn, size_t ksn_size,
-                      uint8_t *key, size_t key_size);
-
-/* Writes the transaction key of a key serial number under the initial key of its terminal. The
- * counter may be any: zero gives the initial key.
- *
- *   initial   in   16  initial key
- *   ksn       in   10  key serial number
- *   key       out  16  transaction key
- *
- * Answers, in this order: DUKPT_FAULT_LENGTH; DUKPT_OK. */
-uint32_t dukpt_derive_from_initial(const uint8_t *initial, size_t initial_size,
-                                   const uint8_t *ksn, size_t ksn_size,
-                                   uint8_t *key, size_t key_size);
-
-/* Writes the variant of a transaction key that enciphers PIN blocks.
- *
- *   key       in   16  transaction key
- *   variant   out  16  the key, both halves xored with 00000000000000FF
- *
- * Answers, in this order: DUKPT_FAULT_LENGTH; DUKPT_OK. */
-uint32_t dukpt_pin_key(const uint8_t *key, size_t key_size,
-                       uint8_t *variant, size_t variant_size);
-
-/* Writes the variant of a transaction key that makes the MACs of requests.
- *
- *   key       in   16  transaction key
- *   variant   out  16  the key, both halves xored with 000000000000FF00
- *
- * Answers, in this order: DUKPT_FAULT_LENGTH; DUKPT_OK. */
-uint32_t dukpt_request_key(const uint8_t *key, size_t key_size,
-                           uint8_t *variant, size_t variant_size);
-
-/* Writes the variant of a transaction key that makes the MACs of replies.
- *
- *   key       in   16  transaction key
- *   variant   out  16  the key, both halves xored with 00000000FF000000
- *
- * Answers, in this order: DUKPT_FAULT_LENGTH; DUKPT_OK. */
-uint32_t dukpt_response_key(const uint8_t *key, size_t key_size,
-                            uint8_t *variant, size_t variant_size);
-
-/* Key serial numbers, in the order in which a terminal uses them (ANSI X9.24-1:2009 annex A). */
-
-/* Tells whether a key serial number numbers a transaction: its counter has one to ten one bits. It
- * writes nothing.
- *
- *   ksn   in   10  key serial number
- *
- * Answers, in this order: DUKPT_FAULT_LENGTH; DUKPT_FAULT_NOT_USABLE; DUKPT_OK. */
-uint32_t dukpt_check_usable(const uint8_t *ksn, size_t ksn_size);
-
-/* Writes the key serial number that a terminal uses after this one: that with the least usable
- * counter above its own. The counter may be any.
- *
- *   ksn    in   10  key serial number
- *   next   out  10  the next one
- *
- * Answers, in this order: DUKPT_FAULT_LENGTH; DUKPT_FAULT_SPENT; DUKPT_OK. */
-uint32_t dukpt_next_number(const uint8_t *ksn, size_t ksn_size,
-                           uint8_t *next, size_t next_size);
-
-/* Check values of keys (ANSI X9.24-1:2017 annex A). */
-
-/* Writes the check value (KCV) of a key: the first bytes of a block of zeros, enciphered.
- *
- *   key     in   16 or 24  TDES key
- *   value   out  3         check value
- *
- * Answers, in this order: DUKPT_FAULT_LENGTH; DUKPT_OK. */
-uint32_t dukpt_check_value(const uint8_t *key, size_t key_size,
-                           uint8_t *value, size_t value_size);
-
-/* Writes the check value by CMAC of a key: the first bytes of the CMAC of a block of zeros.
- *
- *   key     in   16 or 24  TDES key
- *   value   out  5         check value
- *
- * Answers, in this order: DUKPT_FAULT_LENGTH; DUKPT_OK. */
-uint32_t dukpt_cmac_check_value(const uint8_t *key, size_t key_size,
-                                uint8_t *value, size_t value_size);
-
-/* The registers of a terminal, each call from image to image (ANSI X9.24-1:2009 annex A). An image
- * is a format of this project: version 2 has 431 bytes. Version 1, of 350 bytes, is read too, and
- * not written. */
-
-/* Writes the image of a terminal that has used no number yet.
- *
- *   initial   in   16   initial key
- *   iksn      in   10   initial key serial number: its counter, the last 21 bits, is zero
- *   image     out  431  image
- *
- * Answers, in this order: DUKPT_FAULT_LENGTH; DUKPT_FAULT_NOT_INITIAL; DUKPT_OK. */
-uint32_t dukpt_load(const uint8_t *initial, size_t initial_size,
-                    const uint8_t *iksn, size_t iksn_size,
-                    uint8_t *image, size_t image_size);
-
-/* Writes the image of a terminal whose next key serial number is this one: what dukpt_load and then
- * dukpt_take for each number before it leave.
- *
- *   initial   in   16   initial key
- *   ksn       in   10   the next key serial number
- *   image     out  431  image
- *
- * Answers, in this order: DUKPT_FAULT_LENGTH; DUKPT_FAULT_NOT_USABLE; DUKPT_OK. */
-uint32_t dukpt_registers_at(const uint8_t *initial, size_t initial_size,
-                            const uint8_t *ksn, size_t ksn_size,
-                            uint8_t *image, size_t image_size);
-
-/* Writes the key serial number that a terminal with this image uses next.
- *
- *   image   in   431 or 350  image; another length is DUKPT_FAULT_NOT_AN_IMAGE
- *   ksn     out  10          the next key serial number
- *
- * Answers, in this order: DUKPT_FAULT_LENGTH; DUKPT_FAULT_NOT_AN_IMAGE; DUKPT_FAULT_SPENT;
- * DUKPT_OK. */
-uint32_t dukpt_number(const uint8_t *image, size_t image_size,
-                      uint8_t *ksn, size_t ksn_size);
-
-/* Uses the next number of a terminal. The next image is to be stored before the key is used, so
- * that no stop brings the key back. The next image does not overlap the image: copy it afterwards.
- *
- *   image        in   431 or 350  image; another length is DUKPT_FAULT_NOT_AN_IMAGE
- *   next_image   out  431         the image afterwards
- *   key          out  16          transaction key
- *   ksn          out  10          its key serial number
- *
- * Answers, in this order: DUKPT_FAULT_LENGTH; DUKPT_FAULT_NOT_AN_IMAGE; DUKPT_FAULT_SPENT;
- * DUKPT_OK. */
-uint32_t dukpt_take(const uint8_t *image, size_t image_size,
-                    uint8_t *next_image, size_t next_image_size,
-                    uint8_t *key, size_t key_size,
-                    uint8_t *ksn, size_t ksn_size);
-
-/* Gives a terminal another initial key under another initial key serial number. The image keeps up
- * to eight earlier ones, and none of them comes again.
- *
- *   image        in   431 or 350  image; another length is DUKPT_FAULT_NOT_AN_IMAGE
- *   initial      in   16          initial key
- *   iksn         in   10          initial key serial number: its counter, the last 21 bits, is zero
- *   next_image   out  431         the image afterwards
- *
- * Answers, in this order: DUKPT_FAULT_LENGTH; DUKPT_FAULT_NOT_INITIAL; DUKPT_FAULT_NOT_AN_IMAGE;
- * DUKPT_FAULT_IKSN_SPENT; DUKPT_FAULT_LOADS_SPENT; DUKPT_OK. */
-uint32_t dukpt_reload(const uint8_t *image, size_t image_size,
-                      const uint8_t *initial, size_t initial_size,
-                      const uint8_t *iksn, size_t iksn_size,
-                      uint8_t *next_image, size_t next_image_size);
-
-/* TDES, on a block (NIST SP 800-67 section 3) and in cipher block chaining (NIST SP 800-38A section
- * 6.2). */
-
-/* Enciphers a block in place.
- *
- *   key     in      16 or 24  TDES key
- *   block   in out  8         block
- *
- * Answers, in this order: DUKPT_FAULT_LENGTH; DUKPT_OK. */
-uint32_t dukpt_tdes_encrypt(const uint8_t *key, size_t key_size,
-                            uint8_t *block, size_t block_size);
-
-/* Deciphers a block in place.
- *
- *   key     in      16 or 24  TDES key
- *   block   in out  8         block
- *
- * Answers, in this order: DUKPT_FAULT_LENGTH; DUKPT_OK. */
-uint32_t dukpt_tdes_decrypt(const uint8_t *key, size_t key_size,
-                            uint8_t *block, size_t block_size);
-
-/* Enciphers whole blocks in place by CBC.
- *
- *   key     in      16 or 24          TDES key
- *   iv      in      8                 initial vector
- *   bytes   in out  a multiple of 8   blocks, perhaps none
- *
- * Answers, in this order: DUKPT_FAULT_LENGTH; DUKPT_OK. */
-uint32_t dukpt_cbc_encrypt(const uint8_t *key, size_t key_size,
-                           const uint8_t *iv, size_t iv_size,
-                           uint8_t *bytes, size_t bytes_size);
-
-/* Deciphers whole blocks in place by CBC.
- *
- *   key     in      16 or 24          TDES key
- *   iv      in      8                 initial vector
- *   bytes   in out  a multiple of 8   blocks, perhaps none
- *
- * Answers, in this order: DUKPT_FAULT_LENGTH; DUKPT_OK. */
-uint32_t dukpt_cbc_decrypt(const uint8_t *key, size_t key_size,
-                           const uint8_t *iv, size_t iv_size,
-                           uint8_t *bytes, size_t bytes_size);
-
-/* MACs: CMAC (NIST SP 800-38B) and the retail MAC (ANSI X9.19). */
-
-/* Writes the CMAC of a message.
- *
- *   key       in   16 or 24  TDES key
- *   message   in   any       message, perhaps empty
- *   mac       out  8         CMAC
- *
- * Answers, in this order: DUKPT_FAULT_LENGTH; DUKPT_OK. */
-uint32_t dukpt_cmac(const uint8_t *key, size_t key_size,
-                    const uint8_t *message, size_t message_size,
-                    uint8_t *mac, size_t mac_size);
-
-/* Writes the retail MAC of a message, which is filled with zero bytes to whole blocks.
- *
- *   key       in   16         TDES key
- *   message   in   1 or more  message
- *   mac       out  8          retail MAC
- *
- * Answers, in this order: DUKPT_FAULT_LENGTH; DUKPT_OK. */
-uint32_t dukpt_retail_mac(const uint8_t *key, size_t key_size,
-                          const uint8_t *message, size_t message_size,
-                          uint8_t *mac, size_t mac_size);
-
-/* PIN blocks (ISO 9564-1 format 0). PIN and PAN are ASCII digits, without a zero byte at their end.
- * The check digit of a PAN is not verified. */
-
-/* Writes the PIN block of a PIN and a PAN, in clear.
- *
- *   pin     in   4 to 12   PIN; another length is DUKPT_FAULT_PIN_LENGTH
- *   pan     in   12 to 19  PAN; another length is DUKPT_FAULT_PAN_LENGTH
- *   block   out  8         PIN block
- *
- * Answers, in this order: DUKPT_FAULT_LENGTH; DUKPT_FAULT_PIN_LENGTH; DUKPT_FAULT_PIN_DIGIT;
- * DUKPT_FAULT_PAN_LENGTH; DUKPT_FAULT_PAN_DIGIT; DUKPT_OK. */
-uint32_t dukpt_pin_block(const uint8_t *pin, size_t pin_size,
-                         const uint8_t *pan, size_t pan_size,
-                         uint8_t *block, size_t block_size);
-
-/* Writes the PIN of a PIN block in clear, under a PAN.
- *
- *   block        in   8         PIN block
- *   pan          in   12 to 19  PAN; another length is DUKPT_FAULT_PAN_LENGTH
- *   pin          out  12        room for a PIN
- *   pin_length   out            how many digits the PIN has, 4 to 12
- *
- * Answers, in this order: DUKPT_FAULT_LENGTH; DUKPT_FAULT_PAN_LENGTH; DUKPT_FAULT_PAN_DIGIT;
- * DUKPT_FAULT_NOT_A_PIN_BLOCK; DUKPT_OK. */
-uint32_t dukpt_pin_of_block(const uint8_t *block, size_t block_size,
-                            const uint8_t *pan, size_t pan_size,
-                            uint8_t *pin, size_t pin_size, uint32_t *pin_length);
-
-/* Key blocks (ANSI X9.143, version B). */
-
-/* Writes the key block of a key, without optional blocks. The text does not end with a zero byte.
- *
- *   kbpk          in   16 or 24  key block protection key
- *   header        in   7         characters: usage (2), algorithm, mode of use, key version (2),
- *                                exportability
- *   key           in   16 or 24  TDES key
- *   padding       in   any       what stands after the key: 6 bytes and a multiple of 8 fit
- *   text          out  512       room for a key block
- *   text_length   out            how many characters it has
- *
- * Answers, in this order: DUKPT_FAULT_LENGTH; DUKPT_FAULT_BLOCK_HEADER_FIELD;
- * DUKPT_FAULT_BLOCK_PAD_LENGTH; DUKPT_OK. */
-uint32_t dukpt_wrap(const uint8_t *kbpk, size_t kbpk_size,
-                    const uint8_t *header, size_t header_size,
-                    const uint8_t *key, size_t key_size,
-                    const uint8_t *padding, size_t padding_size,
-                    uint8_t *text, size_t text_size, uint32_t *text_length);
-
-/* Writes the header and the key of a key block. Optional blocks are passed over.
- *
- *   kbpk         in   16 or 24  key block protection key
- *   text         in   any       key block; a length that none has is DUKPT_FAULT_BLOCK_LENGTH
- *   header       out  7         characters: usage (2), algorithm, mode of use, key version (2),
- *                               exportability
- *   key          out  24        room for a key
- *   key_length   out            how many bytes it has, 16 or 24
- *
- * Answers, in this order: DUKPT_FAULT_LENGTH; DUKPT_FAULT_BLOCK_LENGTH;
- * DUKPT_FAULT_BLOCK_VERSION; DUKPT_FAULT_BLOCK_HEADER_FIELD; DUKPT_FAULT_BLOCK_OPTIONAL_BLOCK;
- * DUKPT_FAULT_BLOCK_HEX; DUKPT_FAULT_BLOCK_MAC; DUKPT_FAULT_BLOCK_PAYLOAD; DUKPT_OK. */
-uint32_t dukpt_unwrap(const uint8_t *kbpk, size_t kbpk_size,
-                      const uint8_t *text, size_t text_size,
-                      uint8_t *header, size_t header_size,
-                      uint8_t *key, size_t key_size, uint32_t *key_length);
-
-/* Requests: frames of this project's own, over ISO 9564-1 and ANSI X9.19. A frame is two bytes of
- * length and the contents.
+/* Frames. A request is a frame of this project's own, two bytes of length and the contents.
  *
  * Example: a terminal makes a request, and the host reads its PIN.
  *
@@ -485,6 +101,604 @@ uint32_t dukpt_unwrap(const uint8_t *kbpk, size_t kbpk_size,
  *     48 bytes, PIN 1234
  *     1
  */
+/* A reversal is a frame too, under a number of its own.
+ *
+ * Example: a terminal reverses the payment above, and the host says that it is undone.
+ *
+ *     #include <dukpt.h>
+ *     #include <stdio.h>
+ *
+ *     int main(void)
+ *     {
+ *         static const uint8_t key[DUKPT_KEY_BYTES] = {
+ *             0xC4, 0x65, 0x51, 0xCE, 0xF9, 0xFD, 0x24, 0xB0,
+ *             0xAA, 0x9A, 0xD8, 0x34, 0x13, 0x0D, 0x3B, 0xC7,
+ *         };
+ *         static const uint8_t ksn[DUKPT_KSN_BYTES] = {
+ *             0xFF, 0xFF, 0x98, 0x76, 0x54, 0x32, 0x10, 0xE0, 0x00, 0x02,
+ *         };
+ *         static const uint8_t paid[DUKPT_KSN_BYTES] = {
+ *             0xFF, 0xFF, 0x98, 0x76, 0x54, 0x32, 0x10, 0xE0, 0x00, 0x01,
+ *         };
+ *         uint8_t frame[DUKPT_FRAME_ROOM], reply[DUKPT_FRAME_ROOM];
+ *         uint32_t length, reply_length, status;
+ *         status = dukpt_reversal_request(key, sizeof key, ksn, sizeof ksn, paid, sizeof paid,
+ *                                         frame, sizeof frame, &length);
+ *         if (status != DUKPT_OK)
+ *             return 1;
+ *         if (dukpt_check_reversal(key, sizeof key, frame, length) != DUKPT_OK)
+ *             return 1;
+ *         status = dukpt_reversal_reply(key, sizeof key, ksn, sizeof ksn, paid, sizeof paid, 1,
+ *                                       reply, sizeof reply, &reply_length);
+ *         if (status != DUKPT_OK)
+ *             return 1;
+ *         status = dukpt_check_reversal_reply(key, sizeof key, ksn, sizeof ksn, paid, sizeof paid,
+ *                                             reply, reply_length);
+ *         printf("%u and %u bytes: %s\n", (unsigned)length, (unsigned)reply_length,
+ *                dukpt_status_text(status));
+ *         status = dukpt_reversal_request(key, sizeof key, ksn, sizeof ksn, ksn, sizeof ksn,
+ *                                         frame, sizeof frame, &length);
+ *         printf("%s\n", dukpt_status_text(status));
+ *         return 0;
+ *     }
+ *
+ * It prints:
+ *
+ *     32 and 33 bytes: the call is done
+ *     the key serial number cannot reverse the other one
+ */
+#ifndef DUKPT_H
+#define DUKPT_H
+
+#include <stddef.h>
+#include <stdint.h>
+
+/* The version of this header. DUKPT_VERSION is what dukpt_version gives for it. */
+#define DUKPT_VERSION_MAJOR 0
+#define DUKPT_VERSION_MINOR 1
+#define DUKPT_VERSION_PATCH 0
+#define DUKPT_VERSION_TEXT "0.1.0"
+#define DUKPT_VERSION \
+    (DUKPT_VERSION_MAJOR * 0x10000 + DUKPT_VERSION_MINOR * 0x100 + DUKPT_VERSION_PATCH)
+
+/* Lengths in bytes. A ROOM is the most that a call writes or reads. */
+#define DUKPT_KEY_BYTES 16             /* a key of the key tree, a TDES key of two DES keys */
+#define DUKPT_TRIPLE_KEY_BYTES 24      /* a TDES key of three DES keys */
+#define DUKPT_KSN_BYTES 10             /* a key serial number */
+#define DUKPT_BLOCK_BYTES 8            /* a block of TDES, a PIN block, an initial vector */
+#define DUKPT_MAC_BYTES 8              /* a CMAC, a retail MAC */
+#define DUKPT_CHECK_VALUE_BYTES 3      /* a check value */
+#define DUKPT_CMAC_CHECK_VALUE_BYTES 5 /* a check value by CMAC */
+#define DUKPT_IMAGE_BYTES 431          /* the image of a terminal, version 2 */
+#define DUKPT_IMAGE_1_BYTES 350        /* an image of version 1, which is read and not written */
+#define DUKPT_PIN_LEAST 4              /* the digits of a PIN, from .. */
+#define DUKPT_PIN_ROOM 12              /* .. to */
+#define DUKPT_PAN_LEAST 12             /* the digits of a PAN, from .. */
+#define DUKPT_PAN_ROOM 19              /* .. to */
+#define DUKPT_HEADER_BYTES 7           /* the fields of a key block's header */
+#define DUKPT_USAGE_BYTES 2            /* the usage in a key block's header */
+#define DUKPT_KEY_BLOCK_LEAST 80       /* the characters of a key block, from .. */
+#define DUKPT_KEY_BLOCK_ROOM 512       /* .. to */
+#define DUKPT_OPTIONAL_ID_BYTES 2      /* the id of an optional block */
+#define DUKPT_OPTIONAL_ROOM 251        /* the content of an optional block */
+#define DUKPT_CODE_BYTES 2             /* the code of a reply */
+#define DUKPT_FRAME_ROOM 64            /* a frame with the two bytes of its length */
+
+/* How many bytes of the stack below its caller a call uses at most. It is measured, not proved. */
+#define DUKPT_STACK_BYTES 16384
+
+/* What GCC and clang are told of a call: that its status is to be looked at, that no pointer is
+ * null, and that no other argument reaches what it writes. */
+#if defined(__GNUC__)
+#define DUKPT_STATUS __attribute__((warn_unused_result))
+#define DUKPT_NONNULL __attribute__((nonnull))
+#define DUKPT_OUT __restrict
+#else
+#define DUKPT_STATUS
+#define DUKPT_NONNULL
+#define DUKPT_OUT
+#endif
+
+/* What a call answers. A number does not change any more. */
+enum dukpt_status {
+    DUKPT_OK = 0,                          /* the call is done */
+    DUKPT_FAULT_LENGTH = 1,                /* a value has another length than the call takes */
+    DUKPT_FAULT_NOT_INITIAL = 2,           /* the counter of an initial key serial number is not
+                                              zero */
+    DUKPT_FAULT_NOT_USABLE = 3,            /* the counter numbers no transaction: it is zero or has
+                                              more than ten one bits */
+    DUKPT_FAULT_SPENT = 4,                 /* no number is left */
+    DUKPT_FAULT_NOT_AN_IMAGE = 5,          /* the bytes are no image of a terminal */
+    DUKPT_FAULT_IKSN_SPENT = 6,            /* the initial key serial number is the terminal's own,
+                                              or one that it had before */
+    DUKPT_FAULT_LOADS_SPENT = 7,           /* the terminal had eight initial key serial numbers
+                                              before its own */
+    DUKPT_FAULT_PIN_LENGTH = 8,            /* the PIN has fewer than 4 or more than 12 bytes */
+    DUKPT_FAULT_PIN_DIGIT = 9,             /* a byte of the PIN is no ASCII digit */
+    DUKPT_FAULT_PAN_LENGTH = 10,           /* the PAN has fewer than 12 or more than 19 bytes */
+    DUKPT_FAULT_PAN_DIGIT = 11,            /* a byte of the PAN is no ASCII digit */
+    DUKPT_FAULT_NOT_A_PIN_BLOCK = 12,      /* the block is no PIN block of this PAN */
+    DUKPT_FAULT_BLOCK_LENGTH = 13,         /* the key block has not 80 to 512 characters, a multiple
+                                              of 8, or says another length */
+    DUKPT_FAULT_BLOCK_VERSION = 14,        /* the first character of a key block is not B */
+    DUKPT_FAULT_BLOCK_HEADER_FIELD = 15,   /* a header field cannot be printed, or the number of
+                                              optional blocks is not two digits */
+    DUKPT_FAULT_BLOCK_OPTIONAL_BLOCK = 16, /* optional blocks do not fit, are over 99 or
+                                              unprintable, or no key and MAC follow */
+    DUKPT_FAULT_BLOCK_HEX = 17,            /* a character after the optional blocks is no
+                                              hexadecimal digit */
+    DUKPT_FAULT_BLOCK_MAC = 18,            /* the MAC is not that of the key block */
+    DUKPT_FAULT_BLOCK_PAYLOAD = 19,        /* the key's length is neither 128 nor 192 bits, or the
+                                              payload is too short for it */
+    DUKPT_FAULT_BLOCK_PAD_LENGTH = 20,     /* the payload would be no whole blocks, or the text
+                                              longer than 512 characters */
+    DUKPT_FAULT_NOT_A_REQUEST = 21,        /* the bytes are no request's frame */
+    DUKPT_FAULT_NOT_A_REPLY = 22,          /* the bytes are no accepted reply's frame */
+    DUKPT_FAULT_NOT_A_REFUSAL = 23,        /* the bytes are no refusal's frame */
+    DUKPT_FAULT_NOT_A_CODE = 24,           /* the two bytes are no code of a reply: 00, 14, 30, 51
+                                              or 55 */
+    DUKPT_FAULT_NOT_A_REASON = 25,         /* the reason of a refusal is none of 1 to 6 */
+    DUKPT_FAULT_NOT_MINE = 26,             /* the reply is to another key serial number */
+    DUKPT_FAULT_BAD_MAC = 27,              /* the MAC is not that of the frame */
+    DUKPT_FAULT_PART_OF_FRAME = 28,        /* fewer than the two bytes of a frame's length are
+                                              there */
+    DUKPT_FAULT_TOO_LONG = 29,             /* a length above 62 stands where a frame would begin */
+    DUKPT_FAULT_NOT_REVERSED = 30,         /* the key serial number cannot reverse the other one */
+    DUKPT_FAULT_NOT_A_REVERSAL = 31,       /* the bytes are no reversal's frame */
+    DUKPT_FAULT_NOT_A_STATE = 32,          /* the state of a reversal is neither 1 nor 0 */
+    DUKPT_FAULT_NOT_A_REVERSAL_REPLY = 33, /* the bytes are no frame of a reversal's reply */
+    DUKPT_FAULT_OTHER_USAGE = 34,          /* the key in the key block has another usage, or is no
+                                              TDES key */
+    DUKPT_FAULT_OTHER_KEY_LENGTH = 35,     /* the key in the key block has another length */
+    DUKPT_FAULT_NO_OPTIONAL_BLOCK = 36     /* the key block has no optional block with this id */
+};
+
+#ifdef __cplusplus
+extern "C" {
+#endif
+
+/* Gives the version of the library: major, minor and patch, a byte each, from the third byte down.
+ * It has no faults. */
+uint32_t dukpt_version(void);
+
+/* Gives a sentence in English that says what a status means, as `the MAC is not that of the frame`;
+ * `unknown status` for a number that is none. The text ends with a zero byte, and stays. */
+const char *dukpt_status_text(uint32_t status);
+
+/* Overwrites the stack below its caller, DUKPT_STACK_BYTES deep: what calls may have left of keys
+ * and PINs. The function that made the calls calls it, in the same thread. From another one it
+ * reaches less deep, by the frames that lie between. It does not overwrite the caller's own
+ * arrays. */
+void dukpt_wipe_stack(void);
+
+/* The calls: made of library/calls.toml by `tools/library --make`. */
+
+/* Keys of the key tree (ANSI X9.24-1:2009 annex A). */
+
+/* Writes the initial key (IPEK) of an initial key serial number.
+ *
+ *   bdk    in   16  base derivation key
+ *   iksn   in   10  initial key serial number: its counter, the last 21 bits, is zero
+ *   key    out  16  initial key
+ *
+ * Answers, in this order: DUKPT_FAULT_LENGTH; DUKPT_FAULT_NOT_INITIAL; DUKPT_OK. */
+DUKPT_STATUS uint32_t dukpt_initial_key(const uint8_t *bdk, size_t bdk_size,
+                                        const uint8_t *iksn, size_t iksn_size,
+                                        uint8_t *DUKPT_OUT key, size_t key_size)
+    DUKPT_NONNULL;
+
+/* Writes the transaction key of a key serial number under the base derivation key. The counter may
+ * be any: zero gives the initial key. dukpt_check_usable tells whether it numbers a transaction.
+ *
+ *   bdk   in   16  base derivation key
+ *   ksn   in   10  key serial number
+ *   key   out  16  transaction key
+ *
+ * Answers, in this order: DUKPT_FAULT_LENGTH; DUKPT_OK. */
+DUKPT_STATUS uint32_t dukpt_derive(const uint8_t *bdk, size_t bdk_size,
+                                   const uint8_t *ksn, size_t ksn_size,
+                                   uint8_t *DUKPT_OUT key, size_t key_size)
+    DUKPT_NONNULL;
+
+/* Writes the transaction key of a key serial number under the initial key of its terminal. The
+ * counter may be any: zero gives the initial key.
+ *
+ *   initial   in   16  initial key
+ *   ksn       in   10  key serial number
+ *   key       out  16  transaction key
+ *
+ * Answers, in this order: DUKPT_FAULT_LENGTH; DUKPT_OK. */
+DUKPT_STATUS uint32_t dukpt_derive_from_initial(const uint8_t *initial, size_t initial_size,
+                                                const uint8_t *ksn, size_t ksn_size,
+                                                uint8_t *DUKPT_OUT key, size_t key_size)
+    DUKPT_NONNULL;
+
+/* Writes the variant of a transaction key that enciphers PIN blocks.
+ *
+ *   key       in   16  transaction key
+ *   variant   out  16  the key, both halves xored with 00000000000000FF
+ *
+ * Answers, in this order: DUKPT_FAULT_LENGTH; DUKPT_OK. */
+DUKPT_STATUS uint32_t dukpt_pin_key(const uint8_t *key, size_t key_size,
+                                    uint8_t *DUKPT_OUT variant, size_t variant_size)
+    DUKPT_NONNULL;
+
+/* Writes the variant of a transaction key that makes the MACs of requests.
+ *
+ *   key       in   16  transaction key
+ *   variant   out  16  the key, both halves xored with 000000000000FF00
+ *
+ * Answers, in this order: DUKPT_FAULT_LENGTH; DUKPT_OK. */
+DUKPT_STATUS uint32_t dukpt_request_key(const uint8_t *key, size_t key_size,
+                                        uint8_t *DUKPT_OUT variant, size_t variant_size)
+    DUKPT_NONNULL;
+
+/* Writes the variant of a transaction key that makes the MACs of replies.
+ *
+ *   key       in   16  transaction key
+ *   variant   out  16  the key, both halves xored with 00000000FF000000
+ *
+ * Answers, in this order: DUKPT_FAULT_LENGTH; DUKPT_OK. */
+DUKPT_STATUS uint32_t dukpt_response_key(const uint8_t *key, size_t key_size,
+                                         uint8_t *DUKPT_OUT variant, size_t variant_size)
+    DUKPT_NONNULL;
+
+/* Writes the key of a transaction that enciphers the data of its request, or of both ways (ANSI
+ * X9.24-1:2009 annex A.4.1).
+ *
+ *   key       in   16  transaction key
+ *   variant   out  16  both halves of the key xored with 0000000000FF0000, then each enciphered
+ *                      under both
+ *
+ * Answers, in this order: DUKPT_FAULT_LENGTH; DUKPT_OK. */
+DUKPT_STATUS uint32_t dukpt_request_data_key(const uint8_t *key, size_t key_size,
+                                             uint8_t *DUKPT_OUT variant, size_t variant_size)
+    DUKPT_NONNULL;
+
+/* Writes the key of a transaction that enciphers the data of its reply (ANSI X9.24-1:2009 annex
+ * A.4.1).
+ *
+ *   key       in   16  transaction key
+ *   variant   out  16  both halves of the key xored with 000000FF00000000, then each enciphered
+ *                      under both
+ *
+ * Answers, in this order: DUKPT_FAULT_LENGTH; DUKPT_OK. */
+DUKPT_STATUS uint32_t dukpt_response_data_key(const uint8_t *key, size_t key_size,
+                                              uint8_t *DUKPT_OUT variant, size_t variant_size)
+    DUKPT_NONNULL;
+
+/* Key serial numbers, in the order in which a terminal uses them (ANSI X9.24-1:2009 annex A). */
+
+/* Tells whether a key serial number numbers a transaction: its counter has one to ten one bits. It
+ * writes nothing.
+ *
+ *   ksn   in  10  key serial number
+ *
+ * Answers, in this order: DUKPT_FAULT_LENGTH; DUKPT_FAULT_NOT_USABLE; DUKPT_OK. */
+DUKPT_STATUS uint32_t dukpt_check_usable(const uint8_t *ksn, size_t ksn_size)
+    DUKPT_NONNULL;
+
+/* Writes the key serial number that a terminal uses after this one: that with the least usable
+ * counter above its own. The counter may be any.
+ *
+ *   ksn    in   10  key serial number
+ *   next   out  10  the next one
+ *
+ * Answers, in this order: DUKPT_FAULT_LENGTH; DUKPT_FAULT_SPENT; DUKPT_OK. */
+DUKPT_STATUS uint32_t dukpt_next_number(const uint8_t *ksn, size_t ksn_size,
+                                        uint8_t *DUKPT_OUT next, size_t next_size)
+    DUKPT_NONNULL;
+
+/* Check values of keys (ANSI X9.24-1:2017 annex A). */
+
+/* Writes the check value (KCV) of a key: the first bytes of a block of zeros, enciphered.
+ *
+ *   key     in   16 or 24  TDES key
+ *   value   out  3         check value
+ *
+ * Answers, in this order: DUKPT_FAULT_LENGTH; DUKPT_OK. */
+DUKPT_STATUS uint32_t dukpt_check_value(const uint8_t *key, size_t key_size,
+                                        uint8_t *DUKPT_OUT value, size_t value_size)
+    DUKPT_NONNULL;
+
+/* Writes the check value by CMAC of a key: the first bytes of the CMAC of a block of zeros.
+ *
+ *   key     in   16 or 24  TDES key
+ *   value   out  5         check value
+ *
+ * Answers, in this order: DUKPT_FAULT_LENGTH; DUKPT_OK. */
+DUKPT_STATUS uint32_t dukpt_cmac_check_value(const uint8_t *key, size_t key_size,
+                                             uint8_t *DUKPT_OUT value, size_t value_size)
+    DUKPT_NONNULL;
+
+/* The registers of a terminal, each call from image to image (ANSI X9.24-1:2009 annex A). An image
+ * is a format of this project: version 2 has 431 bytes. Version 1, of 350 bytes, is read too, and
+ * not written. */
+
+/* Writes the image of a terminal that has used no number yet.
+ *
+ *   initial   in   16   initial key
+ *   iksn      in   10   initial key serial number: its counter, the last 21 bits, is zero
+ *   image     out  431  image
+ *
+ * Answers, in this order: DUKPT_FAULT_LENGTH; DUKPT_FAULT_NOT_INITIAL; DUKPT_OK. */
+DUKPT_STATUS uint32_t dukpt_registers_load(const uint8_t *initial, size_t initial_size,
+                                           const uint8_t *iksn, size_t iksn_size,
+                                           uint8_t *DUKPT_OUT image, size_t image_size)
+    DUKPT_NONNULL;
+
+/* Writes the image of a terminal whose next key serial number is this one: what
+ * dukpt_registers_load and then dukpt_registers_next for each number before it leave.
+ *
+ *   initial   in   16   initial key
+ *   ksn       in   10   the next key serial number
+ *   image     out  431  image
+ *
+ * Answers, in this order: DUKPT_FAULT_LENGTH; DUKPT_FAULT_NOT_USABLE; DUKPT_OK. */
+DUKPT_STATUS uint32_t dukpt_registers_at(const uint8_t *initial, size_t initial_size,
+                                         const uint8_t *ksn, size_t ksn_size,
+                                         uint8_t *DUKPT_OUT image, size_t image_size)
+    DUKPT_NONNULL;
+
+/* Writes the key serial number that a terminal with this image uses next.
+ *
+ *   image   in   431 or 350  image; another length is DUKPT_FAULT_NOT_AN_IMAGE
+ *   ksn     out  10          the next key serial number
+ *
+ * Answers, in this order: DUKPT_FAULT_LENGTH; DUKPT_FAULT_NOT_AN_IMAGE; DUKPT_FAULT_SPENT;
+ * DUKPT_OK. */
+DUKPT_STATUS uint32_t dukpt_registers_number(const uint8_t *image, size_t image_size,
+                                             uint8_t *DUKPT_OUT ksn, size_t ksn_size)
+    DUKPT_NONNULL;
+
+/* Uses the next number of a terminal. The next image is to be stored before the key is used, so
+ * that no stop brings the key back. The next image does not overlap the image: copy it afterwards.
+ *
+ *   image        in   431 or 350  image; another length is DUKPT_FAULT_NOT_AN_IMAGE
+ *   next_image   out  431         the image afterwards
+ *   key          out  16          transaction key
+ *   ksn          out  10          its key serial number
+ *
+ * Answers, in this order: DUKPT_FAULT_LENGTH; DUKPT_FAULT_NOT_AN_IMAGE; DUKPT_FAULT_SPENT;
+ * DUKPT_OK. */
+DUKPT_STATUS uint32_t dukpt_registers_next(const uint8_t *image, size_t image_size,
+                                           uint8_t *DUKPT_OUT next_image, size_t next_image_size,
+                                           uint8_t *DUKPT_OUT key, size_t key_size,
+                                           uint8_t *DUKPT_OUT ksn, size_t ksn_size)
+    DUKPT_NONNULL;
+
+/* Gives a terminal another initial key under another initial key serial number. The image keeps up
+ * to eight earlier ones, and none of them comes again.
+ *
+ *   image        in   431 or 350  image; another length is DUKPT_FAULT_NOT_AN_IMAGE
+ *   initial      in   16          initial key
+ *   iksn         in   10          initial key serial number: its counter, the last 21 bits, is zero
+ *   next_image   out  431         the image afterwards
+ *
+ * Answers, in this order: DUKPT_FAULT_LENGTH; DUKPT_FAULT_NOT_INITIAL; DUKPT_FAULT_NOT_AN_IMAGE;
+ * DUKPT_FAULT_IKSN_SPENT; DUKPT_FAULT_LOADS_SPENT; DUKPT_OK. */
+DUKPT_STATUS uint32_t dukpt_registers_reload(const uint8_t *image, size_t image_size,
+                                             const uint8_t *initial, size_t initial_size,
+                                             const uint8_t *iksn, size_t iksn_size,
+                                             uint8_t *DUKPT_OUT next_image, size_t next_image_size)
+    DUKPT_NONNULL;
+
+/* TDES, on a block (NIST SP 800-67 section 3) and in cipher block chaining (NIST SP 800-38A section
+ * 6.2). */
+
+/* Enciphers a block in place.
+ *
+ *   key     in      16 or 24  TDES key
+ *   block   in out  8         block
+ *
+ * Answers, in this order: DUKPT_FAULT_LENGTH; DUKPT_OK. */
+DUKPT_STATUS uint32_t dukpt_tdes_encrypt(const uint8_t *key, size_t key_size,
+                                         uint8_t *DUKPT_OUT block, size_t block_size)
+    DUKPT_NONNULL;
+
+/* Deciphers a block in place.
+ *
+ *   key     in      16 or 24  TDES key
+ *   block   in out  8         block
+ *
+ * Answers, in this order: DUKPT_FAULT_LENGTH; DUKPT_OK. */
+DUKPT_STATUS uint32_t dukpt_tdes_decrypt(const uint8_t *key, size_t key_size,
+                                         uint8_t *DUKPT_OUT block, size_t block_size)
+    DUKPT_NONNULL;
+
+/* Enciphers whole blocks in place by CBC.
+ *
+ *   key     in      16 or 24         TDES key
+ *   iv      in      8                initial vector
+ *   bytes   in out  a multiple of 8  blocks, perhaps none
+ *
+ * Answers, in this order: DUKPT_FAULT_LENGTH; DUKPT_OK. */
+DUKPT_STATUS uint32_t dukpt_cbc_encrypt(const uint8_t *key, size_t key_size,
+                                        const uint8_t *iv, size_t iv_size,
+                                        uint8_t *DUKPT_OUT bytes, size_t bytes_size)
+    DUKPT_NONNULL;
+
+/* Deciphers whole blocks in place by CBC.
+ *
+ *   key     in      16 or 24         TDES key
+ *   iv      in      8                initial vector
+ *   bytes   in out  a multiple of 8  blocks, perhaps none
+ *
+ * Answers, in this order: DUKPT_FAULT_LENGTH; DUKPT_OK. */
+DUKPT_STATUS uint32_t dukpt_cbc_decrypt(const uint8_t *key, size_t key_size,
+                                        const uint8_t *iv, size_t iv_size,
+                                        uint8_t *DUKPT_OUT bytes, size_t bytes_size)
+    DUKPT_NONNULL;
+
+/* MACs: CMAC (NIST SP 800-38B) and the retail MAC (ANSI X9.19). */
+
+/* Writes the CMAC of a message.
+ *
+ *   key       in   16 or 24  TDES key
+ *   message   in   any       message, perhaps empty
+ *   mac       out  8         CMAC
+ *
+ * Answers, in this order: DUKPT_FAULT_LENGTH; DUKPT_OK. */
+DUKPT_STATUS uint32_t dukpt_cmac(const uint8_t *key, size_t key_size,
+                                 const uint8_t *message, size_t message_size,
+                                 uint8_t *DUKPT_OUT mac, size_t mac_size)
+    DUKPT_NONNULL;
+
+/* Writes the retail MAC of a message, which is filled with zero bytes to whole blocks.
+ *
+ *   key       in   16         TDES key
+ *   message   in   1 or more  message
+ *   mac       out  8          retail MAC
+ *
+ * Answers, in this order: DUKPT_FAULT_LENGTH; DUKPT_OK. */
+DUKPT_STATUS uint32_t dukpt_retail_mac(const uint8_t *key, size_t key_size,
+                                       const uint8_t *message, size_t message_size,
+                                       uint8_t *DUKPT_OUT mac, size_t mac_size)
+    DUKPT_NONNULL;
+
+/* PIN blocks (ISO 9564-1 format 0). PIN and PAN are ASCII digits, without a zero byte at their end.
+ * The check digit of a PAN is not verified. */
+
+/* Writes the PIN block of a PIN and a PAN, in clear.
+ *
+ *   pin     in   4 to 12   PIN; another length is DUKPT_FAULT_PIN_LENGTH
+ *   pan     in   12 to 19  PAN; another length is DUKPT_FAULT_PAN_LENGTH
+ *   block   out  8         PIN block
+ *
+ * Answers, in this order: DUKPT_FAULT_LENGTH; DUKPT_FAULT_PIN_LENGTH; DUKPT_FAULT_PIN_DIGIT;
+ * DUKPT_FAULT_PAN_LENGTH; DUKPT_FAULT_PAN_DIGIT; DUKPT_OK. */
+DUKPT_STATUS uint32_t dukpt_pin_block(const uint8_t *pin, size_t pin_size,
+                                      const uint8_t *pan, size_t pan_size,
+                                      uint8_t *DUKPT_OUT block, size_t block_size)
+    DUKPT_NONNULL;
+
+/* Writes the PIN of a PIN block in clear, under a PAN.
+ *
+ *   block        in   8         PIN block
+ *   pan          in   12 to 19  PAN; another length is DUKPT_FAULT_PAN_LENGTH
+ *   pin          out  12        room for a PIN
+ *   pin_length   out            how many digits the PIN has, 4 to 12
+ *
+ * Answers, in this order: DUKPT_FAULT_LENGTH; DUKPT_FAULT_PAN_LENGTH; DUKPT_FAULT_PAN_DIGIT;
+ * DUKPT_FAULT_NOT_A_PIN_BLOCK; DUKPT_OK. */
+DUKPT_STATUS uint32_t dukpt_pin_of_block(const uint8_t *block, size_t block_size,
+                                         const uint8_t *pan, size_t pan_size,
+                                         uint8_t *DUKPT_OUT pin, size_t pin_size,
+                                         uint32_t *DUKPT_OUT pin_length)
+    DUKPT_NONNULL;
+
+/* Key blocks (ANSI X9.143, version B). */
+
+/* Writes the key block of a key, without optional blocks. The text does not end with a zero byte.
+ * Take random padding, anew each time, of the system's generator: dukpt_wrap has none. With zeros
+ * or other fixed bytes equal keys have equal texts, and whoever sees two texts can tell.
+ *
+ *   kbpk          in   16 or 24  key block protection key
+ *   header        in   7         characters: usage (2), algorithm, mode of use, key version (2),
+ *                                exportability
+ *   key           in   16 or 24  TDES key
+ *   padding       in   any       random bytes behind the key: 6 and a multiple of 8 fit
+ *   text          out  512       room for a key block
+ *   text_length   out            how many characters it has
+ *
+ * Answers, in this order: DUKPT_FAULT_LENGTH; DUKPT_FAULT_BLOCK_HEADER_FIELD;
+ * DUKPT_FAULT_BLOCK_PAD_LENGTH; DUKPT_OK. */
+DUKPT_STATUS uint32_t dukpt_wrap(const uint8_t *kbpk, size_t kbpk_size,
+                                 const uint8_t *header, size_t header_size,
+                                 const uint8_t *key, size_t key_size,
+                                 const uint8_t *padding, size_t padding_size,
+                                 uint8_t *DUKPT_OUT text, size_t text_size,
+                                 uint32_t *DUKPT_OUT text_length)
+    DUKPT_NONNULL;
+
+/* Writes the key block of a key, with optional blocks as they stand in the text: an id of two
+ * characters, the length in two hexadecimal digits, with these four characters, and the content.
+ * Those are DUKPT_FAULT_BLOCK_OPTIONAL_BLOCK that are more than 99, are no multiple of 8 in all, or
+ * have a character that cannot be printed. The padding is random, as that of dukpt_wrap. The text
+ * does not end with a zero byte.
+ *
+ *   kbpk          in   16 or 24  key block protection key
+ *   header        in   7         characters: usage (2), algorithm, mode of use, key version (2),
+ *                                exportability
+ *   optional      in   any       at most 99 optional blocks, one behind another: a multiple of 8
+ *                                printable characters
+ *   key           in   16 or 24  TDES key
+ *   padding       in   any       random bytes behind the key: 6 and a multiple of 8 fit
+ *   text          out  512       room for a key block
+ *   text_length   out            how many characters it has
+ *
+ * Answers, in this order: DUKPT_FAULT_LENGTH; DUKPT_FAULT_BLOCK_HEADER_FIELD;
+ * DUKPT_FAULT_BLOCK_OPTIONAL_BLOCK; DUKPT_FAULT_BLOCK_PAD_LENGTH; DUKPT_OK. */
+DUKPT_STATUS uint32_t dukpt_wrap_with(const uint8_t *kbpk, size_t kbpk_size,
+                                      const uint8_t *header, size_t header_size,
+                                      const uint8_t *optional, size_t optional_size,
+                                      const uint8_t *key, size_t key_size,
+                                      const uint8_t *padding, size_t padding_size,
+                                      uint8_t *DUKPT_OUT text, size_t text_size,
+                                      uint32_t *DUKPT_OUT text_length)
+    DUKPT_NONNULL;
+
+/* Writes the header and the key of a key block. Optional blocks are passed over.
+ *
+ *   kbpk         in   16 or 24  key block protection key
+ *   text         in   any       key block; a length that none has is DUKPT_FAULT_BLOCK_LENGTH
+ *   header       out  7         characters: usage (2), algorithm, mode of use, key version (2),
+ *                               exportability
+ *   key          out  24        room for a key
+ *   key_length   out            how many bytes it has, 16 or 24
+ *
+ * Answers, in this order: DUKPT_FAULT_LENGTH; DUKPT_FAULT_BLOCK_LENGTH; DUKPT_FAULT_BLOCK_VERSION;
+ * DUKPT_FAULT_BLOCK_HEADER_FIELD; DUKPT_FAULT_BLOCK_OPTIONAL_BLOCK; DUKPT_FAULT_BLOCK_HEX;
+ * DUKPT_FAULT_BLOCK_MAC; DUKPT_FAULT_BLOCK_PAYLOAD; DUKPT_OK. */
+DUKPT_STATUS uint32_t dukpt_unwrap(const uint8_t *kbpk, size_t kbpk_size,
+                                   const uint8_t *text, size_t text_size,
+                                   uint8_t *DUKPT_OUT header, size_t header_size,
+                                   uint8_t *DUKPT_OUT key, size_t key_size,
+                                   uint32_t *DUKPT_OUT key_length)
+    DUKPT_NONNULL;
+
+/* Writes the key of a key block that is for one usage, is a TDES key (algorithm T), and has one
+ * length. The mode of use is not compared: the header tells it, which dukpt_unwrap writes. Optional
+ * blocks are passed over.
+ *
+ *   kbpk     in   16 or 24  key block protection key
+ *   usage    in   2         characters: the usage that the key has to have
+ *   wanted   in             how many bytes the key has to have: 16 or 24, and else
+ *                           DUKPT_FAULT_LENGTH
+ *   text     in   any       key block; a length that none has is DUKPT_FAULT_BLOCK_LENGTH
+ *   key      out  24        room for a key, of which as many bytes are written as are wanted
+ *
+ * Answers, in this order: DUKPT_FAULT_LENGTH; DUKPT_FAULT_BLOCK_LENGTH; DUKPT_FAULT_BLOCK_VERSION;
+ * DUKPT_FAULT_BLOCK_HEADER_FIELD; DUKPT_FAULT_BLOCK_OPTIONAL_BLOCK; DUKPT_FAULT_BLOCK_HEX;
+ * DUKPT_FAULT_BLOCK_MAC; DUKPT_FAULT_BLOCK_PAYLOAD; DUKPT_FAULT_OTHER_USAGE;
+ * DUKPT_FAULT_OTHER_KEY_LENGTH; DUKPT_OK. */
+DUKPT_STATUS uint32_t dukpt_unwrap_for(const uint8_t *kbpk, size_t kbpk_size,
+                                       const uint8_t *usage, size_t usage_size, uint32_t wanted,
+                                       const uint8_t *text, size_t text_size,
+                                       uint8_t *DUKPT_OUT key, size_t key_size)
+    DUKPT_NONNULL;
+
+/* Writes the content of an optional block of a key block whose MAC is right: of the first one with
+ * this id.
+ *
+ *   kbpk             in   16 or 24  key block protection key
+ *   text             in   any       key block; a length that none has is DUKPT_FAULT_BLOCK_LENGTH
+ *   id               in   2         characters: the id of the optional block, as KS
+ *   content          out  251       room for the content of an optional block
+ *   content_length   out            how many characters it has
+ *
+ * Answers, in this order: DUKPT_FAULT_LENGTH; DUKPT_FAULT_BLOCK_LENGTH; DUKPT_FAULT_BLOCK_VERSION;
+ * DUKPT_FAULT_BLOCK_HEADER_FIELD; DUKPT_FAULT_BLOCK_OPTIONAL_BLOCK; DUKPT_FAULT_BLOCK_HEX;
+ * DUKPT_FAULT_BLOCK_MAC; DUKPT_FAULT_BLOCK_PAYLOAD; DUKPT_FAULT_NO_OPTIONAL_BLOCK; DUKPT_OK. */
+DUKPT_STATUS uint32_t dukpt_unwrap_optional(const uint8_t *kbpk, size_t kbpk_size,
+                                            const uint8_t *text, size_t text_size,
+                                            const uint8_t *id, size_t id_size,
+                                            uint8_t *DUKPT_OUT content, size_t content_size,
+                                            uint32_t *DUKPT_OUT content_length)
+    DUKPT_NONNULL;
+
+/* Requests: frames of this project's own, over ISO 9564-1 and ANSI X9.19. A frame is two bytes of
+ * length and the contents. */
 
 /* Writes the request of a payment.
  *
@@ -498,11 +712,13 @@ uint32_t dukpt_unwrap(const uint8_t *kbpk, size_t kbpk_size,
  *
  * Answers, in this order: DUKPT_FAULT_LENGTH; DUKPT_FAULT_PAN_LENGTH; DUKPT_FAULT_PAN_DIGIT;
  * DUKPT_FAULT_PIN_LENGTH; DUKPT_FAULT_PIN_DIGIT; DUKPT_OK. */
-uint32_t dukpt_payment_request(const uint8_t *key, size_t key_size,
-                               const uint8_t *ksn, size_t ksn_size,
-                               const uint8_t *pan, size_t pan_size,
-                               const uint8_t *pin, size_t pin_size, uint32_t amount,
-                               uint8_t *frame, size_t frame_size, uint32_t *frame_length);
+DUKPT_STATUS uint32_t dukpt_payment_request(const uint8_t *key, size_t key_size,
+                                            const uint8_t *ksn, size_t ksn_size,
+                                            const uint8_t *pan, size_t pan_size,
+                                            const uint8_t *pin, size_t pin_size, uint32_t amount,
+                                            uint8_t *DUKPT_OUT frame, size_t frame_size,
+                                            uint32_t *DUKPT_OUT frame_length)
+    DUKPT_NONNULL;
 
 /* Writes the fields of a request. The MAC is not compared: dukpt_check_request does that.
  *
@@ -515,22 +731,25 @@ uint32_t dukpt_payment_request(const uint8_t *key, size_t key_size,
  *   mac          out  8    MAC
  *
  * Answers, in this order: DUKPT_FAULT_LENGTH; DUKPT_FAULT_NOT_A_REQUEST; DUKPT_OK. */
-uint32_t dukpt_read_request(const uint8_t *frame, size_t frame_size,
-                            uint8_t *ksn, size_t ksn_size,
-                            uint8_t *pan, size_t pan_size, uint32_t *pan_length,
-                            uint32_t *amount,
-                            uint8_t *block, size_t block_size,
-                            uint8_t *mac, size_t mac_size);
+DUKPT_STATUS uint32_t dukpt_read_request(const uint8_t *frame, size_t frame_size,
+                                         uint8_t *DUKPT_OUT ksn, size_t ksn_size,
+                                         uint8_t *DUKPT_OUT pan, size_t pan_size,
+                                         uint32_t *DUKPT_OUT pan_length,
+                                         uint32_t *DUKPT_OUT amount,
+                                         uint8_t *DUKPT_OUT block, size_t block_size,
+                                         uint8_t *DUKPT_OUT mac, size_t mac_size)
+    DUKPT_NONNULL;
 
 /* Tells whether a request has its MAC under the transaction key. It writes nothing.
  *
- *   key     in   16   transaction key
- *   frame   in   any  request; what is none is DUKPT_FAULT_NOT_A_REQUEST
+ *   key     in  16   transaction key
+ *   frame   in  any  request; what is none is DUKPT_FAULT_NOT_A_REQUEST
  *
  * Answers, in this order: DUKPT_FAULT_LENGTH; DUKPT_FAULT_NOT_A_REQUEST; DUKPT_FAULT_BAD_MAC;
  * DUKPT_OK. */
-uint32_t dukpt_check_request(const uint8_t *key, size_t key_size,
-                             const uint8_t *frame, size_t frame_size);
+DUKPT_STATUS uint32_t dukpt_check_request(const uint8_t *key, size_t key_size,
+                                          const uint8_t *frame, size_t frame_size)
+    DUKPT_NONNULL;
 
 /* Writes the PIN of a request under the transaction key. The MAC is not compared:
  * dukpt_check_request does that.
@@ -542,9 +761,11 @@ uint32_t dukpt_check_request(const uint8_t *key, size_t key_size,
  *
  * Answers, in this order: DUKPT_FAULT_LENGTH; DUKPT_FAULT_NOT_A_REQUEST;
  * DUKPT_FAULT_NOT_A_PIN_BLOCK; DUKPT_OK. */
-uint32_t dukpt_request_pin(const uint8_t *key, size_t key_size,
-                           const uint8_t *frame, size_t frame_size,
-                           uint8_t *pin, size_t pin_size, uint32_t *pin_length);
+DUKPT_STATUS uint32_t dukpt_request_pin(const uint8_t *key, size_t key_size,
+                                        const uint8_t *frame, size_t frame_size,
+                                        uint8_t *DUKPT_OUT pin, size_t pin_size,
+                                        uint32_t *DUKPT_OUT pin_length)
+    DUKPT_NONNULL;
 
 /* Accepted replies and refusals: frames of this project's own, over ANSI X9.19. */
 
@@ -557,10 +778,12 @@ uint32_t dukpt_request_pin(const uint8_t *key, size_t key_size,
  *   frame_length   out      how many bytes the reply has
  *
  * Answers, in this order: DUKPT_FAULT_LENGTH; DUKPT_FAULT_NOT_A_CODE; DUKPT_OK. */
-uint32_t dukpt_reply(const uint8_t *key, size_t key_size,
-                     const uint8_t *ksn, size_t ksn_size,
-                     const uint8_t *code, size_t code_size,
-                     uint8_t *frame, size_t frame_size, uint32_t *frame_length);
+DUKPT_STATUS uint32_t dukpt_request_reply(const uint8_t *key, size_t key_size,
+                                          const uint8_t *ksn, size_t ksn_size,
+                                          const uint8_t *code, size_t code_size,
+                                          uint8_t *DUKPT_OUT frame, size_t frame_size,
+                                          uint32_t *DUKPT_OUT frame_length)
+    DUKPT_NONNULL;
 
 /* Writes the refusal of a request. It has no MAC.
  *
@@ -570,8 +793,10 @@ uint32_t dukpt_reply(const uint8_t *key, size_t key_size,
  *   frame_length   out      how many bytes the refusal has
  *
  * Answers, in this order: DUKPT_FAULT_LENGTH; DUKPT_FAULT_NOT_A_REASON; DUKPT_OK. */
-uint32_t dukpt_refusal(const uint8_t *ksn, size_t ksn_size, uint32_t reason,
-                       uint8_t *frame, size_t frame_size, uint32_t *frame_length);
+DUKPT_STATUS uint32_t dukpt_request_refusal(const uint8_t *ksn, size_t ksn_size, uint32_t reason,
+                                            uint8_t *DUKPT_OUT frame, size_t frame_size,
+                                            uint32_t *DUKPT_OUT frame_length)
+    DUKPT_NONNULL;
 
 /* Writes the fields of an accepted reply. The MAC is not compared: dukpt_check_reply does that.
  *
@@ -580,9 +805,10 @@ uint32_t dukpt_refusal(const uint8_t *ksn, size_t ksn_size, uint32_t reason,
  *   code    out  2    ASCII digits: 00, 14, 30, 51 or 55
  *
  * Answers, in this order: DUKPT_FAULT_LENGTH; DUKPT_FAULT_NOT_A_REPLY; DUKPT_OK. */
-uint32_t dukpt_read_reply(const uint8_t *frame, size_t frame_size,
-                          uint8_t *ksn, size_t ksn_size,
-                          uint8_t *code, size_t code_size);
+DUKPT_STATUS uint32_t dukpt_read_reply(const uint8_t *frame, size_t frame_size,
+                                       uint8_t *DUKPT_OUT ksn, size_t ksn_size,
+                                       uint8_t *DUKPT_OUT code, size_t code_size)
+    DUKPT_NONNULL;
 
 /* Writes the fields of a refusal.
  *
@@ -591,21 +817,122 @@ uint32_t dukpt_read_reply(const uint8_t *frame, size_t frame_size,
  *   reason   out       1 to 6
  *
  * Answers, in this order: DUKPT_FAULT_LENGTH; DUKPT_FAULT_NOT_A_REFUSAL; DUKPT_OK. */
-uint32_t dukpt_read_refusal(const uint8_t *frame, size_t frame_size,
-                            uint8_t *ksn, size_t ksn_size, uint32_t *reason);
+DUKPT_STATUS uint32_t dukpt_read_refusal(const uint8_t *frame, size_t frame_size,
+                                         uint8_t *DUKPT_OUT ksn, size_t ksn_size,
+                                         uint32_t *DUKPT_OUT reason)
+    DUKPT_NONNULL;
 
 /* Tells whether a frame is the accepted reply of the payment with this transaction key and key
  * serial number. It writes nothing.
  *
- *   key     in   16   transaction key
- *   ksn     in   10   the request's key serial number
- *   frame   in   any  reply; what is none is DUKPT_FAULT_NOT_A_REPLY
+ *   key     in  16   transaction key
+ *   ksn     in  10   the request's key serial number
+ *   frame   in  any  reply; what is none is DUKPT_FAULT_NOT_A_REPLY
  *
  * Answers, in this order: DUKPT_FAULT_LENGTH; DUKPT_FAULT_NOT_A_REPLY; DUKPT_FAULT_NOT_MINE;
  * DUKPT_FAULT_BAD_MAC; DUKPT_OK. */
-uint32_t dukpt_check_reply(const uint8_t *key, size_t key_size,
-                           const uint8_t *ksn, size_t ksn_size,
-                           const uint8_t *frame, size_t frame_size);
+DUKPT_STATUS uint32_t dukpt_check_reply(const uint8_t *key, size_t key_size,
+                                        const uint8_t *ksn, size_t ksn_size,
+                                        const uint8_t *frame, size_t frame_size)
+    DUKPT_NONNULL;
+
+/* Reversals and their replies: frames of this project's own, over ANSI X9.19. A reversal has a key
+ * serial number of its own. That of the payment has the same initial key serial number, another
+ * counter, and is usable. The reversal's own may be any: dukpt_check_usable tells whether it
+ * numbers a transaction, and a host asks it before it answers. */
+
+/* Writes the request that reverses a payment. The reversal's own key serial number may be any:
+ * dukpt_check_usable tells whether it numbers a transaction.
+ *
+ *   key            in   16  transaction key of the reversal's own key serial number
+ *   ksn            in   10  the reversal's own key serial number
+ *   reversed       in   10  the key serial number of the payment
+ *   frame          out  64  room for a frame
+ *   frame_length   out      how many bytes the reversal has
+ *
+ * Answers, in this order: DUKPT_FAULT_LENGTH; DUKPT_FAULT_NOT_REVERSED; DUKPT_OK. */
+DUKPT_STATUS uint32_t dukpt_reversal_request(const uint8_t *key, size_t key_size,
+                                             const uint8_t *ksn, size_t ksn_size,
+                                             const uint8_t *reversed, size_t reversed_size,
+                                             uint8_t *DUKPT_OUT frame, size_t frame_size,
+                                             uint32_t *DUKPT_OUT frame_length)
+    DUKPT_NONNULL;
+
+/* Writes the fields of a reversal. The MAC is not compared: dukpt_check_reversal does that.
+ *
+ *   frame      in   any  reversal; what is none is DUKPT_FAULT_NOT_A_REVERSAL
+ *   ksn        out  10   the reversal's own key serial number
+ *   reversed   out  10   the key serial number of the payment
+ *   mac        out  8    MAC
+ *
+ * Answers, in this order: DUKPT_FAULT_LENGTH; DUKPT_FAULT_NOT_A_REVERSAL; DUKPT_OK. */
+DUKPT_STATUS uint32_t dukpt_read_reversal(const uint8_t *frame, size_t frame_size,
+                                          uint8_t *DUKPT_OUT ksn, size_t ksn_size,
+                                          uint8_t *DUKPT_OUT reversed, size_t reversed_size,
+                                          uint8_t *DUKPT_OUT mac, size_t mac_size)
+    DUKPT_NONNULL;
+
+/* Tells whether a reversal has its MAC under the transaction key. It writes nothing. The reversal's
+ * own key serial number may be any: a host asks dukpt_check_usable about it before it answers.
+ *
+ *   key     in  16   transaction key of the reversal's own key serial number
+ *   frame   in  any  reversal; what is none is DUKPT_FAULT_NOT_A_REVERSAL
+ *
+ * Answers, in this order: DUKPT_FAULT_LENGTH; DUKPT_FAULT_NOT_A_REVERSAL; DUKPT_FAULT_BAD_MAC;
+ * DUKPT_OK. */
+DUKPT_STATUS uint32_t dukpt_check_reversal(const uint8_t *key, size_t key_size,
+                                           const uint8_t *frame, size_t frame_size)
+    DUKPT_NONNULL;
+
+/* Writes the reply to a reversal.
+ *
+ *   key            in   16  transaction key of the reversal's own key serial number
+ *   ksn            in   10  the reversal's own key serial number
+ *   reversed       in   10  the key serial number of the payment
+ *   state          in       1 where the payment is undone, 0 where none stands
+ *   frame          out  64  room for a frame
+ *   frame_length   out      how many bytes the reply has
+ *
+ * Answers, in this order: DUKPT_FAULT_LENGTH; DUKPT_FAULT_NOT_REVERSED; DUKPT_FAULT_NOT_A_STATE;
+ * DUKPT_OK. */
+DUKPT_STATUS uint32_t dukpt_reversal_reply(const uint8_t *key, size_t key_size,
+                                           const uint8_t *ksn, size_t ksn_size,
+                                           const uint8_t *reversed, size_t reversed_size,
+                                           uint32_t state,
+                                           uint8_t *DUKPT_OUT frame, size_t frame_size,
+                                           uint32_t *DUKPT_OUT frame_length)
+    DUKPT_NONNULL;
+
+/* Writes the fields of the reply to a reversal. The MAC is not compared: dukpt_check_reversal_reply
+ * does that.
+ *
+ *   frame      in   any  reply; what is none is DUKPT_FAULT_NOT_A_REVERSAL_REPLY
+ *   ksn        out  10   the reversal's own key serial number
+ *   reversed   out  10   the key serial number of the payment
+ *   state      out       1 where the payment is undone, 0 where none stands
+ *
+ * Answers, in this order: DUKPT_FAULT_LENGTH; DUKPT_FAULT_NOT_A_REVERSAL_REPLY; DUKPT_OK. */
+DUKPT_STATUS uint32_t dukpt_read_reversal_reply(const uint8_t *frame, size_t frame_size,
+                                                uint8_t *DUKPT_OUT ksn, size_t ksn_size,
+                                                uint8_t *DUKPT_OUT reversed, size_t reversed_size,
+                                                uint32_t *DUKPT_OUT state)
+    DUKPT_NONNULL;
+
+/* Tells whether a frame is the reply to the reversal with this transaction key and these key serial
+ * numbers. It writes nothing.
+ *
+ *   key        in  16   transaction key of the reversal's own key serial number
+ *   ksn        in  10   the reversal's own key serial number
+ *   reversed   in  10   the key serial number of the payment
+ *   frame      in  any  reply; what is none is DUKPT_FAULT_NOT_A_REVERSAL_REPLY
+ *
+ * Answers, in this order: DUKPT_FAULT_LENGTH; DUKPT_FAULT_NOT_A_REVERSAL_REPLY;
+ * DUKPT_FAULT_NOT_MINE; DUKPT_FAULT_BAD_MAC; DUKPT_OK. */
+DUKPT_STATUS uint32_t dukpt_check_reversal_reply(const uint8_t *key, size_t key_size,
+                                                 const uint8_t *ksn, size_t ksn_size,
+                                                 const uint8_t *reversed, size_t reversed_size,
+                                                 const uint8_t *frame, size_t frame_size)
+    DUKPT_NONNULL;
 
 /* Streams of frames. */
 
@@ -615,7 +942,9 @@ uint32_t dukpt_check_reply(const uint8_t *key, size_t key_size,
  *   count   out             2 to 64
  *
  * Answers, in this order: DUKPT_FAULT_PART_OF_FRAME; DUKPT_FAULT_TOO_LONG; DUKPT_OK. */
-uint32_t dukpt_frame_length(const uint8_t *bytes, size_t bytes_size, uint32_t *count);
+DUKPT_STATUS uint32_t dukpt_frame_length(const uint8_t *bytes, size_t bytes_size,
+                                         uint32_t *DUKPT_OUT count)
+    DUKPT_NONNULL;
 
 #ifdef __cplusplus
 }

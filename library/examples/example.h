@@ -2,8 +2,7 @@
 #ifndef EXAMPLE_H
 #define EXAMPLE_H
 
-#include <stddef.h>
-#include <stdint.h>
+#include <dukpt.h>
 #include <stdio.h>
 #include <stdlib.h>
 
@@ -19,8 +18,8 @@ static inline void show(const char *name, const uint8_t *bytes, size_t size)
 /* Ends the program where a call is refused. */
 static inline void demand(const char *call, uint32_t status)
 {
-    if (status != 0) {
-        fprintf(stderr, "%s: fault %u\n", call, (unsigned)status);
+    if (status != DUKPT_OK) {
+        fprintf(stderr, "%s: %s\n", call, dukpt_status_text(status));
         exit(1);
     }
 }

@@ -1,5 +1,8 @@
 /* A key block (TR-31): a facility wraps a terminal's initial key, and the terminal unwraps it. */
+#define _DEFAULT_SOURCE
 #include <dukpt.h>
+#include <string.h>
+#include <unistd.h>
 
 #include "example.h"
 
@@ -10,36 +13,47 @@ static const uint8_t INITIAL[16] = {0x6A, 0xC2, 0x92, 0xFA, 0xA1, 0x31, 0x5B, 0x
 /* An initial key for TDES, from which others are derived, and which is not exported. */
 static const uint8_t HEADER[] = "B1TX00N";
 
-/* Fills bytes at random. The library has no source of random numbers. */
-static void randomize(uint8_t *bytes, size_t size)
+/* Makes a key block of the initial key, and prints it. Gives its length. */
+static uint32_t wrap(uint8_t text[DUKPT_KEY_BLOCK_ROOM])
 {
-    FILE *source = fopen("/dev/urandom", "rb");
-    if (source == NULL || fread(bytes, 1, size, source) != size || fclose(source) != 0) {
-        perror("/dev/urandom");
+    /* Two bytes of length, the key and six bytes of padding are whole blocks of 8. The library has no
+     * source of random bytes: the system's is taken. */
+    uint8_t padding[6];
+    uint32_t length;
+    if (getentropy(padding, sizeof padding) != 0) {
+        perror("getentropy");
         exit(1);
     }
+    demand("wrap", dukpt_wrap(LOADING, sizeof LOADING, HEADER, sizeof HEADER - 1, INITIAL,
+                              sizeof INITIAL, padding, sizeof padding, text,
+                              DUKPT_KEY_BLOCK_ROOM, &length));
+    printf("block %.*s\n", (int)length, (const char *)text);
+    return length;
+}
+
+/* Has the key of a block that is for this use, and of this length. */
+static uint32_t unwrap(const uint8_t *text, size_t size, const char *usage, uint8_t key[24])
+{
+    return dukpt_unwrap_for(LOADING, sizeof LOADING, (const uint8_t *)usage, DUKPT_USAGE_BYTES,
+                            sizeof INITIAL, text, size, key, DUKPT_TRIPLE_KEY_BYTES);
 }
 
 int main(void)
 {
-    /* Two bytes of length, the key and six bytes of padding are whole blocks of 8. */
-    uint8_t padding[6], text[DUKPT_KEY_BLOCK_ROOM], header[DUKPT_HEADER_BYTES], key[24];
-    uint32_t length, key_length;
-    randomize(padding, sizeof padding);
-    demand("wrap", dukpt_wrap(LOADING, sizeof LOADING, HEADER, sizeof HEADER - 1, INITIAL,
-                              sizeof INITIAL, padding, sizeof padding, text, sizeof text,
-                              &length));
-    printf("block %.*s\n", (int)length, (const char *)text);
+    uint8_t text[DUKPT_KEY_BLOCK_ROOM], key[DUKPT_TRIPLE_KEY_BYTES];
+    uint32_t length = wrap(text);
+    demand("unwrap_for", unwrap(text, length, "B1", key));
+    show("key", key, sizeof INITIAL);
+    explicit_bzero(key, sizeof key);
 
-    demand("unwrap", dukpt_unwrap(LOADING, sizeof LOADING, text, length, header, sizeof header,
-                                  key, sizeof key, &key_length));
-    printf("fields %.*s\n", (int)sizeof header, (const char *)header);
-    show("key", key, key_length);
+    /* A terminal that wants a PIN encryption key does not take an initial key for one. */
+    uint32_t status = unwrap(text, length, "P0", key);
+    printf("other %s\n", status == DUKPT_FAULT_OTHER_USAGE ? "OtherUsage" : "?");
 
     /* Of a block that another one made, the MAC is wrong, and nothing is written. */
     text[length - 1] = text[length - 1] == '0' ? '1' : '0';
-    uint32_t status = dukpt_unwrap(LOADING, sizeof LOADING, text, length, header, sizeof header,
-                                   key, sizeof key, &key_length);
+    status = unwrap(text, length, "B1", key);
     printf("forged %s\n", status == DUKPT_FAULT_BLOCK_MAC ? "BlockMac" : "?");
+    dukpt_wipe_stack();
     return 0;
 }

@@ -10,6 +10,7 @@ declare -gA _dukpt_arguments=(
     [registers]="BDK KSN --initial --explain -h --help"
     [kcv]="KEY.. --components --show --explain -h --help"
     [mac]="KEY TEXT --cmac --hex --explain -h --help"
+    [data]="KEY TEXT --iv=BLOCK --decipher --hex --explain -h --help"
     [pin]="PIN PAN --key=KEY --explain -h --help"
     [unpin]="BLOCK PAN --key=KEY --show --explain -h --help"
     [translate]="BLOCK PAN BDK KSN ZONE --initial --explain -h --help"

@@ -18,7 +18,7 @@ complete -c dukpt -n __fish_use_subcommand -a derive -d 'BDK KSN: print the keys
 complete -c dukpt -n '__fish_seen_subcommand_from derive' -a '(__dukpt_secret)'
 complete -c dukpt -n '__fish_seen_subcommand_from derive' -l initial -d 'Take BDK as the initial key'
 complete -c dukpt -n '__fish_seen_subcommand_from derive' -l trace -d 'Print the steps to the transaction key'
-complete -c dukpt -n '__fish_seen_subcommand_from derive' -l all -d 'Print the keys of the MACs too'
+complete -c dukpt -n '__fish_seen_subcommand_from derive' -l all -d 'Print the keys of MACs and data too'
 complete -c dukpt -n '__fish_seen_subcommand_from derive' -l explain -d 'Say more of a fault'
 complete -c dukpt -n '__fish_seen_subcommand_from derive' -s h -l help -d 'Print help'
 
@@ -64,6 +64,14 @@ complete -c dukpt -n '__fish_seen_subcommand_from mac' -l cmac -d 'Print the CMA
 complete -c dukpt -n '__fish_seen_subcommand_from mac' -l hex -d 'Take TEXT as hexadecimal'
 complete -c dukpt -n '__fish_seen_subcommand_from mac' -l explain -d 'Say more of a fault'
 complete -c dukpt -n '__fish_seen_subcommand_from mac' -s h -l help -d 'Print help'
+
+complete -c dukpt -n __fish_use_subcommand -a data -d 'KEY TEXT: encipher data, or decipher them'
+complete -c dukpt -n '__fish_seen_subcommand_from data' -a '(__dukpt_secret)'
+complete -c dukpt -n '__fish_seen_subcommand_from data' -l iv -x -d 'BLOCK: begin with BLOCK, not zeros'
+complete -c dukpt -n '__fish_seen_subcommand_from data' -l decipher -d 'Decipher TEXT'
+complete -c dukpt -n '__fish_seen_subcommand_from data' -l hex -d 'Take TEXT as hexadecimal'
+complete -c dukpt -n '__fish_seen_subcommand_from data' -l explain -d 'Say more of a fault'
+complete -c dukpt -n '__fish_seen_subcommand_from data' -s h -l help -d 'Print help'
 
 complete -c dukpt -n __fish_use_subcommand -a pin -d 'PIN PAN: print a PIN block'
 complete -c dukpt -n '__fish_seen_subcommand_from pin' -a '(__dukpt_secret)'
@@ -155,4 +163,4 @@ complete -c dukpt -n '__fish_seen_subcommand_from copy-journal' -l explain -d 'S
 complete -c dukpt -n '__fish_seen_subcommand_from copy-journal' -s h -l help -d 'Print help'
 
 complete -c dukpt -n __fish_use_subcommand -a help -d 'COMMAND: print help'
-complete -c dukpt -n '__fish_seen_subcommand_from help' -a 'derive walk initial issue registers kcv mac pin unpin translate wrap unwrap show request reply find run serve new-log new-journal copy-journal help'
+complete -c dukpt -n '__fish_seen_subcommand_from help' -a 'derive walk initial issue registers kcv mac data pin unpin translate wrap unwrap show request reply find run serve new-log new-journal copy-journal help'

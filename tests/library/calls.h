@@ -17,11 +17,13 @@ enum kind { NONE, BYTES, BUFFER, COUNT, NUMBER };
 enum sizes {
     ANY_SIZE,
     EXACTLY,          /* `most` */
+    ROOM,             /* `most`, or more */
     DOUBLE_OR_TRIPLE, /* 16 or 24 */
     FROM_TO,          /* `least` to `most` */
     AT_LEAST,         /* `least`, or more: up to `most` are drawn */
     WHOLE_BLOCKS,     /* a multiple of 8 */
     AS_DRAWN,         /* that of the drawn case alone */
+    OPTIONAL_BLOCKS,  /* optional blocks as they are drawn, or none */
     FILLING_BLOCKS,   /* padding: with the length of the key and the key it makes whole blocks */
 };
 
@@ -48,7 +50,7 @@ struct call {
     /* Draws arguments anew, most of which the call takes; those of the parameters are there. */
     void (*draw)(struct chance *, struct argument *);
     /* A one at the place of each status that the call can answer. */
-    uint32_t statuses;
+    uint64_t statuses;
     struct parameter parameters[MOST_ARGUMENTS];
 };
 

@@ -9,6 +9,10 @@ static size_t right_size(struct chance *chance, const struct parameter *paramete
     case FROM_TO:
     case AT_LEAST:
         return parameter->least + below(chance, (uint32_t)(parameter->most - parameter->least + 1));
+    case ROOM:
+        return parameter->most + (one_in(chance, 3) ? below(chance, 40) : 0);
+    case OPTIONAL_BLOCKS:
+        return 0;
     case WHOLE_BLOCKS:
         return 8 * below(chance, (uint32_t)parameter->most / 8 + 1);
     case FILLING_BLOCKS:

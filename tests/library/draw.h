@@ -14,6 +14,10 @@ uint32_t draw_counter(struct chance *chance);
 void draw_number(struct chance *chance, struct argument *given);
 void draw_initial_number(struct chance *chance, struct argument *given);
 void draw_only_number(struct chance *chance, struct argument *given);
+/* A number that the first one mostly may reverse. */
+void draw_reversed(struct chance *chance, const uint8_t *ksn, uint8_t *reversed);
+void draw_reversing(struct chance *chance, struct argument *given);
+void draw_reversing_state(struct chance *chance, struct argument *given);
 
 /* draw_images.c */
 void draw_image(struct chance *chance, struct argument *given);
@@ -27,7 +31,10 @@ void draw_payment(struct chance *chance, struct argument *given);
 
 /* draw_blocks.c */
 void draw_wrapping(struct chance *chance, struct argument *given);
+void draw_wrapping_with(struct chance *chance, struct argument *given);
 void draw_key_block(struct chance *chance, struct argument *given);
+void draw_wanted(struct chance *chance, struct argument *given);
+void draw_optional(struct chance *chance, struct argument *given);
 
 /* draw_frames.c */
 void draw_request(struct chance *chance, struct argument *given);
@@ -37,6 +44,10 @@ void draw_reason(struct chance *chance, struct argument *given);
 void draw_reply(struct chance *chance, struct argument *given);
 void draw_refusal(struct chance *chance, struct argument *given);
 void draw_reply_of_key(struct chance *chance, struct argument *given);
+void draw_reversal(struct chance *chance, struct argument *given);
+void draw_reversal_of_key(struct chance *chance, struct argument *given);
+void draw_reversal_reply(struct chance *chance, struct argument *given);
+void draw_reversal_reply_of_key(struct chance *chance, struct argument *given);
 void draw_stream(struct chance *chance, struct argument *given);
 
 #endif

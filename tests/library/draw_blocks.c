@@ -5,7 +5,16 @@
 #include <stdio.h>
 #include <string.h>
 
-enum { FRONT_BYTES = 16, MOST_FRONT = 256, MOST_COUNT = 3 };
+enum {
+    FRONT_BYTES = 16,
+    FIELDS_AT = 5,
+    ALGORITHM = 2, /* where it stands in the fields */
+    MOST_FRONT = 1024,
+    MOST_COUNT = 3,
+    LONGEST_BLOCK = 255
+};
+
+static const uint8_t NEXT_TO_PRINTED[] = {0x1F, 0x7F, 0x80, 0};
 
 static void draw_printed(struct chance *chance, uint8_t *text, size_t size)
 {
@@ -13,35 +22,77 @@ static void draw_printed(struct chance *chance, uint8_t *text, size_t size)
         text[i] = (uint8_t)(0x20 + below(chance, 0x7F - 0x20));
 }
 
-void draw_wrapping(struct chance *chance, struct argument *given)
+static void draw_fields(struct chance *chance, struct argument *fields)
 {
-    static const uint8_t next_to_printed[] = {0x1F, 0x7F, 0x80, 0};
-    draw_printed(chance, given[1].bytes, HEADER_BYTES);
+    draw_printed(chance, fields->bytes, HEADER_BYTES);
     if (one_in(chance, 12))
-        given[1].bytes[below(chance, HEADER_BYTES)] = next_to_printed[below(chance, 4)];
-    if (one_in(chance, 8))
-        resize(chance, &given[3], below(chance, 40));
-    /* The longest texts, and padding that makes them too long. */
-    if (one_in(chance, 12))
-        resize(chance, &given[3], 6 + 8 * (24 + below(chance, 6)));
+        fields->bytes[below(chance, HEADER_BYTES)] = NEXT_TO_PRINTED[below(chance, 4)];
 }
 
-/* Puts optional blocks behind a header, the last of which makes whole blocks of 8 characters, and
-   gives how long the front is then. */
-static size_t put_optional_blocks(struct chance *chance, uint8_t *front, uint32_t count)
+static void draw_padding(struct chance *chance, struct argument *padding)
 {
-    size_t size = FRONT_BYTES;
+    if (one_in(chance, 8))
+        resize(chance, padding, below(chance, 40));
+    /* The longest texts, and padding that makes them too long. */
+    if (one_in(chance, 12))
+        resize(chance, padding, 6 + 8 * (24 + below(chance, 6)));
+}
+
+void draw_wrapping(struct chance *chance, struct argument *given)
+{
+    draw_fields(chance, &given[1]);
+    draw_padding(chance, &given[3]);
+}
+
+/* An optional block of this length. Half of the ids are of a few, so that some come twice. */
+static void put_optional_block(struct chance *chance, uint8_t *block, size_t length)
+{
+    char digits[3];
+    snprintf(digits, sizeof digits, one_in(chance, 2) ? "%02X" : "%02x", (unsigned)length);
+    draw_printed(chance, block, length);
+    memcpy(block + 2, digits, 2);
+    if (one_in(chance, 2))
+        memcpy(block, one_in(chance, 2) ? "KS" : "KC", 2);
+}
+
+/* Puts optional blocks behind a size of whole blocks, the last of which makes whole blocks of 8
+   characters, and gives how long all is then. */
+static size_t put_optional_blocks(struct chance *chance, uint8_t *front, size_t size,
+                                  uint32_t count)
+{
     for (; count > 0; count--) {
-        size_t length = 4 + below(chance, 60);
-        char digits[3];
+        size_t length = one_in(chance, 24) ? LONGEST_BLOCK : 4 + below(chance, 60);
         if (count == 1)
             length = 4 + (4 - size) % 8 + 8 * below(chance, 4);
-        snprintf(digits, sizeof digits, one_in(chance, 2) ? "%02X" : "%02x", (unsigned)length);
-        draw_printed(chance, front + size, length);
-        memcpy(front + size + 2, digits, 2);
+        put_optional_block(chance, front + size, length);
         size += length;
     }
     return size;
+}
+
+/* So many optional blocks without content that they are the most, or too many. */
+static void draw_many_optional(struct chance *chance, struct argument *optional)
+{
+    uint32_t count = 96 + 2 * below(chance, 4);
+    optional->size = 4 * count;
+    for (uint32_t at = 0; at < count; at++)
+        put_optional_block(chance, optional->bytes + 4 * at, 4);
+}
+
+void draw_wrapping_with(struct chance *chance, struct argument *given)
+{
+    struct argument *optional = &given[2];
+    draw_fields(chance, &given[1]);
+    draw_padding(chance, &given[4]);
+    optional->size = put_optional_blocks(chance, optional->bytes, 0, below(chance, MOST_COUNT + 1));
+    if (one_in(chance, 24))
+        draw_many_optional(chance, optional);
+    if (one_in(chance, 8) && optional->size > 0)
+        optional->bytes[below(chance, (uint32_t)optional->size)] ^= (uint8_t)below(chance, 256);
+    if (one_in(chance, 12) && optional->size > 0)
+        optional->bytes[optional->size - 1] = NEXT_TO_PRINTED[below(chance, 4)];
+    if (one_in(chance, 12))
+        resize(chance, optional, below(chance, (uint32_t)optional->size + 12));
 }
 
 /* Draws a payload of whole blocks. Rarely it says another length of the key, or has not the key. */
@@ -93,26 +144,66 @@ static void spoil_length(struct chance *chance, struct argument *text)
         memcpy(text->bytes + 1, said, 4);
 }
 
-void draw_key_block(struct chance *chance, struct argument *given)
+/* The text of a key block with so many optional blocks under a protection key, or what is none.
+   Mostly its key is of algorithm T. */
+static void draw_text(struct chance *chance, const struct argument *kbpk, uint32_t count,
+                      struct argument *text)
 {
-    struct argument *text = &given[1];
     uint8_t front[MOST_FRONT], fields[HEADER_BYTES + 1] = {0}, payload[MOST_PAYLOAD];
-    uint32_t count = one_in(chance, 2) ? 0 : below(chance, MOST_COUNT + 1);
-    size_t front_size = put_optional_blocks(chance, front, count);
+    size_t front_size = put_optional_blocks(chance, front, FRONT_BYTES, count);
     size_t size = draw_payload(chance, payload);
     char head[FRONT_BYTES + 1];
     draw_printed(chance, fields, HEADER_BYTES);
+    if (!one_in(chance, 6))
+        fields[ALGORITHM] = 'T';
     snprintf(head, sizeof head, "B%04u%s%02u00", (unsigned)(front_size + 2 * size + 16) % 10000,
              (const char *)fields, (unsigned)count);
     memcpy(front, head, FRONT_BYTES);
     if (one_in(chance, 8))
         spoil_front(chance, front, front_size);
-    text->size =
-        sealed(given[0].bytes, given[0].size, front, front_size, payload, size, text->bytes);
+    text->size = sealed(kbpk->bytes, kbpk->size, front, front_size, payload, size, text->bytes);
     if (one_in(chance, 12))
         spoil_front(chance, text->bytes, front_size);
     if (one_in(chance, 8))
         spoil_digits(chance, text->bytes + front_size, text->size - front_size);
     if (one_in(chance, 12))
         spoil_length(chance, text);
+}
+
+static uint32_t draw_count(struct chance *chance)
+{
+    return one_in(chance, 2) ? 0 : below(chance, MOST_COUNT + 1);
+}
+
+void draw_key_block(struct chance *chance, struct argument *given)
+{
+    draw_text(chance, &given[0], draw_count(chance), &given[1]);
+}
+
+/* Mostly the usage of the block, and one of the two lengths. */
+void draw_wanted(struct chance *chance, struct argument *given)
+{
+    draw_text(chance, &given[0], draw_count(chance), &given[3]);
+    if (!one_in(chance, 8) && given[3].size > FIELDS_AT + 2)
+        memcpy(given[1].bytes, given[3].bytes + FIELDS_AT, 2);
+    if (one_in(chance, 16))
+        given[1].bytes[below(chance, 2)] ^= (uint8_t)(1u << below(chance, 8));
+    if (!one_in(chance, 12))
+        given[2].number = one_in(chance, 2) ? KEY_BYTES : TRIPLE_BYTES;
+    else if (one_in(chance, 2))
+        given[2].number = below(chance, 64);
+}
+
+/* Mostly the id of an optional block that is there. */
+void draw_optional(struct chance *chance, struct argument *given)
+{
+    const struct argument *text = &given[1];
+    size_t at = FRONT_BYTES, length = 4;
+    draw_text(chance, &given[0], 1 + below(chance, MOST_COUNT), &given[1]);
+    for (uint32_t passed = below(chance, 3); passed > 0 && length > 0; passed--) {
+        length = at < text->size ? optional_length(text->bytes, at, text->size) : 0;
+        at += length;
+    }
+    if (at + 2 <= text->size && !one_in(chance, 12))
+        memcpy(given[2].bytes, text->bytes + at, 2);
 }

@@ -4,6 +4,8 @@
 
 #include <string.h>
 
+enum kind_of_frame { REQUEST, REPLY, REFUSAL, REVERSAL, REVERSAL_REPLY, FRAME_KINDS };
+
 /* Makes a frame another one: of another length, or with another byte in it. */
 static void spoil_frame(struct chance *chance, struct argument *frame)
 {
@@ -43,21 +45,37 @@ static void put_reply(struct chance *chance, const uint8_t *key, const uint8_t *
     frame->size = write_reply(key, ksn, draw_code_of_five(chance), frame->bytes);
 }
 
-/* A frame of any kind, of which this one comes most. */
-static void draw_frame(struct chance *chance, uint32_t kind, struct argument *frame)
+/* A reversal or its reply: of two numbers that are mostly such. The state is mostly one. */
+static void put_reversal(struct chance *chance, const uint8_t *key, enum kind_of_frame kind,
+                         const uint8_t *ksn, const uint8_t *reversed, struct argument *frame)
 {
-    uint8_t key[KEY_BYTES], ksn[KSN_BYTES];
+    uint8_t state = (uint8_t)below(chance, one_in(chance, 8) ? 256 : 2);
+    frame->size = kind == REVERSAL
+                      ? write_reversal(key, ksn, reversed, frame->bytes)
+                      : write_reversal_reply(key, ksn, reversed, state, frame->bytes);
+}
+
+/* A frame of any kind, of which this one comes most. */
+static void draw_frame(struct chance *chance, enum kind_of_frame kind, struct argument *frame)
+{
+    uint8_t key[KEY_BYTES], ksn[KSN_BYTES], reversed[KSN_BYTES];
     draw_bytes(chance, key, sizeof key);
     draw_bytes(chance, ksn, sizeof ksn);
-    switch (one_in(chance, 12) ? below(chance, 3) : kind) {
-    case 0:
+    if (one_in(chance, 12))
+        kind = (enum kind_of_frame)below(chance, FRAME_KINDS);
+    switch (kind) {
+    case REQUEST:
         put_request(chance, key, frame);
         break;
-    case 1:
+    case REPLY:
         put_reply(chance, key, ksn, frame);
         break;
-    default:
+    case REFUSAL:
         frame->size = write_refusal(ksn, 1 + below(chance, 6), frame->bytes);
+        break;
+    default:
+        draw_reversed(chance, ksn, reversed);
+        put_reversal(chance, key, kind, ksn, reversed, frame);
     }
     if (one_in(chance, 4))
         spoil_frame(chance, frame);
@@ -65,23 +83,23 @@ static void draw_frame(struct chance *chance, uint32_t kind, struct argument *fr
 
 void draw_request(struct chance *chance, struct argument *given)
 {
-    draw_frame(chance, 0, &given[0]);
+    draw_frame(chance, REQUEST, &given[0]);
 }
 
 void draw_reply(struct chance *chance, struct argument *given)
 {
-    draw_frame(chance, 1, &given[0]);
+    draw_frame(chance, REPLY, &given[0]);
 }
 
 void draw_refusal(struct chance *chance, struct argument *given)
 {
-    draw_frame(chance, 2, &given[0]);
+    draw_frame(chance, REFUSAL, &given[0]);
 }
 
 void draw_request_of_key(struct chance *chance, struct argument *given)
 {
     if (one_in(chance, 12)) {
-        draw_frame(chance, 0, &given[1]);
+        draw_frame(chance, REQUEST, &given[1]);
         return;
     }
     put_request(chance, given[0].bytes, &given[1]);
@@ -92,7 +110,7 @@ void draw_request_of_key(struct chance *chance, struct argument *given)
 void draw_reply_of_key(struct chance *chance, struct argument *given)
 {
     if (one_in(chance, 12)) {
-        draw_frame(chance, 1, &given[2]);
+        draw_frame(chance, REPLY, &given[2]);
         return;
     }
     put_reply(chance, given[0].bytes, given[1].bytes, &given[2]);
@@ -100,6 +118,41 @@ void draw_reply_of_key(struct chance *chance, struct argument *given)
         spoil_frame(chance, &given[2]);
     if (one_in(chance, 16))
         given[1].bytes[below(chance, KSN_BYTES)] ^= (uint8_t)(1u << below(chance, 8));
+}
+
+void draw_reversal(struct chance *chance, struct argument *given)
+{
+    draw_frame(chance, REVERSAL, &given[0]);
+}
+
+void draw_reversal_reply(struct chance *chance, struct argument *given)
+{
+    draw_frame(chance, REVERSAL_REPLY, &given[0]);
+}
+
+void draw_reversal_of_key(struct chance *chance, struct argument *given)
+{
+    uint8_t ksn[KSN_BYTES], reversed[KSN_BYTES];
+    draw_bytes(chance, ksn, sizeof ksn);
+    draw_reversed(chance, ksn, reversed);
+    put_reversal(chance, given[0].bytes, REVERSAL, ksn, reversed, &given[1]);
+    if (one_in(chance, 4))
+        spoil_frame(chance, &given[1]);
+    if (one_in(chance, 12))
+        draw_frame(chance, REVERSAL, &given[1]);
+}
+
+void draw_reversal_reply_of_key(struct chance *chance, struct argument *given)
+{
+    draw_reversed(chance, given[1].bytes, given[2].bytes);
+    put_reversal(chance, given[0].bytes, REVERSAL_REPLY, given[1].bytes, given[2].bytes, &given[3]);
+    if (one_in(chance, 4))
+        spoil_frame(chance, &given[3]);
+    if (one_in(chance, 12))
+        draw_frame(chance, REVERSAL_REPLY, &given[3]);
+    if (one_in(chance, 12))
+        given[1 + below(chance, 2)].bytes[below(chance, KSN_BYTES)] ^=
+            (uint8_t)(1u << below(chance, 8));
 }
 
 void draw_code(struct chance *chance, struct argument *given)

@@ -35,3 +35,29 @@ void draw_initial_number(struct chance *chance, struct argument *given)
     uint32_t counter = one_in(chance, 8) ? draw_counter(chance) : 0;
     number_with(given[1].bytes, counter, given[1].bytes);
 }
+
+void draw_reversed(struct chance *chance, const uint8_t *ksn, uint8_t *reversed)
+{
+    uint32_t counter = counter_after(draw_counter(chance));
+    if (one_in(chance, 12))
+        counter = draw_counter(chance);
+    if (one_in(chance, 24))
+        counter = counter_in(ksn);
+    number_with(ksn, counter % SPENT_COUNTER, reversed);
+    if (one_in(chance, 16))
+        reversed[below(chance, 8)] ^= (uint8_t)(1u << below(chance, 8));
+}
+
+void draw_reversing(struct chance *chance, struct argument *given)
+{
+    draw_number(chance, given);
+    draw_reversed(chance, given[1].bytes, given[2].bytes);
+}
+
+/* Some states are such that their low byte alone would be right. */
+void draw_reversing_state(struct chance *chance, struct argument *given)
+{
+    draw_reversing(chance, given);
+    if (!one_in(chance, 16))
+        given[3].number = below(chance, 3) + (one_in(chance, 8) ? 256 * below(chance, 300) : 0);
+}

@@ -21,10 +21,14 @@ static void draw_done(struct trial *trial, struct chance *chance, const struct c
     while (try_case(trial, call) != 0);
 }
 
-/* Whether a key block with this padding has whole blocks, and not too many of them. */
-static int is_filling(size_t key, size_t padding)
+/* Whether a key block has whole blocks, and not too many of them, with this padding behind its key
+   and perhaps optional blocks before that. */
+static int is_filling(const struct call *call, const struct argument *given, size_t at,
+                      size_t padding)
 {
-    return (2 + key + padding) % 8 == 0 && 32 + 2 * (2 + key + padding) <= 512;
+    size_t payload = 2 + given[at - 1].size + padding;
+    size_t optional = call->parameters[at - 2].sizes == OPTIONAL_BLOCKS ? given[at - 2].size : 0;
+    return payload % 8 == 0 && 32 + optional + 2 * payload <= 512;
 }
 
 static int is_right(const struct call *call, const struct argument *given, size_t at, size_t size,
@@ -34,6 +38,8 @@ static int is_right(const struct call *call, const struct argument *given, size_
     switch (parameter->sizes) {
     case EXACTLY:
         return size == parameter->most;
+    case ROOM:
+        return size >= parameter->most;
     case DOUBLE_OR_TRIPLE:
         return size == 16 || size == 24;
     case FROM_TO:
@@ -45,7 +51,7 @@ static int is_right(const struct call *call, const struct argument *given, size_
     case AS_DRAWN:
         return size == drawn;
     default:
-        return is_filling(given[at - 1].size, size);
+        return is_filling(call, given, at, size);
     }
 }
 
@@ -56,6 +62,13 @@ static void report_size(const struct trial *trial, const struct call *call, size
     snprintf(what, sizeof what, "status %u with argument %u of %u bytes", (unsigned)status,
              (unsigned)at, (unsigned)trial->given[at].size);
     report(trial, call, what);
+}
+
+/* Whether the size alone says that a slice is right. Of optional blocks that are cut, or have bytes
+   behind them, the peer alone tells. */
+static int is_judged(const struct parameter *parameter)
+{
+    return parameter->sizes != OPTIONAL_BLOCKS;
 }
 
 /* Tries every size of one slice, and gives how many of them were wrong. */
@@ -72,6 +85,8 @@ static long try_sizes(struct trial *trial, struct chance *chance, const struct c
         slice->size = size;
         resize(chance, slice, tried);
         status = try_case(trial, call);
+        if (!is_judged(&call->parameters[at]))
+            continue;
         if ((status == call->parameters[at].fault) == is_right(call, trial->given, at, tried, size))
             report_size(trial, call, at, status);
         wrong += status == call->parameters[at].fault;

@@ -40,6 +40,16 @@ uint32_t library_response_key(const struct argument *given)
     return dukpt_response_key(SLICE_AT(0), SLICE_AT(1));
 }
 
+uint32_t library_request_data_key(const struct argument *given)
+{
+    return dukpt_request_data_key(SLICE_AT(0), SLICE_AT(1));
+}
+
+uint32_t library_response_data_key(const struct argument *given)
+{
+    return dukpt_response_data_key(SLICE_AT(0), SLICE_AT(1));
+}
+
 uint32_t library_check_usable(const struct argument *given)
 {
     return dukpt_check_usable(SLICE_AT(0));
@@ -60,9 +70,9 @@ uint32_t library_cmac_check_value(const struct argument *given)
     return dukpt_cmac_check_value(SLICE_AT(0), SLICE_AT(1));
 }
 
-uint32_t library_load(const struct argument *given)
+uint32_t library_registers_load(const struct argument *given)
 {
-    return dukpt_load(SLICE_AT(0), SLICE_AT(1), SLICE_AT(2));
+    return dukpt_registers_load(SLICE_AT(0), SLICE_AT(1), SLICE_AT(2));
 }
 
 uint32_t library_registers_at(const struct argument *given)
@@ -70,19 +80,19 @@ uint32_t library_registers_at(const struct argument *given)
     return dukpt_registers_at(SLICE_AT(0), SLICE_AT(1), SLICE_AT(2));
 }
 
-uint32_t library_number(const struct argument *given)
+uint32_t library_registers_number(const struct argument *given)
 {
-    return dukpt_number(SLICE_AT(0), SLICE_AT(1));
+    return dukpt_registers_number(SLICE_AT(0), SLICE_AT(1));
 }
 
-uint32_t library_take(const struct argument *given)
+uint32_t library_registers_next(const struct argument *given)
 {
-    return dukpt_take(SLICE_AT(0), SLICE_AT(1), SLICE_AT(2), SLICE_AT(3));
+    return dukpt_registers_next(SLICE_AT(0), SLICE_AT(1), SLICE_AT(2), SLICE_AT(3));
 }
 
-uint32_t library_reload(const struct argument *given)
+uint32_t library_registers_reload(const struct argument *given)
 {
-    return dukpt_reload(SLICE_AT(0), SLICE_AT(1), SLICE_AT(2), SLICE_AT(3));
+    return dukpt_registers_reload(SLICE_AT(0), SLICE_AT(1), SLICE_AT(2), SLICE_AT(3));
 }
 
 uint32_t library_tdes_encrypt(const struct argument *given)
@@ -130,9 +140,25 @@ uint32_t library_wrap(const struct argument *given)
     return dukpt_wrap(SLICE_AT(0), SLICE_AT(1), SLICE_AT(2), SLICE_AT(3), SLICE_AT(4), COUNT_AT(5));
 }
 
+uint32_t library_wrap_with(const struct argument *given)
+{
+    return dukpt_wrap_with(SLICE_AT(0), SLICE_AT(1), SLICE_AT(2), SLICE_AT(3), SLICE_AT(4),
+                           SLICE_AT(5), COUNT_AT(6));
+}
+
 uint32_t library_unwrap(const struct argument *given)
 {
     return dukpt_unwrap(SLICE_AT(0), SLICE_AT(1), SLICE_AT(2), SLICE_AT(3), COUNT_AT(4));
+}
+
+uint32_t library_unwrap_for(const struct argument *given)
+{
+    return dukpt_unwrap_for(SLICE_AT(0), SLICE_AT(1), NUMBER_AT(2), SLICE_AT(3), SLICE_AT(4));
+}
+
+uint32_t library_unwrap_optional(const struct argument *given)
+{
+    return dukpt_unwrap_optional(SLICE_AT(0), SLICE_AT(1), SLICE_AT(2), SLICE_AT(3), COUNT_AT(4));
 }
 
 uint32_t library_payment_request(const struct argument *given)
@@ -157,14 +183,14 @@ uint32_t library_request_pin(const struct argument *given)
     return dukpt_request_pin(SLICE_AT(0), SLICE_AT(1), SLICE_AT(2), COUNT_AT(3));
 }
 
-uint32_t library_reply(const struct argument *given)
+uint32_t library_request_reply(const struct argument *given)
 {
-    return dukpt_reply(SLICE_AT(0), SLICE_AT(1), SLICE_AT(2), SLICE_AT(3), COUNT_AT(4));
+    return dukpt_request_reply(SLICE_AT(0), SLICE_AT(1), SLICE_AT(2), SLICE_AT(3), COUNT_AT(4));
 }
 
-uint32_t library_refusal(const struct argument *given)
+uint32_t library_request_refusal(const struct argument *given)
 {
-    return dukpt_refusal(SLICE_AT(0), NUMBER_AT(1), SLICE_AT(2), COUNT_AT(3));
+    return dukpt_request_refusal(SLICE_AT(0), NUMBER_AT(1), SLICE_AT(2), COUNT_AT(3));
 }
 
 uint32_t library_read_reply(const struct argument *given)
@@ -180,6 +206,37 @@ uint32_t library_read_refusal(const struct argument *given)
 uint32_t library_check_reply(const struct argument *given)
 {
     return dukpt_check_reply(SLICE_AT(0), SLICE_AT(1), SLICE_AT(2));
+}
+
+uint32_t library_reversal_request(const struct argument *given)
+{
+    return dukpt_reversal_request(SLICE_AT(0), SLICE_AT(1), SLICE_AT(2), SLICE_AT(3), COUNT_AT(4));
+}
+
+uint32_t library_read_reversal(const struct argument *given)
+{
+    return dukpt_read_reversal(SLICE_AT(0), SLICE_AT(1), SLICE_AT(2), SLICE_AT(3));
+}
+
+uint32_t library_check_reversal(const struct argument *given)
+{
+    return dukpt_check_reversal(SLICE_AT(0), SLICE_AT(1));
+}
+
+uint32_t library_reversal_reply(const struct argument *given)
+{
+    return dukpt_reversal_reply(SLICE_AT(0), SLICE_AT(1), SLICE_AT(2), NUMBER_AT(3), SLICE_AT(4),
+                                COUNT_AT(5));
+}
+
+uint32_t library_read_reversal_reply(const struct argument *given)
+{
+    return dukpt_read_reversal_reply(SLICE_AT(0), SLICE_AT(1), SLICE_AT(2), COUNT_AT(3));
+}
+
+uint32_t library_check_reversal_reply(const struct argument *given)
+{
+    return dukpt_check_reversal_reply(SLICE_AT(0), SLICE_AT(1), SLICE_AT(2), SLICE_AT(3));
 }
 
 uint32_t library_frame_length(const struct argument *given)

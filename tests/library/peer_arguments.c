@@ -7,9 +7,14 @@ int is_tdes_size(size_t size)
     return size == KEY_BYTES || size == TRIPLE_BYTES;
 }
 
-void write_bytes(struct argument *given, const uint8_t *bytes)
+int has_room(const struct argument *given, size_t size)
 {
-    memcpy(given->bytes, bytes, given->size);
+    return given->size >= size;
+}
+
+void write_bytes(struct argument *given, const uint8_t *bytes, size_t size)
+{
+    memcpy(given->bytes, bytes, size);
 }
 
 /* A number of four bytes, as the processor has it. */
@@ -21,6 +26,6 @@ void write_count(struct argument *given, size_t count)
 
 void write_front(struct argument *room, struct argument *count, const uint8_t *bytes, size_t size)
 {
-    memcpy(room->bytes, bytes, size);
+    write_bytes(room, bytes, size);
     write_count(count, size);
 }

@@ -116,7 +116,7 @@ uint32_t peer_cbc_decrypt(struct argument *given)
 
 uint32_t peer_cmac(struct argument *given)
 {
-    if (!is_tdes_size(given[0].size) || given[2].size != BLOCK_BYTES)
+    if (!is_tdes_size(given[0].size) || !has_room(&given[2], BLOCK_BYTES))
         return DUKPT_FAULT_LENGTH;
     cmac_of(given[0].bytes, given[0].size, given[1].bytes, given[1].size, given[2].bytes);
     return DUKPT_OK;
@@ -124,7 +124,7 @@ uint32_t peer_cmac(struct argument *given)
 
 uint32_t peer_retail_mac(struct argument *given)
 {
-    if (given[0].size != KEY_BYTES || given[1].size == 0 || given[2].size != BLOCK_BYTES)
+    if (given[0].size != KEY_BYTES || given[1].size == 0 || !has_room(&given[2], BLOCK_BYTES))
         return DUKPT_FAULT_LENGTH;
     retail_mac_of(given[0].bytes, given[1].bytes, given[1].size, given[2].bytes);
     return DUKPT_OK;
@@ -133,19 +133,19 @@ uint32_t peer_retail_mac(struct argument *given)
 uint32_t peer_check_value(struct argument *given)
 {
     uint8_t block[BLOCK_BYTES] = {0};
-    if (!is_tdes_size(given[0].size) || given[1].size != 3)
+    if (!is_tdes_size(given[0].size) || !has_room(&given[1], 3))
         return DUKPT_FAULT_LENGTH;
     tdes_block(given[0].bytes, given[0].size, block, DES_ENCRYPT, block);
-    write_bytes(&given[1], block);
+    write_bytes(&given[1], block, 3);
     return DUKPT_OK;
 }
 
 uint32_t peer_cmac_check_value(struct argument *given)
 {
     uint8_t zeros[BLOCK_BYTES] = {0}, mac[BLOCK_BYTES];
-    if (!is_tdes_size(given[0].size) || given[1].size != 5)
+    if (!is_tdes_size(given[0].size) || !has_room(&given[1], 5))
         return DUKPT_FAULT_LENGTH;
     cmac_of(given[0].bytes, given[0].size, zeros, sizeof zeros, mac);
-    write_bytes(&given[1], mac);
+    write_bytes(&given[1], mac, 5);
     return DUKPT_OK;
 }

@@ -3,7 +3,7 @@
 
 #include <string.h>
 
-enum { LENGTH_BYTES = 2, BODY_AT = 4, PAN_AT = 15, CODE_AT = 14 };
+enum { LENGTH_BYTES = 2, BODY_AT = 4, PAN_AT = 15, CODE_AT = 14, REVERSED_AT = 14, STATE_AT = 24 };
 
 /* Writes length, version and kind, and gives the number of the frame's bytes. */
 static size_t begin_frame(uint8_t *frame, uint8_t kind, size_t contents)
@@ -107,4 +107,57 @@ uint32_t read_refusal(const uint8_t *frame, size_t size, uint8_t *ksn)
         return 0;
     memcpy(ksn, frame + BODY_AT, KSN_BYTES);
     return frame[CODE_AT];
+}
+
+int reverses(const uint8_t *ksn, const uint8_t *reversed)
+{
+    uint8_t iksn[KSN_BYTES], other[KSN_BYTES];
+    number_with(ksn, 0, iksn);
+    number_with(reversed, 0, other);
+    return memcmp(iksn, other, KSN_BYTES) == 0 && counter_in(ksn) != counter_in(reversed)
+           && is_usable(counter_in(reversed));
+}
+
+size_t write_reversal(const uint8_t *key, const uint8_t *ksn, const uint8_t *reversed,
+                      uint8_t *frame)
+{
+    size_t size = begin_frame(frame, 4, 30);
+    memcpy(frame + BODY_AT, ksn, KSN_BYTES);
+    memcpy(frame + REVERSED_AT, reversed, KSN_BYTES);
+    put_mac(key, REQUEST_VARIANT, frame, size);
+    return size;
+}
+
+size_t write_reversal_reply(const uint8_t *key, const uint8_t *ksn, const uint8_t *reversed,
+                            uint8_t state, uint8_t *frame)
+{
+    size_t size = begin_frame(frame, 5, 31);
+    memcpy(frame + BODY_AT, ksn, KSN_BYTES);
+    memcpy(frame + REVERSED_AT, reversed, KSN_BYTES);
+    frame[STATE_AT] = state;
+    put_mac(key, RESPONSE_VARIANT, frame, size);
+    return size;
+}
+
+/* Reads what a reversal and its reply have in common, of a frame that is so long. */
+static int read_numbers(const uint8_t *frame, size_t size, struct reversal *found)
+{
+    memcpy(found->ksn, frame + BODY_AT, KSN_BYTES);
+    memcpy(found->reversed, frame + REVERSED_AT, KSN_BYTES);
+    memcpy(found->mac, frame + size - BLOCK_BYTES, BLOCK_BYTES);
+    return reverses(found->ksn, found->reversed);
+}
+
+int read_reversal(const uint8_t *frame, size_t size, struct reversal *reversal)
+{
+    return is_frame(frame, size, 4) && size == LENGTH_BYTES + 30
+           && read_numbers(frame, size, reversal);
+}
+
+int read_reversal_reply(const uint8_t *frame, size_t size, struct reversal *reply)
+{
+    if (!is_frame(frame, size, 5) || size != LENGTH_BYTES + 31 || frame[STATE_AT] > 1)
+        return 0;
+    reply->state = frame[STATE_AT];
+    return read_numbers(frame, size, reply);
 }

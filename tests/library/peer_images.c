@@ -106,10 +106,10 @@ static void fill(struct registers *registers, const uint8_t *initial, const uint
 
 static int are_key_number_and_image(const struct argument *given)
 {
-    return given[0].size == KEY_BYTES && given[1].size == KSN_BYTES && given[2].size == IMAGE_BYTES;
+    return given[0].size == KEY_BYTES && given[1].size == KSN_BYTES && has_room(&given[2], IMAGE_BYTES);
 }
 
-uint32_t peer_load(struct argument *given)
+uint32_t peer_registers_load(struct argument *given)
 {
     uint8_t first[KSN_BYTES];
     struct registers registers;
@@ -143,11 +143,11 @@ static uint32_t read_unspent(const struct argument *image, struct registers *reg
     return registers->counter == SPENT_COUNTER ? DUKPT_FAULT_SPENT : DUKPT_OK;
 }
 
-uint32_t peer_number(struct argument *given)
+uint32_t peer_registers_number(struct argument *given)
 {
     struct registers registers;
     uint32_t status = DUKPT_FAULT_LENGTH;
-    if (given[1].size == KSN_BYTES)
+    if (has_room(&given[1], KSN_BYTES))
         status = read_unspent(&given[0], &registers);
     if (status == DUKPT_OK)
         number_with(registers.iksn, registers.counter, given[1].bytes);
@@ -174,11 +174,12 @@ static void use_next(struct registers *registers, uint8_t *key, uint8_t *ksn)
     }
 }
 
-uint32_t peer_take(struct argument *given)
+uint32_t peer_registers_next(struct argument *given)
 {
     struct registers registers;
     uint32_t status = DUKPT_FAULT_LENGTH;
-    if (given[1].size == IMAGE_BYTES && given[2].size == KEY_BYTES && given[3].size == KSN_BYTES)
+    if (has_room(&given[1], IMAGE_BYTES) && has_room(&given[2], KEY_BYTES)
+        && has_room(&given[3], KSN_BYTES))
         status = read_unspent(&given[0], &registers);
     if (status == DUKPT_OK) {
         use_next(&registers, given[2].bytes, given[3].bytes);
@@ -187,7 +188,7 @@ uint32_t peer_take(struct argument *given)
     return status;
 }
 
-uint32_t peer_reload(struct argument *given)
+uint32_t peer_registers_reload(struct argument *given)
 {
     uint8_t first[KSN_BYTES];
     struct registers before, after;

@@ -48,30 +48,31 @@ void variant_of(const uint8_t *key, enum variant variant, uint8_t *out)
     out[BLOCK_BYTES + variant] ^= 0xFF;
 }
 
-static int are_key_and_number(const struct argument *given, size_t out)
+static int are_key_and_number(const struct argument *given)
 {
-    return given[0].size == KEY_BYTES && given[1].size == KSN_BYTES && given[2].size == out;
+    return given[0].size == KEY_BYTES && given[1].size == KSN_BYTES
+           && has_room(&given[2], KEY_BYTES);
 }
 
 uint32_t peer_initial_key(struct argument *given)
 {
     uint8_t key[KEY_BYTES];
-    if (!are_key_and_number(given, KEY_BYTES))
+    if (!are_key_and_number(given))
         return DUKPT_FAULT_LENGTH;
     if (counter_in(given[1].bytes) != 0)
         return DUKPT_FAULT_NOT_INITIAL;
     tree_initial_key(given[0].bytes, given[1].bytes, key);
-    write_bytes(&given[2], key);
+    write_bytes(&given[2], key, sizeof key);
     return DUKPT_OK;
 }
 
 uint32_t peer_derive_from_initial(struct argument *given)
 {
     uint8_t key[KEY_BYTES];
-    if (!are_key_and_number(given, KEY_BYTES))
+    if (!are_key_and_number(given))
         return DUKPT_FAULT_LENGTH;
     tree_derive(given[0].bytes, given[1].bytes, key);
-    write_bytes(&given[2], key);
+    write_bytes(&given[2], key, sizeof key);
     return DUKPT_OK;
 }
 
@@ -79,7 +80,7 @@ uint32_t peer_derive(struct argument *given)
 {
     uint8_t iksn[KSN_BYTES], initial[KEY_BYTES];
     struct argument under_initial[3];
-    if (!are_key_and_number(given, KEY_BYTES))
+    if (!are_key_and_number(given))
         return DUKPT_FAULT_LENGTH;
     number_with(given[1].bytes, 0, iksn);
     tree_initial_key(given[0].bytes, iksn, initial);
@@ -91,10 +92,10 @@ uint32_t peer_derive(struct argument *given)
 static uint32_t answer_variant(struct argument *given, enum variant variant)
 {
     uint8_t key[KEY_BYTES];
-    if (given[0].size != KEY_BYTES || given[1].size != KEY_BYTES)
+    if (given[0].size != KEY_BYTES || !has_room(&given[1], KEY_BYTES))
         return DUKPT_FAULT_LENGTH;
     variant_of(given[0].bytes, variant, key);
-    write_bytes(&given[1], key);
+    write_bytes(&given[1], key, sizeof key);
     return DUKPT_OK;
 }
 
@@ -113,6 +114,29 @@ uint32_t peer_response_key(struct argument *given)
     return answer_variant(given, RESPONSE_VARIANT);
 }
 
+/* A key for data is a variant, each half of which is enciphered under that variant itself. */
+static uint32_t answer_data_key(struct argument *given, enum variant variant)
+{
+    uint8_t mask[KEY_BYTES], key[KEY_BYTES];
+    if (given[0].size != KEY_BYTES || !has_room(&given[1], KEY_BYTES))
+        return DUKPT_FAULT_LENGTH;
+    variant_of(given[0].bytes, variant, mask);
+    for (size_t at = 0; at < KEY_BYTES; at += BLOCK_BYTES)
+        tdes_block(mask, sizeof mask, mask + at, 1, key + at);
+    write_bytes(&given[1], key, sizeof key);
+    return DUKPT_OK;
+}
+
+uint32_t peer_request_data_key(struct argument *given)
+{
+    return answer_data_key(given, REQUEST_DATA_VARIANT);
+}
+
+uint32_t peer_response_data_key(struct argument *given)
+{
+    return answer_data_key(given, RESPONSE_DATA_VARIANT);
+}
+
 uint32_t peer_check_usable(struct argument *given)
 {
     if (given[0].size != KSN_BYTES)
@@ -123,7 +147,7 @@ uint32_t peer_check_usable(struct argument *given)
 uint32_t peer_next_number(struct argument *given)
 {
     uint32_t counter;
-    if (given[0].size != KSN_BYTES || given[1].size != KSN_BYTES)
+    if (given[0].size != KSN_BYTES || !has_room(&given[1], KSN_BYTES))
         return DUKPT_FAULT_LENGTH;
     counter = counter_after(counter_in(given[0].bytes));
     if (counter == SPENT_COUNTER)

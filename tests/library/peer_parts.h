@@ -27,7 +27,8 @@ enum {
 
 /* peer_arguments.c: what is asked of arguments, and written into them. */
 int is_tdes_size(size_t size);
-void write_bytes(struct argument *given, const uint8_t *bytes);
+int has_room(const struct argument *given, size_t size);
+void write_bytes(struct argument *given, const uint8_t *bytes, size_t size);
 void write_count(struct argument *given, size_t count);
 void write_front(struct argument *room, struct argument *count, const uint8_t *bytes, size_t size);
 
@@ -42,8 +43,14 @@ void number_with(const uint8_t *iksn, uint32_t counter, uint8_t *ksn);
 int is_usable(uint32_t counter);
 uint32_t counter_after(uint32_t counter);
 /* By the place of the byte that a variant turns in each half: its mask is 00000000000000FF,
-   000000000000FF00 or 00000000FF000000. */
-enum variant { PIN_VARIANT = 7, REQUEST_VARIANT = 6, RESPONSE_VARIANT = 4 };
+   000000000000FF00, 00000000FF000000, 0000000000FF0000 or 000000FF00000000. */
+enum variant {
+    PIN_VARIANT = 7,
+    REQUEST_VARIANT = 6,
+    RESPONSE_VARIANT = 4,
+    REQUEST_DATA_VARIANT = 5,
+    RESPONSE_DATA_VARIANT = 3
+};
 void variant_of(const uint8_t *key, enum variant variant, uint8_t *out);
 
 /* peer_ciphers.c: TDES and MACs. A key has 16 or 24 bytes, a retail MAC's has 16. */
@@ -76,7 +83,9 @@ uint32_t fault_of_pin(const struct argument *pin);
 uint32_t fault_of_pan(const struct argument *pan);
 
 /* peer_blocks.c: the text of a header with its optional blocks, and of a payload of whole blocks,
-   which is not enciphered yet; gives its length. */
+   which is not enciphered yet; gives its length. An optional block that ends before a place has this
+   length, with id and length, or 0 where it is none. */
+size_t optional_length(const uint8_t *text, size_t at, size_t end);
 size_t sealed(const uint8_t *kbpk, size_t kbpk_size, const uint8_t *front, size_t front_size,
               const uint8_t *payload, size_t payload_size, uint8_t *text);
 
@@ -89,6 +98,10 @@ struct request {
 struct reply {
     uint8_t ksn[KSN_BYTES], code[2], mac[BLOCK_BYTES];
 };
+/* A reversal, or its reply, which has a state. */
+struct reversal {
+    uint8_t ksn[KSN_BYTES], reversed[KSN_BYTES], mac[BLOCK_BYTES], state;
+};
 int is_code(const uint8_t *code);
 /* The PIN block is given in clear, and the MAC left out. */
 size_t write_request(const uint8_t *key, const struct request *request, uint8_t *frame);
@@ -98,5 +111,13 @@ int read_request(const uint8_t *frame, size_t size, struct request *request);
 int read_reply(const uint8_t *frame, size_t size, struct reply *reply);
 /* Gives the reason, or 0. */
 uint32_t read_refusal(const uint8_t *frame, size_t size, uint8_t *ksn);
+/* Whether a number reverses another. */
+int reverses(const uint8_t *ksn, const uint8_t *reversed);
+size_t write_reversal(const uint8_t *key, const uint8_t *ksn, const uint8_t *reversed,
+                      uint8_t *frame);
+size_t write_reversal_reply(const uint8_t *key, const uint8_t *ksn, const uint8_t *reversed,
+                            uint8_t state, uint8_t *frame);
+int read_reversal(const uint8_t *frame, size_t size, struct reversal *reversal);
+int read_reversal_reply(const uint8_t *frame, size_t size, struct reversal *reply);
 
 #endif

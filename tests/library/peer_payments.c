@@ -11,7 +11,8 @@ uint32_t peer_payment_request(struct argument *given)
     struct request request;
     uint8_t frame[FRAME_BYTES];
     uint32_t status = DUKPT_FAULT_LENGTH;
-    if (given[0].size == KEY_BYTES && given[1].size == KSN_BYTES && given[5].size == FRAME_BYTES)
+    if (given[0].size == KEY_BYTES && given[1].size == KSN_BYTES
+        && has_room(&given[5], FRAME_BYTES))
         status = fault_of_pan(pan);
     if (status == DUKPT_OK)
         status = fault_of_pin(pin);
@@ -29,16 +30,16 @@ uint32_t peer_payment_request(struct argument *given)
 uint32_t peer_read_request(struct argument *given)
 {
     struct request request;
-    if (given[1].size != KSN_BYTES || given[2].size != MOST_DIGITS || given[5].size != BLOCK_BYTES
-        || given[6].size != BLOCK_BYTES)
+    if (!has_room(&given[1], KSN_BYTES) || !has_room(&given[2], MOST_DIGITS)
+        || !has_room(&given[5], BLOCK_BYTES) || !has_room(&given[6], BLOCK_BYTES))
         return DUKPT_FAULT_LENGTH;
     if (!read_request(given[0].bytes, given[0].size, &request))
         return DUKPT_FAULT_NOT_A_REQUEST;
-    write_bytes(&given[1], request.ksn);
+    write_bytes(&given[1], request.ksn, KSN_BYTES);
     write_front(&given[2], &given[3], request.pan, request.pan_digits);
     write_count(&given[4], request.amount);
-    write_bytes(&given[5], request.block);
-    write_bytes(&given[6], request.mac);
+    write_bytes(&given[5], request.block, BLOCK_BYTES);
+    write_bytes(&given[6], request.mac, BLOCK_BYTES);
     return DUKPT_OK;
 }
 
@@ -61,7 +62,7 @@ uint32_t peer_request_pin(struct argument *given)
     struct request request;
     uint8_t key[KEY_BYTES], block[BLOCK_BYTES], pin[12];
     size_t digits;
-    if (given[0].size != KEY_BYTES || given[2].size != sizeof pin)
+    if (given[0].size != KEY_BYTES || !has_room(&given[2], sizeof pin))
         return DUKPT_FAULT_LENGTH;
     if (!read_request(given[1].bytes, given[1].size, &request))
         return DUKPT_FAULT_NOT_A_REQUEST;
@@ -74,11 +75,11 @@ uint32_t peer_request_pin(struct argument *given)
     return DUKPT_OK;
 }
 
-uint32_t peer_reply(struct argument *given)
+uint32_t peer_request_reply(struct argument *given)
 {
     uint8_t frame[FRAME_BYTES];
     if (given[0].size != KEY_BYTES || given[1].size != KSN_BYTES || given[2].size != 2
-        || given[3].size != FRAME_BYTES)
+        || !has_room(&given[3], FRAME_BYTES))
         return DUKPT_FAULT_LENGTH;
     if (!is_code(given[2].bytes))
         return DUKPT_FAULT_NOT_A_CODE;
@@ -87,10 +88,10 @@ uint32_t peer_reply(struct argument *given)
     return DUKPT_OK;
 }
 
-uint32_t peer_refusal(struct argument *given)
+uint32_t peer_request_refusal(struct argument *given)
 {
     uint8_t frame[FRAME_BYTES];
-    if (given[0].size != KSN_BYTES || given[2].size != FRAME_BYTES)
+    if (given[0].size != KSN_BYTES || !has_room(&given[2], FRAME_BYTES))
         return DUKPT_FAULT_LENGTH;
     if (given[1].number < 1 || given[1].number > 6)
         return DUKPT_FAULT_NOT_A_REASON;
@@ -102,12 +103,12 @@ uint32_t peer_refusal(struct argument *given)
 uint32_t peer_read_reply(struct argument *given)
 {
     struct reply reply;
-    if (given[1].size != KSN_BYTES || given[2].size != 2)
+    if (!has_room(&given[1], KSN_BYTES) || !has_room(&given[2], 2))
         return DUKPT_FAULT_LENGTH;
     if (!read_reply(given[0].bytes, given[0].size, &reply))
         return DUKPT_FAULT_NOT_A_REPLY;
-    write_bytes(&given[1], reply.ksn);
-    write_bytes(&given[2], reply.code);
+    write_bytes(&given[1], reply.ksn, KSN_BYTES);
+    write_bytes(&given[2], reply.code, 2);
     return DUKPT_OK;
 }
 
@@ -115,12 +116,12 @@ uint32_t peer_read_refusal(struct argument *given)
 {
     uint8_t ksn[KSN_BYTES];
     uint32_t reason;
-    if (given[1].size != KSN_BYTES)
+    if (!has_room(&given[1], KSN_BYTES))
         return DUKPT_FAULT_LENGTH;
     reason = read_refusal(given[0].bytes, given[0].size, ksn);
     if (reason == 0)
         return DUKPT_FAULT_NOT_A_REFUSAL;
-    write_bytes(&given[1], ksn);
+    write_bytes(&given[1], ksn, KSN_BYTES);
     write_count(&given[2], reason);
     return DUKPT_OK;
 }

@@ -72,7 +72,7 @@ size_t pin_in_block(const uint8_t *block, const uint8_t *pan, size_t pan_digits,
 uint32_t peer_pin_block(struct argument *given)
 {
     uint32_t status = DUKPT_FAULT_LENGTH;
-    if (given[2].size == BLOCK_BYTES)
+    if (has_room(&given[2], BLOCK_BYTES))
         status = fault_of_pin(&given[0]);
     if (status == DUKPT_OK)
         status = fault_of_pan(&given[1]);
@@ -86,7 +86,7 @@ uint32_t peer_pin_of_block(struct argument *given)
     uint8_t pin[MOST_PIN];
     size_t digits;
     uint32_t status = DUKPT_FAULT_LENGTH;
-    if (given[0].size == BLOCK_BYTES && given[2].size == MOST_PIN)
+    if (given[0].size == BLOCK_BYTES && has_room(&given[2], MOST_PIN))
         status = fault_of_pan(&given[1]);
     if (status != DUKPT_OK)
         return status;

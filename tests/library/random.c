@@ -16,7 +16,7 @@
 #include <stdlib.h>
 #include <string.h>
 
-enum { STATUSES = 30, ENOUGH = 10000 };
+enum { STATUSES = 37, ENOUGH = 10000 };
 
 /* Gives one slice of a case another size, up to twice as long. */
 static void spoil_size(struct chance *chance, const struct call *call, struct argument *given)

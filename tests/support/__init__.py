@@ -18,10 +18,13 @@
 | `traced_files`, `copy_stand_in` | the calls on files, by strace; ways to copy a journal, right and wrong |
 | `driver`, `driver_keys` | the program `duk_driver`, and what it is asked |
 | `binding_cases`, `python_library`, `rust_library` | the packages over the library, and cases for them |
+| `example_programs`, `terminal_book`, `terminal_books` | the library's examples; what their terminal keeps and tells, beside the journal |
+| `copied_package` | a test that is run on a copy of the Python package |
+| `library_calls`, `library_frames`, `library_reversals`, `library_blocks`, `library_values` | what each call of the library answers |
 | `packages`, `system_root` | Debian's packages; a copy of this system, in which they are installed |
 | `browser`, `sink` | Chromium over WebDriver; a listener that notes who connects to it |
 | `page_case`, `page_module`, `page_player`, `page_values` | the page in a browser, its modules, and what it shows |
 | `everyday`, `everyday_words`, `everyday_cases`, `everyday_rows` | the commands of every day: their lines, their arguments with references, cases at random, written rows |
 | `quick`, `leaks` | thousands of short runs; secrets in what a run wrote |
-| `many`, `call_cases`, `call_cases_of_texts` | the standards, and calls of the library, by thousands |
+| `many`, `call_cases`, `call_cases_of_texts`, `call_cases_of_blocks`, `call_cases_of_reversals` | the standards, and calls of the library, by thousands |
 """

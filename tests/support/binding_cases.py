@@ -9,15 +9,20 @@ import random
 from dataclasses import dataclass
 from typing import Iterator, Sequence
 
-# The second registers the calls of its own.
-from . import call_cases, call_cases_of_texts  # noqa: F401
+# The others register the calls of their own.
+from . import (  # noqa: F401
+    call_cases, call_cases_of_blocks, call_cases_of_reversals, call_cases_of_texts)
 from .call_cases import Argument
 from .library_calls import answer
 
+# All calls, those of these modules too.
+ALL_CALLS = call_cases.CALLS
 # Calls that write over bytes which they are given.
 IN_PLACE = ("tdes_encrypt", "tdes_decrypt", "cbc_encrypt", "cbc_decrypt")
 # Calls whose number stands behind bytes, and is not their length.
-WITHOUT_LENGTH = ("read_refusal",)
+WITHOUT_LENGTH = ("read_refusal", "read_reversal_reply")
+# The call that is told how many bytes it is to write, and by which argument.
+TOLD = {"unwrap_for": 2}
 
 
 @dataclass(frozen=True)
@@ -41,11 +46,11 @@ def shown(value: Argument) -> str:
 
 def names() -> list[str]:
     """The calls that have a status."""
-    return [name.removeprefix("dukpt_") for name in call_cases.CALLS]
+    return [name.removeprefix("dukpt_") for name in ALL_CALLS]
 
 
 def kinds(name: str) -> str:
-    return call_cases.CALLS[f"dukpt_{name}"][0]
+    return ALL_CALLS[f"dukpt_{name}"][0]
 
 
 def places(name: str) -> list[int]:
@@ -64,6 +69,8 @@ def outputs(name: str, arguments: Sequence[Argument]) -> list[Argument]:
         elif kind in "oc":
             made.append(value)
         before = kind
+    if name in TOLD:
+        made[-1] = made[-1][: arguments[TOLD[name]]]
     return made
 
 

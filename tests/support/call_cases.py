@@ -12,8 +12,8 @@ from typing import Callable, Iterator, Sequence, Union
 
 from . import many
 from .dukpt import (
-    COUNTER_BITS, MOST_PAST, NO_KEY, SPENT, Registers, counter_of, held, iksn_of, next_counter,
-    pin_key, request_key, response_key, usable)
+    COUNTER_BITS, MOST_PAST, NO_KEY, REQUEST_DATA_VARIANT, RESPONSE_DATA_VARIANT, SPENT, Registers,
+    counter_of, held, iksn_of, next_counter, pin_key, request_key, response_key, usable)
 from .frames import bytes_of
 from .images import IMAGE_2, image_of
 from .library_calls import STATUS
@@ -127,8 +127,11 @@ class Chance:
 
     def usables(self, count: int) -> list[int]:
         """Numbers of transactions."""
-        return [iksn_of(serial) + (next_counter(counter_of(serial) - 1) % SPENT or 1)
+        return [iksn_of(serial) + self.usable_near(counter_of(serial))
                 for serial in self.serials(count)]
+
+    def usable_near(self, counter: int) -> int:
+        return next_counter(counter - 1) % SPENT or 1
 
     def digits(self, count: int, lengths: range) -> list[str]:
         return ["".join(self.chance.choices("0123456789", k=self.chance.choice(lengths)))
@@ -193,6 +196,18 @@ for variant in (pin_key, request_key, response_key):
     variant_drawn(variant.__name__, variant)
 
 
+def data_key_drawn(name: str, mask: bytes) -> None:
+    @drawn(name, "bo")
+    def draw(chance: Chance, count: int) -> Iterator[Drawn]:
+        keys = chance.keys(count)
+        for key, old, made in zip(keys, chance.keys(count), many.data_keys(keys, mask)):
+            yield [key, old], 0, [made]
+
+
+data_key_drawn("request_data_key", REQUEST_DATA_VARIANT)
+data_key_drawn("response_data_key", RESPONSE_DATA_VARIANT)
+
+
 @drawn("check_usable", "b")
 def check_usable(chance: Chance, count: int) -> Iterator[Drawn]:
     for serial in chance.serials(count):
@@ -222,8 +237,8 @@ check_value_drawn("cmac_check_value", 5, lambda keys: many.cmacs(keys, [bytes(8)
 # Registers
 
 
-@drawn("load", "bbo")
-def load(chance: Chance, count: int) -> Iterator[Drawn]:
+@drawn("registers_load", "bbo")
+def registers_load(chance: Chance, count: int) -> Iterator[Drawn]:
     initials, iksns, olds = chance.keys(count), chance.iksns(count), chance.bytes(count, IMAGE_2)
     firsts = many.registers_at(initials, [iksn + 1 for iksn in iksns])
     for initial, iksn, old, it in zip(initials, iksns, olds, firsts):
@@ -244,16 +259,16 @@ def images(chance: Chance, these: Sequence[Registers]) -> list[bytes]:
     return [image_of(it, 1 if not it.past and chance.chance.random() < 0.5 else 2) for it in these]
 
 
-@drawn("number", "bo")
-def number(chance: Chance, count: int) -> Iterator[Drawn]:
+@drawn("registers_number", "bo")
+def registers_number(chance: Chance, count: int) -> Iterator[Drawn]:
     these = chance.registers(count)
     for it, image, old in zip(these, images(chance, these), chance.bytes(count, 10)):
         status = STATUS["Spent"] if it.next is None else 0
         yield [image, old], status, [bytes_of(it.next or 0)]
 
 
-@drawn("take", "booo")
-def take(chance: Chance, count: int) -> Iterator[Drawn]:
+@drawn("registers_next", "booo")
+def registers_next(chance: Chance, count: int) -> Iterator[Drawn]:
     these = chance.registers(count)
     olds = zip(chance.bytes(count, IMAGE_2), chance.keys(count), chance.bytes(count, 10))
     done = iter(many.taken([it for it in these if it.next is not None]))
@@ -265,8 +280,8 @@ def take(chance: Chance, count: int) -> Iterator[Drawn]:
             yield [image, *old], 0, [image_of(left), key, bytes_of(serial)]
 
 
-@drawn("reload", "bbbo")
-def reload(chance: Chance, count: int) -> Iterator[Drawn]:
+@drawn("registers_reload", "bbbo")
+def registers_reload(chance: Chance, count: int) -> Iterator[Drawn]:
     these, initials, iksns = chance.registers(count), chance.keys(count), chance.iksns(count)
     for at, it in enumerate(these):
         if chance.chance.random() < 0.1:

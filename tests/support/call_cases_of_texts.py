@@ -1,12 +1,11 @@
-"""The cases of `call_cases` for ciphers, MACs, PIN blocks, key blocks and frames."""
+"""The cases of `call_cases` for ciphers, MACs, PIN blocks, requests and their answers."""
 from __future__ import annotations
 
 from typing import Callable, Iterator, Sequence
 
 from . import many
-from .call_cases import BLOCK_ROOM, CALLS, FRAME_ROOM, Argument, Chance, Drawn, drawn
-from .frames import CODES, LONGEST_BODY, REASONS, bytes_of, write_refusal
-from .key_blocks import header
+from .call_cases import FRAME_ROOM, Argument, Chance, Drawn, drawn
+from .frames import CODES, REASONS, bytes_of, write_refusal
 from .library_calls import STATUS
 from .pin_blocks import pin_block, pin_in
 
@@ -78,59 +77,6 @@ def pin_of(chance: Chance, count: int) -> Iterator[Drawn]:
         yield [block.to_bytes(8, "big"), pan.encode(), *old], status, [written, len(written)]
 
 
-# Key blocks
-
-
-def pads(chance: Chance, count: int) -> list[bytes]:
-    """Padding that fills whole blocks, behind two bytes and a key of 16 or 24."""
-    return chance.bytes(count, 6, 6, 6, 14, 30)
-
-
-@drawn("wrap", "bbbboc")
-def wrap(chance: Chance, count: int) -> Iterator[Drawn]:
-    protections, keys = chance.tdes_keys(count), chance.tdes_keys(count)
-    fields, fills = chance.fields(count), pads(chance, count)
-    made = many.wraps(protections, fields, keys, fills)
-    olds = zip(chance.bytes(count, BLOCK_ROOM), chance.numbers(count))
-    for protection, field, key, pad, old, text in zip(protections, fields, keys, fills, olds, made):
-        way = chance.chance.random()
-        if way < 0.03:
-            # Two faults: the fields are looked at before the padding.
-            given: list[Argument] = [protection, b"\x7f" + field[1:], key, pad[1:], *old]
-            yield given, STATUS["BlockHeaderField"], []
-        elif way < 0.06:
-            yield [protection, field, key, pad[1:], *old], STATUS["BlockPadLength"], []
-        else:
-            yield [protection, field, key, pad, *old], 0, [text, len(text)]
-
-
-def optional_blocks(chance: Chance) -> tuple[int, bytes]:
-    """No optional block mostly, or up to three, which leave the whole a multiple of 8."""
-    count, text = chance.chance.choice((0, 0, 0, 1, 2, 3)), b""
-    for at in range(count):
-        length = chance.chance.randrange(4, 24)
-        if at == count - 1:
-            length += -(len(text) + length) % 8
-        text += b"%b%02X" % (chance.fields(1)[0][:2], length)
-        text += bytes(chance.chance.choices(range(0x20, 0x7F), k=length - 4))
-    return count, text
-
-
-@drawn("unwrap", "bbooc")
-def unwrap(chance: Chance, count: int) -> Iterator[Drawn]:
-    protections, keys = chance.tdes_keys(count), chance.tdes_keys(count)
-    fields, fronts = chance.fields(count), []
-    payloads = many.payloads_of(keys, pads(chance, count))
-    for field, payload in zip(fields, payloads):
-        blocks, optional = optional_blocks(chance)
-        length = 32 + len(optional) + 2 * len(payload)
-        fronts.append(header(field, length, blocks, chance.fields(1)[0][:2]) + optional)
-    texts = many.sealed(protections, fronts, payloads)
-    olds = zip(chance.bytes(count, 7), chance.bytes(count, 24), chance.numbers(count))
-    for protection, text, old, field, key in zip(protections, texts, olds, fields, keys):
-        yield [protection, text, *old], 0, [field, key, len(key)]
-
-
 # Frames
 
 
@@ -171,8 +117,8 @@ def request_pin(chance: Chance, count: int) -> Iterator[Drawn]:
         yield [key, frame, *old], 0, [pin, len(pin)]
 
 
-@drawn("reply", "bbboc")
-def reply(chance: Chance, count: int) -> Iterator[Drawn]:
+@drawn("request_reply", "bbboc")
+def request_reply(chance: Chance, count: int) -> Iterator[Drawn]:
     keys, serials = chance.keys(count), chance.serials(count)
     codes = [chance.chance.choice((*CODES, *CODES, "05")) for _ in range(count)]
     made = many.replies(keys, serials, codes)
@@ -182,8 +128,8 @@ def reply(chance: Chance, count: int) -> Iterator[Drawn]:
         yield [key, bytes_of(serial), code.encode(), *old], status, [frame, len(frame)]
 
 
-@drawn("refusal", "bnoc")
-def refusal(chance: Chance, count: int) -> Iterator[Drawn]:
+@drawn("request_refusal", "bnoc")
+def request_refusal(chance: Chance, count: int) -> Iterator[Drawn]:
     olds = zip(chance.bytes(count, FRAME_ROOM), chance.numbers(count))
     for serial, old in zip(chance.serials(count), olds):
         reason = chance.chance.randrange(8)
@@ -222,17 +168,3 @@ def check_reply(chance: Chance, count: int) -> Iterator[Drawn]:
         mine = chance.chance.random() < 0.9
         asked = serial if mine else serial ^ 1 << chance.chance.randrange(80)
         yield [key, bytes_of(asked), frame], 0 if mine else STATUS["NotMine"], []
-
-
-@drawn("frame_length", "bc")
-def frame_length(chance: Chance, count: int) -> Iterator[Drawn]:
-    for old, tail in zip(chance.numbers(count), chance.bytes(count, *range(6))):
-        data = b"\x00" + bytes([chance.chance.randrange(70)]) + tail
-        data = tail if chance.chance.random() < 0.2 else data
-        length = int.from_bytes(data[:2], "big")
-        fault = "PartOfFrame" if len(data) < 2 else "TooLong" if length > LONGEST_BODY else "Ok"
-        yield [data, old], STATUS[fault], [length + 2]
-
-
-# The calls of `call_cases` and those of this module, which joined them.
-ALL_CALLS = CALLS

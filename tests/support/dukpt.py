@@ -10,7 +10,7 @@ from dataclasses import dataclass, replace
 from functools import lru_cache
 from typing import Optional
 
-from .des import encrypted, triple_encrypted
+from .des import encrypt_block, encrypted, triple_encrypted
 
 COUNTER_BITS = 21
 # The next counter of a terminal that has no number left.
@@ -21,6 +21,9 @@ KEY_MASK = bytes.fromhex("C0C0C0C000000000" * 2)
 PIN_VARIANT = bytes.fromhex("00000000000000FF" * 2)
 REQUEST_VARIANT = bytes.fromhex("000000000000FF00" * 2)
 RESPONSE_VARIANT = bytes.fromhex("00000000FF000000" * 2)
+# ANSI X9.24-1:2009 annex A.4.1: of the key that enciphers a request's data, and a response's.
+REQUEST_DATA_VARIANT = bytes.fromhex("0000000000FF0000" * 2)
+RESPONSE_DATA_VARIANT = bytes.fromhex("000000FF00000000" * 2)
 
 NO_KEY = bytes(16)
 # How many initial key serial numbers a terminal keeps beside its present one.
@@ -69,6 +72,21 @@ def request_key(key: bytes) -> bytes:
 
 def response_key(key: bytes) -> bytes:
     return masked(key, RESPONSE_VARIANT)
+
+
+def under_itself(variant: bytes) -> bytes:
+    """Each half of a key, enciphered under the whole of it."""
+    return encrypt_block(variant, variant[:8]) + encrypt_block(variant, variant[8:])
+
+
+def request_data_key(key: bytes) -> bytes:
+    """The key that enciphers the data of a request."""
+    return under_itself(masked(key, REQUEST_DATA_VARIANT))
+
+
+def response_data_key(key: bytes) -> bytes:
+    """The key that enciphers the data of a response."""
+    return under_itself(masked(key, RESPONSE_DATA_VARIANT))
 
 
 @lru_cache(1 << 12)

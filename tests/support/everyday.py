@@ -1,6 +1,6 @@
 """What the commands of every day write, by docs/COMMANDS.md: their lines, or the first fault.
 
-It has `initial`, `registers`, `kcv`, `mac`, `unpin`, `translate`, `request` and `reply`, and `derive`
+It has `initial`, `registers`, `kcv`, `mac`, `data`, `unpin`, `translate`, `request` and `reply`, and `derive`
 and `walk` with all of their options, over the ciphers of the bench. `everyday_words` has what stands
 before them: how arguments are read, and secrets by reference.
 """
@@ -12,10 +12,10 @@ from math import comb
 from typing import Optional, Sequence, Union
 
 from .commands import DOUBLE, DOUBLE_OR_TRIPLE, SERIAL, Refused, count_in, hexadecimal, shown
-from .des import decrypt_block, encrypt_block
+from .des import cbc_decrypt, cbc_encrypt, decrypt_block, encrypt_block
 from .dukpt import (
-    COUNTER_BITS, counter_of, held, initial_key, iksn_of, key_of, pin_key, request_key, response_key,
-    serial_text, usable)
+    COUNTER_BITS, counter_of, held, initial_key, iksn_of, key_of, pin_key, request_data_key,
+    request_key, response_data_key, response_key, serial_text, usable)
 from .frames import (
     NO_NUMBER, Refusal, Reply, Request, Reversal, ReversalReply, read_answer, read_request,
     read_reversal, read_reversal_reply, write_request, write_reversal)
@@ -25,6 +25,8 @@ from .pin_blocks import PAN_LENGTHS, PIN_LENGTHS, pin_block, pin_in
 MOST_ONES = 10
 MOST_AMOUNT = 4_294_967_295
 BLOCK = (16,)
+# From 1 to 255 blocks.
+DATA_LENGTHS = range(8, 255 * 8 + 1, 8)
 NUMBERS = 1_048_575
 
 # What commands share
@@ -104,7 +106,9 @@ def derive_lines(base: str, number: str, initial: bool = False, trace: bool = Fa
     key = key_of(first, serial)
     lines += [f"initial {shown(first)}", f"key {shown(key)}", f"pin {shown(pin_key(key))}"]
     if all_:
-        lines += [f"mac-request {shown(request_key(key))}", f"mac-response {shown(response_key(key))}"]
+        lines += [f"mac-request {shown(request_key(key))}", f"mac-response {shown(response_key(key))}",
+                  f"data-request {shown(request_data_key(key))}",
+                  f"data-response {shown(response_data_key(key))}"]
     return lines
 
 
@@ -177,6 +181,21 @@ def mac_lines(word: str, text: str, is_cmac: bool = False, hex_: bool = False) -
     if not (data or is_cmac):
         raise Refused("text refused")
     return [f"mac {shown(cmac(key, data) if is_cmac else retail_mac(key, data))}"]
+
+
+# Data
+
+
+def data_lines(word: str, text: str, iv: Optional[str] = None, decipher: bool = False,
+               hex_: bool = False) -> list[str]:
+    before = bytes(8) if iv is None else hexadecimal(iv, BLOCK, "block")
+    key = hexadecimal(word, DOUBLE_OR_TRIPLE, "key")
+    data = text.encode()
+    if hex_ or decipher:
+        data = hexadecimal(text, (len(text) // 2 * 2,), "text")
+    if len(data) not in DATA_LENGTHS:
+        raise Refused("text refused")
+    return [f"data {shown((cbc_decrypt if decipher else cbc_encrypt)(key, before, data))}"]
 
 
 # PIN blocks

@@ -203,6 +203,18 @@ class Draw:
                                    self.chance.choice(TEXTS), "--cmac", "-"))
         return self.case("mac", self.key(16, 16, 24)[1], text)
 
+    def data(self) -> Case:
+        """Whole blocks, one at the least and 255 at most, or now and then no whole ones."""
+        blocks = self.chance.choice((1, 1, 2, 3, 7, 254, 255))
+        size = blocks * 8 if not self.one_in(6) else self.chance.choice((0, 7, 9, 2041, 2047, 2048, 2056))
+        data = self.chance.randbytes(size)
+        # A text with characters of two bytes, as one of the same number of bytes.
+        text = "\u00e9" * (size // 4) + "x" * (size - size // 4 * 2)
+        word = self.chance.choice((self.written(data.hex() or "00"), data.hex(), text, text,
+                                   self.chance.choice(TEXTS), "--decipher", "-"))
+        iv = None if self.one_in(2) else self.written(self.chance.randbytes(8).hex())
+        return self.case("data", self.key(16, 16, 24)[1], word, iv=iv)
+
     def block(self, pin: str, pan: str, key: Optional[bytes]) -> str:
         """A PIN block, or now and then almost one."""
         clear = pin_block(pin, pan)
@@ -383,5 +395,5 @@ class Draw:
 DRAWS: dict[str, Callable[[Draw], Case]] = {
     "pin": Draw.pin_case,
     **{name: getattr(Draw, name) for name in (
-        "derive", "walk", "initial", "registers", "kcv", "mac", "unpin", "translate", "request",
+        "derive", "walk", "initial", "registers", "kcv", "mac", "data", "unpin", "translate", "request",
         "reversal", "reply", "find", "shown_frame", "others")}}

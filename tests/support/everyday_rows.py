@@ -37,6 +37,7 @@ RIGHT = {
     "registers": ["registers", INITIAL, SERIAL, "--initial"],
     "kcv": ["kcv", BASE, ZONE, KBPK, "--components"],
     "mac": ["mac", BASE, "text"],
+    "data": ["data", BASE, "16 bytes of text", "--iv", "0123456789ABCDEF"],
     "unpin": ["unpin", "1B9C1845EB993A7A", PAN, "--key", PIN_KEY, "--show"],
     "translate": ["translate", "1B9C1845EB993A7A", PAN, BASE, SERIAL, ZONE],
     "show": ["show", "frame", REQUEST, "--show", "--key", BASE],

@@ -12,8 +12,8 @@ from typing import Callable, Mapping, Optional, Sequence
 
 from .commands import Refused, pin_lines, unwrap_lines, wrap_lines
 from .everyday import (
-    derive_lines, initial_lines, kcv_lines, mac_lines, registers_lines, reply_lines, request_lines,
-    translate_lines, unpin_lines, walk_lines)
+    data_lines, derive_lines, initial_lines, kcv_lines, mac_lines, registers_lines, reply_lines,
+    request_lines, translate_lines, unpin_lines, walk_lines)
 from .finding import find_lines
 from .program import Ended
 from .shown import show_lines
@@ -26,8 +26,8 @@ MOST_BYTES = 4096
 MOST_KEYS = 16
 # Arguments and values of options that are secrets.
 SECRETS = {"BDK", "KBPK", "LOADING", "PIN", "PAN", "ZONE"}
-OF_COMMANDS = {"wrap": {"KEY"}, "kcv": {"KEY"}, "mac": {"KEY"}, "pin": {"KEY"},
-               "unpin": {"KEY", "BLOCK"}, "translate": {"BLOCK"}, "show": {"WHAT"},
+OF_COMMANDS = {"wrap": {"KEY"}, "kcv": {"KEY"}, "mac": {"KEY"}, "data": {"KEY"},
+               "pin": {"KEY"}, "unpin": {"KEY", "BLOCK"}, "translate": {"BLOCK"}, "show": {"WHAT"},
                "find": {"WHAT", "BLOCK"}}
 
 
@@ -38,6 +38,8 @@ class Given:
     values: list[str] = field(default_factory=list)
     flags: set[str] = field(default_factory=set)
     valued: dict[str, str] = field(default_factory=dict)
+    # Whether an option stood behind a value.
+    is_after: bool = False
 
 
 @dataclass(frozen=True)
@@ -98,6 +100,7 @@ COMMANDS = {
     "registers": Command(registers_lines, ("BDK", "KSN"), INITIAL),
     "kcv": Command(kcv_lines, ("KEY",), ("components", "show"), is_many=True),
     "mac": Command(mac_lines, ("KEY", "TEXT"), ("cmac", "hex")),
+    "data": Command(data_lines, ("KEY", "TEXT"), ("decipher", "hex"), {"iv": "BLOCK"}),
     "unpin": Command(unpin_lines, ("BLOCK", "PAN"), ("show",), {"key": "KEY"}),
     "translate": Command(translate_lines, ("BLOCK", "PAN", "BDK", "KSN", "ZONE"), INITIAL),
     # Its lines are random: `issuing` reads them.
@@ -127,26 +130,44 @@ class ArgumentsRefused(Exception):
 
 def read(words: Sequence[str], command: Command) -> Given:
     """Options stand anywhere before `--`, each once, but not between values of which there may be
-    many. All else are values, as many as there may be."""
-    given, left, is_over, is_after = Given(), list(words), False, False
+    many. All else are values, as many as there may be. That an option comes again whose value is a
+    word of its own is told after the next word, unless that one is unexpected."""
+    given, left, is_over, again = Given(), list(words), False, None
     while left:
         word = left.pop(0)
         if not is_over and word == "--":
             is_over = True
-        elif not is_over and word.startswith("--"):
-            read_option(word[2:], left, command, given)
-            is_after = bool(given.values)
-        elif not is_over and word.startswith("-") and word != "-":
-            raise ArgumentsRefused(f"unexpected argument '{word}' found")
-        elif command.is_many and is_after:
-            demand_count(command, given)
-            raise ArgumentsRefused("the argument '<KEY>...' cannot be used multiple times")
-        elif len(given.values) == len(command.values) and not command.is_many:
-            raise ArgumentsRefused(f"unexpected argument '{word}' found")
-        else:
-            given.values.append(word)
+            continue
+        try:
+            once_more = read_word(word, is_over, left, command, given)
+        except ArgumentsRefused as why:
+            raise ArgumentsRefused(again) if again and not str(why).startswith("unexpected ") else why
+        if again:
+            raise ArgumentsRefused(again)
+        again = once_more
+    if again:
+        raise ArgumentsRefused(again)
     demand_count(command, given)
     return given
+
+
+def read_word(
+    word: str, is_over: bool, left: list[str], command: Command, given: Given
+) -> Optional[str]:
+    """Reads an option, or a value. What is to be told of an option with a value that came before."""
+    if not is_over and word.startswith("--"):
+        again = read_option(word[2:], left, command, given)
+        given.is_after = bool(given.values)
+        return again
+    if not is_over and word.startswith("-") and word != "-":
+        raise ArgumentsRefused(f"unexpected argument '{word}' found")
+    if command.is_many and given.is_after:
+        demand_count(command, given)
+        raise ArgumentsRefused("the argument '<KEY>...' cannot be used multiple times")
+    if len(given.values) == len(command.values) and not command.is_many:
+        raise ArgumentsRefused(f"unexpected argument '{word}' found")
+    given.values.append(word)
+    return None
 
 
 def demand_count(command: Command, given: Given) -> None:
@@ -162,15 +183,20 @@ def demand_count(command: Command, given: Given) -> None:
         raise ArgumentsRefused(why)
 
 
-def read_option(word: str, left: list[str], command: Command, given: Given) -> None:
+def read_option(word: str, left: list[str], command: Command, given: Given) -> Optional[str]:
     name, equals, value = word.partition("=")
-    if name in given.flags or name in given.valued:
-        shown = f"--{name} <{command.valued[name]}>" if name in command.valued else f"--{name}"
-        raise ArgumentsRefused(f"the argument '{shown}' cannot be used multiple times")
+    if name in given.flags and not equals:
+        raise ArgumentsRefused(f"the argument '--{name}' cannot be used multiple times")
     if name in command.flags and not equals:
         given.flags.add(name)
     elif name in command.valued and (equals or left and (left[0] == "-" or left[0][:1] != "-")):
-        given.valued[name] = value if equals else left.pop(0)
+        told, is_again = value if equals else left.pop(0), name in given.valued
+        given.valued.setdefault(name, told)
+        if is_again:
+            again = f"the argument '--{name} <{command.valued[name]}>' cannot be used multiple times"
+            if equals:
+                raise ArgumentsRefused(again)
+            return again
     elif name in command.flags:
         raise ArgumentsRefused(
             f"unexpected value '{value}' for '--{name}' found; no more were expected")
@@ -179,6 +205,7 @@ def read_option(word: str, left: list[str], command: Command, given: Given) -> N
             f"a value is required for '--{name} <{command.valued[name]}>' but none was supplied")
     else:
         raise ArgumentsRefused(f"unexpected argument '--{name}' found")
+    return None
 
 
 # Secrets by reference

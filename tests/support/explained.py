@@ -194,7 +194,7 @@ def of_issued_count(text: str, iksn: int) -> Explanation:
 def of_key(asked: Asked) -> Explanation:
     if asked.command == "kcv":
         return of_keys(asked.keys)
-    is_any = asked.command == "wrap" or "cmac" in asked.flags
+    is_any = asked.command in ("wrap", "data") or "cmac" in asked.flags
     return Explanation("KEY", found_in(asked.texts["KEY"], HEX), ANY_KEY if is_any else ONE_KEY)
 
 
@@ -209,10 +209,20 @@ def of_keys(keys: Sequence[str]) -> Explanation:
     return Explanation(f"KEY {other + 1}", found_in(keys[other], HEX), "as many digits as KEY 1")
 
 
-def of_mac_text(asked: Asked) -> Explanation:
+def of_message(asked: Asked) -> Explanation:
+    if asked.command == "data":
+        return of_data(asked)
     if "hex" in asked.flags:
         return Explanation("TEXT", found_in(asked.texts["TEXT"], HEX), PAIRS)
     return Explanation("TEXT", found_in(asked.texts["TEXT"], ANY), "one byte or more")
+
+
+def of_data(asked: Asked) -> Explanation:
+    if {"hex", "decipher"} & asked.flags:
+        return Explanation("TEXT", found_in(asked.texts["TEXT"], HEX),
+                           "16 hexadecimal digits for each of 1 to 255 blocks")
+    return Explanation("TEXT", found_in(asked.texts["TEXT"], ANY),
+                       "8 bytes for each of 1 to 255 blocks")
 
 
 def of_sought(asked: Asked) -> Explanation:
@@ -225,8 +235,8 @@ def of_sought(asked: Asked) -> Explanation:
 
 
 OF_ONE = {"KSN refused": of_ksn, "counter refused": of_counter, "IKSN refused": of_iksn,
-          "count refused": of_count, "key refused": of_key, "text refused": of_mac_text,
-          "WHAT refused": of_sought, "TEXT refused": of_mac_text}
+          "count refused": of_count, "key refused": of_key, "text refused": of_message,
+          "WHAT refused": of_sought, "TEXT refused": of_message}
 
 # Faults whose line says all that is known.
 

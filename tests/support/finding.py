@@ -8,8 +8,8 @@ from typing import Callable, Iterator, Optional, Union
 from .commands import DOUBLE, SERIAL, Refused, hexadecimal
 from .des import decrypt_block, encrypt_block
 from .dukpt import (
-    SPENT, counter_of, initial_key, iksn_of, key_of, masked, next_counter, pin_key, request_key,
-    response_key, serial_text, usable)
+    SPENT, counter_of, initial_key, iksn_of, key_of, next_counter, pin_key, request_data_key,
+    request_key, response_data_key, response_key, serial_text, usable)
 from .frames import (
     Reply, Request, Reversal, ReversalReply, read_answer, read_request, read_reversal,
     read_reversal_reply)
@@ -18,26 +18,17 @@ from .pin_blocks import PAN_LENGTHS, is_number, pin_in
 
 MOST_NUMBERS = 100_000
 BLOCK = (16,)
-# ANSI X9.24-1:2009 annex A.4.1: of the key that enciphers a request's data, and a response's.
-REQUEST_DATA = bytes.fromhex("0000000000FF0000" * 2)
-RESPONSE_DATA = bytes.fromhex("000000FF00000000" * 2)
 
 WithMac = Union[Request, Reply, Reversal, ReversalReply]
 # The words behind the name of a key that made it, or nothing where it did not.
 Made = Callable[[bytes], Optional[str]]
 
 
-def data_key(key: bytes, mask: bytes) -> bytes:
-    """Each half of a variant, enciphered under the whole of it."""
-    variant = masked(key, mask)
-    return encrypt_block(variant, variant[:8]) + encrypt_block(variant, variant[8:])
-
-
 def keys_of_number(key: bytes) -> list[tuple[str, bytes]]:
     """The keys of a transaction key, by their names and in their order."""
     return [("key", key), ("pin", pin_key(key)), ("request-mac", request_key(key)),
-            ("response-mac", response_key(key)), ("request-data", data_key(key, REQUEST_DATA)),
-            ("response-data", data_key(key, RESPONSE_DATA))]
+            ("response-mac", response_key(key)), ("request-data", request_data_key(key)),
+            ("response-data", response_data_key(key))]
 
 
 def frame_with_mac(frame: bytes) -> Optional[WithMac]:

@@ -14,6 +14,7 @@ from .client import Exchange, payments, refused_requests, split
 from .cut_disk import Lies, Plan, Stop
 from .cut_file import CutFile
 from .journal_file import DamagedJournal, payments_in
+from .left_files import JOURNAL
 from .lives import PLACES, Finding, Life, Wrong
 from .model_journal import added_by, answers_of, judged, payments_of_all
 from .page_journals import RECORD, Payment
@@ -54,6 +55,8 @@ class History:
         return len(kept) - len(found)
 
     def payments(self, image: bytes) -> list[Payment]:
+        if not JOURNAL.is_left(image):
+            raise Wrong(Finding.DAMAGED, "no stop leaves closed records so")
         try:
             return payments_in(image)
         except DamagedJournal as why:

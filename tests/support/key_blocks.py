@@ -36,31 +36,59 @@ def header(fields: bytes, length: int, count: int = 0, reserved: bytes = b"00") 
     return b"B%04d%b%02d%b" % (length, fields, count, reserved)
 
 
-def wrap(protection: bytes, fields: bytes, key: bytes, pad: bytes) -> bytes:
-    """The key block of a key, without optional blocks."""
+def wrap(
+    protection: bytes, fields: bytes, key: bytes, pad: bytes, optional: bytes = b""
+) -> bytes:
+    """The key block of a key, with these optional blocks."""
     if not all(byte in PRINTED for byte in fields):
         raise BlockFault("HeaderField")
+    count = count_in(optional)
     payload = (8 * len(key)).to_bytes(2, "big") + key + pad
-    length = 16 + 2 * len(payload) + 16
+    length = 16 + len(optional) + 2 * len(payload) + 16
     if len(payload) % 8 or length > LENGTHS[-1]:
         raise BlockFault("PadLength")
-    return sealed(protection, header(fields, length), payload)
+    return sealed(protection, header(fields, length, count) + optional, payload)
+
+
+def count_in(optional: bytes) -> int:
+    """How many optional blocks these are, one after the other, as they are written."""
+    at = count = 0
+    while at < len(optional):
+        at, count = behind_optional_block(optional, at), count + 1
+    if at % 8 or count > 99 or not all(byte in PRINTED for byte in optional):
+        raise BlockFault("OptionalBlock")
+    return count
+
+
+def behind_optional_block(text: bytes, at: int) -> int:
+    """Where the optional block ends that begins here."""
+    digits = text[at + 2 : at + 4]
+    if len(digits) < 2 or not HEXADECIMAL.issuperset(digits):
+        raise BlockFault("OptionalBlock")
+    length = int(digits, 16)
+    if length < 4 or at + length > len(text):
+        raise BlockFault("OptionalBlock")
+    return at + length
 
 
 def behind_optional_blocks(text: bytes) -> int:
     """Where the ciphertext of a text with a right header begins."""
     at = 16
     for _ in range(int(text[12:14])):
-        digits = text[at + 2 : at + 4]
-        if len(digits) < 2 or not HEXADECIMAL.issuperset(digits):
-            raise BlockFault("OptionalBlock")
-        length = int(digits, 16)
-        if length < 4 or at + length > len(text):
-            raise BlockFault("OptionalBlock")
-        at += length
+        at = behind_optional_block(text, at)
     if len(text) - at < 64 or (len(text) - at) % 16:
         raise BlockFault("OptionalBlock")
     return at
+
+
+def optional_blocks(text: bytes) -> list[tuple[bytes, bytes]]:
+    """The id and the content of each optional block of a key block."""
+    at, found = 16, []
+    for _ in range(int(text[12:14])):
+        end = behind_optional_block(text, at)
+        found.append((text[at : at + 2], text[at + 4 : end]))
+        at = end
+    return found
 
 
 def unwrap(protection: bytes, text: bytes) -> tuple[bytes, bytes]:

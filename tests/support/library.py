@@ -13,11 +13,12 @@ from typing import Iterable, Iterator, Optional, Sequence
 from .program import ROOT, Word
 
 BUILT = ROOT / "out" / "library"
-SOURCES = (ROOT / "library" / "c", ROOT / "tools" / "library_of", *ROOT.glob("crates/duk*/src"))
-FILES = ("libdukpt.a", "libdukpt.so.0", "libdukpt.so", "dukpt.h", "dukpt.pc")
+SOURCES = (ROOT / "library" / "c", ROOT / "library" / "calls.toml", ROOT / "tools" / "library_of",
+           *ROOT.glob("crates/duk*/src"))
+FILES = ("libdukpt.a", "libdukpt.so.0", "libdukpt.so", "dukpt.h", "dukpt.pc", "BUILD")
 # Of each command that tests of the library run, the Debian package that has it.
-PACKAGES = {"gcc": "gcc", "g++": "g++", "valgrind": "valgrind", "nm": "binutils",
-            "readelf": "binutils"}
+PACKAGES = {"gcc": "gcc", "g++": "g++", "clang": "clang", "valgrind": "valgrind", "nm": "binutils",
+            "readelf": "binutils", "cargo-clippy": "rust-clippy"}
 SECONDS = 1800
 
 
@@ -64,8 +65,10 @@ def built_library() -> Path:
 
 
 # What tools/library reads, but for the archive and the built library.
-READ = ("tools/library", "tools/library_of", "library/c", "library/python/dukpt",
-        "library/rust/src", "crates.txt", "crates/dukpt_c/src", "crates/duk_calls/src")
+READ = ("tools/library", "tools/library_of", "library/calls.toml", "library/c",
+        "library/python/dukpt", "library/rust/src", "page/call_table.js", "docs/calls.txt",
+        "share/debian/libdukpt0.symbols", "crates.txt", "crates/dukpt_c/src",
+        "crates/duk_calls/src")
 
 
 def copy_sources(folder: Path) -> Path:
@@ -92,7 +95,7 @@ def build() -> None:
 PROGRAMS = ROOT / "tests" / "library"
 OVER_OPENSSL = ROOT / "bench" / "openssl"
 OBJECTS = ROOT / "out" / "library-tests"
-MAINS = ("random", "lengths", "lines")
+MAINS = ("random", "lengths", "lines", "stack", "secrets")
 STRICT = ("-Wall", "-Wextra", "-Wpedantic", "-Werror")
 PLAIN = ("-O2",)
 SANITIZED = ("-O1", "-g", "-fsanitize=address,undefined", "-fno-sanitize-recover=all")
@@ -111,6 +114,8 @@ def explained(fault: str) -> str:
     """A fault of a compiler, with the package that it lacks."""
     if "openssl/" in fault and "No such file" in fault:
         return f"{fault}\nlibcrypto's headers are not installed: apt-get install libssl-dev"
+    if "valgrind/" in fault and "No such file" in fault:
+        return f"{fault}\nvalgrind's headers are not installed: apt-get install valgrind"
     return fault
 
 

@@ -10,15 +10,19 @@ from typing import Callable, Sequence
 from .des import cbc_decrypt, cbc_encrypt, decrypt_block, encrypt_block
 from .dukpt import (
     MOST_PAST, SPENT, Registers, counter_of, derive, initial_key, iksn_of, key_of, next_counter,
-    pin_key, registers_at, request_key, response_key, usable)
+    pin_key, registers_at, request_data_key, request_key, response_data_key, response_key, usable)
 from .images import image_of, read_image
-from .key_blocks import BlockFault, unwrap, wrap
+from .library_blocks import (
+    write_optional_content, write_unwrapped, write_unwrapped_for, write_wrapped, write_wrapped_with)
 from .library_frames import (
     check_reply, check_request, write_frame_length, write_refusal, write_refusal_parts, write_reply,
     write_reply_parts, write_request, write_request_parts, write_request_pin)
+from .library_reversals import (
+    check_reversal, check_reversal_reply, write_reversal, write_reversal_parts,
+    write_reversal_reply, write_reversal_reply_parts)
 from .library_values import (
-    BLOCK, FAULTS, IMAGE, KEY, KSN, STATUS, TDES_KEYS, TEXT, Fault, Value, demand, found_pin,
-    number, octets, pan_of, pin_of, sized)
+    BLOCK, FAULTS, IMAGE, KEY, KSN, STATUS, TDES_KEYS, Fault, Value, demand, found_pin, number,
+    octets, pan_of, pin_of, roomy, sized)
 from .macs import cmac, retail_mac
 from .pin_blocks import PIN_LENGTHS, pin_block
 
@@ -62,24 +66,28 @@ def behind(new: Value, old: Value) -> Value:
 
 
 def write_initial_key(bdk: bytes, iksn: bytes, key: bytes) -> Sequence[Value]:
-    sized((bdk, KEY), (iksn, KSN), (key, KEY))
+    sized((bdk, KEY), (iksn, KSN))
+    roomy((key, KEY))
     demand(counter_of(number(iksn)) == 0, "NotInitial")
     return [initial_key(bdk, number(iksn))]
 
 
 def write_derived(bdk: bytes, ksn: bytes, key: bytes) -> Sequence[Value]:
-    sized((bdk, KEY), (ksn, KSN), (key, KEY))
+    sized((bdk, KEY), (ksn, KSN))
+    roomy((key, KEY))
     return [derive(bdk, number(ksn))]
 
 
 def write_derived_from_initial(initial: bytes, ksn: bytes, key: bytes) -> Sequence[Value]:
-    sized((initial, KEY), (ksn, KSN), (key, KEY))
+    sized((initial, KEY), (ksn, KSN))
+    roomy((key, KEY))
     return [key_of(initial, number(ksn))]
 
 
 def variant_by(function: Callable[[bytes], bytes]) -> Callable[..., Sequence[Value]]:
     def write(key: bytes, variant: bytes) -> Sequence[Value]:
-        sized((key, KEY), (variant, KEY))
+        sized((key, KEY))
+        roomy((variant, KEY))
         return [function(key)]
 
     return write
@@ -92,7 +100,8 @@ def check_usable(ksn: bytes) -> Sequence[Value]:
 
 
 def write_next(ksn: bytes, after: bytes) -> Sequence[Value]:
-    sized((ksn, KSN), (after, KSN))
+    sized((ksn, KSN))
+    roomy((after, KSN))
     counter = next_counter(counter_of(number(ksn)))
     demand(counter != SPENT, "Spent")
     return [octets(iksn_of(number(ksn)) + counter)]
@@ -102,12 +111,12 @@ def write_next(ksn: bytes, after: bytes) -> Sequence[Value]:
 
 
 def write_check_value(key: bytes, value: bytes) -> Sequence[Value]:
-    demand(len(key) in TDES_KEYS and len(value) == 3)
+    demand(len(key) in TDES_KEYS and len(value) >= 3)
     return [encrypt_block(key, bytes(BLOCK))[:3]]
 
 
 def write_cmac_check_value(key: bytes, value: bytes) -> Sequence[Value]:
-    demand(len(key) in TDES_KEYS and len(value) == 5)
+    demand(len(key) in TDES_KEYS and len(value) >= 5)
     return [cmac(key, bytes(BLOCK))[:5]]
 
 
@@ -128,12 +137,12 @@ def chain_by(mode: Callable[[bytes, bytes, bytes], bytes]) -> Callable[..., Sequ
 
 
 def write_cmac(key: bytes, message: bytes, mac: bytes) -> Sequence[Value]:
-    demand(len(key) in TDES_KEYS and len(mac) == BLOCK)
+    demand(len(key) in TDES_KEYS and len(mac) >= BLOCK)
     return [cmac(key, message)]
 
 
 def write_retail_mac(key: bytes, message: bytes, mac: bytes) -> Sequence[Value]:
-    demand(len(key) == KEY and len(message) > 0 and len(mac) == BLOCK)
+    demand(len(key) == KEY and len(message) > 0 and len(mac) >= BLOCK)
     return [retail_mac(key, message)]
 
 
@@ -141,13 +150,15 @@ def write_retail_mac(key: bytes, message: bytes, mac: bytes) -> Sequence[Value]:
 
 
 def write_loaded(initial: bytes, iksn: bytes, image: bytes) -> Sequence[Value]:
-    sized((initial, KEY), (iksn, KSN), (image, IMAGE))
+    sized((initial, KEY), (iksn, KSN))
+    roomy((image, IMAGE))
     demand(counter_of(number(iksn)) == 0, "NotInitial")
     return [image_of(registers_at(initial, number(iksn), 1))]
 
 
 def write_registers_at(initial: bytes, ksn: bytes, image: bytes) -> Sequence[Value]:
-    sized((initial, KEY), (ksn, KSN), (image, IMAGE))
+    sized((initial, KEY), (ksn, KSN))
+    roomy((image, IMAGE))
     counter = counter_of(number(ksn))
     demand(usable(counter), "NotUsable")
     return [image_of(registers_at(initial, iksn_of(number(ksn)), counter))]
@@ -167,13 +178,13 @@ def unspent_in(image: bytes) -> Registers:
 
 
 def write_number(image: bytes, ksn: bytes) -> Sequence[Value]:
-    sized((ksn, KSN))
+    roomy((ksn, KSN))
     registers = unspent_in(image)
     return [octets(registers.iksn + registers.counter)]
 
 
 def write_taken(image: bytes, next_image: bytes, key: bytes, ksn: bytes) -> Sequence[Value]:
-    sized((next_image, IMAGE), (key, KEY), (ksn, KSN))
+    roomy((next_image, IMAGE), (key, KEY), (ksn, KSN))
     taken, serial, left = unspent_in(image).take()
     return [image_of(left), taken, octets(serial)]
 
@@ -181,7 +192,8 @@ def write_taken(image: bytes, next_image: bytes, key: bytes, ksn: bytes) -> Sequ
 def write_reloaded(
     image: bytes, initial: bytes, iksn: bytes, next_image: bytes
 ) -> Sequence[Value]:
-    sized((initial, KEY), (iksn, KSN), (next_image, IMAGE))
+    sized((initial, KEY), (iksn, KSN))
+    roomy((next_image, IMAGE))
     demand(counter_of(number(iksn)) == 0, "NotInitial")
     registers = stored_in(image)
     had = (*registers.past, registers.iksn)
@@ -194,41 +206,15 @@ def write_reloaded(
 
 
 def write_pin_block(pin: bytes, pan: bytes, block: bytes) -> Sequence[Value]:
-    sized((block, BLOCK))
+    roomy((block, BLOCK))
     digits = pin_of(pin)
     return [pin_block(digits, pan_of(pan)).to_bytes(BLOCK, "big")]
 
 
 def write_pin_of_block(block: bytes, pan: bytes, pin: bytes, _: int) -> Sequence[Value]:
-    sized((block, BLOCK), (pin, PIN_LENGTHS[-1]))
+    sized((block, BLOCK))
+    roomy((pin, PIN_LENGTHS[-1]))
     return found_pin(number(block), pan_of(pan))
-
-
-# Key blocks
-
-
-def write_wrapped(
-    kbpk: bytes, header: bytes, key: bytes, padding: bytes, text: bytes, _: int
-) -> Sequence[Value]:
-    demand(len(kbpk) in TDES_KEYS and len(key) in TDES_KEYS)
-    sized((header, 7), (text, TEXT))
-    try:
-        made = wrap(kbpk, header, key, padding)
-    except BlockFault as why:
-        raise Fault(f"Block{why}") from why
-    return [made, len(made)]
-
-
-def write_unwrapped(
-    kbpk: bytes, text: bytes, header: bytes, key: bytes, _: int
-) -> Sequence[Value]:
-    demand(len(kbpk) in TDES_KEYS)
-    sized((header, 7), (key, TDES_KEYS[-1]))
-    try:
-        fields, found = unwrap(kbpk, text)
-    except BlockFault as why:
-        raise Fault(f"Block{why}") from why
-    return [fields, found, len(found)]
 
 
 LETTERS = {"b": "bytes", "w": "buffer", "c": "count", "n": "number"}
@@ -247,15 +233,17 @@ CALLS: dict[str, Call] = {
     "dukpt_pin_key": takes("bw", variant_by(pin_key)),
     "dukpt_request_key": takes("bw", variant_by(request_key)),
     "dukpt_response_key": takes("bw", variant_by(response_key)),
+    "dukpt_request_data_key": takes("bw", variant_by(request_data_key)),
+    "dukpt_response_data_key": takes("bw", variant_by(response_data_key)),
     "dukpt_check_usable": takes("b", check_usable),
     "dukpt_next_number": takes("bw", write_next),
     "dukpt_check_value": takes("bw", write_check_value),
     "dukpt_cmac_check_value": takes("bw", write_cmac_check_value),
-    "dukpt_load": takes("bbw", write_loaded),
+    "dukpt_registers_load": takes("bbw", write_loaded),
     "dukpt_registers_at": takes("bbw", write_registers_at),
-    "dukpt_number": takes("bw", write_number),
-    "dukpt_take": takes("bwww", write_taken),
-    "dukpt_reload": takes("bbbw", write_reloaded),
+    "dukpt_registers_number": takes("bw", write_number),
+    "dukpt_registers_next": takes("bwww", write_taken),
+    "dukpt_registers_reload": takes("bbbw", write_reloaded),
     "dukpt_tdes_encrypt": takes("bw", block_by(encrypt_block)),
     "dukpt_tdes_decrypt": takes("bw", block_by(decrypt_block)),
     "dukpt_cbc_encrypt": takes("bbw", chain_by(cbc_encrypt)),
@@ -265,15 +253,24 @@ CALLS: dict[str, Call] = {
     "dukpt_pin_block": takes("bbw", write_pin_block),
     "dukpt_pin_of_block": takes("bbwc", write_pin_of_block),
     "dukpt_wrap": takes("bbbbwc", write_wrapped),
+    "dukpt_wrap_with": takes("bbbbbwc", write_wrapped_with),
     "dukpt_unwrap": takes("bbwwc", write_unwrapped),
+    "dukpt_unwrap_for": takes("bbnbw", write_unwrapped_for),
+    "dukpt_unwrap_optional": takes("bbbwc", write_optional_content),
     "dukpt_payment_request": takes("bbbbnwc", write_request),
     "dukpt_read_request": takes("bwwccww", write_request_parts),
     "dukpt_check_request": takes("bb", check_request),
     "dukpt_request_pin": takes("bbwc", write_request_pin),
-    "dukpt_reply": takes("bbbwc", write_reply),
-    "dukpt_refusal": takes("bnwc", write_refusal),
+    "dukpt_request_reply": takes("bbbwc", write_reply),
+    "dukpt_request_refusal": takes("bnwc", write_refusal),
     "dukpt_read_reply": takes("bww", write_reply_parts),
     "dukpt_read_refusal": takes("bwc", write_refusal_parts),
     "dukpt_check_reply": takes("bbb", check_reply),
+    "dukpt_reversal_request": takes("bbbwc", write_reversal),
+    "dukpt_read_reversal": takes("bwww", write_reversal_parts),
+    "dukpt_check_reversal": takes("bb", check_reversal),
+    "dukpt_reversal_reply": takes("bbbnwc", write_reversal_reply),
+    "dukpt_read_reversal_reply": takes("bwwc", write_reversal_reply_parts),
+    "dukpt_check_reversal_reply": takes("bbbb", check_reversal_reply),
     "dukpt_frame_length": takes("bc", write_frame_length),
 }

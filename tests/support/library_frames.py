@@ -1,4 +1,4 @@
-"""The calls of libdukpt over frames, by the formats of this bench."""
+"""The calls of libdukpt over requests, replies and refusals, by the formats of this bench."""
 from __future__ import annotations
 
 from typing import Sequence
@@ -7,7 +7,8 @@ from . import frames
 from .des import decrypt_block
 from .dukpt import pin_key, request_key, response_key
 from .library_values import (
-    BLOCK, KEY, KSN, ROOM, Fault, Value, demand, found_pin, number, octets, pan_of, pin_of, sized)
+    BLOCK, KEY, KSN, ROOM, Fault, Value, demand, found_pin, number, octets, pan_of, pin_of, roomy,
+    sized)
 from .macs import retail_mac
 from .pin_blocks import PAN_LENGTHS, PIN_LENGTHS
 
@@ -15,7 +16,8 @@ from .pin_blocks import PAN_LENGTHS, PIN_LENGTHS
 def write_request(
     key: bytes, ksn: bytes, pan: bytes, pin: bytes, amount: int, frame: bytes, _: int
 ) -> Sequence[Value]:
-    sized((key, KEY), (ksn, KSN), (frame, ROOM))
+    sized((key, KEY), (ksn, KSN))
+    roomy((frame, ROOM))
     digits = pan_of(pan)
     made = frames.write_request(key, number(ksn), digits, pin_of(pin), amount)
     return [made, len(made)]
@@ -31,7 +33,7 @@ def request_in(frame: bytes) -> frames.Request:
 def write_request_parts(
     frame: bytes, ksn: bytes, pan: bytes, _: int, __: int, block: bytes, mac: bytes
 ) -> Sequence[Value]:
-    sized((ksn, KSN), (pan, PAN_LENGTHS[-1]), (block, BLOCK), (mac, BLOCK))
+    roomy((ksn, KSN), (pan, PAN_LENGTHS[-1]), (block, BLOCK), (mac, BLOCK))
     request = request_in(frame)
     return [octets(request.serial), request.pan.encode(), len(request.pan), request.amount,
             request.block.to_bytes(BLOCK, "big"), request.mac]
@@ -45,21 +47,24 @@ def check_request(key: bytes, frame: bytes) -> Sequence[Value]:
 
 
 def write_request_pin(key: bytes, frame: bytes, pin: bytes, _: int) -> Sequence[Value]:
-    sized((key, KEY), (pin, PIN_LENGTHS[-1]))
+    sized((key, KEY))
+    roomy((pin, PIN_LENGTHS[-1]))
     request = request_in(frame)
     block = decrypt_block(pin_key(key), request.block.to_bytes(BLOCK, "big"))
     return found_pin(number(block), request.pan)
 
 
 def write_reply(key: bytes, ksn: bytes, code: bytes, frame: bytes, _: int) -> Sequence[Value]:
-    sized((key, KEY), (ksn, KSN), (code, 2), (frame, ROOM))
+    sized((key, KEY), (ksn, KSN), (code, 2))
+    roomy((frame, ROOM))
     demand(code in [it.encode() for it in frames.CODES], "NotACode")
     made = frames.write_reply(key, number(ksn), code.decode())
     return [made, len(made)]
 
 
 def write_refusal(ksn: bytes, reason: int, frame: bytes, _: int) -> Sequence[Value]:
-    sized((ksn, KSN), (frame, ROOM))
+    sized((ksn, KSN))
+    roomy((frame, ROOM))
     demand(reason in frames.REASONS, "NotAReason")
     made = frames.write_refusal(number(ksn), reason)
     return [made, len(made)]
@@ -73,13 +78,13 @@ def reply_in(frame: bytes) -> frames.Reply:
 
 
 def write_reply_parts(frame: bytes, ksn: bytes, code: bytes) -> Sequence[Value]:
-    sized((ksn, KSN), (code, 2))
+    roomy((ksn, KSN), (code, 2))
     found = reply_in(frame)
     return [octets(found.serial), found.code.encode()]
 
 
 def write_refusal_parts(frame: bytes, ksn: bytes, _: int) -> Sequence[Value]:
-    sized((ksn, KSN))
+    roomy((ksn, KSN))
     found = frames.read_answer(frame)
     if not isinstance(found, frames.Refusal):
         raise Fault("NotARefusal")

@@ -12,10 +12,13 @@ FAULTS = (
     "PinLength", "PinDigit", "PanLength", "PanDigit", "NotAPinBlock", "BlockLength", "BlockVersion",
     "BlockHeaderField", "BlockOptionalBlock", "BlockHex", "BlockMac", "BlockPayload",
     "BlockPadLength", "NotARequest", "NotAReply", "NotARefusal", "NotACode", "NotAReason",
-    "NotMine", "BadMac", "PartOfFrame", "TooLong")
+    "NotMine", "BadMac", "PartOfFrame", "TooLong", "NotReversed", "NotAReversal", "NotAState",
+    "NotAReversalReply", "OtherUsage", "OtherKeyLength", "NoOptionalBlock")
 STATUS = {name: number for number, name in enumerate(FAULTS)}
 
 KEY, TDES_KEYS, KSN, BLOCK, IMAGE, ROOM, TEXT = 16, (16, 24), 10, 8, 431, 64, 512
+# The most characters of an optional block behind its id and its length.
+CONTENT = 251
 
 
 class Fault(Exception):
@@ -29,8 +32,13 @@ def demand(is_so: bool, fault: str = "Length") -> None:
 
 
 def sized(*pairs: tuple[bytes, int]) -> None:
-    """That slices have these sizes."""
+    """That what a call reads has these sizes."""
     demand(all(len(it) == size for it, size in pairs))
+
+
+def roomy(*pairs: tuple[bytes, int]) -> None:
+    """That what a call writes has at least these sizes."""
+    demand(all(len(it) >= size for it, size in pairs))
 
 
 def number(data: bytes) -> int:

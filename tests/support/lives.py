@@ -17,6 +17,7 @@ from typing import Optional, Sequence
 from .client import Exchange, answered, payments, refusal, refused_requests, split
 from .cut_disk import Lies, Place, Plan, Stop
 from .cut_file import CutFile
+from .left_files import LOG
 from .log_file import DamagedLog, log_image, numbers_in
 from .program import Ended, Program
 from .service import Service
@@ -88,6 +89,8 @@ class History:
         return count
 
     def numbers(self, image: bytes) -> list[bytes]:
+        if not LOG.is_left(image):
+            raise Wrong(Finding.DAMAGED, "no stop leaves so many closed records that are not zero")
         try:
             return numbers_in(image, ROOM)
         except DamagedLog as why:

@@ -206,6 +206,13 @@ def filled_places(registers: Registers) -> range:
     return range(0 if is_leaf else own_place(registers))
 
 
+def data_keys(keys: Lines, mask: bytes) -> list[bytes]:
+    """The keys that encipher data, of transaction keys: each half of a variant, under it."""
+    variants = [masked(key, mask) for key in keys]
+    halves = [encrypted(variants, [it[at : at + 8] for it in variants]) for at in (0, 8)]
+    return [left + right for left, right in zip(*halves)]
+
+
 # Key blocks and frames
 
 
@@ -252,5 +259,22 @@ def requests(keys: Lines, serials: Sequence[int], pans: Sequence[str], pins: Seq
 def replies(keys: Lines, serials: Sequence[int], codes: Sequence[str]) -> list[bytes]:
     """Accepted replies under transaction keys."""
     texts = [b"\x01\x02" + bytes_of(serial) + code.encode() for serial, code in zip(serials, codes)]
+    macs = retail_macs(list(map(response_key, keys)), texts)
+    return [framed(text + mac) for text, mac in zip(texts, macs)]
+
+
+def reversals(keys: Lines, serials: Sequence[int], others: Sequence[int]) -> list[bytes]:
+    """Reversals of other numbers under transaction keys."""
+    texts = [b"\x01\x04" + bytes_of(serial) + bytes_of(other)
+             for serial, other in zip(serials, others)]
+    macs = retail_macs(list(map(request_key, keys)), texts)
+    return [framed(text + mac) for text, mac in zip(texts, macs)]
+
+
+def reversal_replies(keys: Lines, serials: Sequence[int], others: Sequence[int],
+                     states: Sequence[int]) -> list[bytes]:
+    """The replies to such reversals under transaction keys."""
+    texts = [b"\x01\x05" + bytes_of(serial) + bytes_of(other) + bytes([state])
+             for serial, other, state in zip(serials, others, states)]
     macs = retail_macs(list(map(response_key, keys)), texts)
     return [framed(text + mac) for text, mac in zip(texts, macs)]

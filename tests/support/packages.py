@@ -8,7 +8,7 @@ import subprocess
 import sys
 import tarfile
 from pathlib import Path
-from typing import Mapping, Optional
+from typing import Mapping, Optional, Sequence
 
 from .case import Case
 from .library import built_library
@@ -16,8 +16,13 @@ from .program import ROOT, Ended, Word, built, demand_built
 
 TOOL = Path("tools") / "package"
 VERSION = "0.1.0"
+# The version of packages of something that is not known as proved.
+UNPROVED = f"{VERSION}+unproved"
 NAMES = {"dukpt": "amd64", "libdukpt0": "amd64", "libdukpt-dev": "amd64", "python3-dukpt": "all"}
 SECONDS = 600
+# What the tool reads beside program and library.
+PARTS = ("tools", "share", "docs", "examples", "library", "vectors", "page/dukpt.html", "README.md",
+         "CHANGELOG.md", "CONTRIBUTING.md", "crates.txt", "crates/duk_arguments/src")
 # The head of a member of an ar archive: its name, and after that its date.
 AR_HEAD, AR_DATE = 60, slice(16, 28)
 
@@ -38,6 +43,14 @@ def make(root: Path, *words: Word, **changes: Optional[str]) -> Ended:
         [sys.executable, root / TOOL, *words], capture_output=True, check=False, timeout=SECONDS,
         env={name: value for name, value in environment.items() if value is not None})
     return Ended(done.returncode, done.stdout, done.stderr)
+
+
+def copy_of_repository(folder: Path, parts: Sequence[str] = PARTS) -> None:
+    """Copies what the tool reads, without what belongs to a clone alone."""
+    for part in parts:
+        copy = shutil.copytree if (ROOT / part).is_dir() else shutil.copy2
+        (folder / part).parent.mkdir(parents=True, exist_ok=True)
+        copy(ROOT / part, folder / part)
 
 
 class Package:
@@ -102,19 +115,21 @@ class PackageCase(Case):
     def made(
         self, root: Path = ROOT, program: Optional[Path] = None, **changes: Optional[str]
     ) -> dict[str, Package]:
-        """The packages that a repository's tool makes, in a new folder."""
+        """The packages that a repository's tool makes, in a new folder. A program that is given is
+        not known as proved."""
         out, inputs = self.folder(), dict(self.inputs())
         if program:
             inputs["--program"] = program
         words = [word for pair in inputs.items() for word in pair]
+        words += ["--unproved"] if program else []
         ended = make(root, *words, "--out", out, **changes)
         self.assertEqual((ended.status, ended.faults), (0, b""), ended)
-        return packages_in(out)
+        return packages_in(out, UNPROVED if program else VERSION)
 
 
-def packages_in(folder: Path) -> dict[str, Package]:
+def packages_in(folder: Path, version: str) -> dict[str, Package]:
     """The packages of a folder, which has each one and nothing else."""
-    wanted = {f"{name}_{VERSION}_{kind}.deb": name for name, kind in NAMES.items()}
+    wanted = {f"{name}_{version}_{kind}.deb": name for name, kind in NAMES.items()}
     found = sorted(it.name for it in folder.iterdir())
     if found != sorted(wanted):
         raise AssertionError(f"the packages are {found}")

@@ -8,7 +8,8 @@ from typing import Sequence
 from . import many
 from .call_cases import Chance
 from .dukpt import (
-    COUNTER_BITS, counter_of, held, initial_key, iksn_of, key_of, pin_key, request_key, serial_text)
+    COUNTER_BITS, counter_of, held, initial_key, iksn_of, key_of, pin_key, request_data_key,
+    request_key, response_data_key, serial_text)
 from .frames import write_request
 from .page_case import PageCase
 from .page_values import BASE, DERIVED, IKSN, derived, upper
@@ -23,10 +24,11 @@ HOOKED = {
     "ksn": ("derive-ksn", "tree-ksn", "make-ksn"), "pan": ("pin-pan", "open-pan", "make-pan"),
     "pin": ("pin-pin", "make-pin"), "transaction-key": ("make-key", "derive-transaction"),
     "pin-key": ("pin-key", "open-key", "translate-from"),
+    "request-data-key": ("data-request",), "response-data-key": ("data-response",),
 }
 SOURCES = ("bdk", "ksn", "pan", "pin")
 # The panels of fields, by the front of their names, where that is not the panel's.
-PANEL_OF = {"make": "frame", "open": "pin", "translate": "pin"}
+PANEL_OF = {"data": "cipher", "make": "frame", "open": "pin", "translate": "pin"}
 HOOKS = """
 return Object.fromEntries([...document.querySelectorAll(".hook")].map(
   (it) => [it.id.replace("-hook", ""), it.getAttribute("aria-pressed") === "true"]));"""
@@ -60,7 +62,9 @@ class Set:
         return {"bdk": upper(self.base), "initial-key": upper(self.initial),
                 "ksn": serial_text(self.serial), "pan": self.pan, "pin": self.pin,
                 "transaction-key": upper(key), "pin-key": upper(pin_key(key)),
-                "request-key": upper(request_key(key))}
+                "request-key": upper(request_key(key)),
+                "request-data-key": upper(request_data_key(key)),
+                "response-data-key": upper(response_data_key(key))}
 
     def key(self, kind: str) -> bytes:
         return {"bdk": self.base, "initial": self.initial, "transaction": self.transaction}[kind]
@@ -103,7 +107,9 @@ class Model:
             texts["bdk"], key = upper(key), initial_key(key, iksn_of(serial))
         if self.kind != "transaction":
             texts["initial-key"], key = upper(key), key_of(key, serial)
-        return texts | {"transaction-key": upper(key), "pin-key": upper(pin_key(key))}
+        return texts | {"transaction-key": upper(key), "pin-key": upper(pin_key(key)),
+                        "request-data-key": upper(request_data_key(key)),
+                        "response-data-key": upper(response_data_key(key))}
 
     @property
     def values(self) -> dict[str, str]:

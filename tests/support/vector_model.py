@@ -162,7 +162,7 @@ def read_refusal(frame: bytes) -> Outputs:
 
 
 def take(image: bytes) -> Outputs:
-    left, key, ksn = called("take", image, bytes(IMAGE), bytes(KEY), bytes(KSN))
+    left, key, ksn = called("registers_next", image, bytes(IMAGE), bytes(KEY), bytes(KSN))
     return {"image": left, "key": key, "ksn": ksn}
 
 
@@ -246,17 +246,17 @@ OPERATIONS: dict[str, Callable[..., Outputs]] = {
     "read_request": read_request,
     "check_request": one("check_request", None, order=("key", "frame")),
     "request_pin": request_pin,
-    "reply": one("reply", "frame", bytes(64), 0, order=("key", "ksn", "code")),
+    "reply": one("request_reply", "frame", bytes(64), 0, order=("key", "ksn", "code")),
     "read_reply": read_reply,
     "check_reply": one("check_reply", None, order=("key", "ksn", "frame")),
-    "refusal": one("refusal", "frame", bytes(64), 0, order=("ksn", "reason")),
+    "refusal": one("request_refusal", "frame", bytes(64), 0, order=("ksn", "reason")),
     "read_refusal": read_refusal,
     "frame_length": one("frame_length", "count", 0, order=("bytes",)),
-    "load": one("load", "image", bytes(IMAGE), order=("initial_key", "iksn")),
+    "load": one("registers_load", "image", bytes(IMAGE), order=("initial_key", "iksn")),
     "image_at": one("registers_at", "image", bytes(IMAGE), order=("initial_key", "ksn")),
-    "number": one("number", "ksn", bytes(KSN), order=("image",)),
+    "number": one("registers_number", "ksn", bytes(KSN), order=("image",)),
     "take": take,
-    "reload": one("reload", "image", bytes(IMAGE), order=("image", "initial_key", "iksn")),
+    "reload": one("registers_reload", "image", bytes(IMAGE), order=("image", "initial_key", "iksn")),
     "reversal": reversal,
     "read_reversal": read_reversal,
     "read_reversal_reply": read_reversal_reply,

@@ -6,11 +6,12 @@ import shutil
 import subprocess
 import tempfile
 from pathlib import Path
-from typing import Optional, Sequence, Union
+from typing import Optional, Union
 
 from . import kit
-from .header import Header, read_header
-from .symbols import read_map
+from .calls import Table
+from .record import sums_of_inputs, write_record
+from .table import read_table
 
 Word = Union[str, os.PathLike]
 
@@ -30,24 +31,28 @@ def build(root: Path, archive: Optional[Path], out: Path) -> None:
     """Builds all files in a folder of their own, and then moves them to where they go."""
     for command in PACKAGES:
         demand(command)
+    is_proved = archive is None
     if archive is None:
         archive = kit.archive()
     elif not archive.is_file():
         raise Refused(f"there is no archive {archive}")
-    sources = root.joinpath(*SOURCES)
-    header = read_header(sources / "dukpt.h")
+    # Before they are read: what changes meanwhile is not what they are said to be.
+    made_of = sums_of_inputs(root, archive)
+    table, sources = read_table(root), root.joinpath(*SOURCES)
     out.mkdir(parents=True, exist_ok=True)
     with tempfile.TemporaryDirectory(prefix="library-", dir=out.parent) as made_in:
         folder = Path(made_in)
-        link_object(archive, read_map(sources / "dukpt.map"), folder / "dukpt.o")
+        compile_support(sources, folder / "support.o")
+        link_object(archive, folder / "support.o", table, folder / "dukpt.o")
         run("ar", "rcsD", folder / STATIC, folder / "dukpt.o")
         link_shared(folder / "dukpt.o", sources / "dukpt.map", folder / SHARED)
         (folder / LINK).symlink_to(SHARED)
         shutil.copyfile(sources / "dukpt.h", folder / "dukpt.h")
         template = (sources / "dukpt.pc.in").read_text(encoding="utf-8")
-        (folder / PROVIDES).write_text(beside(template, header), encoding="utf-8")
+        (folder / PROVIDES).write_text(beside(template, table.version_text), encoding="utf-8")
         for name in (STATIC, SHARED, LINK, "dukpt.h", PROVIDES):
             os.replace(folder / name, out / name)
+    write_record(out, (STATIC, SHARED, "dukpt.h", PROVIDES), table.version_text, is_proved, made_of)
 
 
 def demand(command: str) -> None:
@@ -55,13 +60,21 @@ def demand(command: str) -> None:
         raise Refused(f"{command} is not installed: apt-get install {PACKAGES[command]}")
 
 
-def link_object(archive: Path, exports: Sequence[str], made: Path) -> None:
+def compile_support(sources: Path, made: Path) -> None:
+    """Compiles what the library has for C alone. The frame of its wipe of the stack has to begin
+    with the frame pointer, and to end with it. No path of this machine gets into the object."""
+    run("gcc", "-std=c11", "-O2", "-fPIC", "-fno-omit-frame-pointer", "-fno-stack-protector",
+        "-fvisibility=default", "-Wall", "-Wextra", "-Wpedantic", "-Werror",
+        f"-ffile-prefix-map={sources}=.", "-c", sources / "support.c", "-o", made)
+
+
+def link_object(archive: Path, support: Path, table: Table, made: Path) -> None:
     """Links what the exports reach into one object, in which they alone are global."""
-    wanted = [f"--undefined={name}" for name in exports]
-    run("ld", "-r", "--force-group-allocation", "--require-defined=dukpt_version", *wanted, archive,
-        "-o", made)
+    wanted = [f"--undefined={it.export}" for it in table.exports]
+    run("ld", "-r", "--force-group-allocation", "--require-defined=dukpt_version", *wanted, support,
+        archive, "-o", made)
     kept = made.with_suffix(".exports")
-    kept.write_text("".join(f"{name}\n" for name in exports), encoding="utf-8")
+    kept.write_text("".join(f"{it}\n" for it in table.symbols), encoding="utf-8")
     run("objcopy", "--strip-debug", f"--keep-global-symbols={kept}", made)
 
 
@@ -72,10 +85,10 @@ def link_shared(made: Path, exports: Path, shared: Path) -> None:
         "-o", shared)
 
 
-def beside(template: str, header: Header) -> str:
+def beside(template: str, version: str) -> str:
     """The description for pkg-config of files that stand in one folder with it."""
     values = {"prefix": "${pcfiledir}", "includedir": "${prefix}", "libdir": "${prefix}",
-              "version": header.version}
+              "version": version}
     for name, value in values.items():
         template = template.replace(f"@{name}@", value)
     return template

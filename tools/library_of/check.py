@@ -1,132 +1,89 @@
-"""The differences between the parts of the library: one line each."""
+"""The differences between the table of the calls and what belongs to it: one line each."""
 from __future__ import annotations
 
 import shutil
 from pathlib import Path
-from typing import Callable, Iterable, Iterator, TypeVar
+from typing import Callable, Iterable, Iterator
 
-from .bindings import python_calls, python_faults, rust_calls, rust_faults
-from .build import LINK, SHARED, SOURCES, STATIC
-from .calls import Call, Unreadable, constant_name
-from .exports import read_exports, read_faults, read_orders, read_version
-from .header import Header, read_header
-from .symbols import exported, read_map, soname
+from .build import LINK, SHARED, STATIC
+from .calls import Table, Unreadable
+from .crates import read_arguments, read_faults, read_orders, read_version
+from .made.linking import node
+from .made.rattle import TYPES
+from .making import stale
+from .symbols import exported, soname
+from .table import FILE, read_table
 
-EXPORTS = ("crates", "dukpt_c", "src", "lib.rt")
-CALLS = ("crates", "duk_calls", "src")
-PYTHON, RUST = ("library", "python", "dukpt"), ("library", "rust", "src")
-PREFIX = "DUKPT_FAULT_"
-
-Part = TypeVar("Part")
+CALLS = "crates/duk_calls/src"
 
 
 def differences(root: Path, out: Path) -> list[str]:
-    """Each difference in a line. All is compared with the exports and faults of the crates."""
+    """Each difference in a line: of the made files, of the proved calls, of the built library."""
     try:
-        wanted = read_exports(root.joinpath(*EXPORTS))
-        faults = read_faults(root.joinpath(*CALLS, "fault.rt"))
-        version = read_version(root.joinpath(*CALLS, "lib.rt"))
-        orders = read_orders(root.joinpath(*CALLS))
+        table = read_table(root)
     except (Unreadable, OSError) as why:
-        return [f"crates: {why}"]
-    names = [it.name for it in wanted]
-    header = root.joinpath(*SOURCES, "dukpt.h")
-    found = list(of_part(header, root, lambda: read_header(header),
-                         lambda it: of_header(it, wanted, faults, version, orders)))
-    symbols = root.joinpath(*SOURCES, "dukpt.map")
-    found += of_part(symbols, root, lambda: read_map(symbols), lambda it: of_names(it, names))
-    found += of_built(root, out, names)
-    for file, read in ((root.joinpath(*PYTHON, "_exports.py"), python_calls),
-                       (root.joinpath(*RUST, "exports.rs"), rust_calls)):
-        found += of_part(file, root, lambda: read(file), lambda it: of_calls(it, wanted))
-    for file, read_numbers in ((root.joinpath(*PYTHON, "faults.py"), python_faults),
-                               (root.joinpath(*RUST, "fault.rs"), rust_faults)):
-        found += of_part(file, root, lambda: read_numbers(file), lambda it: of_numbers(it, faults))
-    return found
+        return [f"{'/'.join(FILE)}: {why}"]
+    return [*told(lambda: stale(root, table)), *told(lambda: of_crate(root, table)),
+            *told(lambda: of_built(out, table)), *told(lambda: of_links(out))]
 
 
-def of_part(
-    file: Path, root: Path, read: Callable[[], Part], compare: Callable[[Part], Iterable[str]]
-) -> Iterator[str]:
-    """What a file differs in, each line with its name before it; or that it cannot be read."""
-    name = file.relative_to(root) if root in file.parents else file
+def told(compare: Callable[[], Iterable[str]]) -> Iterator[str]:
+    """What a comparison finds, or why it ends."""
     try:
-        part = read()
+        yield from compare()
     except (Unreadable, OSError) as why:
-        yield f"{name}: {why}"
-        return
-    for line in compare(part):
-        yield f"{name}: {line}"
+        yield str(why)
 
 
-def of_header(
-    header: Header, wanted: list[Call], faults: dict[str, int], version: str,
-    orders: dict[str, list[str]],
+def of_crate(root: Path, table: Table) -> Iterator[str]:
+    """What the proved calls have else than the table."""
+    folder = root / CALLS
+    version = read_version(folder / "lib.rt")
+    if version != table.version_text:
+        yield f"{CALLS}: the version is {version}, and in the table {table.version_text}"
+    numbers = read_faults(folder / "fault.rt")
+    for name in sorted({*numbers, *(it.name for it in table.faults)}):
+        wanted = next((str(it.number) for it in table.faults if it.name == name), "none")
+        has = str(numbers.get(name, "none"))
+        if has != wanted:
+            yield f"{CALLS}: the number of {name} is {has}, and in the table {wanted}"
+    yield from of_functions(read_arguments(folder), read_orders(folder), table)
+
+
+def of_functions(
+    arguments: dict[str, list[str]], orders: dict[str, list[str]], table: Table
 ) -> Iterator[str]:
-    yield from of_calls(header.calls, wanted)
-    constants = {"DUKPT_OK": 0} | {PREFIX + constant_name(it): at for it, at in faults.items()}
-    yield from of_numbers(header.statuses, constants)
-    if header.version != version:
-        yield f"its version is {header.version}, that of the calls {version}"
-    for name, order in orders.items():
-        answers = [PREFIX + constant_name(it) for it in order] + ["DUKPT_OK"]
-        has = header.orders.get(name, [])
-        if has != answers:
-            yield f"the comment of {name} has the answers {', '.join(has) or 'none'}, and not "\
-                f"{', '.join(answers)}"
+    """Where the functions have other arguments or faults than the calls, or another order of them.
+
+    The exports are made of the table and hand the arguments on in its order. Two of one type that
+    change places there would be named as each other in all that is made, and no contract sees it.
+    """
+    for call in table.calls:
+        typed = [f"{it.name}: {TYPES[it.kind]}" for it in call.parameters]
+        for what, found, wanted in (("arguments", arguments, typed),
+                                    ("faults", orders, list(call.faults))):
+            has = found.pop(call.name, [])
+            if has != wanted:
+                yield f"{CALLS}: {call.name} has the {what} {', '.join(has) or 'none'}, and in "\
+                    f"the table {', '.join(wanted)}"
+    for name in {**orders, **arguments}:
+        yield f"{CALLS}: {name} is not in the table"
 
 
-def of_calls(has: Iterable[Call], wanted: Iterable[Call]) -> Iterator[str]:
-    """Where calls differ from the exports: by name, parameters and order."""
-    calls = list(has)
-    yield from of_names([it.name for it in calls], [it.name for it in wanted])
-    exports = {it.name: it for it in wanted}
-    for call in calls:
-        export = exports.get(call.name)
-        if export and call != export:
-            yield f"{call.name} takes {call.spoken()}; the export takes {export.spoken()}"
-
-
-def of_names(has: list[str], wanted: list[str], sorted_only: bool = False) -> Iterator[str]:
-    """Where names differ from those of the exports; their order too, unless it says nothing."""
-    for name in wanted:
-        if name not in has:
-            yield f"{name} is missing"
-    for name in has:
-        if name not in wanted:
-            yield f"{name} is no export"
-    for name in sorted({it for it in has if has.count(it) > 1}):
-        yield f"{name} stands more than once"
-    if not sorted_only and sorted(has) == sorted(wanted) and has != wanted:
-        at = next(at for at, pair in enumerate(zip(has, wanted)) if pair[0] != pair[1])
-        yield f"{has[at]} stands where the exports have {wanted[at]}"
-
-
-def of_numbers(has: dict[str, int], wanted: dict[str, int]) -> Iterator[str]:
-    """Where the statuses differ from the numbers of the faults."""
-    for name, number in wanted.items():
-        if name not in has:
-            yield f"{name} is missing"
-        elif has[name] != number:
-            yield f"{name} is {has[name]}, and the fault's number {number}"
-    for name in has:
-        if name not in wanted:
-            yield f"{name} is no fault"
-
-
-def of_built(root: Path, out: Path, names: list[str]) -> Iterator[str]:
-    """What the built library has else than the exports, or that it is not built."""
+def of_built(out: Path, table: Table) -> Iterator[str]:
+    """What the built library has else than the symbols of the table, or that it is not built."""
     if shutil.which("nm") is None:
         yield "nm is not installed: apt-get install binutils"
         return
-    for name in (SHARED, STATIC):
+    versioned = [f"{it}@@{node(table)}" for it in table.symbols]
+    for name, wanted in ((STATIC, table.symbols), (SHARED, versioned)):
         file = out / name
         if not file.is_file():
             yield f"{file} is not built: tools/library builds it"
             continue
-        yield from of_part(file, root, lambda: exported(file),
-                           lambda it: of_names(it, names, sorted_only=True))
-    yield from of_links(out)
+        has = exported(file)
+        yield from (f"{file}: {it} is missing" for it in wanted if it not in has)
+        yield from (f"{file}: {it} is no export" for it in has if it not in wanted)
 
 
 def of_links(out: Path) -> Iterator[str]:

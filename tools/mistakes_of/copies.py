@@ -12,7 +12,7 @@ from pathlib import Path
 from typing import Mapping, Optional, Sequence
 
 from library_of import kit
-from library_of.exports import read_exports
+from library_of.table import read_table
 
 from . import driver
 from .bodies import Mistake, crate_of, crates_of_library
@@ -69,7 +69,7 @@ def program_of(sources: Sources, mistakes: Sequence[Optional[Mistake]]) -> Progr
         uses[crate] = sources.uses[crate]
     for number, mistake in enumerate(mistakes):
         add_copy(files, uses, sources, mistake, number)
-    calls = read_exports(kit.CRATES / EXPORTS / "src" / "lib.rt")
+    calls = read_table(kit.ROOT).exports
     copies = [f"{EXPORTS}_{it}" for it in range(len(mistakes))]
     files.update(in_crate(PROGRAM, driver.texts(calls, copies)))
     uses[PROGRAM] = copies

@@ -103,8 +103,8 @@ def arm(number: int, call: Call, copy: str) -> str:
     after = [f"put_number({it.name}.as_mut_slice(), {it.name}_number);"
              for it in call.parameters if it.kind == COUNT]
     arguments = ", ".join(map(argument, call.parameters))
-    lines = [*before, f"let status = {copy}::{call.name}({arguments});", *after, "status"]
-    names = ", ".join(str(it.name) for it in call.parameters)
+    lines = [*before, f"let status = {copy}::{call.export}({arguments});", *after, "status"]
+    names = ", ".join(it.name for it in call.parameters)
     body = "\n".join(f"            {it}" for it in lines)
     return f"        ({number}, [{names}]) => {{\n{body}\n        }}"
 

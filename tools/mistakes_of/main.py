@@ -14,8 +14,8 @@ from typing import Mapping, Optional, Sequence
 
 from library_of.build import Refused
 from library_of.calls import Unreadable as UnreadableCalls
-from library_of.exports import read_exports
-from library_of.kit import CRATE, CRATES, ROOT, NotBuilt
+from library_of.kit import ROOT, NotBuilt
+from library_of.table import read_table
 
 from .batches import batches
 from .bodies import Mistake, Unreadable, crates_of_library, read_mistakes
@@ -83,7 +83,7 @@ def judge_all(words: argparse.Namespace) -> int:
         return 1 if strangers else 0
     sources = Sources.read()
     with tempfile.TemporaryDirectory(prefix="mistakes-") as room:
-        calls = read_exports(CRATES / CRATE / "src" / "lib.rt")
+        calls = read_table(ROOT).exports
         vectors = Vectors.read(words.vectors, build_shim(calls, Path(room)))
         with ThreadPoolExecutor(max(1, words.at_once)) as pool:
             jobs = [pool.submit(judge_batch, sources, it, words.kept, vectors, unseen)

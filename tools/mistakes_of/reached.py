@@ -29,10 +29,14 @@ REACHED: Mapping[str, Sequence[str]] = {
     "duk_calls/keys": (DERIVATION, REGISTERS),
     "duk_calls/macs": (MACS, CHECK_VALUES),
     "duk_calls/numbers": (NUMBERS,),
+    "duk_calls/optional": (KEY_BLOCKS,),
     "duk_calls/pins": (PINS, FRAMES),
     "duk_calls/registers": (REGISTERS, IMAGES),
     "duk_calls/replies": (FRAMES,),
     "duk_calls/requests": (FRAMES,),
+    "duk_calls/reversals": (FRAMES,),
+    "duk_data/": (DERIVATION,),
+    "duk_reversal/": (FRAMES,),
 }
 
 

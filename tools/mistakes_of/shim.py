@@ -116,7 +116,7 @@ def spoken(number: int, call: Call) -> str:
     """A call in C."""
     forms = [form(it) for it in call.parameters]
     parts = ", ".join(part for _, part in forms) or "{NULL, NULL, 0}"
-    return CALL.format(name=call.name, number=number, count=len(forms), parts=parts,
+    return CALL.format(name=call.export, number=number, count=len(forms), parts=parts,
                        parameters=", ".join(words for words, _ in forms) or "void")
 
 

@@ -7,7 +7,7 @@ import subprocess
 from pathlib import Path
 from typing import Iterable, Sequence
 
-from .items import EXECUTABLE, FOLDER, PLAIN, Item, Refused
+from .items import FOLDER, PLAIN, Item, Refused
 
 KIB = 1024
 
@@ -67,13 +67,6 @@ def installed_size(items: Iterable[Item]) -> int:
     folders = {parent for it in held for parent in Path(it.path).parents}
     files = sum(-(-len(it.data) // KIB) if not it.target else 1 for it in held)
     return files + len(folders)
-
-
-def scripts(folder: Path, package: str) -> list[Item]:
-    """The scripts that dpkg runs as it installs and removes a package."""
-    kinds = ("preinst", "postinst", "prerm", "postrm")
-    found = [(kind, folder / f"{package}.{kind}") for kind in kinds]
-    return [Item(kind, path.read_bytes(), EXECUTABLE) for kind, path in found if path.exists()]
 
 
 def plain(path: str, text: str) -> Item:

@@ -53,7 +53,7 @@ def needed(path: Path) -> list[str]:
     for library in libraries:
         if library not in PACKAGES:
             raise Refused(f"{path}: no package is known for {library}, which it needs")
-    versions = re.findall(r"Name: GLIBC_(\d+)\.(\d+)", text)
-    newest = max(((int(major), int(minor)) for major, minor in versions), default=None)
-    at_least = {"libc6": f"libc6 (>= {newest[0]}.{newest[1]})"} if newest else {}
+    versions = re.findall(r"Name: GLIBC_([\d.]+)", text)
+    newest = max(versions, key=lambda it: [int(part) for part in it.split(".")], default="")
+    at_least = {"libc6": f"libc6 (>= {newest})"} if newest else {}
     return [at_least.get(it, it) for it in sorted({PACKAGES[library] for library in libraries})]

@@ -3,23 +3,24 @@ from __future__ import annotations
 
 import os
 import re
-import subprocess
 import textwrap
 from datetime import datetime, timezone
 from pathlib import Path
 from typing import Iterator
 
 from .items import Refused, read
+from .revision import revision_of
 
 CHANGES = "CHANGELOG.md"
 DAY = r"^## (?:.*, )?(\d{1,2} \w+ \d{4})$"
 WIDTH = 78
+UNRELEASED = re.compile(r"\bnot\s+(?:yet\s+)?released\b|\bunreleased\b", re.I)
 
 
 def date_of(root: Path) -> datetime:
     """The date of all files: SOURCE_DATE_EPOCH where it is set, else that of the last commit, and
     where there is no repository the newest one of CHANGELOG.md."""
-    told = os.environ.get("SOURCE_DATE_EPOCH") or last_commit(root)
+    told = os.environ.get("SOURCE_DATE_EPOCH") or revision_of(root).seconds
     if not told:
         return newest_day(root)
     if not told.isdecimal():
@@ -27,24 +28,20 @@ def date_of(root: Path) -> datetime:
     return datetime.fromtimestamp(int(told), timezone.utc)
 
 
-def last_commit(root: Path) -> str:
-    """The seconds of the last commit; nothing where the folder is no repository of its own."""
-    if not (root / ".git").exists():
-        return ""
-    try:
-        # The repository may belong to another account than the one that makes packages.
-        done = subprocess.run(["git", "-c", "safe.directory=*", "-C", str(root), "log", "-1",
-                               "--format=%ct"], text=True, capture_output=True, check=False)
-    except FileNotFoundError:
-        return ""
-    return done.stdout.strip()
-
-
 def newest_day(root: Path) -> datetime:
     found = re.search(DAY, read(root / CHANGES).decode(), re.M)
     if not found:
         raise Refused(f"{CHANGES}: it has no heading with a date, such as 25 November 2026")
     return datetime.strptime(found[1], "%d %B %Y").replace(tzinfo=timezone.utc)
+
+
+def says_unreleased(text: str, version: str) -> bool:
+    """Whether the section of a version says that it is not released yet. Where no heading has the
+    version, the whole text is its section."""
+    sections = re.split(r"^## ", text, flags=re.M)
+    heading = re.compile(rf"(?<![\d.]){re.escape(version)}(?![\d.])")
+    of_version = [it for it in sections[1:] if heading.search(it.partition("\n")[0])]
+    return any(UNRELEASED.search(it) for it in of_version or [text])
 
 
 def debian_changelog(root: Path, package: str, version: str, maintainer: str) -> str:

@@ -1,42 +1,25 @@
 """The packages, each with its files: what a user of Debian expects, where Debian has it."""
 from __future__ import annotations
 
-import gzip
 import re
 import tomllib
-from dataclasses import dataclass
 from pathlib import Path
 from typing import Iterator, Sequence
 
-from .archive import plain, scripts
+from .about import proof_line
+from .archive import plain
 from .binaries import ARCHITECTURE, PROGRAM, SHARED, STATIC, TRIPLET, needed, stripped
+from .built import MADE_BY_LIBRARY
 from .control import Package
+from .documents import OF_LIBRARY, OF_PROGRAM, PAGE, SHOWN, compressed, documents
 from .items import EXECUTABLE, Item, Refused, read
+from .manual import library_pages
+from .sources import Sources, scripts
+from .symbols import symbols
 
 LIBRARIES = f"usr/lib/{TRIPLET}"
 MODULES = "usr/lib/python3/dist-packages"
 SHARED_NAME = "libdukpt.so.0"
-# What whoever runs the program reads, and who calls the library. The others are for those who change
-# them.
-OF_PROGRAM = ("COMMANDS", "DECISIONS", "DEPLOYMENT", "FORMATS", "GLOSSARY", "OPERATION", "PROVED",
-              "RECIPES", "SECURITY", "TESTED")
-OF_LIBRARY = ("FORMATS", "GLOSSARY", "LIBRARY")
-# The pictures that these documents show.
-PICTURES = ("lost_reply", "power_failure", "reversal")
-MADE_BY_LIBRARY = "tools/library builds it, or --library names its folder"
-
-
-@dataclass(frozen=True)
-class Sources:
-    """What packages are made of: the repository, the built program, the folder of the library."""
-
-    root: Path
-    program: Path
-    library: Path
-    version: str
-
-    def share(self, *path: str) -> bytes:
-        return read(self.root.joinpath("share", *path))
 
 
 def packages(sources: Sources) -> list[Package]:
@@ -58,13 +41,14 @@ number at most once.
 
 Use test keys alone: it is no certified payment host and no certified HSM.""",
         [*program_files(sources), *service_files(sources), *examples(sources),
-         *documents(sources, "dukpt", OF_PROGRAM), *pictures(sources),
-         Item("usr/share/doc/dukpt/README.md", read(sources.root / "README.md"))],
-        scripts(sources.root / "share/debian", "dukpt"),
+         *documents(sources, "dukpt", OF_PROGRAM, SHOWN)],
+        scripts(sources, "dukpt"),
         [*needed(sources.program), "python3:any (>= 3.9)",
          "systemd | systemd-standalone-sysusers | systemd-sysusers",
          "systemd | systemd-standalone-tmpfiles | systemd-tmpfiles"],
-        {"Suggests": "haproxy, socat"})
+        {"Suggests": "haproxy, socat"},
+        proof_line(sources.proofs.is_program_proved, sources),
+        {"dukpt": read(sources.program), PAGE: sources.read(PAGE)})
 
 
 def program_files(sources: Sources) -> Iterator[Item]:
@@ -91,21 +75,8 @@ def service_files(sources: Sources) -> Iterator[Item]:
 def examples(sources: Sources) -> Iterator[Item]:
     folder = "usr/share/doc/dukpt/examples"
     yield Item(f"{folder}/haproxy.cfg", sources.share("deploy", "haproxy.cfg"))
-    for path in sorted((sources.root / "examples").iterdir()):
+    for path in sources.below("examples"):
         yield Item(f"{folder}/{path.name}", read(path))
-
-
-def documents(sources: Sources, package: str, names: Sequence[str]) -> Iterator[Item]:
-    """Documents, which stand as in the repository, so that their links lead to one another."""
-    for name in names:
-        path = Path("docs") / f"{name}.md"
-        yield Item(f"usr/share/doc/{package}/{path}", read(sources.root / path))
-
-
-def pictures(sources: Sources) -> Iterator[Item]:
-    for name in PICTURES:
-        path = Path("docs/pictures") / f"{name}.svg"
-        yield Item(f"usr/share/doc/dukpt/{path}", read(sources.root / path))
 
 
 # The library
@@ -123,8 +94,9 @@ DUKPT (ANSI X9.24-1:2009 annex A). Each call is proved against its contract.
 This package has the shared library.""",
         [Item(f"{LIBRARIES}/{SHARED_NAME}", stripped(path, SHARED))],
         [plain("shlibs", f"libdukpt 0 libdukpt0 (>= {sources.version})\n"),
-         plain("triggers", "activate-noawait ldconfig\n")],
-        needed(path), {"Multi-Arch": "same"})
+         symbols(sources, path), plain("triggers", "activate-noawait ldconfig\n")],
+        needed(path), {"Multi-Arch": "same"},
+        proof_line(sources.proofs.is_library_proved, sources), inputs(sources, SHARED_NAME))
 
 
 def development(sources: Sources) -> Package:
@@ -141,10 +113,23 @@ This package has the header, the static library, and what pkg-config reads.""",
          Item(f"{LIBRARIES}/libdukpt.a", archive),
          Item(f"{LIBRARIES}/libdukpt.so", target=SHARED_NAME),
          Item(f"{LIBRARIES}/pkgconfig/dukpt.pc", module_file(sources)),
-         *documents(sources, "libdukpt-dev", OF_LIBRARY),
+         *manual(sources), *documents(sources, "libdukpt-dev", OF_LIBRARY),
          *library_examples(sources, "libdukpt-dev", (".c", ".h"))],
-        depends=[f"libdukpt0 (= {sources.version})"],
-        fields={"Suggests": "pkg-config", "Multi-Arch": "same"})
+        depends=[f"libdukpt0 (= {sources.packed})"],
+        fields={"Suggests": "pkg-config", "Multi-Arch": "same"},
+        proof=proof_line(sources.proofs.is_library_proved, sources),
+        made_of=inputs(sources, "libdukpt.a", "dukpt.h", "dukpt.pc"))
+
+
+def inputs(sources: Sources, *names: str) -> dict[str, bytes]:
+    """Files of the library's folder, by their names."""
+    return {name: read(sources.library / name, MADE_BY_LIBRARY) for name in names}
+
+
+def manual(sources: Sources) -> Iterator[Item]:
+    """The manual pages of the calls."""
+    for name, data in library_pages(sources.root).items():
+        yield Item(f"usr/share/man/man3/{name}.gz", compressed(data))
 
 
 def module_file(sources: Sources) -> bytes:
@@ -161,18 +146,17 @@ def module_file(sources: Sources) -> bytes:
 
 def library_examples(sources: Sources, package: str, suffixes: Sequence[str]) -> Iterator[Item]:
     """The whole examples of one language."""
-    for path in sorted((sources.root / "library/examples").iterdir()):
+    for path in sources.below("library/examples"):
         if path.suffix in suffixes:
             yield Item(f"usr/share/doc/{package}/examples/{path.name}", read(path))
 
 
 def python(sources: Sources) -> Package:
-    folder = sources.root / "library/python"
-    project = tomllib.loads(read(folder / "pyproject.toml").decode())["project"]
+    project = tomllib.loads(sources.read("library/python/pyproject.toml").decode())["project"]
     about = (f"Metadata-Version: 2.1\nName: dukpt\nVersion: {sources.version}\n"
              f"Summary: {project['description']}\nRequires-Python: {project['requires-python']}\n")
     oldest = project["requires-python"].removeprefix(">=")
-    modules = [it for it in sorted((folder / "dukpt").iterdir())
+    modules = [it for it in sources.below("library/python/dukpt")
                if it.suffix == ".py" or it.name == "py.typed"]
     return Package(
         "python3-dukpt", "all", "python",
@@ -186,9 +170,15 @@ This package has the Python package dukpt, which calls the shared library.""",
          plain(f"{MODULES}/dukpt-{sources.version}.dist-info/METADATA", about),
          *documents(sources, "python3-dukpt", OF_LIBRARY),
          *library_examples(sources, "python3-dukpt", (".py",))],
-        scripts(sources.root / "share/debian", "python3-dukpt"),
-        [f"libdukpt0 (>= {sources.version})", f"python3:any (>= {oldest})"])
+        scripts(sources, "python3-dukpt"),
+        [*same_minor(sources.version), f"python3:any (>= {oldest})"],
+        proof="none of its modules; of the library that they call: "
+        + proof_line(sources.proofs.is_library_proved, sources),
+        made_of={**{f"library/python/dukpt/{it.name}": read(it) for it in modules},
+                 **inputs(sources, SHARED_NAME)})
 
 
-def compressed(data: bytes) -> bytes:
-    return gzip.compress(data, 9, mtime=0)
+def same_minor(version: str) -> tuple[str, str]:
+    """The versions of the library that the modules call: those with their major and minor version."""
+    major, minor, _ = version.split(".")
+    return f"libdukpt0 (>= {major}.{minor})", f"libdukpt0 (<< {major}.{int(minor) + 1}~)"

@@ -2,7 +2,7 @@
 from __future__ import annotations
 
 from dataclasses import dataclass, field
-from typing import Sequence
+from typing import Mapping, Sequence
 
 from .archive import installed_size, plain
 from .items import Item
@@ -23,6 +23,9 @@ class Package:
     depends: Sequence[str] = ()
     # Further fields, as Suggests and Multi-Arch.
     fields: dict[str, str] = field(default_factory=dict)
+    # Whether what is compiled in it is proved, and the inputs that it is made of, by their names.
+    proof: str = "none"
+    made_of: Mapping[str, bytes] = field(default_factory=dict)
 
     def file_name(self, version: str) -> str:
         return f"{self.name}_{version}_{self.architecture}.deb"

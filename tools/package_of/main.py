@@ -2,7 +2,6 @@
 from __future__ import annotations
 
 import argparse
-import os
 import re
 import sys
 import tempfile
@@ -10,17 +9,23 @@ from dataclasses import replace
 from pathlib import Path
 from typing import Iterable, Sequence
 
+from .about import build_file
 from .archive import sums, write_package
+from .built import demand_inputs, proofs_of
 from .changelog import date_of, debian_changelog
-from .contents import MADE_BY_LIBRARY, Sources, compressed, packages
+from .contents import packages
 from .control import Package, control_file
-from .items import Item, Refused, read
+from .documents import compressed
+from .items import Item, Refused
+from .revision import revision_of
+from .sources import Sources
 from .versions import version_of
 
 ROOT = Path(__file__).resolve().parent.parent.parent
 # The project has no address. Whoever hands packages out gives one.
 MAINTAINER = "The dukpt project <dukpt@project.invalid>"
-OF_LIBRARY = ("libdukpt.so.0", "libdukpt.a", "dukpt.h", "dukpt.pc")
+# What stands behind the version of packages of which something is not known as proved.
+UNPROVED = "+unproved"
 
 
 def words() -> argparse.Namespace:
@@ -37,6 +42,9 @@ def words() -> argparse.Namespace:
                         help="the folder that the packages go to; else out/packages")
     parser.add_argument("--maintainer", type=name_and_address, default=MAINTAINER,
                         help="who hands them out: a name, and an address in angles")
+    parser.add_argument("--unproved", action="store_true",
+                        help="packs also a program or a library that is not known as proved. The"
+                        f" version of the packages then ends in {UNPROVED}")
     return parser.parse_args()
 
 
@@ -46,35 +54,35 @@ def name_and_address(text: str) -> str:
     return text
 
 
-def demand_inputs(program: Path, library: Path) -> None:
-    """That what is built elsewhere is there."""
-    if not os.access(program, os.X_OK) or program.is_dir():
-        raise Refused(f"{program}: no such program: ./dukpt --prove builds it, or --program names it")
-    for name in OF_LIBRARY:
-        read(library / name, MADE_BY_LIBRARY)
+def sources_of(told: argparse.Namespace) -> Sources:
+    """What packages are made of, which has to be there, and of one version."""
+    record = demand_inputs(ROOT, told.program, told.library)
+    version = version_of(ROOT, told.program, told.library)
+    proofs = proofs_of(ROOT, told.program, told.library, told.unproved)
+    return Sources(ROOT, told.program, told.library, version,
+                   version if proofs.is_all_proved else version + UNPROVED, revision_of(ROOT),
+                   proofs, record)
 
 
 def with_documents(package: Package, sources: Sources, maintainer: str) -> Sequence[Item]:
-    """The files of a package, with those that each package of Debian has."""
+    """The files of a package, with those that each package has."""
     folder = f"usr/share/doc/{package.name}"
-    changes = debian_changelog(sources.root, package.name, sources.version, maintainer)
+    changes = debian_changelog(sources.root, package.name, sources.packed, maintainer)
     return sorted([*package.items,
+                   build_file(package.name, package.proof, package.made_of, sources),
                    Item(f"{folder}/copyright", sources.share("debian", "copyright")),
                    Item(f"{folder}/changelog.gz", compressed(changes.encode()))],
                   key=lambda it: it.path)
 
 
-def make(told: argparse.Namespace, folder: Path) -> list[Path]:
+def make(sources: Sources, maintainer: str, folder: Path) -> list[Path]:
     """Makes all packages in an empty folder."""
-    demand_inputs(told.program, told.library)
-    version = version_of(ROOT, told.program, told.library)
-    sources = Sources(ROOT, told.program, told.library, version)
     seconds, made = int(date_of(ROOT).timestamp()), []
     for package in packages(sources):
-        items = with_documents(package, sources, told.maintainer)
+        items = with_documents(package, sources, maintainer)
         whole = replace(package, items=items)
-        control = [control_file(whole, version, told.maintainer), sums(items), *package.control]
-        made.append(folder / package.file_name(version))
+        control = [control_file(whole, sources.packed, maintainer), sums(items), *package.control]
+        made.append(folder / package.file_name(sources.packed))
         write_package(folder / package.name, made[-1], items, control, seconds)
     return made
 
@@ -93,7 +101,7 @@ def main() -> int:
     told = words()
     try:
         with tempfile.TemporaryDirectory() as folder:
-            hand_out(make(told, Path(folder)), told.out)
+            hand_out(make(sources_of(told), told.maintainer, Path(folder)), told.out)
     except (Refused, OSError) as why:
         print(f"package: {why}", file=sys.stderr)
         return 1

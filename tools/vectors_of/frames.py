@@ -242,8 +242,8 @@ def replies_made(draw: Draw) -> Group:
 
 def replies_read(make: Frames, draw: Draw) -> Group:
     """Replies that are read, and bytes that are none."""
-    right = make.library.reply(KEY, KSN, b"00")
-    cases = [Case(f"code {code}", {"frame": make.library.reply(draw.bytes(16), number(draw),
+    right = make.library.request_reply(KEY, KSN, b"00")
+    cases = [Case(f"code {code}", {"frame": make.library.request_reply(draw.bytes(16), number(draw),
                                                                code.encode())}) for code in CODES]
     cases.append(Case("a wrong MAC is not seen", {"frame": put(right, 23, right[23] ^ 1)},
                       ["NotCompared"]))
@@ -254,21 +254,22 @@ def replies_read(make: Frames, draw: Draw) -> Group:
 
 def wrong_replies(make: Frames) -> list[tuple[str, bytes]]:
     """Bytes that are no reply: what, and they."""
-    found = spoiled_fronts(make.answer_seal, make.library.reply(KEY, KSN, b"00")[2:-8])
+    found = spoiled_fronts(make.answer_seal, make.library.request_reply(KEY, KSN, b"00")[2:-8])
     found += [(f"code {code!r}", make.answered(KEY, b"\x01\x02" + KSN + code))
               for code in (b"01", b"05", b"99", b"AA", b"\x00\x00", b" 0")]
-    return found + [("a refusal", make.library.refusal(KSN, 4)), ("a request", make.request())]
+    refusal = make.library.request_refusal(KSN, 4)
+    return found + [("a refusal", refusal), ("a request", make.request())]
 
 
 def replies_checked(make: Frames, draw: Draw) -> Group:
     """Replies to this payment, to others, and changed ones."""
-    right, cases = make.library.reply(KEY, KSN, b"00"), []
+    right, cases = make.library.request_reply(KEY, KSN, b"00"), []
     for code in CODES:
-        frame = make.library.reply(KEY, KSN, code.encode())
+        frame = make.library.request_reply(KEY, KSN, code.encode())
         cases.append(Case(f"code {code}", {"frame": frame}, ["Sample"] if code == "00" else []))
     for _ in range(10):
         key, ksn_ = draw.bytes(16), number(draw)
-        frame = make.library.reply(key, ksn_, draw.pick(CODES).encode())
+        frame = make.library.request_reply(key, ksn_, draw.pick(CODES).encode())
         cases.append(Case("at random", {"key": key, "ksn": ksn_, "frame": frame}, ["Random"]))
     for at in range(4, 14):
         other = put(right, at, right[at] ^ 1)[2:-8]
@@ -279,7 +280,7 @@ def replies_checked(make: Frames, draw: Draw) -> Group:
                           ["BadMac"], "BadMac"))
     cases += [Case("another code under the same MAC", {"frame": right[:14] + code + right[16:]},
                    ["BadMac"], "BadMac") for code in (b"51", b"14")]
-    cases += [Case(told, {"frame": make.library.reply(KEY, ksn(other), b"00")}, ["NotMine"],
+    cases += [Case(told, {"frame": make.library.request_reply(KEY, ksn(other), b"00")}, ["NotMine"],
                    "NotMine") for told, other in (
         ("a reply to another number of the terminal", IKSN + 2),
         ("one to the same counter of another terminal", IKSN + (1 << 21) + 1))]
@@ -305,12 +306,12 @@ def refusals_made(draw: Draw) -> Group:
 
 def refusals_read(make: Frames, draw: Draw) -> Group:
     """Refusals that are read, and bytes that are none."""
-    cases = [Case(f"reason {reason}", {"frame": make.library.refusal(number(draw), reason)})
+    cases = [Case(f"reason {reason}", {"frame": make.library.request_refusal(number(draw), reason)})
              for reason in range(1, 7)]
-    wrong = spoiled_fronts(framed, make.library.refusal(KSN, 4)[2:])
+    wrong = spoiled_fronts(framed, make.library.request_refusal(KSN, 4)[2:])
     wrong += [(f"reason {reason}", framed(b"\x01\x03" + KSN + bytes([reason])))
               for reason in (0, 7, 0x31, 255)]
-    wrong.append(("a reply", make.library.reply(KEY, KSN, b"00")))
+    wrong.append(("a reply", make.library.request_reply(KEY, KSN, b"00")))
     cases += [Case(told, {"frame": frame}, ["NotAFrame"], "NotARefusal") for told, frame in wrong]
     return Group("read_refusal", "The fields of a refusal.", OWN, cases)
 

@@ -26,7 +26,7 @@ class Images:
     def __init__(self, proved: Proved, draw: Draw) -> None:
         self.library, self.draw = proved.library, draw
         self.fresh = self.at(1)
-        self.spent = self.library.take(self.at(LAST)).image
+        self.spent = self.library.registers_next(self.at(LAST)).image
 
     def at(self, counter: int, iksn: int = IKSN) -> bytes:
         """The image of a terminal whose next number has this counter."""
@@ -36,7 +36,7 @@ class Images:
         """The image of a terminal that had so many numbers before its own."""
         for _ in range(count):
             iksn = ksn(drawn_iksn(self.draw))
-            image = bytes(self.library.reload(image, self.draw.bytes(16), iksn))
+            image = bytes(self.library.registers_reload(image, self.draw.bytes(16), iksn))
         return image
 
 

@@ -229,7 +229,7 @@ def request_pin(it: Proved, key: bytes, frame: bytes) -> Outputs:
 
 
 def reply(it: Proved, key: bytes, ksn: bytes, code: str) -> Outputs:
-    return {"frame": it.library.reply(key, ksn, code.encode())}
+    return {"frame": it.library.request_reply(key, ksn, code.encode())}
 
 
 def read_reply(it: Proved, frame: bytes) -> Outputs:
@@ -243,7 +243,7 @@ def check_reply(it: Proved, key: bytes, ksn: bytes, frame: bytes) -> Outputs:
 
 
 def refusal(it: Proved, ksn: bytes, reason: int) -> Outputs:
-    return {"frame": it.library.refusal(ksn, reason)}
+    return {"frame": it.library.request_refusal(ksn, reason)}
 
 
 def read_refusal(it: Proved, frame: bytes) -> Outputs:
@@ -259,7 +259,7 @@ def frame_length(it: Proved, bytes: bytes) -> Outputs:
 
 
 def load(it: Proved, initial_key: bytes, iksn: bytes) -> Outputs:
-    return {"image": it.library.load(initial_key, iksn)}
+    return {"image": it.library.registers_load(initial_key, iksn)}
 
 
 def image_at(it: Proved, initial_key: bytes, ksn: bytes) -> Outputs:
@@ -267,16 +267,16 @@ def image_at(it: Proved, initial_key: bytes, ksn: bytes) -> Outputs:
 
 
 def number(it: Proved, image: bytes) -> Outputs:
-    return {"ksn": it.library.number(image)}
+    return {"ksn": it.library.registers_number(image)}
 
 
 def take(it: Proved, image: bytes) -> Outputs:
-    taken = it.library.take(image)
+    taken = it.library.registers_next(image)
     return {"image": taken.image, "key": taken.key, "ksn": taken.ksn}
 
 
 def reload(it: Proved, image: bytes, initial_key: bytes, iksn: bytes) -> Outputs:
-    return {"image": it.library.reload(image, initial_key, iksn)}
+    return {"image": it.library.registers_reload(image, initial_key, iksn)}
 
 
 # Reversals, of which the program alone knows

@@ -130,7 +130,7 @@ def reversal_replies_checked(make: Frames, draw: Draw) -> Group:
               Case("under another base derivation key",
                    {"frame": reversal_reply(make, draw.bytes(16), own, other, 1)}, ["WrongKey"],
                    "BadMac"),
-              Case("the reply to a payment", {"frame": make.library.reply(key, own, b"00")},
+              Case("the reply to a payment", {"frame": make.library.request_reply(key, own, b"00")},
                    ["NotMine"], "NotMine")]
     cases += [Case(told, {"frame": frame}, ["NotAFrame"], "NotAReversalReply")
               for told, frame in wrong_reversal_replies(make, draw)[::2] if frame[3:4] != b"\x02"]

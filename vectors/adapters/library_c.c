@@ -456,8 +456,8 @@ static uint32_t walk(const struct object *it)
     if (status == DUKPT_OK)
         status = dukpt_registers_at(key, sizeof key, ksn, sizeof ksn, image, sizeof image);
     for (uint32_t i = 0; status == DUKPT_OK && i < count; i++) {
-        status = dukpt_take(image, sizeof image, next, sizeof next, key, sizeof key, ksn,
-                            sizeof ksn);
+        status = dukpt_registers_next(image, sizeof image, next, sizeof next, key, sizeof key, ksn,
+                                      sizeof ksn);
         memcpy(image, next, sizeof image);
         add(&digest, key, sizeof key);
     }
@@ -696,8 +696,8 @@ static uint32_t reply(const struct object *it)
     uint32_t status, length;
     if (!hex_of(it, "key", &a) || !hex_of(it, "ksn", &b) || !text_of(it, "code", &c))
         return BAD_INPUT;
-    status = dukpt_reply(a.data, a.size, b.data, b.size, c.data, c.size, frame, sizeof frame,
-                         &length);
+    status = dukpt_request_reply(a.data, a.size, b.data, b.size, c.data, c.size, frame,
+                                 sizeof frame, &length);
     if (status == DUKPT_OK)
         out_hex("frame", frame, length);
     return status;
@@ -730,7 +730,7 @@ static uint32_t refusal(const struct object *it)
     uint32_t status, length, reason;
     if (!hex_of(it, "ksn", &a) || !number_of(it, "reason", &reason))
         return BAD_INPUT;
-    status = dukpt_refusal(a.data, a.size, reason, frame, sizeof frame, &length);
+    status = dukpt_request_refusal(a.data, a.size, reason, frame, sizeof frame, &length);
     if (status == DUKPT_OK)
         out_hex("frame", frame, length);
     return status;
@@ -747,6 +747,84 @@ static uint32_t read_refusal(const struct object *it)
         out_hex("ksn", ksn, sizeof ksn);
         out_number("reason", reason);
     }
+    return status;
+}
+
+/* Reversals, under the key of their own number. */
+
+static uint32_t key_under(const struct bytes *bdk, const struct bytes *ksn,
+                          uint8_t key[DUKPT_KEY_BYTES])
+{
+    uint32_t status = dukpt_check_usable(ksn->data, ksn->size);
+    if (status != DUKPT_OK)
+        return status;
+    return dukpt_derive(bdk->data, bdk->size, ksn->data, ksn->size, key, DUKPT_KEY_BYTES);
+}
+
+static uint32_t reversal(const struct object *it)
+{
+    uint8_t key[DUKPT_KEY_BYTES], frame[DUKPT_FRAME_ROOM];
+    uint32_t status, length;
+    if (!hex_of(it, "bdk", &a) || !hex_of(it, "ksn", &b) || !hex_of(it, "reversed", &c))
+        return BAD_INPUT;
+    status = key_under(&a, &b, key);
+    if (status == DUKPT_OK)
+        status = dukpt_reversal_request(key, sizeof key, b.data, b.size, c.data, c.size, frame,
+                                        sizeof frame, &length);
+    if (status == DUKPT_OK)
+        out_hex("frame", frame, length);
+    return status;
+}
+
+static uint32_t read_reversal(const struct object *it)
+{
+    uint8_t ksn[DUKPT_KSN_BYTES], reversed[DUKPT_KSN_BYTES], mac[DUKPT_MAC_BYTES];
+    uint32_t status;
+    if (!hex_of(it, "frame", &a))
+        return BAD_INPUT;
+    status = dukpt_read_reversal(a.data, a.size, ksn, sizeof ksn, reversed, sizeof reversed, mac,
+                                 sizeof mac);
+    if (status != DUKPT_OK)
+        return status;
+    out_hex("ksn", ksn, sizeof ksn);
+    out_hex("reversed", reversed, sizeof reversed);
+    out_hex("mac", mac, sizeof mac);
+    return DUKPT_OK;
+}
+
+static uint32_t read_reversal_reply(const struct object *it)
+{
+    uint8_t ksn[DUKPT_KSN_BYTES], reversed[DUKPT_KSN_BYTES];
+    uint32_t status, state;
+    if (!hex_of(it, "frame", &a))
+        return BAD_INPUT;
+    status = dukpt_read_reversal_reply(a.data, a.size, ksn, sizeof ksn, reversed, sizeof reversed,
+                                       &state);
+    if (status != DUKPT_OK)
+        return status;
+    out_hex("ksn", ksn, sizeof ksn);
+    out_hex("reversed", reversed, sizeof reversed);
+    out_number("state", state);
+    out_hex("mac", a.data + a.size - DUKPT_MAC_BYTES, DUKPT_MAC_BYTES);
+    return DUKPT_OK;
+}
+
+static uint32_t check_reversal_reply(const struct object *it)
+{
+    uint8_t key[DUKPT_KEY_BYTES], ksn[DUKPT_KSN_BYTES], reversed[DUKPT_KSN_BYTES];
+    uint32_t status, state;
+    if (!hex_of(it, "bdk", &a) || !hex_of(it, "ksn", &b) || !hex_of(it, "reversed", &c)
+        || !hex_of(it, "frame", &d))
+        return BAD_INPUT;
+    status = key_under(&a, &b, key);
+    if (status == DUKPT_OK)
+        status = dukpt_check_reversal_reply(key, sizeof key, b.data, b.size, c.data, c.size, d.data,
+                                            d.size);
+    if (status == DUKPT_OK)
+        status = dukpt_read_reversal_reply(d.data, d.size, ksn, sizeof ksn, reversed,
+                                           sizeof reversed, &state);
+    if (status == DUKPT_OK)
+        out_number("state", state);
     return status;
 }
 
@@ -777,7 +855,7 @@ static uint32_t image_by(call2 *call, const char *number, const struct object *i
 
 static uint32_t load(const struct object *it)
 {
-    return image_by(dukpt_load, "iksn", it);
+    return image_by(dukpt_registers_load, "iksn", it);
 }
 
 static uint32_t image_at(const struct object *it)
@@ -791,7 +869,7 @@ static uint32_t number(const struct object *it)
     uint32_t status;
     if (!hex_of(it, "image", &a))
         return BAD_INPUT;
-    status = dukpt_number(a.data, a.size, ksn, sizeof ksn);
+    status = dukpt_registers_number(a.data, a.size, ksn, sizeof ksn);
     if (status == DUKPT_OK)
         out_hex("ksn", ksn, sizeof ksn);
     return status;
@@ -803,7 +881,8 @@ static uint32_t take(const struct object *it)
     uint32_t status;
     if (!hex_of(it, "image", &a))
         return BAD_INPUT;
-    status = dukpt_take(a.data, a.size, image, sizeof image, key, sizeof key, ksn, sizeof ksn);
+    status = dukpt_registers_next(a.data, a.size, image, sizeof image, key, sizeof key, ksn,
+                                  sizeof ksn);
     if (status != DUKPT_OK)
         return status;
     out_hex("image", image, sizeof image);
@@ -818,7 +897,8 @@ static uint32_t reload(const struct object *it)
     uint32_t status;
     if (!hex_of(it, "image", &a) || !hex_of(it, "initial_key", &b) || !hex_of(it, "iksn", &c))
         return BAD_INPUT;
-    status = dukpt_reload(a.data, a.size, b.data, b.size, c.data, c.size, image, sizeof image);
+    status = dukpt_registers_reload(a.data, a.size, b.data, b.size, c.data, c.size, image,
+                                    sizeof image);
     if (status == DUKPT_OK)
         out_hex("image", image, sizeof image);
     return status;
@@ -838,7 +918,9 @@ static const struct {
     {"payment_request", payment_request}, {"read_request", read_request},
     {"check_request", check_request}, {"request_pin", request_pin}, {"reply", reply},
     {"read_reply", read_reply}, {"check_reply", check_reply}, {"refusal", refusal},
-    {"read_refusal", read_refusal}, {"frame_length", frame_length},
+    {"read_refusal", read_refusal}, {"reversal", reversal}, {"read_reversal", read_reversal},
+    {"read_reversal_reply", read_reversal_reply}, {"check_reversal_reply", check_reversal_reply},
+    {"frame_length", frame_length},
     {"load", load}, {"image_at", image_at}, {"number", number}, {"take", take}, {"reload", reload},
 };
 

@@ -61,7 +61,7 @@ def walk(bdk: bytes, iksn: bytes, skip: int, count: int) -> dict[str, Any]:
     image = dukpt.registers_at(dukpt.initial_key(bdk, iksn), number_behind(iksn, skip))
     ksn, key, digest = b"", b"", hashlib.sha256()
     for _ in range(count):
-        image, key, ksn = dukpt.take(image)
+        image, key, ksn = dukpt.registers_next(image)
         digest.update(key)
     return {"sha256": digest.digest(), "last_ksn": ksn, "last_key": key}
 
@@ -89,9 +89,21 @@ def read_reply(frame: bytes) -> dict[str, Any]:
     return {"ksn": found.ksn, "code": found.code.decode()}
 
 
+def key_under(bdk: bytes, ksn: bytes) -> bytes:
+    """The transaction key of a reversal's own number, which has to number a transaction."""
+    dukpt.check_usable(ksn)
+    return dukpt.derive(bdk, ksn)
+
+
+def check_reversal_reply(bdk: bytes, ksn: bytes, reversed: bytes, frame: bytes) -> dict[str, Any]:
+    """The state in the reply to a reversal."""
+    dukpt.check_reversal_reply(key_under(bdk, ksn), ksn, reversed, frame)
+    return {"state": dukpt.read_reversal_reply(frame).state}
+
+
 def take(image: bytes) -> dict[str, Any]:
     """A terminal's next number with its key, and the image behind it."""
-    found = dukpt.take(image)
+    found = dukpt.registers_next(image)
     return {"image": found.image, "key": found.key, "ksn": found.ksn}
 
 
@@ -130,17 +142,24 @@ OPERATIONS: dict[str, Callable[..., dict[str, Any]]] = {
     "read_request": read_request,
     "check_request": lambda key, frame: checked(dukpt.check_request(key, frame)),
     "request_pin": lambda key, frame: {"pin": dukpt.request_pin(key, frame).decode()},
-    "reply": lambda key, ksn, code: {"frame": dukpt.reply(key, ksn, code)},
+    "reply": lambda key, ksn, code: {"frame": dukpt.request_reply(key, ksn, code)},
     "read_reply": read_reply,
     "check_reply": lambda key, ksn, frame: checked(dukpt.check_reply(key, ksn, frame)),
-    "refusal": lambda ksn, reason: {"frame": dukpt.refusal(ksn, reason)},
+    "refusal": lambda ksn, reason: {"frame": dukpt.request_refusal(ksn, reason)},
     "read_refusal": lambda frame: dukpt.read_refusal(frame)._asdict(),
+    "reversal": lambda bdk, ksn, reversed: {
+        "frame": dukpt.reversal_request(key_under(bdk, ksn), ksn, reversed)},
+    "read_reversal": lambda frame: dukpt.read_reversal(frame)._asdict(),
+    "read_reversal_reply": lambda frame: {
+        **dukpt.read_reversal_reply(frame)._asdict(), "mac": frame[-8:]},
+    "check_reversal_reply": check_reversal_reply,
     "frame_length": lambda data: {"count": dukpt.frame_length(data)},
-    "load": lambda initial_key, iksn: {"image": dukpt.load(initial_key, iksn)},
+    "load": lambda initial_key, iksn: {"image": dukpt.registers_load(initial_key, iksn)},
     "image_at": lambda initial_key, ksn: {"image": dukpt.registers_at(initial_key, ksn)},
-    "number": lambda image: {"ksn": dukpt.number(image)},
+    "number": lambda image: {"ksn": dukpt.registers_number(image)},
     "take": take,
-    "reload": lambda image, initial_key, iksn: {"image": dukpt.reload(image, initial_key, iksn)},
+    "reload": lambda image, initial_key, iksn: {
+        "image": dukpt.registers_reload(image, initial_key, iksn)},
 }
 # The inputs that are text: all other texts are hexadecimal.
 TEXTS = {"pin", "pan", "header", "code"}

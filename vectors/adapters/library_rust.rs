@@ -57,9 +57,9 @@ impl Case {
         }
     }
 
-    /// So many bytes: the crate's functions take no other length.
-    fn array<const N: usize>(&self, name: &str) -> Result<[u8; N], Why> {
-        <[u8; N]>::try_from(self.bytes(name)?.as_slice()).map_err(|_| Fault::Length.into())
+    /// A key, a number or an array: the crate's functions take no other length.
+    fn fixed<T: for<'a> TryFrom<&'a [u8]>>(&self, name: &str) -> Result<T, Why> {
+        T::try_from(&self.bytes(name)?).map_err(|_| Fault::Length.into())
     }
 }
 
@@ -271,10 +271,10 @@ fn transaction_keys(derive: fn(&Key, &Ksn) -> Key, secret: &Key, ksn: &Ksn) -> A
 /// A transaction key, and the keys that are made of it.
 fn keys(key: &Key) -> Answer {
     Ok(Outputs::default()
-        .bytes("key", key)
-        .bytes("pin_key", &dukpt::pin_key(key))
-        .bytes("request_mac_key", &dukpt::request_key(key))
-        .bytes("response_mac_key", &dukpt::response_key(key)))
+        .bytes("key", key.as_bytes())
+        .bytes("pin_key", dukpt::pin_key(key).as_bytes())
+        .bytes("request_mac_key", dukpt::request_key(key).as_bytes())
+        .bytes("response_mac_key", dukpt::response_key(key).as_bytes()))
 }
 
 fn usable(ksn: &Ksn) -> Answer {
@@ -299,18 +299,18 @@ fn registers(initial: &Key, ksn: &Ksn) -> Answer {
 /// The keys of a terminal's numbers in their order: those behind the first `skip`.
 fn walk(bdk: &Key, iksn: &Ksn, skip: u32, count: u32) -> Answer {
     let initial = dukpt::initial_key(bdk, iksn)?;
-    let (mut digest, mut ksn, mut key) = (Digest::new(), *iksn, [0; 16]);
+    let (mut digest, mut ksn, mut key) = (Digest::new(), *iksn, Key::new([0; 16]));
     for _ in 0..=skip {
         ksn = dukpt::next_number(&ksn)?;
     }
     let mut image = dukpt::registers_at(&initial, &ksn)?;
     for _ in 0..count {
-        let taken = dukpt::take(&image)?;
+        let taken = dukpt::registers_next(&image)?;
         (image, ksn, key) = (taken.image, taken.ksn, taken.key);
-        digest.add(&key);
+        digest.add(key.as_bytes());
     }
     let outputs = Outputs::default().bytes("sha256", &digest.value());
-    Ok(outputs.bytes("last_ksn", &ksn).bytes("last_key", &key))
+    Ok(outputs.bytes("last_ksn", ksn.as_bytes()).bytes("last_key", key.as_bytes()))
 }
 
 fn encrypt_pin(key: TdesKey<'_>, pin: &str, pan: &str) -> Answer {
@@ -335,14 +335,14 @@ fn unwrap(kbpk: TdesKey<'_>, block: &str) -> Answer {
 
 fn payment_request(case: &Case) -> Answer {
     let (pan, pin) = (case.text("pan")?.as_bytes(), case.text("pin")?.as_bytes());
-    let (key, ksn) = (case.array("key")?, case.array("ksn")?);
+    let (key, ksn) = (case.fixed("key")?, case.fixed("ksn")?);
     bytes("frame", &dukpt::payment_request(&key, &ksn, pan, pin, case.number("amount")?)?)
 }
 
 fn read_request(frame: &[u8]) -> Answer {
     let found = dukpt::read_request(frame)?;
     Ok(Outputs::default()
-        .bytes("ksn", &found.ksn)
+        .bytes("ksn", found.ksn.as_bytes())
         .text("pan", &found.pan)
         .with("amount", &found.amount.to_string())
         .bytes("block", &found.block)
@@ -351,18 +351,55 @@ fn read_request(frame: &[u8]) -> Answer {
 
 fn reply(case: &Case) -> Answer {
     let code = <[u8; 2]>::try_from(case.text("code")?.as_bytes()).map_err(|_| Fault::Length)?;
-    bytes("frame", &dukpt::reply(&case.array("key")?, &case.array("ksn")?, &code)?)
+    bytes("frame", &dukpt::request_reply(&case.fixed("key")?, &case.fixed("ksn")?, &code)?)
 }
 
 fn read_reply(frame: &[u8]) -> Answer {
     let found = dukpt::read_reply(frame)?;
-    Ok(Outputs::default().bytes("ksn", &found.ksn).text("code", &found.code))
+    Ok(Outputs::default().bytes("ksn", found.ksn.as_bytes()).text("code", &found.code))
 }
 
 fn read_refusal(frame: &[u8]) -> Answer {
     let found = dukpt::read_refusal(frame)?;
-    let outputs = Outputs::default().bytes("ksn", &found.ksn);
+    let outputs = Outputs::default().bytes("ksn", found.ksn.as_bytes());
     Ok(outputs.with("reason", &found.reason.to_string()))
+}
+
+/// The transaction key of a reversal's own number, which has to number a transaction.
+fn key_under(case: &Case, ksn: &Ksn) -> Result<Key, Why> {
+    dukpt::check_usable(ksn)?;
+    Ok(dukpt::derive(&case.fixed("bdk")?, ksn))
+}
+
+fn reversal(case: &Case) -> Answer {
+    let ksn = case.fixed("ksn")?;
+    let key = key_under(case, &ksn)?;
+    bytes("frame", &dukpt::reversal_request(&key, &ksn, &case.fixed("reversed")?)?)
+}
+
+fn read_reversal(frame: &[u8]) -> Answer {
+    let found = dukpt::read_reversal(frame)?;
+    Ok(Outputs::default()
+        .bytes("ksn", found.ksn.as_bytes())
+        .bytes("reversed", found.reversed.as_bytes())
+        .bytes("mac", &found.mac))
+}
+
+fn read_reversal_reply(frame: &[u8]) -> Answer {
+    let found = dukpt::read_reversal_reply(frame)?;
+    Ok(Outputs::default()
+        .bytes("ksn", found.ksn.as_bytes())
+        .bytes("reversed", found.reversed.as_bytes())
+        .with("state", &(found.state as u32).to_string())
+        .bytes("mac", &frame[frame.len() - 8..]))
+}
+
+fn check_reversal_reply(case: &Case) -> Answer {
+    let (ksn, frame) = (case.fixed("ksn")?, case.bytes("frame")?);
+    let key = key_under(case, &ksn)?;
+    dukpt::check_reversal_reply(&key, &ksn, &case.fixed("reversed")?, &frame)?;
+    let state = dukpt::read_reversal_reply(&frame)?.state;
+    Ok(Outputs::default().with("state", &(state as u32).to_string()))
 }
 
 /// What is only accepted or refused has no outputs.
@@ -377,13 +414,13 @@ fn cipher(operation: &str, case: &Case) -> Answer {
     match operation {
         "check_value" => bytes("kcv", &dukpt::check_value(key)),
         "cmac_check_value" => bytes("kcv", &dukpt::cmac_check_value(key)),
-        "tdes_encrypt" => bytes("block", &dukpt::tdes_encrypt(key, &case.array("block")?)),
-        "tdes_decrypt" => bytes("block", &dukpt::tdes_decrypt(key, &case.array("block")?)),
+        "tdes_encrypt" => bytes("block", &dukpt::tdes_encrypt(key, &case.fixed("block")?)),
+        "tdes_decrypt" => bytes("block", &dukpt::tdes_decrypt(key, &case.fixed("block")?)),
         "cmac" => bytes("mac", &dukpt::cmac(key, &case.bytes("message")?)),
         "encrypt_pin" => encrypt_pin(key, case.text("pin")?, case.text("pan")?),
-        "decrypt_pin" => decrypt_pin(key, &case.array("block")?, case.text("pan")?),
+        "decrypt_pin" => decrypt_pin(key, &case.fixed("block")?, case.text("pan")?),
         _ => {
-            let (iv, mut data) = (case.array("iv")?, case.bytes("data")?);
+            let (iv, mut data) = (case.fixed("iv")?, case.bytes("data")?);
             match operation {
                 "cbc_encrypt" => dukpt::cbc_encrypt(key, &iv, &mut data)?,
                 _ => dukpt::cbc_decrypt(key, &iv, &mut data)?,
@@ -409,19 +446,25 @@ fn frame(operation: &str, case: &Case) -> Answer {
         "payment_request" => payment_request(case),
         "read_request" => read_request(&case.bytes("frame")?),
         "check_request" => {
-            accepted(dukpt::check_request(&case.array("key")?, &case.bytes("frame")?)?)
+            accepted(dukpt::check_request(&case.fixed("key")?, &case.bytes("frame")?)?)
         }
         "request_pin" => {
-            text("pin", &dukpt::request_pin(&case.array("key")?, &case.bytes("frame")?)?)
+            text("pin", &dukpt::request_pin(&case.fixed("key")?, &case.bytes("frame")?)?)
         }
         "reply" => reply(case),
         "read_reply" => read_reply(&case.bytes("frame")?),
         "check_reply" => {
-            let (key, ksn) = (case.array("key")?, case.array("ksn")?);
+            let (key, ksn) = (case.fixed("key")?, case.fixed("ksn")?);
             accepted(dukpt::check_reply(&key, &ksn, &case.bytes("frame")?)?)
         }
-        "refusal" => bytes("frame", &dukpt::refusal(&case.array("ksn")?, case.number("reason")?)?),
+        "refusal" => {
+            bytes("frame", &dukpt::request_refusal(&case.fixed("ksn")?, case.number("reason")?)?)
+        }
         "read_refusal" => read_refusal(&case.bytes("frame")?),
+        "reversal" => reversal(case),
+        "read_reversal" => read_reversal(&case.bytes("frame")?),
+        "read_reversal_reply" => read_reversal_reply(&case.bytes("frame")?),
+        "check_reversal_reply" => check_reversal_reply(case),
         "frame_length" => {
             let count = dukpt::frame_length(&case.bytes("bytes")?)?;
             Ok(Outputs::default().with("count", &count.to_string()))
@@ -433,21 +476,22 @@ fn frame(operation: &str, case: &Case) -> Answer {
 /// The operations of images.
 fn image(operation: &str, case: &Case) -> Answer {
     match operation {
-        "load" => {
-            bytes("image", &dukpt::load(&case.array("initial_key")?, &case.array("iksn")?)?)
-        }
+        "load" => bytes(
+            "image",
+            &dukpt::registers_load(&case.fixed("initial_key")?, &case.fixed("iksn")?)?,
+        ),
         "image_at" => {
-            bytes("image", &dukpt::registers_at(&case.array("initial_key")?, &case.array("ksn")?)?)
+            bytes("image", &dukpt::registers_at(&case.fixed("initial_key")?, &case.fixed("ksn")?)?)
         }
-        "number" => bytes("ksn", &dukpt::number(&case.bytes("image")?)?),
+        "number" => bytes("ksn", dukpt::registers_number(&case.bytes("image")?)?.as_bytes()),
         "take" => {
-            let found = dukpt::take(&case.bytes("image")?)?;
+            let found = dukpt::registers_next(&case.bytes("image")?)?;
             let outputs = Outputs::default().bytes("image", &found.image);
-            Ok(outputs.bytes("key", &found.key).bytes("ksn", &found.ksn))
+            Ok(outputs.bytes("key", found.key.as_bytes()).bytes("ksn", found.ksn.as_bytes()))
         }
         _ => {
-            let (initial, iksn) = (case.array("initial_key")?, case.array("iksn")?);
-            bytes("image", &dukpt::reload(&case.bytes("image")?, &initial, &iksn)?)
+            let (initial, iksn) = (case.fixed("initial_key")?, case.fixed("iksn")?);
+            bytes("image", &dukpt::registers_reload(&case.bytes("image")?, &initial, &iksn)?)
         }
     }
 }
@@ -457,24 +501,24 @@ fn outputs(case: &Case) -> Answer {
     let operation = case.text("operation")?;
     match operation {
         "initial_key" => {
-            bytes("key", &dukpt::initial_key(&case.array("bdk")?, &case.array("iksn")?)?)
+            bytes("key", dukpt::initial_key(&case.fixed("bdk")?, &case.fixed("iksn")?)?.as_bytes())
         }
-        "derive" => transaction_keys(dukpt::derive, &case.array("bdk")?, &case.array("ksn")?),
+        "derive" => transaction_keys(dukpt::derive, &case.fixed("bdk")?, &case.fixed("ksn")?),
         "derive_from_initial" => {
-            let (initial, ksn) = (case.array("initial_key")?, case.array("ksn")?);
+            let (initial, ksn) = (case.fixed("initial_key")?, case.fixed("ksn")?);
             transaction_keys(dukpt::derive_from_initial, &initial, &ksn)
         }
-        "usable" => usable(&case.array("ksn")?),
-        "next_number" => bytes("ksn", &dukpt::next_number(&case.array("ksn")?)?),
-        "registers" => registers(&case.array("initial_key")?, &case.array("ksn")?),
+        "usable" => usable(&case.fixed("ksn")?),
+        "next_number" => bytes("ksn", dukpt::next_number(&case.fixed("ksn")?)?.as_bytes()),
+        "registers" => registers(&case.fixed("initial_key")?, &case.fixed("ksn")?),
         "walk" => {
             let (skip, count) = (case.number("skip")?, case.number("count")?);
-            walk(&case.array("bdk")?, &case.array("iksn")?, skip, count)
+            walk(&case.fixed("bdk")?, &case.fixed("iksn")?, skip, count)
         }
         "check_value" | "cmac_check_value" | "tdes_encrypt" | "tdes_decrypt" | "cbc_encrypt"
         | "cbc_decrypt" | "cmac" | "encrypt_pin" | "decrypt_pin" => cipher(operation, case),
         "retail_mac" => {
-            bytes("mac", &dukpt::retail_mac(&case.array("key")?, &case.bytes("message")?)?)
+            bytes("mac", &dukpt::retail_mac(&case.fixed("key")?, &case.bytes("message")?)?)
         }
         "pin_block" => {
             let (pin, pan) = (case.text("pin")?.as_bytes(), case.text("pan")?.as_bytes());
@@ -482,7 +526,7 @@ fn outputs(case: &Case) -> Answer {
         }
         "pin_of_block" => {
             let pan = case.text("pan")?.as_bytes();
-            text("pin", &dukpt::pin_of_block(&case.array("block")?, pan)?)
+            text("pin", &dukpt::pin_of_block(&case.fixed("block")?, pan)?)
         }
         "wrap" | "unwrap" => key_block(operation, case),
         "load" | "image_at" | "number" | "take" | "reload" => image(operation, case),

@@ -34,6 +34,10 @@ pub enters_mac : Enters (codes "mac") (leaf_of (codes "mac"))
 unfolding clap_on_literals
 enters_mac = record { met = refl; turn = refl; finds = refl }
 
+pub enters_data : Enters (codes "data") (leaf_of (codes "data"))
+unfolding clap_on_literals
+enters_data = record { met = refl; turn = refl; finds = refl }
+
 pub enters_pin : Enters (codes "pin") (leaf_of (codes "pin"))
 unfolding clap_on_literals
 enters_pin = record { met = refl; turn = refl; finds = refl }

@@ -51,6 +51,7 @@ keys_are (request.Initial bdk iksn) = refl
 keys_are (request.Registers bdk ksn initial) = refl
 keys_are (request.Kcv keys components show) = refl
 keys_are (request.Mac key text cmac hex) = refl
+keys_are (request.Data key text iv decipher hex) = refl
 keys_are (request.Unpin block pan key show) = refl
 keys_are (request.Translate block pan bdk ksn zone initial) = refl
 keys_are (request.MakeRequest bdk ksn pan pin amount initial) = refl

@@ -1,4 +1,4 @@
--- The arguments of the commands over MACs, PIN blocks and key blocks are read as those of their requests.
+-- The arguments of the commands over MACs, data, PIN blocks and key blocks are read as those of their requests.
 use Rattle.std.proofs.Common.{Bool, None, Option, Some, codes, false, refl, true}
 use Rattle.std.specs.Borrow.{Bor}
 use Rattle.clap.specs.Walk.{Text}
@@ -40,6 +40,68 @@ reads_mac key text true true plain = record {
   ends = refl;
   named = refl;
   shown = (refl, (refl, (refl, (refl, tt))));
+}
+
+pub reads_data : (key text : Bor Text) (iv : Option (Bor Text)) (decipher : Bool) (hex : Bool)
+    → IsPlainRequest (request.Data key text iv decipher hex)
+    → IsRead (leaf_of (codes "data")) (all_marked (request.Data key text iv decipher hex))
+    (request.Data key text iv decipher hex)
+unfolding clap_on_literals
+reads_data key text None false false plain = record {
+  goes = (plain.0, refl, refl, (plain.1.0, refl, refl, tt));
+  quiet = refl;
+  ends = refl;
+  named = refl;
+  shown = (refl, (refl, (refl, (refl, (refl, tt)))));
+}
+reads_data key text None false true plain = record {
+  goes = (plain.0, refl, refl, (plain.1.0, refl, refl, tt));
+  quiet = refl;
+  ends = refl;
+  named = refl;
+  shown = (refl, (refl, (refl, (refl, (refl, tt)))));
+}
+reads_data key text None true false plain = record {
+  goes = (plain.0, refl, refl, (plain.1.0, refl, refl, tt));
+  quiet = refl;
+  ends = refl;
+  named = refl;
+  shown = (refl, (refl, (refl, (refl, (refl, tt)))));
+}
+reads_data key text None true true plain = record {
+  goes = (plain.0, refl, refl, (plain.1.0, refl, refl, tt));
+  quiet = refl;
+  ends = refl;
+  named = refl;
+  shown = (refl, (refl, (refl, (refl, (refl, tt)))));
+}
+reads_data key text (Some iv) false false plain = record {
+  goes = (plain.0, refl, refl, (plain.1.0, refl, refl, (plain.1.1.0, refl, refl, tt)));
+  quiet = refl;
+  ends = refl;
+  named = refl;
+  shown = (refl, (refl, (refl, (refl, (refl, tt)))));
+}
+reads_data key text (Some iv) false true plain = record {
+  goes = (plain.0, refl, refl, (plain.1.0, refl, refl, (plain.1.1.0, refl, refl, tt)));
+  quiet = refl;
+  ends = refl;
+  named = refl;
+  shown = (refl, (refl, (refl, (refl, (refl, tt)))));
+}
+reads_data key text (Some iv) true false plain = record {
+  goes = (plain.0, refl, refl, (plain.1.0, refl, refl, (plain.1.1.0, refl, refl, tt)));
+  quiet = refl;
+  ends = refl;
+  named = refl;
+  shown = (refl, (refl, (refl, (refl, (refl, tt)))));
+}
+reads_data key text (Some iv) true true plain = record {
+  goes = (plain.0, refl, refl, (plain.1.0, refl, refl, (plain.1.1.0, refl, refl, tt)));
+  quiet = refl;
+  ends = refl;
+  named = refl;
+  shown = (refl, (refl, (refl, (refl, (refl, tt)))));
 }
 
 pub reads_pin : (pin pan : Bor Text) (key : Option (Bor Text))

@@ -4,9 +4,9 @@ use Rattle.clap.specs.Walk.{Text}
 use Rattle.duk_arguments.specs.Written.{IsPlainRequest, arguments_of}
 use Rattle.duk_arguments.specs.declared.request.Request.{Request}
 use Rattle.duk_arguments.specs.declared.request.Request.TheVariants as request
-use Rattle.duk_arguments.proofs.Entered.{leaf_of, enters_derive, enters_walk, enters_pin, enters_wrap, enters_unwrap, enters_run, enters_serve, enters_initial, enters_registers, enters_kcv, enters_mac, enters_unpin, enters_translate, enters_request, enters_reply, enters_find, enters_show, enters_issue, enters_new_log, enters_new_journal, enters_copy_journal}
+use Rattle.duk_arguments.proofs.Entered.{leaf_of, enters_derive, enters_walk, enters_pin, enters_wrap, enters_unwrap, enters_run, enters_serve, enters_initial, enters_registers, enters_kcv, enters_mac, enters_data, enters_unpin, enters_translate, enters_request, enters_reply, enters_find, enters_show, enters_issue, enters_new_log, enters_new_journal, enters_copy_journal}
 use Rattle.duk_arguments.proofs.TopLevel.{Make, make}
-use Rattle.duk_arguments.proofs.ReadBlocks.{reads_mac, reads_pin, reads_unpin, reads_translate, reads_wrap, reads_unwrap, reads_show, reads_check_frame}
+use Rattle.duk_arguments.proofs.ReadBlocks.{reads_mac, reads_data, reads_pin, reads_unpin, reads_translate, reads_wrap, reads_unwrap, reads_show, reads_check_frame}
 use Rattle.duk_arguments.proofs.ReadFiles.{reads_run, reads_serve, reads_new_log, reads_new_journal, reads_copy_journal}
 use Rattle.duk_arguments.proofs.ReadFind.{reads_find}
 use Rattle.duk_arguments.proofs.ReadFrames.{reads_request, reads_reversal, reads_reply}
@@ -58,6 +58,9 @@ all_made program (request.Kcv keys components show) plain =
 all_made program (request.Mac key text cmac hex) plain =
     make program (leaf_of (codes "mac")) (request.Mac key text cmac hex) enters_mac
     (reads_mac key text cmac hex plain)
+all_made program (request.Data key text iv decipher hex) plain =
+    make program (leaf_of (codes "data")) (request.Data key text iv decipher hex) enters_data
+    (reads_data key text iv decipher hex plain)
 all_made program (request.Unpin block pan key show) plain =
     make program (leaf_of (codes "unpin")) (request.Unpin block pan key show) enters_unpin
     (reads_unpin block pan key show plain)

@@ -75,6 +75,12 @@ mac_command = command (codes "mac")
     (argument_rule (codes "KEY") ∷ argument_rule (codes "TEXT") ∷ flag_rule (codes "cmac")
     ∷ flag_rule (codes "hex") ∷ [])
 
+-- data KEY TEXT [--iv BLOCK] [--decipher] [--hex]
+abbrev pub data_command : Shape
+data_command = command (codes "data")
+    (argument_rule (codes "KEY") ∷ argument_rule (codes "TEXT") ∷ option_rule (codes "iv")
+    ∷ flag_rule (codes "decipher") ∷ flag_rule (codes "hex") ∷ [])
+
 -- pin PIN PAN [--key KEY]
 abbrev pub pin_command : Shape
 pin_command = command (codes "pin")
@@ -178,10 +184,10 @@ abbrev pub key_commands : List Shape
 key_commands = derive_command ∷ walk_command ∷ initial_command ∷ issue_command ∷ registers_command
     ∷ kcv_command ∷ []
 
--- the commands over MACs, PIN blocks and key blocks
+-- the commands over MACs, data, PIN blocks and key blocks
 abbrev pub block_commands : List Shape
-block_commands = mac_command ∷ pin_command ∷ unpin_command ∷ translate_command ∷ wrap_command
-    ∷ unwrap_command ∷ show_command ∷ []
+block_commands = mac_command ∷ data_command ∷ pin_command ∷ unpin_command ∷ translate_command
+    ∷ wrap_command ∷ unwrap_command ∷ show_command ∷ []
 
 -- the commands over frames, and the one that finds what made one
 abbrev pub frame_commands : List Shape

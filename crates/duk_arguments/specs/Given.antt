@@ -72,6 +72,7 @@ name_of (request.Initial bdk iksn) = codes "initial"
 name_of (request.Registers bdk ksn initial) = codes "registers"
 name_of (request.Kcv keys components show) = codes "kcv"
 name_of (request.Mac key text cmac hex) = codes "mac"
+name_of (request.Data key text iv decipher hex) = codes "data"
 name_of (request.Unpin block pan key show) = codes "unpin"
 name_of (request.Translate block pan bdk ksn zone initial) = codes "translate"
 name_of (request.MakeRequest bdk ksn pan pin amount initial) = codes "request"
@@ -121,6 +122,10 @@ given_of (request.Kcv keys components show) =
     ∷ flag (codes "show") show ∷ []
 given_of (request.Mac key text cmac hex) =
     needed (codes "KEY") key.now ∷ needed (codes "TEXT") text.now ∷ flag (codes "cmac") cmac
+    ∷ flag (codes "hex") hex ∷ []
+given_of (request.Data key text iv decipher hex) =
+    needed (codes "KEY") key.now ∷ needed (codes "TEXT") text.now
+    ∷ valued (codes "iv") (option_map (λ text. text.now) iv) ∷ flag (codes "decipher") decipher
     ∷ flag (codes "hex") hex ∷ []
 given_of (request.Unpin block pan key show) =
     needed (codes "BLOCK") block.now ∷ needed (codes "PAN") pan.now

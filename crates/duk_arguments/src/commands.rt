@@ -24,7 +24,7 @@ use std::alloc::{AllocError, Global};
 const VERSION: &str = "0.1.0";
 
 /// The program's commands, in the order in which help lists them.
-fn commands() -> [CommandName; 21]
+fn commands() -> [CommandName; 22]
     ensures { map shape_named result ≡ command_line.subs }
 {
     [
@@ -35,6 +35,7 @@ fn commands() -> [CommandName; 21]
         CommandName::Registers,
         CommandName::Kcv,
         CommandName::Mac,
+        CommandName::Data,
         CommandName::Pin,
         CommandName::Unpin,
         CommandName::Translate,
@@ -64,6 +65,7 @@ pub(crate) fn usage_of<'a>(command: CommandName) -> Usage<'a>
         CommandName::Registers => keys::registers(),
         CommandName::Kcv => keys::kcv(),
         CommandName::Mac => blocks::mac(),
+        CommandName::Data => blocks::enciphered(),
         CommandName::Pin => blocks::pin(),
         CommandName::Unpin => blocks::unpin(),
         CommandName::Translate => blocks::translate(),

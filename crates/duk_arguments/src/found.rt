@@ -4,7 +4,7 @@ ghost use Rattle.std.specs.Prelude.{◌≡◌, ◌↔◌, IfSome, IsSome, IsSome
 ghost use Rattle.std.specs.Option.{option_copied};
 ghost use Rattle.clap.specs.Words.{all_of, first_of, found_of, rows_of, subcommand_rows_of};
 ghost use Rattle.duk_arguments.specs.Asked.{AsksAfter, AsksFor, is_flagged};
-ghost use Rattle.duk_arguments.specs.CommandLine.{derive_command, walk_command, initial_command, issue_command, registers_command, kcv_command, mac_command, pin_command, unpin_command, translate_command, wrap_command, unwrap_command, show_command, request_command, reply_command, find_command, run_command, serve_command, new_log_command, new_journal_command, copy_journal_command};
+ghost use Rattle.duk_arguments.specs.CommandLine.{derive_command, walk_command, initial_command, issue_command, registers_command, kcv_command, mac_command, data_command, pin_command, unpin_command, translate_command, wrap_command, unwrap_command, show_command, request_command, reply_command, find_command, run_command, serve_command, new_log_command, new_journal_command, copy_journal_command};
 ghost use Rattle.duk_arguments.specs.Given.{Each, clear_in, first_in, journal_in, log_in, pan_in, text_in, text_is_hex};
 ghost use Rattle.duk_arguments.specs.Keys.{texts_of_keys};
 ghost use Rattle.duk_arguments.specs.declared.request.Request.{Request};
@@ -98,6 +98,7 @@ fn whole_request<'a>(command: CommandName, found: &ArgMatches<'a>) -> Option<Req
         CommandName::Registers => Some(registers_request(found)),
         CommandName::Kcv => Some(kcv_request(found)),
         CommandName::Mac => Some(mac_request(found)),
+        CommandName::Data => Some(data_request(found)),
         CommandName::Pin => Some(pin_request(found)),
         CommandName::Unpin => Some(unpin_request(found)),
         CommandName::Translate => Some(translate_request(found)),
@@ -201,6 +202,19 @@ fn mac_request<'a>(found: &ArgMatches<'a>) -> Request<'a>
         key: text(found, "KEY"),
         text: text(found, "TEXT"),
         cmac: flag(found, "cmac"),
+        hex: flag(found, "hex"),
+    }
+}
+
+fn data_request<'a>(found: &ArgMatches<'a>) -> Request<'a>
+    requires { AreThere (rows_of (found_of found.now)) data_command }
+    ensures { AsksFor (codes "data") (rows_of (found_of found.now)) result }
+{
+    Request::Data {
+        key: text(found, "KEY"),
+        text: text(found, "TEXT"),
+        iv: value(found, "iv"),
+        decipher: flag(found, "decipher"),
         hex: flag(found, "hex"),
     }
 }

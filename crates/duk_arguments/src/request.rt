@@ -133,6 +133,19 @@ pub enum Request<'a> {
         /// Whether `text` is in hexadecimal.
         hex: bool,
     },
+    /// A text enciphered, or what was enciphered deciphered.
+    Data {
+        /// The key, as written.
+        key: &'a str,
+        /// The text, or its bytes in hexadecimal.
+        text: &'a str,
+        /// The initial vector, as written; without one it is zeros.
+        iv: Option<&'a str>,
+        /// Whether `text` is deciphered, and not enciphered.
+        decipher: bool,
+        /// Whether `text` is in hexadecimal, as it always is where it is deciphered.
+        hex: bool,
+    },
     /// The PIN in a PIN block.
     Unpin {
         /// The PIN block, as written.

@@ -8,7 +8,7 @@ mod payments;
 mod random;
 
 use anyhow::{Result, bail};
-use derivations::derive_at_random;
+use derivations::{derive_at_random, derive_in_groups};
 use messages::Work;
 use payments::{handle_requests, write_requests};
 use std::alloc::Global;
@@ -29,7 +29,7 @@ fn main(rt: HostRuntime) -> Result<()> {
     Ok(())
 }
 
-/// Does the work that the arguments name: `derive COUNT`, `requests COUNT`, `handle USED` with the
+/// Does the work that the arguments name: `derive COUNT`, `derive-groups COUNT`, `requests COUNT`, `handle USED` with the
 /// requests from `input`, and `cmac`, `retail`, `cbc-encrypt` and `cbc-decrypt LENGTH COUNT`.
 fn do_work<R: Read, W: Write>(
     alloc: Global,
@@ -62,6 +62,7 @@ fn do_keyed<R: Read, W: Write>(
 ) -> Result<()> {
     match name {
         "derive" => Ok(derive_at_random(number, output)?),
+        "derive-groups" => Ok(derive_in_groups(number, output)?),
         "requests" => write_requests(number, output),
         "handle" => {
             let mut requests = Vec::new(alloc);

@@ -14,3 +14,5 @@ pub mod TextPlaces
 pub mod NoFaultInKeyBlock
 pub mod UnwrapExact
 pub mod SealedLength
+pub mod OptionalContent
+pub mod WholeBlocks

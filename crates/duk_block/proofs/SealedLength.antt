@@ -4,8 +4,8 @@ use Rattle.hex.specs.Hex.{encode_upper, upper_digits}
 use Rattle.hex.proofs.HexLemmas.{length-encode_with}
 use Rattle.duk_block.specs.inner.KeyBlock.{IsSealed}
 
-pub length-sealed : (protection_key front payload text : List ℕ) → IsSealed protection_key front payload text → length front ≡ 16 → length text ≡ 32 + 2 * length payload
-length-sealed protection_key front payload text sealed sixteen = omega (
+pub length-sealed : (protection_key front payload text : List ℕ) → IsSealed protection_key front payload text → length text ≡ length front + 16 + 2 * length payload
+length-sealed protection_key front payload text sealed = omega (
   arith,
   ap length sealed.laid_out,
   length-append (front ++ encode_upper sealed.ciphertext) (encode_upper sealed.mac),

@@ -78,6 +78,14 @@ version_at text protection_key header key block =
       part_at text (codes "B") four after 1 4 laid refl refl,
     )
 
+-- what stands after the header
+pub after_header : (text protection_key : List ℕ) (header : Header) (key : List ℕ) (block : IsKeyBlock text protection_key header key)
+    → drop 16 text ≡ concat block.optional_blocks ++ block.sealed_part
+after_header text protection_key header key block =
+    let head : List ℕ = header_text (length text) header (length block.optional_blocks) block.reserved in
+    let sixteen : length head ≡ 16 = length-header_text (length text) header (length block.optional_blocks) block.reserved block.header_is.widths block.reserved_width in
+    ap (drop 16) (whole_text text protection_key header key block) ∙ drop_at head (concat block.optional_blocks ++ block.sealed_part) 16 sixteen
+
 -- what CBC's laws say of lengths
 abbrev pub PreservesLength : Type 0
 PreservesLength = (key initial_vector bytes : List ℕ) → IsTdesKey key → IsBlock initial_vector → AreWholeBlocks bytes → length (cbc_encrypted key initial_vector bytes) ≡ length bytes

@@ -1,6 +1,7 @@
 -- An answer that is sound is exact, since a text has one reading and one first fault.
-use Rattle.std.proofs.Common.{◌≡◌, ℕ, List, Result, Ok, Err, ap, subst, ◌∙◌}
-use Rattle.std.specs.Prelude.{IfOk, IfErr}
+use Rattle.std.proofs.Common.{◌≡◌, ℕ, List, Result, Ok, Err, is_ok, sym, ap, subst, ◌∙◌}
+use Rattle.std.specs.Prelude.{IfOk, IfErr, IsOk, ◌↔◌}
+use Rattle.std.proofs.lemmas.Bool.{false≢true}
 use Rattle.duk_tdes.specs.declared.key.KeyBytes.{KeyBytes}
 use Rattle.duk_block.specs.declared.header.Header.{Header}
 use Rattle.duk_block.specs.declared.fault.BlockFault.{BlockFault}
@@ -22,8 +23,20 @@ pub record Sound (text protection_key : List ℕ) (answer : Result (Header × Ke
   pub kind : IfOk answer (λ found. found.1 ≡ key_from (bytes_of found.1))
   pub refused : IfErr answer (IsFirstFault text protection_key)
 
-fault_same : (a b : BlockFault) → (let one : Result (Header × KeyBytes) BlockFault = Err a in one) ≡ Err b → a ≡ b
+fault_same : {A : Type 0} (a b : BlockFault) → (let one : Result A BlockFault = Err a in one) ≡ Err b → a ≡ b
 fault_same a b same = cc
+
+-- an answer with the first fault has no other
+pub refuses_first : {A : Type 0} (text protection_key : List ℕ) (answer : Result A BlockFault) (reported : BlockFault) → answer ≡ Err reported → IsFirstFault text protection_key reported
+    → (fault : BlockFault) → (answer ≡ Err fault) ↔ IsFirstFault text protection_key fault
+refuses_first text protection_key answer reported is first fault =
+    let P : BlockFault → Type 0 = IsFirstFault text protection_key in (
+      λ same. subst P (fault_same reported fault (sym is ∙ same)) first,
+      λ other. is ∙ ap Err (IsFirstFault-same text protection_key reported fault first other),
+    )
+
+pub not_ok : {A : Type 0} (answer : Result A BlockFault) (fault : BlockFault) → answer ≡ Err fault → IsOk answer → ⊥
+not_ok answer fault is ok = false≢true (sym (ap is_ok is) ∙ ok)
 
 reads_of : (text protection_key : List ℕ) → Exact text protection_key → (answer : Result (Header × KeyBytes) BlockFault)
     → IfOk answer (λ found. Wraps protection_key text found.0 (bytes_of found.1))

@@ -95,3 +95,18 @@ pub record IsWrittenKeyBlock (text protection_key : List ℕ) (header : Header) 
 pub record FitsKeyBlock (key padding : ℕ) : Type 0 where
   pub whole : (2 + key + padding) % 8 ≡ 0
   pub most : 32 + 2 * (2 + key + padding) ≤ 512
+
+-- a key block as this project writes it with optional blocks: those of this text, two zeros as
+-- reserved characters, this padding, and the hexadecimal digits in upper case
+pub record IsWrittenKeyBlockWith (text protection_key : List ℕ) (header : Header)
+    (optional key padding : List ℕ) : Type 0 where
+  pub block : IsKeyBlock text protection_key header key
+  pub optional_is : concat block.optional_blocks ≡ optional
+  pub reserved_zeros : block.reserved ≡ codes "00"
+  pub padding_is : block.padding ≡ padding
+  pub upper_case : block.sealed_part ≡ encode_upper (block.ciphertext ++ block.mac)
+
+-- a key and padding of these lengths fit a key block with optional blocks of this length in all
+pub record FitsKeyBlockWith (optional key padding : ℕ) : Type 0 where
+  pub whole : (2 + key + padding) % 8 ≡ 0
+  pub most : 32 + optional + 2 * (2 + key + padding) ≤ 512

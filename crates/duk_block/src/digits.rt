@@ -3,7 +3,7 @@
 ghost use Rattle.std.specs.Prelude.{◌≡◌, ◌<◌, ◌≤◌, ◌*◌, ◌%◌, MatchBool, MatchOption, length};
 ghost use Rattle.std.specs.List.{AllPass};
 ghost use Rattle.hex.specs.Hex.{is_hex_digit};
-ghost use Rattle.duk_block.specs.Digits.{four_digits};
+ghost use Rattle.duk_block.specs.Digits.{four_digits, two_digits};
 ghost use Rattle.duk_block.specs.Hexadecimal.{IsHexadecimal};
 
 use crate::text::{BlockText, MAX_TEXT, append};
@@ -19,6 +19,14 @@ pub fn four_digits(number: usize) -> [u8; 4]
         b'0' + (number / 10 % 10) as u8,
         b'0' + (number % 10) as u8,
     ]
+}
+
+/// The number as two decimal digits.
+pub fn two_digits(number: u8) -> [u8; 2]
+    requires { number < 100 }
+    ensures { result ≡ two_digits number }
+{
+    [b'0' + number / 10, b'0' + number % 10]
 }
 
 /// Reads hexadecimal digits in either case, two for each byte, and says whether they are such

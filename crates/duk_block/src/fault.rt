@@ -18,7 +18,8 @@ pub enum BlockFault {
     /// digits.
     HeaderField,
     /// An optional block does not fit or its length is no length, or what is left after them is
-    /// too short for a ciphertext and a MAC or is not made of whole blocks.
+    /// too short for a ciphertext and a MAC or is not made of whole blocks. In wrapping: what is
+    /// given is not optional blocks that can be written.
     OptionalBlock,
     /// A character after the optional blocks is no hexadecimal digit.
     Hex,

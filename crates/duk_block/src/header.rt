@@ -1,9 +1,11 @@
 //! The header of a key block.
 
 ghost use Rattle.std.specs.Prelude.{◌≡◌, ◌≤◌, ◌↔◌, IsTrue, length, take, drop, codes, ◌<◌, ℕ, MatchOption};
+ghost use Rattle.std.specs.List.{All};
 ghost use Rattle.duk_block.specs.Faults.{HasCount, HasLength};
+ghost use Rattle.duk_block.specs.HeaderText.{IsPrintable};
 
-use crate::digits::four_digits;
+use crate::digits::{four_digits, two_digits};
 use crate::text::{BlockText, MAX_TEXT, MIN_TEXT, append};
 use duk_tdes::array_of;
 
@@ -81,24 +83,31 @@ impl Header {
     pub fn is_printable(&self) -> bool
         ensures { IsTrue result ↔ IsHeader self.now }
     {
-        self.fields()
-            .iter()
-            .all(|byte| (0x20..=0x7E).contains(byte))
+        are_printable(&self.fields())
     }
 
-    /// The text of this header before a whole text of `total` characters, with no optional block.
-    pub(crate) fn text(&self, total: usize) -> BlockText
-        requires { total < 10000 }
-        ensures { result.items ≡ header_text total self.now 0 (codes "00") }
+    /// The text of this header before a whole text of `total` characters, with so many optional
+    /// blocks.
+    pub(crate) fn text(&self, total: usize, optional_count: u8) -> BlockText
+        requires total { total < 10000 }
+        requires count { optional_count < 100 }
+        ensures { result.items ≡ header_text total self.now optional_count (codes "00") }
     {
         let mut text = BlockText::new();
         append(&mut text, b"B");
         append(&mut text, &four_digits(total));
         append(&mut text, &self.fields());
-        append(&mut text, b"00");
+        append(&mut text, &two_digits(optional_count));
         append(&mut text, b"00");
         text
     }
+}
+
+/// Whether each character can be printed: it is 20 to 7E hexadecimal.
+pub fn are_printable(text: &[u8]) -> bool
+    ensures { IsTrue result ↔ All IsPrintable text.now }
+{
+    text.iter().all(|byte| (0x20..=0x7E).contains(byte))
 }
 
 /// Whether the text has a lawful length, and its length field is that length.

@@ -1,11 +1,13 @@
 //! Laws of key blocks, each the contract of a function that does nothing.
 
-ghost use Rattle.std.specs.Prelude.{◌≡◌, ℕ, List};
+ghost use Rattle.std.specs.Prelude.{◌≡◌, ◌≤◌, ℕ, List, length};
+ghost use Rattle.std.specs.List.{All, concat};
 ghost use Rattle.duk_tdes.specs.Tdes.{IsTdesKey};
 ghost use Rattle.duk_block.specs.declared.header.Header.{Header};
 ghost use Rattle.duk_block.specs.Derived.{derived_key, encryption_usage, mac_usage};
 ghost use Rattle.duk_block.specs.Faults.{IsFirstFault};
 ghost use Rattle.duk_block.specs.KeyBlock.{IsKeyBlock, Wraps};
+ghost use Rattle.duk_block.specs.Optional.{IsFirstContent, IsOptionalBlock};
 ghost use Rattle.duk_block.specs.declared.fault.BlockFault.{BlockFault};
 
 /// The keys derived for enciphering and for MACs are TDES keys.
@@ -42,3 +44,19 @@ pub fn no_fault()
     derived_keys();
     duk_tdes::laws::cbc_inverse();
 }
+
+/// A text is divided into optional blocks in at most one way. So the optional blocks that were
+/// given to be written are those that are read.
+pub fn one_division()
+    ensures { (blocks others : List (List ℕ))
+        → All IsOptionalBlock blocks → All IsOptionalBlock others
+        → concat blocks ≡ concat others → blocks ≡ others }
+{}
+
+/// The content of an optional block has at most 251 characters: two digits give the length of the
+/// whole block, and four characters stand before the content.
+pub fn contents_fit()
+    ensures { (blocks : List (List ℕ)) (id content : List ℕ) → All IsOptionalBlock blocks
+        → IsFirstContent blocks id content
+        → length content ≤ 251 }
+{}

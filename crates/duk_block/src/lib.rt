@@ -14,6 +14,7 @@ mod sealing;
 mod text;
 mod unwrapping;
 mod unwrapping_for;
+mod unwrapping_optional;
 mod wrapping;
 
 pub use fault::{BlockFault, KeyFault};
@@ -22,4 +23,5 @@ pub use key_use::KeyUse;
 pub use text::{BlockText, MAX_TEXT};
 pub use unwrapping::unwrap;
 pub use unwrapping_for::{unwrap_double_for, unwrap_for};
-pub use wrapping::{ZERO_PADDING, wrap};
+pub use unwrapping_optional::unwrap_optional;
+pub use wrapping::{ZERO_PADDING, wrap, wrap_with};

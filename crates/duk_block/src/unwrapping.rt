@@ -60,7 +60,7 @@ fn read<const N: usize>(kbpk: &Key<N>, text: &[u8]) -> Result<(Header, KeyBytes)
 }
 
 /// The header, and the number of optional blocks after it.
-fn header_of(text: &[u8]) -> Result<(Header, u8), BlockFault>
+pub(crate) fn header_of(text: &[u8]) -> Result<(Header, u8), BlockFault>
     ensures found { IfOk result (λ found. HasHeader text.now found.0 found.1) }
     ensures refused { IfErr result
         (λ fault. (protection_key : List ℕ) → IsFirstFault text.now protection_key fault) }

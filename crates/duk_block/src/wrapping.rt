@@ -3,14 +3,16 @@
 ghost use Rattle.std.specs.Prelude.{◌≡◌, ◌↔◌, ◌+◌, ◌*◌, ◌%◌, ◌≤◌, IfOk, IsOk, MatchOption, length};
 ghost use Rattle.duk_tdes.specs.Tdes.{IsTdesLength};
 ghost use Rattle.duk_block.specs.HeaderText.{IsHeader};
-ghost use Rattle.duk_block.specs.KeyBlock.{FitsKeyBlock, IsWithinLimits, IsWrittenKeyBlock};
+ghost use Rattle.duk_block.specs.KeyBlock.{FitsKeyBlock, FitsKeyBlockWith, IsWithinLimits, IsWrittenKeyBlock, IsWrittenKeyBlockWith};
 ghost use Rattle.duk_block.specs.inner.KeyBlock.{IsSealed};
+ghost use Rattle.duk_block.specs.Optional.{AreOptionalBlocks};
 
 use crate::fault::BlockFault;
 use crate::header::Header;
+use crate::optional::count_written;
 use crate::payload::payload_with;
 use crate::sealing::{block_mac, encipher};
-use crate::text::{BlockText, MAX_TEXT};
+use crate::text::{BlockText, MAX_TEXT, append};
 use duk_io::append_hex;
 use duk_tdes::Key;
 
@@ -45,24 +47,63 @@ pub fn wrap<const N: usize, const M: usize>(
     ensures written { IfOk result
         (λ text. IsWrittenKeyBlock text.items kbpk.now header.now key.now pad.now) }
 {
+    wrap_with(kbpk, header, &[], key, pad)
+}
+
+/// Wraps a key in a key block with these optional blocks, given one after another as they stand in
+/// the text: an id of two characters, the length of the whole block in two hexadecimal digits, and
+/// content. There may be none. All else is as in `wrap`.
+///
+/// Refuses as `HeaderField` what `wrap` does; then, as `OptionalBlock`, what is not whole optional
+/// blocks, more than 99 of them, a character outside 20 to 7E hexadecimal, and a length in all that
+/// is no multiple of 8 (a padding block of the caller's, with the id `PB`, makes it one); then, as
+/// `PadLength`, what `wrap` does, where the optional blocks count to the 512 characters.
+pub fn wrap_with<const N: usize, const M: usize>(
+    kbpk: &Key<N>,
+    header: &Header,
+    optional: &[u8],
+    key: &Key<M>,
+    pad: &[u8],
+) -> Result<BlockText, BlockFault>
+    requires protection_key { IsTdesLength N }
+    requires key { IsTdesLength M }
+    ensures fields { (result ≡ Err BlockFault.HeaderField) ↔ ¬ IsHeader header.now }
+    ensures optional { (result ≡ Err BlockFault.OptionalBlock)
+        ↔ (IsHeader header.now × ¬ AreOptionalBlocks optional.now) }
+    ensures padding { (result ≡ Err BlockFault.PadLength)
+        ↔ (IsHeader header.now × AreOptionalBlocks optional.now
+        × ¬ FitsKeyBlockWith (length optional.now) M (length pad.now)) }
+    ensures ok { IsOk result
+        ↔ (IsHeader header.now × AreOptionalBlocks optional.now
+        × FitsKeyBlockWith (length optional.now) M (length pad.now)) }
+    ensures limits { IfOk result (λ text. IsWithinLimits text.items) }
+    ensures written { IfOk result (λ text. IsWrittenKeyBlockWith
+        text.items kbpk.now header.now optional.now key.now pad.now) }
+{
     if !header.is_printable() {
         return Err(BlockFault::HeaderField);
     }
-    match text_length(M, pad.len()) {
-        Some(total) => Ok(seal(kbpk, header.text(total), payload_with(key, pad).as_slice())),
-        None => Err(BlockFault::PadLength),
-    }
+    let Some(count) = count_written(optional) else {
+        return Err(BlockFault::OptionalBlock);
+    };
+    let Some(total) = text_length(optional.len(), M, pad.len()) else {
+        return Err(BlockFault::PadLength);
+    };
+    let mut front = header.text(total, count);
+    append(&mut front, optional);
+    Ok(seal(kbpk, front, payload_with(key, pad).as_slice()))
 }
 
-/// The length of a text with no optional block, where key and padding fit one.
-fn text_length(key: usize, pad: usize) -> Option<usize>
+/// The length of a text with optional blocks of this length in all, where key and padding fit it.
+fn text_length(optional: usize, key: usize, pad: usize) -> Option<usize>
     requires { IsTdesLength key }
-    ensures { MatchOption result (¬ FitsKeyBlock key pad)
-        (λ total. FitsKeyBlock key pad × (total ≡ 32 + 2 * (2 + key + pad))) }
+    ensures { MatchOption result (¬ FitsKeyBlockWith optional key pad)
+        (λ total. FitsKeyBlockWith optional key pad
+        × (total ≡ 32 + optional + 2 * (2 + key + pad))) }
 {
     let payload = pad.checked_add(2 + key)?;
-    if payload % 8 == 0 && payload <= MAX_PAYLOAD {
-        Some(32 + 2 * payload)
+    if payload % 8 == 0 && payload <= MAX_PAYLOAD && optional <= MAX_TEXT - 32 - 2 * payload {
+        Some(32 + optional + 2 * payload)
     } else {
         None
     }

@@ -1,5 +1,5 @@
 -- How a call ends: this project's own.
-use Rattle.std.specs.Prelude.{◌≡◌, ℕ, List, ◌++◌, drop, length, map, Result, Ok, Err}
+use Rattle.std.specs.Prelude.{◌≡◌, ◌≤◌, ℕ, List, [], ◌∷◌, ◌++◌, drop, length, map, Result, Ok, Err}
 use Rattle.duk_calls.specs.Fault.{fault_number}
 use Rattle.duk_calls.specs.declared.fault.Fault.{Fault}
 use Rattle.duk_calls.specs.declared.fault.Fault.TheVariants.{Length}
@@ -36,6 +36,12 @@ EndsIfFit Fit Done Unwritten = Ends (Fit × Done) (IsUnfit Fit) Unwritten
 -- slices fit: they have these lengths
 abbrev pub HaveLengths : List (List ℕ) → List ℕ → Type 0
 HaveLengths slices lengths = map length slices ≡ lengths
+
+-- slices have room: they have at least these lengths
+abbrev pub HaveRoom : List (List ℕ) → List ℕ → Type 0
+HaveRoom [] [] = Unit {0}
+HaveRoom (slice ∷ slices) (size ∷ sizes) = (size ≤ length slice) × HaveRoom slices sizes
+HaveRoom _ _ = ⊥
 
 -- a slice in whose front a call writes, and the number that says how many bytes it wrote
 pub record Buffer : Type 0 where

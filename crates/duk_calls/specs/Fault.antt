@@ -38,6 +38,13 @@ fault_number fault.NotMine = 26
 fault_number fault.BadMac = 27
 fault_number fault.PartOfFrame = 28
 fault_number fault.TooLong = 29
+fault_number fault.NotReversed = 30
+fault_number fault.NotAReversal = 31
+fault_number fault.NotAState = 32
+fault_number fault.NotAReversalReply = 33
+fault_number fault.OtherUsage = 34
+fault_number fault.OtherKeyLength = 35
+fault_number fault.NoOptionalBlock = 36
 
 -- a fault's name
 abbrev pub fault_name : Fault → List ℕ
@@ -60,3 +67,10 @@ fault_name fault.NotMine = codes "NotMine"
 fault_name fault.BadMac = codes "BadMac"
 fault_name fault.PartOfFrame = codes "PartOfFrame"
 fault_name fault.TooLong = codes "TooLong"
+fault_name fault.NotReversed = codes "NotReversed"
+fault_name fault.NotAReversal = codes "NotAReversal"
+fault_name fault.NotAState = codes "NotAState"
+fault_name fault.NotAReversalReply = codes "NotAReversalReply"
+fault_name fault.OtherUsage = codes "OtherUsage"
+fault_name fault.OtherKeyLength = codes "OtherKeyLength"
+fault_name fault.NoOptionalBlock = codes "NoOptionalBlock"

@@ -2,7 +2,7 @@
 use Rattle.std.specs.Prelude.{◌≡◌, ℕ, List, [], ◌∷◌}
 use Rattle.duk_tree.specs.Derivation.{derived_key_of, initial_key_of, transaction_key_of}
 use Rattle.duk_tree.specs.Serial.{serial_of_bytes}
-use Rattle.duk_calls.specs.Answer.{Answer, Ends, EndsIfFit, HaveLengths}
+use Rattle.duk_calls.specs.Answer.{Answer, Ends, EndsIfFit, HaveLengths, HaveRoom, with_front}
 use Rattle.duk_calls.specs.declared.fault.Fault.{Fault}
 use Rattle.duk_calls.specs.declared.fault.Fault.TheVariants.{Length, NotInitial}
 
@@ -14,9 +14,10 @@ IsInitial iksn = (serial_of_bytes iksn).counter ≡ 0
 abbrev pub iksn_of : List ℕ → ℕ
 iksn_of bytes = (serial_of_bytes bytes).iksn
 
--- a slice of 16 bytes, one of 10, and one of 16
+-- a slice of 16 bytes, one of 10, and room for 16
 abbrev pub FitDerivation : List ℕ → List ℕ → List ℕ → Type 0
-FitDerivation key ksn out = HaveLengths (key ∷ ksn ∷ out ∷ []) (16 ∷ 10 ∷ 16 ∷ [])
+FitDerivation key ksn out =
+    HaveLengths (key ∷ ksn ∷ []) (16 ∷ 10 ∷ []) × HaveRoom (out ∷ []) (16 ∷ [])
 
 abbrev pub IsInitialKeyRefused : Type 0 → List ℕ → Fault → Type 0
 IsInitialKeyRefused Fit iksn Length = ¬ Fit
@@ -26,13 +27,13 @@ IsInitialKeyRefused Fit iksn _ = ⊥
 abbrev pub InitialKeyAnswers : List ℕ → List ℕ → List ℕ → List ℕ → Answer → Type 0
 InitialKeyAnswers bdk iksn old new =
     let Fit = FitDerivation bdk iksn old in
-    Ends (Fit × IsInitial iksn × (new ≡ initial_key_of bdk (iksn_of iksn)))
+    Ends (Fit × IsInitial iksn × (new ≡ with_front (initial_key_of bdk (iksn_of iksn)) old))
     (IsInitialKeyRefused Fit iksn) (new ≡ old)
 
 abbrev pub DeriveAnswers : List ℕ → List ℕ → List ℕ → List ℕ → Answer → Type 0
 DeriveAnswers bdk ksn old new =
-    EndsIfFit (FitDerivation bdk ksn old) (new ≡ derived_key_of bdk (serial_of_bytes ksn))
-    (new ≡ old)
+    EndsIfFit (FitDerivation bdk ksn old)
+    (new ≡ with_front (derived_key_of bdk (serial_of_bytes ksn)) old) (new ≡ old)
 
 -- the transaction key of ten bytes, under the initial key of their terminal
 abbrev pub key_under : List ℕ → List ℕ → List ℕ
@@ -41,9 +42,11 @@ key_under initial ksn =
 
 abbrev pub DeriveFromInitialAnswers : List ℕ → List ℕ → List ℕ → List ℕ → Answer → Type 0
 DeriveFromInitialAnswers initial ksn old new =
-    EndsIfFit (FitDerivation initial ksn old) (new ≡ key_under initial ksn) (new ≡ old)
+    EndsIfFit (FitDerivation initial ksn old) (new ≡ with_front (key_under initial ksn) old)
+    (new ≡ old)
 
--- a variant of a transaction key
+-- a variant of a transaction key, or a key that is made of one
 abbrev pub VariantAnswers : (List ℕ → List ℕ) → List ℕ → List ℕ → List ℕ → Answer → Type 0
 VariantAnswers variant_of key old new =
-    EndsIfFit (HaveLengths (key ∷ old ∷ []) (16 ∷ 16 ∷ [])) (new ≡ variant_of key) (new ≡ old)
+    EndsIfFit (HaveLengths (key ∷ []) (16 ∷ []) × HaveRoom (old ∷ []) (16 ∷ []))
+    (new ≡ with_front (variant_of key) old) (new ≡ old)

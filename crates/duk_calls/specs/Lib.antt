@@ -10,3 +10,4 @@ pub mod Blocks
 pub mod Frames
 pub mod Requests
 pub mod Replies
+pub mod Reversals

@@ -4,7 +4,7 @@ use Rattle.std.specs.Prelude.{◌≡◌, ℕ, List, [], ◌∷◌, ⊤}
 use Rattle.duk_tree.specs.Next.{IsLast, IsNextUsable}
 use Rattle.duk_tree.specs.Path.{IsUsable}
 use Rattle.duk_tree.specs.Serial.{serial_bytes, serial_of_bytes}
-use Rattle.duk_calls.specs.Answer.{Answer, Ends, HaveLengths}
+use Rattle.duk_calls.specs.Answer.{Answer, Ends, HaveLengths, HaveRoom, with_front}
 use Rattle.duk_calls.specs.declared.fault.Fault.{Fault}
 use Rattle.duk_calls.specs.declared.fault.Fault.TheVariants.{Length, NotUsable, Spent}
 
@@ -22,12 +22,14 @@ CheckUsableAnswers ksn =
     let Fit = HaveLengths (ksn ∷ []) (10 ∷ []) in
     Ends (Fit × IsUsable (counter_of ksn)) (IsNotUsable Fit ksn) ⊤
 
--- the ten bytes of the next key serial number of a terminal
-pub record IsNextNumber (ksn next : List ℕ) : Type 0 where
+-- the front of a slice holds the ten bytes of the next key serial number of a terminal
+pub record HoldsNextNumber (ksn old new : List ℕ) : Type 0 where
   pub counter : ℕ
   pub is_next : IsNextUsable (counter_of ksn) counter
-  pub bytes_are : next
-      ≡ serial_bytes (record { iksn = (serial_of_bytes ksn).iksn; counter = counter })
+  pub written : new
+      ≡ with_front
+      (serial_bytes (record { iksn = (serial_of_bytes ksn).iksn; counter = counter }))
+      old
 
 abbrev pub HasNoNext : Type 0 → List ℕ → Fault → Type 0
 HasNoNext Fit ksn Length = ¬ Fit
@@ -36,5 +38,5 @@ HasNoNext Fit ksn _ = ⊥
 
 abbrev pub NextNumberAnswers : List ℕ → List ℕ → List ℕ → Answer → Type 0
 NextNumberAnswers ksn old new =
-    let Fit = HaveLengths (ksn ∷ old ∷ []) (10 ∷ 10 ∷ []) in
-    Ends (Fit × IsNextNumber ksn new) (HasNoNext Fit ksn) (new ≡ old)
+    let Fit = HaveLengths (ksn ∷ []) (10 ∷ []) × HaveRoom (old ∷ []) (10 ∷ []) in
+    Ends (Fit × HoldsNextNumber ksn old new) (HasNoNext Fit ksn) (new ≡ old)

@@ -5,7 +5,7 @@ use Rattle.duk_pin.specs.Pin.{HasPinLength, IsPin}
 use Rattle.duk_pin.specs.PinBlock.{IsPinBlock, pin_block}
 use Rattle.duk_pin.specs.declared.fault.PinFault.{PinFault}
 use Rattle.duk_pin.specs.declared.fault.PinFault.TheVariants.{PinLength, PinDigit, PanLength, PanDigit}
-use Rattle.duk_calls.specs.Answer.{Answer, Buffer, Ends, HaveLengths, filled}
+use Rattle.duk_calls.specs.Answer.{Answer, Buffer, Ends, HaveLengths, HaveRoom, filled, with_front}
 use Rattle.duk_calls.specs.declared.fault.Fault.{Fault}
 use Rattle.duk_calls.specs.declared.fault.Fault.TheVariants.{Length, Pin, NotAPinBlock}
 
@@ -28,9 +28,9 @@ IsPinBlockRefused Fit pin pan _ = ⊥
 
 abbrev pub PinBlockAnswers : List ℕ → List ℕ → List ℕ → List ℕ → Answer → Type 0
 PinBlockAnswers pin pan old new =
-    let Fit = HaveLengths (old ∷ []) (8 ∷ []) in
-    Ends (Fit × IsPin pin × IsPan pan × (new ≡ pin_block pin pan)) (IsPinBlockRefused Fit pin pan)
-    (new ≡ old)
+    let Fit = HaveRoom (old ∷ []) (8 ∷ []) in
+    Ends (Fit × IsPin pin × IsPan pan × (new ≡ with_front (pin_block pin pan) old))
+    (IsPinBlockRefused Fit pin pan) (new ≡ old)
 
 -- the buffer holds the PIN of a block under a PAN
 pub record HoldsPinOf (block pan : List ℕ) (old new : Buffer) : Type 0 where
@@ -50,5 +50,5 @@ IsPinOfBlockRefused Fit block pan _ = ⊥
 
 abbrev pub PinOfBlockAnswers : List ℕ → List ℕ → Buffer → Buffer → Answer → Type 0
 PinOfBlockAnswers block pan old new =
-    let Fit = HaveLengths (block ∷ old.bytes ∷ []) (8 ∷ 12 ∷ []) in
+    let Fit = HaveLengths (block ∷ []) (8 ∷ []) × HaveRoom (old.bytes ∷ []) (12 ∷ []) in
     Ends (Fit × HoldsPinOf block pan old new) (IsPinOfBlockRefused Fit block pan) (new ≡ old)

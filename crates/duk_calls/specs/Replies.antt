@@ -7,7 +7,7 @@ use Rattle.duk_frame.specs.Frame.{framed}
 use Rattle.duk_frame.specs.Payment.{payment_reply}
 use Rattle.duk_frame.specs.declared.code.Code.{Code}
 use Rattle.duk_tree.specs.Serial.{Serial, serial_bytes, serial_of_bytes}
-use Rattle.duk_calls.specs.Answer.{Answer, Buffer, Ends, HaveLengths, filled}
+use Rattle.duk_calls.specs.Answer.{Answer, Buffer, Ends, HaveLengths, HaveRoom, filled, with_front}
 use Rattle.duk_calls.specs.declared.fault.Fault.{Fault}
 use Rattle.duk_calls.specs.declared.fault.Fault.TheVariants.{Length, NotAReply, NotARefusal, NotACode, NotAReason, NotMine, BadMac}
 
@@ -26,9 +26,14 @@ IsReplyRefused Fit digits Length = ¬ Fit
 IsReplyRefused Fit digits NotACode = Fit × IsNoCode digits
 IsReplyRefused Fit digits _ = ⊥
 
-abbrev pub ReplyAnswers : List ℕ → List ℕ → List ℕ → Buffer → Buffer → Answer → Type 0
-ReplyAnswers key ksn digits old new =
-    let Fit = HaveLengths (key ∷ ksn ∷ digits ∷ old.bytes ∷ []) (16 ∷ 10 ∷ 2 ∷ 64 ∷ []) in
+-- a transaction key, a key serial number, two digits, and room for a frame
+abbrev pub FitReply : List ℕ → List ℕ → List ℕ → List ℕ → Type 0
+FitReply key ksn digits frame =
+    HaveLengths (key ∷ ksn ∷ digits ∷ []) (16 ∷ 10 ∷ 2 ∷ []) × HaveRoom (frame ∷ []) (64 ∷ [])
+
+abbrev pub RequestReplyAnswers : List ℕ → List ℕ → List ℕ → Buffer → Buffer → Answer → Type 0
+RequestReplyAnswers key ksn digits old new =
+    let Fit = FitReply key ksn digits old.bytes in
     Ends (Fit × HoldsReply key ksn digits old new) (IsReplyRefused Fit digits) (new ≡ old)
 
 abbrev pub IsRefusalRefused : Type 0 → ℕ → Fault → Type 0
@@ -36,9 +41,9 @@ IsRefusalRefused Fit reason Length = ¬ Fit
 IsRefusalRefused Fit reason NotAReason = Fit × ¬ IsReason reason
 IsRefusalRefused Fit reason _ = ⊥
 
-abbrev pub RefusalAnswers : List ℕ → ℕ → Buffer → Buffer → Answer → Type 0
-RefusalAnswers ksn reason old new =
-    let Fit = HaveLengths (ksn ∷ old.bytes ∷ []) (10 ∷ 64 ∷ []) in
+abbrev pub RequestRefusalAnswers : List ℕ → ℕ → Buffer → Buffer → Answer → Type 0
+RequestRefusalAnswers ksn reason old new =
+    let Fit = HaveLengths (ksn ∷ []) (10 ∷ []) × HaveRoom (old.bytes ∷ []) (64 ∷ []) in
     Ends (Fit × IsReason reason × (new ≡ filled (framed (refusal_text ksn reason)) old))
     (IsRefusalRefused Fit reason) (new ≡ old)
 
@@ -55,13 +60,13 @@ abbrev pub reply_parts : List ℕ → List ℕ → ReplyParts
 reply_parts ksn digits = record { ksn = ksn; digits = digits }
 
 -- these are the fields of the accepted reply in a frame
-pub record HoldsReplyParts (frame : List ℕ) (new : ReplyParts) : Type 0 where
+pub record HoldsReplyParts (frame : List ℕ) (old new : ReplyParts) : Type 0 where
   pub ksn : Serial
   pub code : Code
   pub mac : List ℕ
   pub is_reply : IsReply frame ksn code mac
-  pub ksn_is : new.ksn ≡ serial_bytes ksn
-  pub digits_are : new.digits ≡ code_text code
+  pub ksn_is : new.ksn ≡ with_front (serial_bytes ksn) old.ksn
+  pub digits_are : new.digits ≡ with_front (code_text code) old.digits
 
 abbrev pub IsReadReplyRefused : Type 0 → List ℕ → Fault → Type 0
 IsReadReplyRefused Fit frame Length = ¬ Fit
@@ -70,8 +75,8 @@ IsReadReplyRefused Fit frame _ = ⊥
 
 abbrev pub ReadReplyAnswers : List ℕ → ReplyParts → ReplyParts → Answer → Type 0
 ReadReplyAnswers frame old new =
-    let Fit = HaveLengths (old.ksn ∷ old.digits ∷ []) (10 ∷ 2 ∷ []) in
-    Ends (Fit × HoldsReplyParts frame new) (IsReadReplyRefused Fit frame) (new ≡ old)
+    let Fit = HaveRoom (old.ksn ∷ old.digits ∷ []) (10 ∷ 2 ∷ []) in
+    Ends (Fit × HoldsReplyParts frame old new) (IsReadReplyRefused Fit frame) (new ≡ old)
 
 -- the bytes are no refusal's frame
 abbrev pub IsNoRefusal : List ℕ → Type 0
@@ -86,10 +91,10 @@ abbrev pub refusal_parts : List ℕ → ℕ → RefusalParts
 refusal_parts ksn reason = record { ksn = ksn; reason = reason }
 
 -- these are the fields of the refusal in a frame
-pub record HoldsRefusalParts (frame : List ℕ) (new : RefusalParts) : Type 0 where
+pub record HoldsRefusalParts (frame : List ℕ) (old new : RefusalParts) : Type 0 where
   pub ksn : Serial
   pub is_refusal : IsRefusal frame ksn new.reason
-  pub ksn_is : new.ksn ≡ serial_bytes ksn
+  pub ksn_is : new.ksn ≡ with_front (serial_bytes ksn) old.ksn
 
 abbrev pub IsReadRefusalRefused : Type 0 → List ℕ → Fault → Type 0
 IsReadRefusalRefused Fit frame Length = ¬ Fit
@@ -98,8 +103,8 @@ IsReadRefusalRefused Fit frame _ = ⊥
 
 abbrev pub ReadRefusalAnswers : List ℕ → RefusalParts → RefusalParts → Answer → Type 0
 ReadRefusalAnswers frame old new =
-    let Fit = HaveLengths (old.ksn ∷ []) (10 ∷ []) in
-    Ends (Fit × HoldsRefusalParts frame new) (IsReadRefusalRefused Fit frame) (new ≡ old)
+    let Fit = HaveRoom (old.ksn ∷ []) (10 ∷ []) in
+    Ends (Fit × HoldsRefusalParts frame old new) (IsReadRefusalRefused Fit frame) (new ≡ old)
 
 -- the frame is the accepted reply of the payment with this transaction key and this number
 pub record IsAuthenticReply (key ksn frame : List ℕ) : Type 0 where

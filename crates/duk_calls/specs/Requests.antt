@@ -12,7 +12,7 @@ use Rattle.duk_pin.specs.PinBlock.{IsPinBlock}
 use Rattle.duk_tdes.specs.Tdes.{tdes_decrypted}
 use Rattle.duk_tree.specs.Derivation.{pin_key_of, request_key_of}
 use Rattle.duk_tree.specs.Serial.{serial_bytes, serial_of_bytes}
-use Rattle.duk_calls.specs.Answer.{Answer, Buffer, Ends, HaveLengths, filled}
+use Rattle.duk_calls.specs.Answer.{Answer, Buffer, Ends, HaveLengths, HaveRoom, filled, with_front}
 use Rattle.duk_calls.specs.Pins.{IsNoPan, IsNoPin}
 use Rattle.duk_calls.specs.declared.fault.Fault.{Fault}
 use Rattle.duk_calls.specs.declared.fault.Fault.TheVariants.{Length, Pin, NotAPinBlock, NotARequest, BadMac}
@@ -40,9 +40,14 @@ IsPaymentRefused Fit asked (Pin why) =
     Fit × (IsNoPan asked.pan why ⊎ (IsPan asked.pan × IsNoPin asked.pin why))
 IsPaymentRefused Fit asked _ = ⊥
 
+-- a transaction key, a key serial number, and room for a frame
+abbrev pub FitPayment : Payment → List ℕ → Type 0
+FitPayment asked frame =
+    HaveLengths (asked.key ∷ asked.ksn ∷ []) (16 ∷ 10 ∷ []) × HaveRoom (frame ∷ []) (64 ∷ [])
+
 abbrev pub PaymentRequestAnswers : Payment → Buffer → Buffer → Answer → Type 0
 PaymentRequestAnswers asked old new =
-    let Fit = HaveLengths (asked.key ∷ asked.ksn ∷ old.bytes ∷ []) (16 ∷ 10 ∷ 64 ∷ []) in
+    let Fit = FitPayment asked old.bytes in
     Ends (Fit × IsPan asked.pan × IsPin asked.pin × (new ≡ filled (request_of_payment asked) old))
     (IsPaymentRefused Fit asked) (new ≡ old)
 
@@ -66,16 +71,16 @@ request_parts ksn pan amount block mac =
 pub record HoldsRequest (frame : List ℕ) (old new : RequestParts) : Type 0 where
   pub request : Request
   pub is_request : IsRequest frame request
-  pub ksn_is : new.ksn ≡ serial_bytes request.ksn
+  pub ksn_is : new.ksn ≡ with_front (serial_bytes request.ksn) old.ksn
   pub pan_is : new.pan ≡ filled request.pan old.pan
   pub amount_is : new.amount ≡ request.amount
-  pub block_is : new.block ≡ request.block
-  pub mac_is : new.mac ≡ request.mac
+  pub block_is : new.block ≡ with_front request.block old.block
+  pub mac_is : new.mac ≡ with_front request.mac old.mac
 
 -- room for the fields of a request
 abbrev pub FitRequest : RequestParts → Type 0
 FitRequest parts =
-    HaveLengths (parts.ksn ∷ parts.pan.bytes ∷ parts.block ∷ parts.mac ∷ [])
+    HaveRoom (parts.ksn ∷ parts.pan.bytes ∷ parts.block ∷ parts.mac ∷ [])
     (10 ∷ 19 ∷ 8 ∷ 8 ∷ [])
 
 abbrev pub IsReadRefused : Type 0 → List ℕ → Fault → Type 0
@@ -143,6 +148,6 @@ IsRequestPinRefused Fit key frame _ = ⊥
 
 abbrev pub RequestPinAnswers : List ℕ → List ℕ → Buffer → Buffer → Answer → Type 0
 RequestPinAnswers key frame old new =
-    let Fit = HaveLengths (key ∷ old.bytes ∷ []) (16 ∷ 12 ∷ []) in
+    let Fit = HaveLengths (key ∷ []) (16 ∷ []) × HaveRoom (old.bytes ∷ []) (12 ∷ []) in
     Ends (Fit × HoldsPinOfRequest key frame old new) (IsRequestPinRefused Fit key frame)
     (new ≡ old)

@@ -53,6 +53,14 @@ pub(crate) fn initial_number(iksn: &[u8]) -> Option<Iksn>
     }
 }
 
+/// Writes bytes in the front of a slice, and leaves those behind them as they were.
+pub(crate) fn write_front(front: &[u8], bytes: &mut [u8])
+    requires { length front.now ≤ length bytes.old }
+    ensures { bytes.new ≡ with_front front.now bytes.old }
+{
+    bytes[..front.len()].copy_from_slice(front);
+}
+
 /// Writes bytes in the front of a slice, and how many they are.
 pub(crate) fn fill(front: &[u8], bytes: &mut [u8], count: &mut u32)
     requires room { length front.now ≤ length bytes.old }
@@ -60,6 +68,6 @@ pub(crate) fn fill(front: &[u8], bytes: &mut [u8], count: &mut u32)
     ensures bytes { bytes.new ≡ with_front front.now bytes.old }
     ensures count { count.new ≡ length front.now }
 {
-    bytes[..front.len()].copy_from_slice(front);
+    write_front(front, bytes);
     *count = front.len() as u32;
 }

@@ -1,21 +1,31 @@
 //! Key blocks (ANSI X9.143, version B).
 
-ghost use Rattle.std.specs.Prelude.{◌≡◌, IfErr, IfOk, length};
+ghost use Rattle.std.specs.Prelude.{◌≡◌, ◌≤◌, IfErr, IfOk, length};
 ghost use Rattle.duk_block.specs.Faults.{IsFirstFault};
 ghost use Rattle.duk_block.specs.KeyBlock.{Wraps};
 ghost use Rattle.duk_tdes.specs.KeyBytes.{bytes_of};
 ghost use Rattle.duk_tdes.specs.Tdes.{IsTdesLength};
-ghost use Rattle.duk_calls.specs.Answer.{buffer, filled};
-ghost use Rattle.duk_calls.specs.Blocks.{IsNotWrapped, IsWrapped, UnwrapAnswers, WrapAnswers, unwrapped, wrapping};
+ghost use Rattle.duk_calls.specs.Answer.{buffer, with_front};
+ghost use Rattle.duk_calls.specs.Blocks.{IsNotWrapped, IsWrapped, UnwrapAnswers, UnwrapForAnswers, WrapAnswers, unwrapped, wanting, wrapping};
 
-use crate::arguments::{fill, tdes_key};
+use crate::arguments::{fill, tdes_key, write_front};
 use crate::fault::Fault;
 use duk_block::{BlockFault, BlockText, Header};
 use duk_tdes::{Key, KeyBytes, array_of};
 
+/// The characters that a key block has room for.
+pub(crate) const TEXT_ROOM: usize = 512;
+
+/// The bytes that a key has room for.
+const KEY_ROOM: usize = 24;
+
+/// The algorithm of TDES keys.
+const TDES: u8 = b'T';
+
 /// Writes the key block of a key (16 or 24 bytes) under the key block protection key (16 or 24
-/// bytes) in the front of a slice of 512 bytes, and the number of its characters. `header` is
-/// usage, algorithm, mode, version and exportability, 7 characters; `padding` stands after the key.
+/// bytes) in the front of a slice of at least 512 bytes, and the number of its characters. `header`
+/// is usage, algorithm, mode, version and exportability, 7 characters; `padding` stands after the
+/// key.
 ///
 /// Refused with, in this order: `Length`; `BlockHeaderField`, where a character of the header
 /// cannot be printed; `BlockPadLength`, where the payload would not be made of whole blocks, or the
@@ -33,7 +43,7 @@ pub fn wrap(
 {
     let kbpk = tdes_key(kbpk).ok_or(Fault::Length)?;
     let key = tdes_key(key).ok_or(Fault::Length)?;
-    if [header.len(), text.len()] != [7, 512] {
+    if header.len() != 7 || text.len() < TEXT_ROOM {
         return Err(Fault::Length);
     }
     let header = Header::from_fields(array_of(header));
@@ -46,9 +56,9 @@ pub fn wrap(
     }
 }
 
-/// Writes the header (7 characters) of a key block under the key block protection key (16 or 24
-/// bytes), its key in the front of a slice of 24 bytes, and the number of the key's bytes, 16 or
-/// 24.
+/// Writes the header of a key block under the key block protection key (16 or 24 bytes) in the
+/// front of a slice of at least 7 bytes, its key in the front of one of at least 24, and the number
+/// of the key's bytes, 16 or 24.
 ///
 /// Refused with, in this order: `Length`; the block's first of `BlockLength`, `BlockVersion`,
 /// `BlockHeaderField`, `BlockOptionalBlock`, `BlockHex`, `BlockMac` and `BlockPayload`.
@@ -64,17 +74,52 @@ pub fn unwrap(
         (unwrapped header.new (buffer key.new key_length.new)) result }
 {
     let kbpk = tdes_key(kbpk).ok_or(Fault::Length)?;
-    if [header.len(), key.len()] != [7, 24] {
+    if header.len() < 7 || key.len() < KEY_ROOM {
         return Err(Fault::Length);
     }
     match unwrap_under(&kbpk, text) {
         Ok((found, found_key)) => {
-            header.copy_from_slice(&found.fields());
-            fill_key(&found_key, key, key_length);
+            write_front(&found.fields(), header);
+            write_key(&found_key, key);
+            *key_length = length_of(&found_key);
             Ok(())
         }
         Err(fault) => Err(Fault::Block(fault)),
     }
+}
+
+/// Writes the key of a key block under the key block protection key (16 or 24 bytes) in the front
+/// of a slice of at least 24 bytes, where the block has this key usage (2 characters), its key is
+/// of algorithm `T` (TDES), and has as many bytes as are wanted, 16 or 24. The mode of use is not
+/// compared: `unwrap` writes it.
+///
+/// Refused with, in this order: `Length`, also where another number of bytes is wanted; the block's
+/// first fault, as by `unwrap`; `OtherUsage`, also for another algorithm; `OtherKeyLength`.
+pub fn unwrap_for(
+    kbpk: &[u8],
+    usage: &[u8],
+    wanted: u32,
+    text: &[u8],
+    key: &mut [u8],
+) -> Result<(), Fault>
+    ensures { UnwrapForAnswers (wanting kbpk.now usage.now wanted text.now) key.old key.new result }
+{
+    let kbpk = tdes_key(kbpk).ok_or(Fault::Length)?;
+    if usage.len() != 2 || ![16, 24].contains(&wanted) || key.len() < KEY_ROOM {
+        return Err(Fault::Length);
+    }
+    let (header, found) = match unwrap_under(&kbpk, text) {
+        Ok(found) => found,
+        Err(fault) => return Err(Fault::Block(fault)),
+    };
+    if header.usage.as_slice() != usage || header.algorithm != TDES {
+        return Err(Fault::OtherUsage);
+    }
+    if length_of(&found) != wanted {
+        return Err(Fault::OtherKeyLength);
+    }
+    write_key(&found, key);
+    Ok(())
 }
 
 /// The key block of a key under a protection key, each of either length.
@@ -144,14 +189,23 @@ fn unwrap_under(kbpk: &KeyBytes, text: &[u8]) -> Result<(Header, KeyBytes), Bloc
     }
 }
 
-/// Writes a key in the front of a slice with room for the longer one, and the number of its bytes.
-fn fill_key(key: &KeyBytes, bytes: &mut [u8], count: &mut u32)
-    requires { length bytes.old ≡ 24 }
-    ensures { buffer bytes.new count.new
-        ≡ filled (bytes_of key.now) (buffer bytes.old count.old) }
+/// The number of a key's bytes.
+fn length_of(key: &KeyBytes) -> u32
+    ensures { result ≡ length (bytes_of key.now) }
 {
     match key {
-        KeyBytes::Double(key) => fill(&key.bytes(), bytes, count),
-        KeyBytes::Triple(key) => fill(&key.bytes(), bytes, count),
+        KeyBytes::Double(key) => key.bytes().len() as u32,
+        KeyBytes::Triple(key) => key.bytes().len() as u32,
+    }
+}
+
+/// Writes a key in the front of a slice with room for the longer one.
+fn write_key(key: &KeyBytes, bytes: &mut [u8])
+    requires { KEY_ROOM ≤ length bytes.old }
+    ensures { bytes.new ≡ with_front (bytes_of key.now) bytes.old }
+{
+    match key {
+        KeyBytes::Double(key) => write_front(&key.bytes(), bytes),
+        KeyBytes::Triple(key) => write_front(&key.bytes(), bytes),
     }
 }

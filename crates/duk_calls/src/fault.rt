@@ -50,6 +50,21 @@ pub enum Fault {
     PartOfFrame,
     /// 29: a length above 62 stands where a frame would begin.
     TooLong,
+    /// 30: the key serial number cannot reverse that one: the two have not the same initial key
+    /// serial number, are one number, or the reversed one is not usable.
+    NotReversed,
+    /// 31: the bytes are no reversal's frame.
+    NotAReversal,
+    /// 32: the state of a reversal's reply is neither 1 nor 0.
+    NotAState,
+    /// 33: the bytes are no frame of a reversal's reply.
+    NotAReversalReply,
+    /// 34: the key block is for another key usage.
+    OtherUsage,
+    /// 35: the key in the block has another length.
+    OtherKeyLength,
+    /// 36: the key block has no optional block with this id.
+    NoOptionalBlock,
 }
 
 impl Fault {
@@ -87,6 +102,13 @@ impl Fault {
             Fault::BadMac => 27,
             Fault::PartOfFrame => 28,
             Fault::TooLong => 29,
+            Fault::NotReversed => 30,
+            Fault::NotAReversal => 31,
+            Fault::NotAState => 32,
+            Fault::NotAReversalReply => 33,
+            Fault::OtherUsage => 34,
+            Fault::OtherKeyLength => 35,
+            Fault::NoOptionalBlock => 36,
         }
     }
 }
@@ -118,6 +140,13 @@ impl fmt::Display for Fault {
             Fault::BadMac => f.write_str("BadMac"),
             Fault::PartOfFrame => f.write_str("PartOfFrame"),
             Fault::TooLong => f.write_str("TooLong"),
+            Fault::NotReversed => f.write_str("NotReversed"),
+            Fault::NotAReversal => f.write_str("NotAReversal"),
+            Fault::NotAState => f.write_str("NotAState"),
+            Fault::NotAReversalReply => f.write_str("NotAReversalReply"),
+            Fault::OtherUsage => f.write_str("OtherUsage"),
+            Fault::OtherKeyLength => f.write_str("OtherKeyLength"),
+            Fault::NoOptionalBlock => f.write_str("NoOptionalBlock"),
         }
     }
 }

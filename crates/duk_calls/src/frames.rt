@@ -38,7 +38,7 @@ pub fn frame_length(bytes: &[u8], count: &mut u32) -> Result<(), Fault>
 
 /// Writes a frame in the front of a slice with room for any, and the number of its bytes.
 pub(crate) fn fill_frame(frame: &Frame, bytes: &mut [u8], count: &mut u32)
-    requires { length bytes.old ≡ FRAME_ROOM }
+    requires { FRAME_ROOM ≤ length bytes.old }
     ensures { buffer bytes.new count.new ≡ filled frame.now.items (buffer bytes.old count.old) }
 {
     fill(frame.as_slice(), bytes, count);

@@ -7,62 +7,65 @@ ghost use Rattle.duk_mac.specs.Cmac.{cmac_of};
 ghost use Rattle.duk_tdes.specs.KeyBytes.{bytes_of};
 ghost use Rattle.duk_calls.specs.Macs.{CheckValueAnswers, CmacAnswers, RetailMacAnswers};
 
-use crate::arguments::{double_key, tdes_key};
+use crate::arguments::{double_key, tdes_key, write_front};
 use crate::fault::Fault;
 use duk_tdes::KeyBytes;
 
-/// Writes the CMAC (8 bytes) of a message of any length, under a key of 16 or 24 bytes.
+/// Writes the CMAC of a message of any length, under a key of 16 or 24 bytes, in the front of a
+/// slice of at least 8 bytes.
 ///
 /// Refused with `Length`.
 pub fn cmac(key: &[u8], message: &[u8], mac: &mut [u8]) -> Result<(), Fault>
     ensures { CmacAnswers key.now message.now mac.old mac.new result }
 {
     let key = tdes_key(key).ok_or(Fault::Length)?;
-    if mac.len() != 8 {
+    if mac.len() < 8 {
         return Err(Fault::Length);
     }
-    mac.copy_from_slice(&cmac_under(&key, message));
+    write_front(&cmac_under(&key, message), mac);
     Ok(())
 }
 
-/// Writes the retail MAC (8 bytes) of a message of one byte or more, under a key of 16 bytes.
+/// Writes the retail MAC of a message of one byte or more, under a key of 16 bytes, in the front of
+/// a slice of at least 8 bytes.
 ///
 /// Refused with `Length`.
 pub fn retail_mac(key: &[u8], message: &[u8], mac: &mut [u8]) -> Result<(), Fault>
     ensures { RetailMacAnswers key.now message.now mac.old mac.new result }
 {
-    if [key.len(), mac.len()] != [16, 8] || message.is_empty() {
+    if key.len() != 16 || message.is_empty() || mac.len() < 8 {
         return Err(Fault::Length);
     }
-    mac.copy_from_slice(&duk_mac::retail(&double_key(key), message));
+    write_front(&duk_mac::retail(&double_key(key), message), mac);
     Ok(())
 }
 
-/// Writes the check value (3 bytes) of a key of 16 or 24 bytes.
+/// Writes the check value of a key of 16 or 24 bytes in the front of a slice of at least 3 bytes.
 ///
 /// Refused with `Length`.
 pub fn check_value(key: &[u8], value: &mut [u8]) -> Result<(), Fault>
     ensures { CheckValueAnswers check_value_of 3 key.now value.old value.new result }
 {
     let key = tdes_key(key).ok_or(Fault::Length)?;
-    if value.len() != 3 {
+    if value.len() < 3 {
         return Err(Fault::Length);
     }
-    value.copy_from_slice(&check_value_under(&key));
+    write_front(&check_value_under(&key), value);
     Ok(())
 }
 
-/// Writes the check value by CMAC (5 bytes) of a key of 16 or 24 bytes.
+/// Writes the check value by CMAC of a key of 16 or 24 bytes in the front of a slice of at least 5
+/// bytes.
 ///
 /// Refused with `Length`.
 pub fn cmac_check_value(key: &[u8], value: &mut [u8]) -> Result<(), Fault>
     ensures { CheckValueAnswers cmac_check_value_of 5 key.now value.old value.new result }
 {
     let key = tdes_key(key).ok_or(Fault::Length)?;
-    if value.len() != 5 {
+    if value.len() < 5 {
         return Err(Fault::Length);
     }
-    value.copy_from_slice(&cmac_check_value_under(&key));
+    write_front(&cmac_check_value_under(&key), value);
     Ok(())
 }
 

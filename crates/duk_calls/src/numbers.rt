@@ -2,7 +2,7 @@
 
 ghost use Rattle.duk_calls.specs.Numbers.{CheckUsableAnswers, NextNumberAnswers};
 
-use crate::arguments::serial_number;
+use crate::arguments::{serial_number, write_front};
 use crate::fault::Fault;
 use duk_tree::{next_usable, usable};
 
@@ -23,14 +23,14 @@ pub fn check_usable(ksn: &[u8]) -> Result<(), Fault>
     }
 }
 
-/// Writes the key serial number (10 bytes) that a terminal uses after this one (10 bytes): that
-/// with the least usable counter above its own.
+/// Writes the key serial number that a terminal uses after this one (10 bytes), that with the least
+/// usable counter above its own, in the front of a slice of at least 10 bytes.
 ///
 /// Refused with, in this order: `Length`; `Spent`.
 pub fn next_number(ksn: &[u8], next: &mut [u8]) -> Result<(), Fault>
     ensures { NextNumberAnswers ksn.now next.old next.new result }
 {
-    if [ksn.len(), next.len()] != [10, 10] {
+    if ksn.len() != 10 || next.len() < 10 {
         return Err(Fault::Length);
     }
     duk_tree::laws::bits();
@@ -38,6 +38,6 @@ pub fn next_number(ksn: &[u8], next: &mut [u8]) -> Result<(), Fault>
     let Some(counter) = next_usable(ksn.counter()) else {
         return Err(Fault::Spent);
     };
-    next.copy_from_slice(&ksn.with_counter(counter).bytes());
+    write_front(&ksn.with_counter(counter).bytes(), next);
     Ok(())
 }

@@ -6,29 +6,30 @@ ghost use Rattle.duk_pin.specs.Pin.{IsPin};
 ghost use Rattle.duk_calls.specs.Answer.{buffer};
 ghost use Rattle.duk_calls.specs.Pins.{IsNoPan, IsNoPin, PinBlockAnswers, PinOfBlockAnswers};
 
-use crate::arguments::fill;
+use crate::arguments::{fill, write_front};
 use crate::fault::Fault;
 use duk_pin::{Pan, Pin, PinFault, decode, encode};
 use duk_tdes::array_of;
 use std::str;
 
-/// Writes the PIN block (8 bytes) of a PIN of 4 to 12 ASCII digits and a PAN of 12 to 19.
+/// Writes the PIN block of a PIN of 4 to 12 ASCII digits and a PAN of 12 to 19 in the front of a
+/// slice of at least 8 bytes.
 ///
 /// Refused with, in this order: `Length`; `PinLength`, `PinDigit`; `PanLength`, `PanDigit`.
 pub fn pin_block(pin: &[u8], pan: &[u8], block: &mut [u8]) -> Result<(), Fault>
     ensures { PinBlockAnswers pin.now pan.now block.old block.new result }
 {
-    if block.len() != 8 {
+    if block.len() < 8 {
         return Err(Fault::Length);
     }
     let pin = read_pin(pin).map_err(Fault::Pin)?;
     let pan = read_pan(pan).map_err(Fault::Pin)?;
-    block.copy_from_slice(&encode(&pin, &pan));
+    write_front(&encode(&pin, &pan), block);
     Ok(())
 }
 
 /// Writes the PIN of a PIN block (8 bytes) under a PAN of 12 to 19 ASCII digits in the front of a
-/// slice of 12 bytes, and the number of its digits, 4 to 12.
+/// slice of at least 12 bytes, and the number of its digits, 4 to 12.
 ///
 /// Refused with, in this order: `Length`; `PanLength`, `PanDigit`; `NotAPinBlock`.
 pub fn pin_of_block(
@@ -40,7 +41,7 @@ pub fn pin_of_block(
     ensures { PinOfBlockAnswers block.now pan.now (buffer pin.old pin_length.old)
         (buffer pin.new pin_length.new) result }
 {
-    if [block.len(), pin.len()] != [8, 12] {
+    if block.len() != 8 || pin.len() < 12 {
         return Err(Fault::Length);
     }
     let pan = read_pan(pan).map_err(Fault::Pin)?;

@@ -2,22 +2,25 @@
 //!
 //! An image has 431 bytes. One of 350 bytes, of version 1, is read too, and not written.
 
-ghost use Rattle.std.specs.Prelude.{◌≡◌, MatchOption, length};
+ghost use Rattle.std.specs.Prelude.{◌≡◌, ◌≤◌, MatchOption, length};
 ghost use Rattle.duk_regs.specs.Image.{IsImage, set_in};
-ghost use Rattle.duk_calls.specs.Registers.{LoadAnswers, NumberAnswers, RegistersAtAnswers, ReloadAnswers, Stores, TakeAnswers, taken_parts};
+ghost use Rattle.duk_calls.specs.Registers.{RegistersAtAnswers, RegistersLoadAnswers, RegistersNextAnswers, RegistersNumberAnswers, RegistersReloadAnswers, Stores, next_parts};
 
-use crate::arguments::{double_key, initial_number, serial_number};
+use crate::arguments::{double_key, initial_number, serial_number, write_front};
 use crate::fault::Fault;
 use duk_regs::{Registers, ReloadFault};
 
-/// Writes the image (431 bytes) of a terminal that has used no number yet, from its initial key
-/// (16 bytes) and its initial key serial number (10 bytes).
+/// The bytes of an image that is written.
+const IMAGE_LENGTH: usize = 431;
+
+/// Writes the image of a terminal that has used no number yet, from its initial key (16 bytes) and
+/// its initial key serial number (10 bytes), in the front of a slice of at least 431 bytes.
 ///
 /// Refused with, in this order: `Length`; `NotInitial`.
-pub fn load(initial: &[u8], iksn: &[u8], image: &mut [u8]) -> Result<(), Fault>
-    ensures { LoadAnswers initial.now iksn.now image.old image.new result }
+pub fn registers_load(initial: &[u8], iksn: &[u8], image: &mut [u8]) -> Result<(), Fault>
+    ensures { RegistersLoadAnswers initial.now iksn.now image.old image.new result }
 {
-    if [initial.len(), iksn.len(), image.len()] != [16, 10, 431] {
+    if [initial.len(), iksn.len()] != [16, 10] || image.len() < IMAGE_LENGTH {
         return Err(Fault::Length);
     }
     let Some(iksn) = initial_number(iksn) else {
@@ -28,14 +31,15 @@ pub fn load(initial: &[u8], iksn: &[u8], image: &mut [u8]) -> Result<(), Fault>
     Ok(())
 }
 
-/// Writes the image (431 bytes) of a terminal whose next key serial number is this one (10 bytes),
-/// from its initial key (16 bytes): what `load` and then `take` for each number before it leave.
+/// Writes the image of a terminal whose next key serial number is this one (10 bytes), from its
+/// initial key (16 bytes), in the front of a slice of at least 431 bytes: what `registers_load` and
+/// then `registers_next` for each number before it leave.
 ///
 /// Refused with, in this order: `Length`; `NotUsable`.
 pub fn registers_at(initial: &[u8], ksn: &[u8], image: &mut [u8]) -> Result<(), Fault>
     ensures { RegistersAtAnswers initial.now ksn.now image.old image.new result }
 {
-    if [initial.len(), ksn.len(), image.len()] != [16, 10, 431] {
+    if [initial.len(), ksn.len()] != [16, 10] || image.len() < IMAGE_LENGTH {
         return Err(Fault::Length);
     }
     let initial = double_key(initial);
@@ -46,13 +50,14 @@ pub fn registers_at(initial: &[u8], ksn: &[u8], image: &mut [u8]) -> Result<(), 
     Ok(())
 }
 
-/// Writes the key serial number (10 bytes) that a terminal with this image uses next.
+/// Writes the key serial number that a terminal with this image uses next in the front of a slice
+/// of at least 10 bytes.
 ///
 /// Refused with, in this order: `Length`; `NotAnImage`; `Spent`.
-pub fn number(image: &[u8], ksn: &mut [u8]) -> Result<(), Fault>
-    ensures { NumberAnswers image.now ksn.old ksn.new result }
+pub fn registers_number(image: &[u8], ksn: &mut [u8]) -> Result<(), Fault>
+    ensures { RegistersNumberAnswers image.now ksn.old ksn.new result }
 {
-    if ksn.len() != 10 {
+    if ksn.len() < 10 {
         return Err(Fault::Length);
     }
     let Some(registers) = stored_in(image) else {
@@ -61,48 +66,56 @@ pub fn number(image: &[u8], ksn: &mut [u8]) -> Result<(), Fault>
     let Some(next) = registers.ksn() else {
         return Err(Fault::Spent);
     };
-    ksn.copy_from_slice(&next.bytes());
+    write_front(&next.bytes(), ksn);
     Ok(())
 }
 
-/// Uses the next number of a terminal with this image: writes the image afterwards (431 bytes), the
-/// transaction key (16 bytes) and the key serial number (10 bytes).
+/// Uses the next number of a terminal with this image: writes the image afterwards (at least 431
+/// bytes), the transaction key (at least 16) and the key serial number (at least 10), each in the
+/// front of a slice.
 ///
 /// The next image is to be stored before the key is used, so that no stop brings the key back.
 ///
 /// Refused with, in this order: `Length`; `NotAnImage`; `Spent`.
-pub fn take(
+pub fn registers_next(
     image: &[u8],
     next_image: &mut [u8],
     key: &mut [u8],
     ksn: &mut [u8],
 ) -> Result<(), Fault>
-    ensures { TakeAnswers image.now (taken_parts next_image.old key.old ksn.old)
-        (taken_parts next_image.new key.new ksn.new) result }
+    ensures { RegistersNextAnswers image.now (next_parts next_image.old key.old ksn.old)
+        (next_parts next_image.new key.new ksn.new) result }
 {
-    if [next_image.len(), key.len(), ksn.len()] != [431, 16, 10] {
+    if next_image.len() < IMAGE_LENGTH || key.len() < 16 || ksn.len() < 10 {
         return Err(Fault::Length);
     }
     let Some(mut registers) = stored_in(image) else {
         return Err(Fault::NotAnImage);
     };
-    let Some((taken_key, taken_ksn)) = registers.use_next() else {
+    let Some((next_key, next_ksn)) = registers.use_next() else {
         return Err(Fault::Spent);
     };
     store(&registers, next_image);
-    key.copy_from_slice(&taken_key.bytes());
-    ksn.copy_from_slice(&taken_ksn.bytes());
+    write_front(&next_key.bytes(), key);
+    write_front(&next_ksn.bytes(), ksn);
     Ok(())
 }
 
-/// Writes the image (431 bytes) of the terminal with this image after it is given another initial
-/// key (16 bytes) under another initial key serial number (10 bytes).
+/// Writes the image of the terminal with this image after it is given another initial key (16
+/// bytes) under another initial key serial number (10 bytes), in the front of a slice of at least
+/// 431 bytes.
 ///
 /// Refused with, in this order: `Length`; `NotInitial`; `NotAnImage`; `IksnSpent`; `LoadsSpent`.
-pub fn reload(image: &[u8], initial: &[u8], iksn: &[u8], next_image: &mut [u8]) -> Result<(), Fault>
-    ensures { ReloadAnswers image.now initial.now iksn.now next_image.old next_image.new result }
+pub fn registers_reload(
+    image: &[u8],
+    initial: &[u8],
+    iksn: &[u8],
+    next_image: &mut [u8],
+) -> Result<(), Fault>
+    ensures { RegistersReloadAnswers image.now initial.now iksn.now next_image.old next_image.new
+        result }
 {
-    if [initial.len(), iksn.len(), next_image.len()] != [16, 10, 431] {
+    if [initial.len(), iksn.len()] != [16, 10] || next_image.len() < IMAGE_LENGTH {
         return Err(Fault::Length);
     }
     let Some(iksn) = initial_number(iksn) else {
@@ -129,10 +142,10 @@ fn stored_in(image: &[u8]) -> Option<Registers>
     Registers::from_image(image)
 }
 
-/// Writes the image of a terminal with these registers.
+/// Writes the image of a terminal with these registers in the front of a slice.
 fn store(registers: &Registers, image: &mut [u8])
-    requires { length image.old ≡ 431 }
-    ensures { Stores registers.now image.new }
+    requires { IMAGE_LENGTH ≤ length image.old }
+    ensures { Stores registers.now image.old image.new }
 {
-    image.copy_from_slice(&registers.image());
+    write_front(&registers.image(), image);
 }

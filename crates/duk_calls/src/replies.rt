@@ -5,9 +5,9 @@ ghost use Rattle.duk_frame.specs.Answer.{IsRefusal, IsReply};
 ghost use Rattle.duk_frame.specs.Code.{code_text};
 ghost use Rattle.duk_frame.specs.Payment.{payment_reply};
 ghost use Rattle.duk_calls.specs.Answer.{buffer};
-ghost use Rattle.duk_calls.specs.Replies.{CheckReplyAnswers, IsNoCode, IsNoRefusal, IsNoReply, ReadRefusalAnswers, ReadReplyAnswers, RefusalAnswers, ReplyAnswers, refusal_parts, reply_parts};
+ghost use Rattle.duk_calls.specs.Replies.{CheckReplyAnswers, IsNoCode, IsNoRefusal, IsNoReply, ReadRefusalAnswers, ReadReplyAnswers, RequestRefusalAnswers, RequestReplyAnswers, refusal_parts, reply_parts};
 
-use crate::arguments::{double_key, serial_number};
+use crate::arguments::{double_key, serial_number, write_front};
 use crate::fault::Fault;
 use crate::frames::{FRAME_ROOM, fill_frame};
 use duk_frame::{
@@ -32,22 +32,22 @@ struct RefusalFields {
     reason: u8,
 }
 
-/// Writes an accepted reply in the front of a slice of 64 bytes, and the number of its bytes. `key`
-/// is the transaction key (16 bytes) of the request's key serial number (10 bytes); the code is two
-/// digits.
+/// Writes the accepted reply to a request in the front of a slice of at least 64 bytes, and the
+/// number of its bytes. `key` is the transaction key (16 bytes) of the request's key serial number
+/// (10 bytes); the code is two digits.
 ///
 /// Refused with, in this order: `Length`; `NotACode`.
-pub fn reply(
+pub fn request_reply(
     key: &[u8],
     ksn: &[u8],
     code: &[u8],
     frame: &mut [u8],
     frame_length: &mut u32,
 ) -> Result<(), Fault>
-    ensures { ReplyAnswers key.now ksn.now code.now
+    ensures { RequestReplyAnswers key.now ksn.now code.now
         (buffer frame.old frame_length.old) (buffer frame.new frame_length.new) result }
 {
-    if [key.len(), ksn.len(), code.len(), frame.len()] != [16, 10, 2, FRAME_ROOM] {
+    if [key.len(), ksn.len(), code.len()] != [16, 10, 2] || frame.len() < FRAME_ROOM {
         return Err(Fault::Length);
     }
     let Some(code) = read_code(array_of(code)) else {
@@ -59,21 +59,21 @@ pub fn reply(
     Ok(())
 }
 
-/// Writes a refusal in the front of a slice of 64 bytes, and the number of its bytes. `ksn` is the
-/// request's key serial number (10 bytes), and zeros where the bytes were no request; the reason is
-/// from 1 to 6.
+/// Writes the refusal of a request in the front of a slice of at least 64 bytes, and the number of
+/// its bytes. `ksn` is the request's key serial number (10 bytes), and zeros where the bytes were
+/// no request; the reason is from 1 to 6.
 ///
 /// Refused with, in this order: `Length`; `NotAReason`.
-pub fn refusal(
+pub fn request_refusal(
     ksn: &[u8],
     reason: u32,
     frame: &mut [u8],
     frame_length: &mut u32,
 ) -> Result<(), Fault>
-    ensures { RefusalAnswers ksn.now reason
+    ensures { RequestRefusalAnswers ksn.now reason
         (buffer frame.old frame_length.old) (buffer frame.new frame_length.new) result }
 {
-    if [ksn.len(), frame.len()] != [10, FRAME_ROOM] {
+    if ksn.len() != 10 || frame.len() < FRAME_ROOM {
         return Err(Fault::Length);
     }
     if !(1..=6).contains(&reason) {
@@ -84,39 +84,40 @@ pub fn refusal(
     Ok(())
 }
 
-/// Writes the key serial number (10 bytes) and the code (2 digits) of an accepted reply's frame.
-/// The MAC is not compared: `check_reply` does that.
+/// Writes the key serial number and the code of an accepted reply's frame, each in the front of a
+/// slice, of at least 10 bytes and of at least 2. The MAC is not compared: `check_reply` does that.
 ///
 /// Refused with, in this order: `Length`; `NotAReply`.
 pub fn read_reply(frame: &[u8], ksn: &mut [u8], code: &mut [u8]) -> Result<(), Fault>
     ensures { ReadReplyAnswers frame.now (reply_parts ksn.old code.old)
         (reply_parts ksn.new code.new) result }
 {
-    if [ksn.len(), code.len()] != [10, 2] {
+    if ksn.len() < 10 || code.len() < 2 {
         return Err(Fault::Length);
     }
     let Some(found) = reply_in(frame) else {
         return Err(Fault::NotAReply);
     };
-    ksn.copy_from_slice(&found.ksn.bytes());
-    code.copy_from_slice(&found.code.text());
+    write_front(&found.ksn.bytes(), ksn);
+    write_front(&found.code.text(), code);
     Ok(())
 }
 
-/// Writes the key serial number (10 bytes) and the reason, from 1 to 6, of a refusal's frame.
+/// Writes the key serial number of a refusal's frame in the front of a slice of at least 10 bytes,
+/// and the reason, from 1 to 6.
 ///
 /// Refused with, in this order: `Length`; `NotARefusal`.
 pub fn read_refusal(frame: &[u8], ksn: &mut [u8], reason: &mut u32) -> Result<(), Fault>
     ensures { ReadRefusalAnswers frame.now (refusal_parts ksn.old reason.old)
         (refusal_parts ksn.new reason.new) result }
 {
-    if ksn.len() != 10 {
+    if ksn.len() < 10 {
         return Err(Fault::Length);
     }
     let Some(found) = refusal_in(frame) else {
         return Err(Fault::NotARefusal);
     };
-    ksn.copy_from_slice(&found.ksn.bytes());
+    write_front(&found.ksn.bytes(), ksn);
     *reason = u32::from(found.reason);
     Ok(())
 }

@@ -3,7 +3,7 @@
 ghost use Rattle.duk_calls.specs.Answer.{buffer};
 ghost use Rattle.duk_calls.specs.Requests.{CheckRequestAnswers, PaymentRequestAnswers, ReadRequestAnswers, RequestPinAnswers, payment, request_parts};
 
-use crate::arguments::{double_key, fill, serial_number};
+use crate::arguments::{double_key, fill, serial_number, write_front};
 use crate::fault::Fault;
 use crate::frames::{FRAME_ROOM, fill_frame};
 use crate::pins::{read_pan, read_pin};
@@ -13,9 +13,9 @@ use duk_pin::decode;
 use duk_tdes::tdes_decrypt;
 use duk_tree::{pin_key, request_key};
 
-/// Writes the request of a payment in the front of a slice of 64 bytes, and the number of its
-/// bytes. `key` is the transaction key (16 bytes) of the key serial number (10 bytes); the amount
-/// is in the smallest unit of the currency.
+/// Writes the request of a payment in the front of a slice of at least 64 bytes, and the number of
+/// its bytes. `key` is the transaction key (16 bytes) of the key serial number (10 bytes); the
+/// amount is in the smallest unit of the currency.
 ///
 /// Refused with, in this order: `Length`; `PanLength`, `PanDigit`; `PinLength`, `PinDigit`.
 pub fn payment_request(
@@ -30,7 +30,7 @@ pub fn payment_request(
     ensures { PaymentRequestAnswers (payment key.now ksn.now pan.now pin.now amount)
         (buffer frame.old frame_length.old) (buffer frame.new frame_length.new) result }
 {
-    if [key.len(), ksn.len(), frame.len()] != [16, 10, FRAME_ROOM] {
+    if [key.len(), ksn.len()] != [16, 10] || frame.len() < FRAME_ROOM {
         return Err(Fault::Length);
     }
     let pan = read_pan(pan).map_err(Fault::Pin)?;
@@ -42,9 +42,10 @@ pub fn payment_request(
     Ok(())
 }
 
-/// Writes the fields of a request's frame: the key serial number (10 bytes), the PAN in the front
-/// of a slice of 19 bytes and the number of its digits, the amount, the enciphered PIN block (8
-/// bytes) and the MAC (8 bytes). The MAC is not compared: `check_request` does that.
+/// Writes the fields of a request's frame, each in the front of a slice: the key serial number (at
+/// least 10 bytes), the PAN (at least 19) and the number of its digits, the amount, the enciphered
+/// PIN block (at least 8) and the MAC (at least 8). The MAC is not compared: `check_request` does
+/// that.
 ///
 /// Refused with, in this order: `Length`; `NotARequest`.
 pub fn read_request(
@@ -61,17 +62,17 @@ pub fn read_request(
         (request_parts ksn.new (buffer pan.new pan_length.new) amount.new block.new mac.new)
         result }
 {
-    if [ksn.len(), pan.len(), block.len(), mac.len()] != [10, 19, 8, 8] {
+    if ksn.len() < 10 || pan.len() < 19 || block.len() < 8 || mac.len() < 8 {
         return Err(Fault::Length);
     }
     let Some(request) = duk_frame::read_request(frame) else {
         return Err(Fault::NotARequest);
     };
-    ksn.copy_from_slice(&request.ksn.bytes());
+    write_front(&request.ksn.bytes(), ksn);
     fill(request.pan.digits().as_bytes(), pan, pan_length);
     *amount = request.amount;
-    block.copy_from_slice(&request.block);
-    mac.copy_from_slice(&request.mac);
+    write_front(&request.block, block);
+    write_front(&request.mac, mac);
     Ok(())
 }
 
@@ -97,8 +98,8 @@ pub fn check_request(key: &[u8], frame: &[u8]) -> Result<(), Fault>
 }
 
 /// Writes the PIN of a request's frame under the transaction key (16 bytes) in the front of a slice
-/// of 12 bytes, and the number of its digits, 4 to 12. The MAC is not compared: `check_request`
-/// does that.
+/// of at least 12 bytes, and the number of its digits, 4 to 12. The MAC is not compared:
+/// `check_request` does that.
 ///
 /// Refused with, in this order: `Length`; `NotARequest`; `NotAPinBlock`.
 pub fn request_pin(
@@ -110,7 +111,7 @@ pub fn request_pin(
     ensures { RequestPinAnswers key.now frame.now (buffer pin.old pin_length.old)
         (buffer pin.new pin_length.new) result }
 {
-    if [key.len(), pin.len()] != [16, 12] {
+    if key.len() != 16 || pin.len() < 12 {
         return Err(Fault::Length);
     }
     let Some(request) = duk_frame::read_request(frame) else {

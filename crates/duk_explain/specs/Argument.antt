@@ -77,6 +77,7 @@ abbrev pub key_of : Request → Option (List ℕ)
 key_of (request.Pin pin pan key) = option_copied key
 key_of (request.Wrap kbpk fields key pad) = Some key.now
 key_of (request.Mac key text cmac hex) = Some key.now
+key_of (request.Data key text iv decipher hex) = Some key.now
 key_of (request.Unpin block pan key show) = option_copied key
 key_of asked = None
 
@@ -90,12 +91,13 @@ abbrev pub pad_of : Request → Option (List ℕ)
 pad_of (request.Wrap kbpk fields key pad) = Some pad.now
 pad_of asked = None
 
--- BLOCK; of `find` that of an option
+-- BLOCK; of `find` and `data` that of an option
 abbrev pub block_of : Request → Option (List ℕ)
 block_of (request.Unwrap kbpk block) = Some block.now
 block_of (request.Unpin block pan key show) = Some block.now
 block_of (request.Translate block pan bdk ksn zone initial) = Some block.now
 block_of (request.Find bdk what sought window initial) = clear_in sought
+block_of (request.Data key text iv decipher hex) = option_copied iv
 block_of asked = None
 
 -- PIN
@@ -116,6 +118,7 @@ pan_of asked = None
 -- TEXT
 abbrev pub mac_text_of : Request → Option (List ℕ)
 mac_text_of (request.Mac key text cmac hex) = Some text.now
+mac_text_of (request.Data key text iv decipher hex) = Some text.now
 mac_text_of (request.Find bdk what sought window initial) = text_in sought
 mac_text_of asked = None
 

@@ -2,7 +2,7 @@
 --
 -- Of the text of an argument an explanation has its measure alone: how many bytes it has, and where
 -- the first wrong one stands.
-use Rattle.std.specs.Prelude.{◌≡◌, ◌&&◌, ◌⊎◌, ◌++◌, ℕ, Bool, true, List, [], ◌∷◌, Option, Some, None, codes, decimal, get_or, is_none, length, nat_le, if◌then◌else◌}
+use Rattle.std.specs.Prelude.{◌≡◌, ◌&&◌, ◌||◌, ◌⊎◌, ◌++◌, ℕ, Bool, true, false, List, [], ◌∷◌, Option, Some, None, codes, decimal, get_or, is_none, length, nat_le, if◌then◌else◌}
 use Rattle.std.specs.Option.{option_copied}
 use Rattle.duk_arguments.specs.declared.request.Request.{Request}
 use Rattle.duk_arguments.specs.declared.request.Request.TheVariants as request
@@ -79,6 +79,7 @@ count_explained asked = []
 abbrev pub key_wanted : Request → List ℕ
 key_wanted (request.Wrap kbpk fields key pad) = codes "32 or 48 hexadecimal digits"
 key_wanted (request.Mac key text true hex) = codes "32 or 48 hexadecimal digits"
+key_wanted (request.Data key text iv decipher hex) = codes "32 or 48 hexadecimal digits"
 key_wanted asked = codes "32 hexadecimal digits"
 
 -- the key at a place of some
@@ -100,12 +101,22 @@ key_explained asked (Some keys) = keys_explained keys
 key_explained asked None =
     if_there (key_of asked) (measured (codes "KEY") Hexadecimal (key_wanted asked))
 
--- the text of a MAC
+-- data that are no whole blocks, as bytes in hexadecimal or as a text
+abbrev pub data_explained : Bool → List ℕ → List ℕ
+data_explained true text =
+    measured (codes "TEXT") Hexadecimal
+    (codes "16 hexadecimal digits for each of 1 to 255 blocks") text
+data_explained false text =
+    measured (codes "TEXT") Any (codes "8 bytes for each of 1 to 255 blocks") text
+
+-- the text of a MAC, or of what is enciphered or deciphered
 abbrev pub text_explained : Request → List ℕ
 text_explained (request.Mac key text cmac true) =
     measured (codes "TEXT") Hexadecimal (codes "pairs of hexadecimal digits") text.now
 text_explained (request.Find bdk what (sought.Mac text true from) window initial) =
     measured (codes "TEXT") Hexadecimal (codes "pairs of hexadecimal digits") text.now
+text_explained (request.Data key text iv decipher hex) =
+    data_explained (decipher || hex) text.now
 text_explained asked =
     if_there (mac_text_of asked) (measured (codes "TEXT") Any (codes "one byte or more"))
 

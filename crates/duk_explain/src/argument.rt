@@ -192,7 +192,9 @@ pub(crate) fn key_of<'a>(request: &Request<'a>) -> Option<&'a str>
     ensures { option_copied result ≡ key_of request.now }
 {
     match request {
-        Request::Wrap { key, .. } | Request::Mac { key, .. } => Some(*key),
+        Request::Wrap { key, .. } | Request::Mac { key, .. } | Request::Data { key, .. } => {
+            Some(*key)
+        }
         Request::Pin { key, .. } | Request::Unpin { key, .. } => *key,
         _ => None,
     }
@@ -218,7 +220,7 @@ pub(crate) fn pad_of<'a>(request: &Request<'a>) -> Option<&'a str>
     }
 }
 
-/// BLOCK; of `find` that of an option.
+/// BLOCK; of `find` and `data` that of an option.
 pub(crate) fn block_of<'a>(request: &Request<'a>) -> Option<&'a str>
     ensures { option_copied result ≡ block_of request.now }
 {
@@ -230,6 +232,7 @@ pub(crate) fn block_of<'a>(request: &Request<'a>) -> Option<&'a str>
             sought: Sought::Ciphertext { clear, .. },
             ..
         } => Some(*clear),
+        Request::Data { iv, .. } => *iv,
         _ => None,
     }
 }
@@ -266,7 +269,7 @@ pub(crate) fn mac_text_of<'a>(request: &Request<'a>) -> Option<&'a str>
     ensures { option_copied result ≡ mac_text_of request.now }
 {
     match request {
-        Request::Mac { text, .. } => Some(*text),
+        Request::Mac { text, .. } | Request::Data { text, .. } => Some(*text),
         Request::Find {
             sought: Sought::Mac { text, .. },
             ..

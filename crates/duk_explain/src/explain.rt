@@ -3,7 +3,7 @@
 ghost use Rattle.std.specs.Prelude.{◌≡◌, ◌≤◌, ◌++◌, codes, length};
 ghost use Rattle.arrayvec.specs.ArrayVec.{array_vec_len};
 ghost use Rattle.duk_explain.specs.Argument.{text_of, what_of};
-ghost use Rattle.duk_explain.specs.Explanation.{IsExplanation, header_explained, if_there, name_in, place_found, reason_found, reference_found, row_explained, sought_explained, strange_explained, text_explained, told_explained, unknown_key_explained, what_explained};
+ghost use Rattle.duk_explain.specs.Explanation.{IsExplanation, data_explained, header_explained, if_there, name_in, place_found, reason_found, reference_found, row_explained, sought_explained, strange_explained, text_explained, told_explained, unknown_key_explained, what_explained};
 ghost use Rattle.duk_explain.specs.Texts.{length_text, measure_of, measure_text};
 ghost use Rattle.duk_explain.specs.Told.{row};
 
@@ -207,7 +207,7 @@ fn explain_stopped_digit(request: &Request<'_>, line: Told, place: &[u8]) -> Lin
     explain_row(line, place, &found)
 }
 
-/// Explains the text of a MAC that is refused.
+/// Explains the text of a MAC, or of what is enciphered or deciphered, that is refused.
 fn explain_text(request: &Request<'_>) -> Lines
     ensures { result.items ≡ text_explained request.now }
 {
@@ -228,6 +228,12 @@ fn explain_text(request: &Request<'_>) -> Lines
             let found = measure_text(measure_of(Kind::Hexadecimal, text));
             explained(b"TEXT", found.as_slice(), "pairs of hexadecimal digits", "")
         }
+        Request::Data {
+            text,
+            decipher,
+            hex,
+            ..
+        } => explain_data(text, *decipher || *hex),
         request => {
             let Some(text) = mac_text_of(request) else {
                 return Lines::new();
@@ -235,6 +241,21 @@ fn explain_text(request: &Request<'_>) -> Lines
             let found = measure_text(measure_of(Kind::Any, text));
             explained(b"TEXT", found.as_slice(), "one byte or more", "")
         }
+    }
+}
+
+/// Explains what is no whole blocks of data.
+fn explain_data(text: &str, hex: bool) -> Lines
+    ensures { result.items ≡ data_explained hex text.now }
+{
+    if hex {
+        let found = measure_text(measure_of(Kind::Hexadecimal, text));
+        let wanted = "16 hexadecimal digits for each of 1 to 255 blocks";
+        explained(b"TEXT", found.as_slice(), wanted, "")
+    } else {
+        let found = measure_text(measure_of(Kind::Any, text));
+        let wanted = "8 bytes for each of 1 to 255 blocks";
+        explained(b"TEXT", found.as_slice(), wanted, "")
     }
 }
 

@@ -49,7 +49,9 @@ fn wanted_of(request: &Request<'_>) -> &'static str
     ensures short { length result.now ≤ 90 }
 {
     match request {
-        Request::Wrap { .. } | Request::Mac { cmac: true, .. } => DOUBLE_OR_TRIPLE,
+        Request::Wrap { .. } | Request::Mac { cmac: true, .. } | Request::Data { .. } => {
+            DOUBLE_OR_TRIPLE
+        }
         _ => DOUBLE,
     }
 }

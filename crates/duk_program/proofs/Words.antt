@@ -101,6 +101,7 @@ words_have_meaning held (request.Initial bdk iksn) over words = (word_means held
 words_have_meaning held (request.Registers bdk ksn initial) over words = (word_means held bdk.now words.0, refl, refl)
 words_have_meaning held (request.Kcv keys components show) over words = (words_mean held (texts_of_keys keys) words, refl, refl)
 words_have_meaning held (request.Mac key text cmac hex) over words = (word_means held key.now words.0, refl, refl, refl)
+words_have_meaning held (request.Data key text iv decipher hex) over words = (word_means held key.now words.0, refl, refl, refl, refl)
 words_have_meaning held (request.Unpin block pan None show) over words =
     (word_means held block.now words.0, word_means held pan.now words.1.0, tt, refl)
 words_have_meaning held (request.Unpin block pan (Some key) show) over words =

@@ -13,6 +13,7 @@ use Rattle.duk_commands.specs.Walk.{walk_of, walk_arguments}
 use Rattle.duk_commands.specs.Wrap.{wrap_of, wrap_arguments}
 use Rattle.duk_commands.specs.declared.fault.Fault.TheVariants.{OutOfMemory, WriteFailed}
 use Rattle.duk_tools.specs.CheckValues.{values_of}
+use Rattle.duk_tools.specs.Encipher.{data_arguments, data_of}
 use Rattle.duk_tools.specs.Frames.{reply_arguments, reply_of, request_arguments, request_of}
 use Rattle.duk_tools.specs.Keys.{derived_of, initial_of}
 use Rattle.duk_tools.specs.Mac.{mac_arguments, mac_of}
@@ -60,6 +61,8 @@ command_for (request.Initial bdk iksn) = initial_of bdk.now iksn.now
 command_for (request.Registers bdk ksn initial) = registers_of (key_argument bdk initial) ksn.now
 command_for (request.Kcv keys components show) = values_of (texts_of_keys keys) components show
 command_for (request.Mac key text cmac hex) = mac_of (mac_arguments key.now text.now cmac hex)
+command_for (request.Data key text iv decipher hex) =
+    data_of (data_arguments key.now text.now (option_copied iv) decipher hex)
 command_for (request.Unpin block pan key show) =
     unpin_of (unpin_arguments block.now pan.now (option_copied key) show)
 command_for (request.Translate block pan bdk ksn zone initial) =

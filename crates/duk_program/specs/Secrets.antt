@@ -175,6 +175,10 @@ HasMeaning held (request.Kcv keys components show)
 HasMeaning held (request.Mac key text cmac hex)
     (request.Mac key' text' cmac' hex') =
     Means held key.now key'.now × (text' ≡ text) × (cmac' ≡ cmac) × (hex' ≡ hex)
+HasMeaning held (request.Data key text iv decipher hex)
+    (request.Data key' text' iv' decipher' hex') =
+    Means held key.now key'.now × (text' ≡ text) × (iv' ≡ iv) × (decipher' ≡ decipher)
+    × (hex' ≡ hex)
 HasMeaning held (request.Unpin block pan key show)
     (request.Unpin block' pan' key' show') =
     Means held block.now block'.now × Means held pan.now pan'.now
@@ -228,6 +232,7 @@ secrets_of (request.Initial bdk iksn) = bdk.now ∷ []
 secrets_of (request.Registers bdk ksn initial) = bdk.now ∷ []
 secrets_of (request.Kcv keys components show) = texts_of_keys keys
 secrets_of (request.Mac key text cmac hex) = key.now ∷ []
+secrets_of (request.Data key text iv decipher hex) = key.now ∷ []
 secrets_of (request.Unpin block pan key show) = block.now ∷ pan.now ∷ option_to_list (option_copied key)
 secrets_of (request.Translate block pan bdk ksn zone initial) = block.now ∷ pan.now ∷ bdk.now ∷ zone.now ∷ []
 secrets_of (request.MakeRequest bdk ksn pan pin amount initial) = bdk.now ∷ pan.now ∷ pin.now ∷ []
@@ -257,6 +262,7 @@ secret_names (request.Initial bdk iksn) = Bdk ∷ []
 secret_names (request.Registers bdk ksn initial) = Bdk ∷ []
 secret_names (request.Kcv keys components show) = Key ∷ []
 secret_names (request.Mac key text cmac hex) = Key ∷ []
+secret_names (request.Data key text iv decipher hex) = Key ∷ []
 secret_names (request.Unpin block pan key show) = Block ∷ Pan ∷ Key ∷ []
 secret_names (request.Translate block pan bdk ksn zone initial) = Block ∷ Pan ∷ Bdk ∷ Zone ∷ []
 secret_names (request.MakeRequest bdk ksn pan pin amount initial) = Bdk ∷ Pan ∷ Pin ∷ []

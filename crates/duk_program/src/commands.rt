@@ -12,8 +12,8 @@ use duk_commands::{
 };
 use duk_io::Sink;
 use duk_tools::{
-    derived_lines, initial_lines, mac_lines, registers_lines, reply_lines, request_lines,
-    reversal_lines, translate_lines, unpin_lines, values_lines,
+    data_lines, derived_lines, initial_lines, mac_lines, registers_lines, reply_lines,
+    request_lines, reversal_lines, translate_lines, unpin_lines, values_lines,
 };
 use std::alloc::Global;
 
@@ -88,6 +88,13 @@ fn lines_of(alloc: Global, request: Request<'_>) -> Result<Lines, Fault>
             cmac,
             hex,
         } => mac_lines(alloc, key, text, cmac, hex),
+        Request::Data {
+            key,
+            text,
+            iv,
+            decipher,
+            hex,
+        } => data_lines(alloc, key, text, iv, decipher, hex),
         Request::Unpin {
             block,
             pan,
@@ -127,7 +134,7 @@ fn lines_of(alloc: Global, request: Request<'_>) -> Result<Lines, Fault>
 }
 
 /// Does `derive`, by its options: whether the key is an initial key, whether the steps are printed,
-/// and whether the MAC keys are.
+/// and whether the keys of MACs and of data are.
 fn do_derive<W: Sink, F: Sink>(
     bdk: &str,
     ksn: &str,

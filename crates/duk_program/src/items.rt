@@ -155,6 +155,7 @@ pub(crate) fn line_command<'a>(request: &Request<'a>) -> Option<LineCommand<'a>>
         | Request::Issue { .. }
         | Request::Registers { .. }
         | Request::Mac { .. }
+        | Request::Data { .. }
         | Request::Unpin { .. }
         | Request::Translate { .. }
         | Request::MakeRequest { .. }

@@ -23,7 +23,7 @@ pub(crate) fn secrets_of<'a>(request: &Request<'a>) -> Option<Keys<'a>>
         | Request::MakeReversal { bdk, .. }
         | Request::CheckReply { bdk, .. } => Keys::from_slice(&[*bdk]),
         Request::Unwrap { kbpk, .. } => Keys::from_slice(&[*kbpk]),
-        Request::Mac { key, .. } => Keys::from_slice(&[*key]),
+        Request::Mac { key, .. } | Request::Data { key, .. } => Keys::from_slice(&[*key]),
         Request::Wrap { kbpk, key, .. } => Keys::from_slice(&[*kbpk, *key]),
         Request::Issue { bdk, loading, .. } => Keys::from_slice(&[*bdk, *loading]),
         Request::Show { what, .. } => Keys::from_slice(&[*what]),
@@ -88,7 +88,7 @@ fn secret_names(request: &Request<'_>) -> &'static [Secret]
     match request {
         Request::Unwrap { .. } => &[Secret::Kbpk],
         Request::Wrap { .. } => &[Secret::Kbpk, Secret::Key],
-        Request::Mac { .. } | Request::Kcv { .. } => &[Secret::Key],
+        Request::Mac { .. } | Request::Data { .. } | Request::Kcv { .. } => &[Secret::Key],
         Request::Pin { .. } => &[Secret::Pin, Secret::Pan, Secret::Key],
         Request::Unpin { .. } => &[Secret::Block, Secret::Pan, Secret::Key],
         Request::Translate { .. } => &[Secret::Block, Secret::Pan, Secret::Bdk, Secret::Zone],
@@ -204,6 +204,19 @@ pub(crate) fn with_secrets<'a>(request: &Request<'a>, texts: &Keys<'a>) -> Reque
             key: text_at(texts, 0),
             text,
             cmac,
+            hex,
+        },
+        Request::Data {
+            text,
+            iv,
+            decipher,
+            hex,
+            ..
+        } => Request::Data {
+            key: text_at(texts, 0),
+            text,
+            iv,
+            decipher,
             hex,
         },
         Request::Wrap { fields, pad, .. } => Request::Wrap {

@@ -1,5 +1,4 @@
 pub mod SmallNumbers
-mod JoinedHalves
 mod Windows
 mod ProgressLines
 mod SearchSteps

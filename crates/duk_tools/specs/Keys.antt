@@ -8,6 +8,7 @@ use Rattle.duk_commands.specs.Lines.{named_line, text_line}
 use Rattle.duk_commands.specs.declared.fault.Fault.{Fault}
 use Rattle.duk_commands.specs.declared.fault.Fault.TheVariants.{BdkRefused, IksnRefused}
 use Rattle.duk_commands.specs.declared.key_argument.KeyArgument.{KeyArgument}
+use Rattle.duk_data.specs.DataKeys.{request_data_key_of, response_data_key_of}
 use Rattle.duk_io.specs.FirstFault.{IsFirst}
 use Rattle.duk_mac.specs.CheckValue.{check_value_of}
 use Rattle.duk_tdes.specs.KeyText.{double_key_of_text}
@@ -34,11 +35,20 @@ abbrev pub trace_lines : Bool → List ℕ → Serial → List ℕ
 trace_lines false initial serial = []
 trace_lines true initial serial = step_lines initial serial.iksn (path_of serial.counter)
 
--- the keys of the two MACs of a transaction key, where they are asked for
-abbrev pub mac_lines : Bool → List ℕ → List ℕ
-mac_lines false key = []
-mac_lines true key = named_line (codes "mac-request") (request_key_of key)
+-- the keys of the two MACs of a transaction key
+abbrev pub mac_lines : List ℕ → List ℕ
+mac_lines key = named_line (codes "mac-request") (request_key_of key)
     ++ named_line (codes "mac-response") (response_key_of key)
+
+-- the keys for the data of a request and of a response
+abbrev pub data_key_lines : List ℕ → List ℕ
+data_key_lines key = named_line (codes "data-request") (request_data_key_of key)
+    ++ named_line (codes "data-response") (response_data_key_of key)
+
+-- both, where they are asked for
+abbrev pub other_lines : Bool → List ℕ → List ℕ
+other_lines false key = []
+other_lines true key = mac_lines key ++ data_key_lines key
 
 -- the initial key, the transaction key and its PIN variant
 abbrev pub three_lines : List ℕ → List ℕ → List ℕ
@@ -49,7 +59,7 @@ three_lines initial key = named_line (codes "initial") initial ++ named_line (co
 abbrev pub derived_lines : Bool → Bool → List ℕ → Serial → List ℕ
 derived_lines trace all initial serial =
     let key = transaction_key_of initial serial.iksn serial.counter in
-    trace_lines trace initial serial ++ three_lines initial key ++ mac_lines all key
+    trace_lines trace initial serial ++ three_lines initial key ++ other_lines all key
 
 -- the arguments give a terminal's initial key and number, and this is the text of their lines
 pub record IsDerivedText (given : KeyArgument) (ksn : List ℕ) (trace all : Bool) (text : List ℕ)

@@ -4,9 +4,9 @@ pub mod Registers
 pub mod CheckValues
 pub mod Mac
 pub mod PinBlocks
+pub mod Encipher
 pub mod Frames
 pub mod Reversals
-pub mod DataKeys
 pub mod Origin
 pub mod FindFault
 pub mod Sought

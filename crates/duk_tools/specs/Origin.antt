@@ -1,7 +1,7 @@
 -- Where something comes from, by a key of a number and what is done under it (this project's own,
 -- over the keys of ANSI X9.24-1:2009 annex A).
 use Rattle.std.specs.Prelude.{◌+◌, ◌*◌, ℕ, List, [], codes}
-use Rattle.duk_tools.specs.DataKeys.{request_data_key_of, response_data_key_of}
+use Rattle.duk_data.specs.DataKeys.{request_data_key_of, response_data_key_of}
 use Rattle.duk_tools.specs.declared.origin.KeyUse.{KeyUse}
 use Rattle.duk_tools.specs.declared.origin.KeyUse.TheVariants.{Pin, RequestData, RequestMac, ResponseData, ResponseMac, Transaction}
 use Rattle.duk_tools.specs.declared.origin.Origin.{Origin}

@@ -2,19 +2,20 @@
 
 ghost use Rattle.std.specs.Prelude.{◌≡◌, ◌+◌, ◌≤◌, ◌++◌, true, IfErr, IfOk};
 ghost use Rattle.arrayvec.specs.ArrayVec.{array_vec_len};
-ghost use Rattle.duk_tools.specs.Keys.{IsDerivedText, IsInitialRefused, IsInitialText, initial_lines, mac_lines, three_lines};
+ghost use Rattle.duk_tools.specs.Keys.{IsDerivedText, IsInitialRefused, IsInitialText, data_key_lines, initial_lines, mac_lines, other_lines, three_lines};
 ghost use Rattle.duk_tools.specs.Start.{IsStartRefused};
 
 use crate::start::read_start;
 use crate::steps::push_steps;
 use duk_commands::{Fault, KeyArgument, LINES_ROOM, Lines, push_line};
+use duk_data::{request_data_key, response_data_key};
 use duk_mac::check_value;
 use duk_tdes::Key;
 use duk_tree::{Iksn, initial_key, pin_key, request_key, response_key};
 
 /// The lines of a number's keys: the initial key, the transaction key and its PIN variant; before
 /// them, with `trace`, the key of each node on the way to the number, and the number's; after them,
-/// with `all`, the variants of the two MACs (ANSI X9.24-1:2009 annex A).
+/// with `all`, the variants of the two MACs, and the two keys for data (ANSI X9.24-1:2009 annex A).
 ///
 /// The faults, in this order: `BDK refused`, or `initial refused` of an initial key; `KSN refused`;
 /// `counter refused` (zero, or more than ten one bits).
@@ -35,7 +36,7 @@ pub fn derived_lines(
     }
     push_three(&mut lines, &start.initial, &key);
     if all {
-        push_macs(&mut lines, &key);
+        push_others(&mut lines, &key);
     }
     Ok(lines)
 }
@@ -51,13 +52,32 @@ fn push_three(lines: &mut Lines, initial: &Key<16>, key: &Key<16>)
     push_line(lines, b"pin", &pin_key(key).bytes());
 }
 
+/// Appends the lines of the keys of MACs, and of those for data.
+fn push_others(lines: &mut Lines, key: &Key<16>)
+    requires { array_vec_len lines.old + 184 ≤ LINES_ROOM }
+    ensures { lines.new.items ≡ lines.old.items ++ other_lines true key.now }
+{
+    push_macs(lines, key);
+    push_data_keys(lines, key);
+}
+
 /// Appends the lines of the variants for the MACs of a request and of a response.
 fn push_macs(lines: &mut Lines, key: &Key<16>)
     requires { array_vec_len lines.old + 91 ≤ LINES_ROOM }
-    ensures { lines.new.items ≡ lines.old.items ++ mac_lines true key.now }
+    ensures lines { lines.new.items ≡ lines.old.items ++ mac_lines key.now }
+    ensures len { array_vec_len lines.new ≡ array_vec_len lines.old + 91 }
 {
     push_line(lines, b"mac-request", &request_key(key).bytes());
     push_line(lines, b"mac-response", &response_key(key).bytes());
+}
+
+/// Appends the lines of the keys for the data of a request and of a response.
+fn push_data_keys(lines: &mut Lines, key: &Key<16>)
+    requires { array_vec_len lines.old + 93 ≤ LINES_ROOM }
+    ensures { lines.new.items ≡ lines.old.items ++ data_key_lines key.now }
+{
+    push_line(lines, b"data-request", &request_data_key(key).bytes());
+    push_line(lines, b"data-response", &response_data_key(key).bytes());
 }
 
 /// The lines of a terminal's initial key and of its check value.

@@ -1,10 +1,10 @@
-//! The everyday commands over keys, PIN blocks, MACs and frames, each as the lines that it makes of
+//! The everyday commands over keys, PIN blocks, MACs, data and frames, each as the lines that it makes of
 //! its arguments, or the fault for which it refuses them.
 #![tactic(auto)]
 
 mod asked;
 mod check_values;
-mod data_keys;
+mod encipher;
 mod find;
 mod find_fault;
 mod frames;
@@ -24,6 +24,7 @@ mod steps;
 mod told;
 
 pub use check_values::{MOST_KEYS, values_lines};
+pub use encipher::data_lines;
 pub use find::find_command;
 pub use find_fault::FindFault;
 pub use frames::{reply_lines, request_lines};

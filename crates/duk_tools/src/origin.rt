@@ -3,7 +3,7 @@
 ghost use Rattle.std.specs.Prelude.{◌≡◌, ◌<◌, ◌≤◌, length};
 ghost use Rattle.duk_tools.specs.Origin.{key_for, use_name, use_rank, way_text};
 
-use crate::data_keys::{request_data_key, response_data_key};
+use duk_data::{request_data_key, response_data_key};
 use duk_tdes::Key;
 use duk_tree::{pin_key, request_key, response_key};
 

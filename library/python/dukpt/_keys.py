@@ -2,9 +2,10 @@
 from __future__ import annotations
 
 from ._library import Data, call, room
+from ._values import Secret
 
 
-def initial_key(bdk: Data, iksn: Data) -> bytes:
+def initial_key(bdk: Data, iksn: Data) -> Secret:
     """The initial key (16 bytes) of an initial key serial number (10) under the base derivation key
     (16).
 
@@ -16,10 +17,10 @@ def initial_key(bdk: Data, iksn: Data) -> bytes:
     """
     key = room(16)
     call("dukpt_initial_key", bdk=bdk, iksn=iksn, key=key)
-    return key.raw
+    return Secret(key.raw)
 
 
-def derive(bdk: Data, ksn: Data) -> bytes:
+def derive(bdk: Data, ksn: Data) -> Secret:
     """The transaction key (16 bytes) of a key serial number (10) under the base derivation key
     (16). The counter may be any: zero gives the initial key.
 
@@ -31,10 +32,10 @@ def derive(bdk: Data, ksn: Data) -> bytes:
     """
     key = room(16)
     call("dukpt_derive", bdk=bdk, ksn=ksn, key=key)
-    return key.raw
+    return Secret(key.raw)
 
 
-def derive_from_initial(initial: Data, ksn: Data) -> bytes:
+def derive_from_initial(initial: Data, ksn: Data) -> Secret:
     """The transaction key (16 bytes) of a key serial number (10) under the initial key (16) of its
     terminal. The counter may be any: zero gives the initial key.
 
@@ -46,10 +47,10 @@ def derive_from_initial(initial: Data, ksn: Data) -> bytes:
     """
     key = room(16)
     call("dukpt_derive_from_initial", initial=initial, ksn=ksn, key=key)
-    return key.raw
+    return Secret(key.raw)
 
 
-def pin_key(key: Data) -> bytes:
+def pin_key(key: Data) -> Secret:
     """The variant of a transaction key that enciphers PINs; each has 16 bytes.
 
     Raises `Length`.
@@ -59,10 +60,10 @@ def pin_key(key: Data) -> bytes:
     """
     variant = room(16)
     call("dukpt_pin_key", key=key, variant=variant)
-    return variant.raw
+    return Secret(variant.raw)
 
 
-def request_key(key: Data) -> bytes:
+def request_key(key: Data) -> Secret:
     """The variant of a transaction key that makes the MACs of requests; each has 16 bytes.
 
     Raises `Length`.
@@ -72,10 +73,10 @@ def request_key(key: Data) -> bytes:
     """
     variant = room(16)
     call("dukpt_request_key", key=key, variant=variant)
-    return variant.raw
+    return Secret(variant.raw)
 
 
-def response_key(key: Data) -> bytes:
+def response_key(key: Data) -> Secret:
     """The variant of a transaction key that makes the MACs of replies; each has 16 bytes.
 
     Raises `Length`.
@@ -85,4 +86,32 @@ def response_key(key: Data) -> bytes:
     """
     variant = room(16)
     call("dukpt_response_key", key=key, variant=variant)
-    return variant.raw
+    return Secret(variant.raw)
+
+
+def request_data_key(key: Data) -> Secret:
+    """The key that enciphers the data of a request, or of both ways (16 bytes), of a transaction
+    key (16), by ANSI X9.24-1:2009 annex A.4.1. `cbc_encrypt` enciphers under it.
+
+    Raises `Length`.
+
+    >>> request_data_key(bytes.fromhex("042666B49184CFA368DE9628D0397BC9")).hex().upper()
+    '448D3F076D8304036A55A3D7E0055A78'
+    """
+    variant = room(16)
+    call("dukpt_request_data_key", key=key, variant=variant)
+    return Secret(variant.raw)
+
+
+def response_data_key(key: Data) -> Secret:
+    """The key that enciphers the data of a response (16 bytes), of a transaction key (16), by
+    ANSI X9.24-1:2009 annex A.4.1.
+
+    Raises `Length`.
+
+    >>> response_data_key(bytes.fromhex("042666B49184CFA368DE9628D0397BC9")).hex().upper()
+    'AD7BFC8B06AD3A08A560B4105CF8D9E5'
+    """
+    variant = room(16)
+    call("dukpt_response_data_key", key=key, variant=variant)
+    return Secret(variant.raw)

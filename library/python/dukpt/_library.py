@@ -7,7 +7,8 @@ from pathlib import Path
 from typing import Final, Iterator, Union
 
 from ._exports import EXPORTS, Kind
-from .faults import FAULTS
+from ._version import demand_version, version_text
+from .faults import FAULTS, DukptError, Length
 
 NAME: Final = "libdukpt.so.0"
 VARIABLE: Final = "DUKPT_LIBRARY"
@@ -58,18 +59,34 @@ def loaded() -> ctypes.CDLL:
 
 
 def typed(library: ctypes.CDLL) -> ctypes.CDLL:
-    """The library with the types of its exports."""
-    for name, arguments in EXPORTS.items():
-        try:
-            export = getattr(library, name)
-        except AttributeError as why:
-            raise ImportError(f"{library._name} has no {name}: it is not {NAME}") from why
-        export.argtypes = [it for kind in arguments.values() for it in TYPES[kind]]
-        export.restype = ctypes.c_uint32
+    """The library with the types of its exports, if it has this version."""
+    give_types(library, "dukpt_version")
+    demand_version(library._name, library.dukpt_version())
+    for name in EXPORTS:
+        give_types(library, name)
     return library
 
 
+def give_types(library: ctypes.CDLL, name: str) -> None:
+    """Sets the types of an export. It raises ImportError where the library has none."""
+    try:
+        export = getattr(library, name)
+    except AttributeError as why:
+        raise ImportError(f"{library._name} has no {name}: it is no {NAME}") from why
+    export.argtypes = [it for kind in EXPORTS[name].values() for it in TYPES[kind]]
+    export.restype = ctypes.c_uint32
+
+
 LIBRARY: Final = typed(loaded())
+
+
+def version() -> str:
+    """The version of the library. It works with a package of the same major and minor version.
+
+    >>> version().split(".")[:2]
+    ['0', '1']
+    """
+    return version_text(LIBRARY.dukpt_version())
 
 
 def room(size: int) -> Buffer:
@@ -123,8 +140,19 @@ def call(name: str, **given: Given) -> None:
     for argument, kind in EXPORTS[name].items():
         words += spread(kind, argument, given[argument])
     status = getattr(LIBRARY, name)(*words)
+    if status == Length.number:
+        raise Length(lengths(name, given))
     if status:
-        raise FAULTS[status](lengths(name, given)) if status == 1 else FAULTS[status]()
+        raise fault_of(status)
+
+
+def fault_of(status: int) -> DukptError:
+    """The fault of a status. One that this package does not know has its number alone."""
+    if status in FAULTS:
+        return FAULTS[status]()
+    fault = DukptError()
+    fault.number, fault.name = status, "Unknown"
+    return fault
 
 
 def lengths(name: str, given: dict[str, Given]) -> str:

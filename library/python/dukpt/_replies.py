@@ -5,6 +5,7 @@ from ctypes import c_uint32
 from typing import NamedTuple
 
 from ._library import Data, call, filled, room
+from ._values import shown
 
 
 class Reply(NamedTuple):
@@ -13,6 +14,9 @@ class Reply(NamedTuple):
     ksn: bytes
     code: bytes
 
+    def __repr__(self) -> str:
+        return shown(self, text="code")
+
 
 class Refusal(NamedTuple):
     """The fields of a refusal: key serial number (10 bytes) and reason (1 to 6)."""
@@ -20,33 +24,36 @@ class Refusal(NamedTuple):
     ksn: bytes
     reason: int
 
+    def __repr__(self) -> str:
+        return shown(self)
 
-def reply(key: Data, ksn: Data, code: Data) -> bytes:
+
+def request_reply(key: Data, ksn: Data, code: Data) -> bytes:
     """The accepted reply, 24 bytes, of a payment under the transaction key (16) of its key serial
     number (10). The code is `b"00"`, `b"14"`, `b"30"`, `b"51"` or `b"55"`.
 
     Raises `Length`, then `NotACode`.
 
     >>> key = bytes.fromhex("042666B49184CFA368DE9628D0397BC9")
-    >>> reply(key, bytes.fromhex("FFFF9876543210E00001"), b"00").hex().upper()
+    >>> request_reply(key, bytes.fromhex("FFFF9876543210E00001"), b"00").hex().upper()
     '00160102FFFF9876543210E000013030591B50E0CA98FE70'
     """
     frame, count = room(64), c_uint32()
-    call("dukpt_reply", key=key, ksn=ksn, code=code, frame=frame, frame_length=count)
+    call("dukpt_request_reply", key=key, ksn=ksn, code=code, frame=frame, frame_length=count)
     return filled(frame, count)
 
 
-def refusal(ksn: Data, reason: int) -> bytes:
+def request_refusal(ksn: Data, reason: int) -> bytes:
     """The refusal, 15 bytes, of a request with this key serial number (10 bytes; zeros where the
     bytes were no request), for a reason from 1 to 6.
 
     Raises `Length`, then `NotAReason`.
 
-    >>> refusal(bytes.fromhex("FFFF9876543210E00001"), 5).hex().upper()
+    >>> request_refusal(bytes.fromhex("FFFF9876543210E00001"), 5).hex().upper()
     '000D0103FFFF9876543210E0000105'
     """
     frame, count = room(64), c_uint32()
-    call("dukpt_refusal", ksn=ksn, reason=reason, frame=frame, frame_length=count)
+    call("dukpt_request_refusal", ksn=ksn, reason=reason, frame=frame, frame_length=count)
     return filled(frame, count)
 
 
@@ -56,8 +63,8 @@ def read_reply(frame: Data) -> Reply:
     Raises `NotAReply`.
 
     >>> frame = bytes.fromhex("00160102FFFF9876543210E000013030591B50E0CA98FE70")
-    >>> read_reply(frame).code
-    b'00'
+    >>> read_reply(frame)
+    Reply(ksn=FFFF9876543210E00001, code=00)
     """
     ksn, code = room(10), room(2)
     call("dukpt_read_reply", frame=frame, ksn=ksn, code=code)
@@ -69,8 +76,8 @@ def read_refusal(frame: Data) -> Refusal:
 
     Raises `NotARefusal`.
 
-    >>> read_refusal(bytes.fromhex("000D0103FFFF9876543210E0000105")).reason
-    5
+    >>> read_refusal(bytes.fromhex("000D0103FFFF9876543210E0000105"))
+    Refusal(ksn=FFFF9876543210E00001, reason=5)
     """
     ksn, reason = room(10), c_uint32()
     call("dukpt_read_refusal", frame=frame, ksn=ksn, reason=reason)

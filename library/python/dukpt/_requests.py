@@ -5,12 +5,13 @@ from ctypes import c_uint32
 from typing import NamedTuple
 
 from ._library import Data, call, filled, room
+from ._values import Secret, shown
 
 
 class Request(NamedTuple):
     """The fields of a request: key serial number (10 bytes), PAN (12 to 19 ASCII digits), amount in
     the smallest unit of the currency, enciphered PIN block (8 bytes) and MAC (8 bytes). Its `repr`
-    leaves the PAN out."""
+    has no PAN."""
 
     ksn: bytes
     pan: bytes
@@ -19,7 +20,7 @@ class Request(NamedTuple):
     mac: bytes
 
     def __repr__(self) -> str:
-        return f"Request(ksn={self.ksn!r}, pan=.., amount={self.amount})"
+        return shown(self, "pan")
 
 
 def payment_request(key: Data, ksn: Data, pan: Data, pin: Data, amount: int) -> bytes:
@@ -47,9 +48,9 @@ def read_request(frame: Data) -> Request:
 
     >>> frame = bytes.fromhex("002E0101FFFF9876543210E000010D34303132333435363738393039"
     ...                       "000000011B9C1845EB993A7AA05619896B683F13")
-    >>> request = read_request(frame)
-    >>> request.ksn.hex().upper(), request.amount, request.mac.hex().upper()
-    ('FFFF9876543210E00001', 1, 'A05619896B683F13')
+    >>> read_request(frame)  # doctest: +NORMALIZE_WHITESPACE
+    Request(ksn=FFFF9876543210E00001, pan=.., amount=1, block=1B9C1845EB993A7A,
+            mac=A05619896B683F13)
     """
     ksn, pan, block, mac = room(10), room(19), room(8), room(8)
     count, amount = c_uint32(), c_uint32()
@@ -70,7 +71,7 @@ def check_request(key: Data, frame: Data) -> None:
     call("dukpt_check_request", key=key, frame=frame)
 
 
-def request_pin(key: Data, frame: Data) -> bytes:
+def request_pin(key: Data, frame: Data) -> Secret:
     """The PIN, 4 to 12 ASCII digits, of a request's frame under the transaction key (16 bytes). The
     MAC is not compared: `check_request` does that.
 
@@ -78,9 +79,9 @@ def request_pin(key: Data, frame: Data) -> bytes:
 
     >>> frame = bytes.fromhex("002E0101FFFF9876543210E000010D34303132333435363738393039"
     ...                       "000000011B9C1845EB993A7AA05619896B683F13")
-    >>> request_pin(bytes.fromhex("042666B49184CFA368DE9628D0397BC9"), frame)
-    b'1234'
+    >>> request_pin(bytes.fromhex("042666B49184CFA368DE9628D0397BC9"), frame).decode()
+    '1234'
     """
     pin, count = room(12), c_uint32()
     call("dukpt_request_pin", key=key, frame=frame, pin=pin, pin_length=count)
-    return filled(pin, count)
+    return Secret(filled(pin, count))

@@ -2,11 +2,14 @@
 from __future__ import annotations
 
 import inspect
+import os
 from threading import RLock
 from typing import Callable, NamedTuple, NoReturn
 
 from ._library import Data, as_bytes
-from ._registers import load, number, registers_at, reload, take
+from ._registers import (
+    registers_at, registers_load, registers_next, registers_number, registers_reload)
+from ._values import Secret, shown
 from .faults import Spent
 
 # Keeps an image so that it outlives a stop, or raises.
@@ -14,14 +17,13 @@ Store = Callable[[bytes], object]
 
 
 class Transaction(NamedTuple):
-    """A transaction key (16 bytes) and its key serial number (10). Its `repr` leaves the key
-    out."""
+    """A transaction key (16 bytes) and its key serial number (10). Its `repr` has no key."""
 
-    key: bytes
+    key: Secret
     ksn: bytes
 
     def __repr__(self) -> str:
-        return f"Transaction(key=.., ksn={self.ksn!r})"
+        return shown(self)
 
 
 class Terminal:
@@ -33,7 +35,9 @@ class Terminal:
     was, and no key was given.
 
     There is one terminal for a stored image, and no copy of it: two of them would use each number
-    twice. Threads may share it.
+    twice. Threads may share it; a process that was forked may not. There `take`, `reload` and
+    `image` raise a `RuntimeError`, and nothing is taken. Processes that open one stored image, each
+    a terminal of its own, hold a lock from reading it to storing the next one.
 
     >>> initial = bytes.fromhex("6AC292FAA1315B4D858AB3A3D7D5933A")
     >>> stored = []
@@ -46,15 +50,16 @@ class Terminal:
     'C46551CEF9FD24B0AA9AD834130D3BC7'
     """
 
-    __slots__ = ("_image", "_lock", "_storing")
+    __slots__ = ("_image", "_lock", "_process", "_storing")
 
     def __init__(self, image: Data) -> None:
         """Raises `NotAnImage`."""
-        self._image = as_bytes("image", image)
+        self._image = Secret(as_bytes("image", image))
         self._lock = RLock()
+        self._process = os.getpid()
         self._storing = False
         try:
-            number(self._image)
+            registers_number(self._image)
         except Spent:
             pass
 
@@ -65,7 +70,7 @@ class Terminal:
 
         Raises `Length`, then `NotInitial`.
         """
-        return cls(load(initial, iksn))
+        return cls(registers_load(initial, iksn))
 
     @classmethod
     def at(cls, initial: Data, ksn: Data) -> Terminal:
@@ -85,8 +90,9 @@ class Terminal:
         return cls(image)
 
     @property
-    def image(self) -> bytes:
+    def image(self) -> Secret:
         """The image of the terminal as it is."""
+        self._demand_own_process()
         return self._image
 
     @property
@@ -95,7 +101,7 @@ class Terminal:
 
         Raises `Spent`.
         """
-        return number(self._image)
+        return registers_number(self._image)
 
     def take(self, store: Store) -> Transaction:
         """Uses the next number: has the next image stored, and only then gives the transaction key
@@ -103,8 +109,9 @@ class Terminal:
 
         Raises `Spent`, and what `store` raises.
         """
+        self._demand_own_process()
         with self._lock:
-            taken = take(self._image)
+            taken = registers_next(self._image)
             self._keep(store, taken.image)
             return Transaction(taken.key, taken.ksn)
 
@@ -114,10 +121,18 @@ class Terminal:
 
         Raises `Length`, then `NotInitial`, `IksnSpent`, `LoadsSpent`, and what `store` raises.
         """
+        self._demand_own_process()
         with self._lock:
-            self._keep(store, reload(self._image, initial, iksn))
+            self._keep(store, registers_reload(self._image, initial, iksn))
 
-    def _keep(self, store: Store, image: bytes) -> None:
+    def _demand_own_process(self) -> None:
+        """A fork copies the terminal. The copy would give the numbers and keys of the first one."""
+        if os.getpid() != self._process:
+            raise RuntimeError(
+                "the terminal is of another process, and a fork copied it: open the stored image "
+                "in one process")
+
+    def _keep(self, store: Store, image: Secret) -> None:
         """Has an image stored, and has it only then."""
         if self._storing:
             raise RuntimeError("the terminal waits for its store, which may not change it")
@@ -126,6 +141,8 @@ class Terminal:
             kept = store(image)
         finally:
             self._storing = False
+        # A store that forks returns in both processes.
+        self._demand_own_process()
         if inspect.isawaitable(kept):
             raise TypeError("store is to keep the image before it returns, and not later")
         self._image = image

@@ -1,26 +1,24 @@
-"""The version of this package, and that of the library."""
+"""The version of this package, and that of the library beside which it works."""
 from __future__ import annotations
 
 from typing import Final
 
-from ._library import LIBRARY
-
 __version__: Final = "0.1.0"
 
 
-def version() -> str:
-    """The version of the library.
+def version_text(packed: int) -> str:
+    """A version as the library has it, a byte for each part.
 
-    >>> version()
-    '0.1.0'
+    >>> version_text(0x010203)
+    '1.2.3'
     """
-    packed: int = LIBRARY.dukpt_version()
     return ".".join(str(packed >> shift & 0xFF) for shift in (16, 8, 0))
 
 
-def demand_one_version() -> None:
-    """Raises ImportError where package and library differ."""
-    if version() != __version__:
+def demand_version(library: str, packed: int) -> None:
+    """Raises ImportError where a library has another major or minor version than the package."""
+    text = version_text(packed)
+    if text.split(".")[:2] != __version__.split(".")[:2]:
         raise ImportError(
-            f"dukpt is {__version__}, and its library {LIBRARY._name} is {version()}: "
-            "install both of one version")
+            f"dukpt is {__version__}, and its library {library} is {text}: install both of one "
+            "major and minor version")

@@ -5,14 +5,14 @@ refused gives nothing, and has changed nothing.
 """
 from __future__ import annotations
 
-from typing import ClassVar, Final, Mapping
+from typing import Final, Mapping
 
 
 class DukptError(Exception):
     """A call is refused."""
 
-    number: ClassVar[int]
-    name: ClassVar[str]
+    number: int
+    name: str
 
     def __init_subclass__(cls, number: int) -> None:
         cls.number, cls.name = number, cls.__name__
@@ -20,6 +20,9 @@ class DukptError(Exception):
     def __str__(self) -> str:
         # Python drops docstrings under `-OO`.
         return ": ".join(filter(None, (f"{self.name} ({self.number})", self.__doc__, *self.args)))
+
+
+# The faults: made of library/calls.toml by `tools/library --make`.
 
 
 class Length(DukptError, number=1):
@@ -71,7 +74,7 @@ class NotAPinBlock(DukptError, number=12):
 
 
 class BlockLength(DukptError, number=13):
-    """a key block has no such length, or its length field is not its length"""
+    """the key block has not 80 to 512 characters, a multiple of 8, or says another length"""
 
 
 class BlockVersion(DukptError, number=14):
@@ -79,11 +82,11 @@ class BlockVersion(DukptError, number=14):
 
 
 class BlockHeaderField(DukptError, number=15):
-    """a header field cannot be printed, or the optional blocks' number is not two digits"""
+    """a header field cannot be printed, or the number of optional blocks is not two digits"""
 
 
 class BlockOptionalBlock(DukptError, number=16):
-    """an optional block does not fit, or what follows them is no ciphertext and MAC"""
+    """optional blocks do not fit, are over 99 or unprintable, or no key and MAC follow"""
 
 
 class BlockHex(DukptError, number=17):
@@ -136,6 +139,34 @@ class PartOfFrame(DukptError, number=28):
 
 class TooLong(DukptError, number=29):
     """a length above 62 stands where a frame would begin"""
+
+
+class NotReversed(DukptError, number=30):
+    """the key serial number cannot reverse the other one"""
+
+
+class NotAReversal(DukptError, number=31):
+    """the bytes are no reversal's frame"""
+
+
+class NotAState(DukptError, number=32):
+    """the state of a reversal is neither 1 nor 0"""
+
+
+class NotAReversalReply(DukptError, number=33):
+    """the bytes are no frame of a reversal's reply"""
+
+
+class OtherUsage(DukptError, number=34):
+    """the key in the key block has another usage, or is no TDES key"""
+
+
+class OtherKeyLength(DukptError, number=35):
+    """the key in the key block has another length"""
+
+
+class NoOptionalBlock(DukptError, number=36):
+    """the key block has no optional block with this id"""
 
 
 # Each fault by its number.

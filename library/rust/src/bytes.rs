@@ -4,8 +4,8 @@ use crate::fault::Fault;
 use core::fmt;
 use core::ops::Deref;
 
-/// At most `N` bytes. It is a slice of them; `Debug` tells their number alone, so that no key, PIN
-/// or PAN is printed by chance.
+/// At most `N` bytes. It is a slice of them; `Debug` tells their number alone, so that no PAN is
+/// printed by chance.
 #[derive(Clone, Copy)]
 pub struct Bytes<const N: usize> {
     bytes: [u8; N],
@@ -21,19 +21,6 @@ impl<const N: usize> Bytes<N> {
         call(&mut bytes, &mut count)?;
         let length = count as usize;
         Ok(Bytes { bytes, length })
-    }
-
-    /// As many bytes as there is room for.
-    pub(crate) fn whole(bytes: &[u8; N]) -> Self {
-        Bytes { bytes: *bytes, length: N }
-    }
-
-    /// These bytes, or none where they are too many.
-    pub(crate) fn of(given: &[u8]) -> Option<Self> {
-        let mut bytes = [0; N];
-        bytes.get_mut(..given.len())?.copy_from_slice(given);
-        let length = given.len();
-        Some(Bytes { bytes, length })
     }
 }
 

@@ -1,4 +1,4 @@
-//! Each export as a safe function: the one module with `unsafe` in it.
+//! Each export as a safe function. `unsafe` stands here and in `wipe` alone.
 //!
 //! An export asks of its caller that each pointer is valid for the length behind it and not null,
 //! also where that is 0, and that what it writes overlaps nothing else. It asks no more: its
@@ -37,6 +37,8 @@ macro_rules! call {
     };
 }
 
+// The calls: made of library/calls.toml by `tools/library --make`.
+
 pub fn version() -> u32 {
     call!(dukpt_version: )
 }
@@ -65,6 +67,14 @@ pub fn response_key(key: &[u8], variant: &mut [u8]) -> u32 {
     call!(dukpt_response_key: read key, write variant)
 }
 
+pub fn request_data_key(key: &[u8], variant: &mut [u8]) -> u32 {
+    call!(dukpt_request_data_key: read key, write variant)
+}
+
+pub fn response_data_key(key: &[u8], variant: &mut [u8]) -> u32 {
+    call!(dukpt_response_data_key: read key, write variant)
+}
+
 pub fn check_usable(ksn: &[u8]) -> u32 {
     call!(dukpt_check_usable: read ksn)
 }
@@ -81,24 +91,24 @@ pub fn cmac_check_value(key: &[u8], value: &mut [u8]) -> u32 {
     call!(dukpt_cmac_check_value: read key, write value)
 }
 
-pub fn load(initial: &[u8], iksn: &[u8], image: &mut [u8]) -> u32 {
-    call!(dukpt_load: read initial, read iksn, write image)
+pub fn registers_load(initial: &[u8], iksn: &[u8], image: &mut [u8]) -> u32 {
+    call!(dukpt_registers_load: read initial, read iksn, write image)
 }
 
 pub fn registers_at(initial: &[u8], ksn: &[u8], image: &mut [u8]) -> u32 {
     call!(dukpt_registers_at: read initial, read ksn, write image)
 }
 
-pub fn number(image: &[u8], ksn: &mut [u8]) -> u32 {
-    call!(dukpt_number: read image, write ksn)
+pub fn registers_number(image: &[u8], ksn: &mut [u8]) -> u32 {
+    call!(dukpt_registers_number: read image, write ksn)
 }
 
-pub fn take(image: &[u8], next_image: &mut [u8], key: &mut [u8], ksn: &mut [u8]) -> u32 {
-    call!(dukpt_take: read image, write next_image, write key, write ksn)
+pub fn registers_next(image: &[u8], next_image: &mut [u8], key: &mut [u8], ksn: &mut [u8]) -> u32 {
+    call!(dukpt_registers_next: read image, write next_image, write key, write ksn)
 }
 
-pub fn reload(image: &[u8], initial: &[u8], iksn: &[u8], next_image: &mut [u8]) -> u32 {
-    call!(dukpt_reload: read image, read initial, read iksn, write next_image)
+pub fn registers_reload(image: &[u8], initial: &[u8], iksn: &[u8], next_image: &mut [u8]) -> u32 {
+    call!(dukpt_registers_reload: read image, read initial, read iksn, write next_image)
 }
 
 pub fn tdes_encrypt(key: &[u8], block: &mut [u8]) -> u32 {
@@ -144,6 +154,19 @@ pub fn wrap(
     call!(dukpt_wrap: read kbpk, read header, read key, read padding, write text, set text_length)
 }
 
+pub fn wrap_with(
+    kbpk: &[u8],
+    header: &[u8],
+    optional: &[u8],
+    key: &[u8],
+    padding: &[u8],
+    text: &mut [u8],
+    text_length: &mut u32,
+) -> u32 {
+    call!(dukpt_wrap_with:
+        read kbpk, read header, read optional, read key, read padding, write text, set text_length)
+}
+
 pub fn unwrap(
     kbpk: &[u8],
     text: &[u8],
@@ -152,6 +175,20 @@ pub fn unwrap(
     key_length: &mut u32,
 ) -> u32 {
     call!(dukpt_unwrap: read kbpk, read text, write header, write key, set key_length)
+}
+
+pub fn unwrap_for(kbpk: &[u8], usage: &[u8], wanted: u32, text: &[u8], key: &mut [u8]) -> u32 {
+    call!(dukpt_unwrap_for: read kbpk, read usage, number wanted, read text, write key)
+}
+
+pub fn unwrap_optional(
+    kbpk: &[u8],
+    text: &[u8],
+    id: &[u8],
+    content: &mut [u8],
+    content_length: &mut u32,
+) -> u32 {
+    call!(dukpt_unwrap_optional: read kbpk, read text, read id, write content, set content_length)
 }
 
 pub fn payment_request(
@@ -188,12 +225,18 @@ pub fn request_pin(key: &[u8], frame: &[u8], pin: &mut [u8], pin_length: &mut u3
     call!(dukpt_request_pin: read key, read frame, write pin, set pin_length)
 }
 
-pub fn reply(key: &[u8], ksn: &[u8], code: &[u8], frame: &mut [u8], frame_length: &mut u32) -> u32 {
-    call!(dukpt_reply: read key, read ksn, read code, write frame, set frame_length)
+pub fn request_reply(
+    key: &[u8],
+    ksn: &[u8],
+    code: &[u8],
+    frame: &mut [u8],
+    frame_length: &mut u32,
+) -> u32 {
+    call!(dukpt_request_reply: read key, read ksn, read code, write frame, set frame_length)
 }
 
-pub fn refusal(ksn: &[u8], reason: u32, frame: &mut [u8], frame_length: &mut u32) -> u32 {
-    call!(dukpt_refusal: read ksn, number reason, write frame, set frame_length)
+pub fn request_refusal(ksn: &[u8], reason: u32, frame: &mut [u8], frame_length: &mut u32) -> u32 {
+    call!(dukpt_request_refusal: read ksn, number reason, write frame, set frame_length)
 }
 
 pub fn read_reply(frame: &[u8], ksn: &mut [u8], code: &mut [u8]) -> u32 {
@@ -206,6 +249,49 @@ pub fn read_refusal(frame: &[u8], ksn: &mut [u8], reason: &mut u32) -> u32 {
 
 pub fn check_reply(key: &[u8], ksn: &[u8], frame: &[u8]) -> u32 {
     call!(dukpt_check_reply: read key, read ksn, read frame)
+}
+
+pub fn reversal_request(
+    key: &[u8],
+    ksn: &[u8],
+    reversed: &[u8],
+    frame: &mut [u8],
+    frame_length: &mut u32,
+) -> u32 {
+    call!(dukpt_reversal_request: read key, read ksn, read reversed, write frame, set frame_length)
+}
+
+pub fn read_reversal(frame: &[u8], ksn: &mut [u8], reversed: &mut [u8], mac: &mut [u8]) -> u32 {
+    call!(dukpt_read_reversal: read frame, write ksn, write reversed, write mac)
+}
+
+pub fn check_reversal(key: &[u8], frame: &[u8]) -> u32 {
+    call!(dukpt_check_reversal: read key, read frame)
+}
+
+pub fn reversal_reply(
+    key: &[u8],
+    ksn: &[u8],
+    reversed: &[u8],
+    state: u32,
+    frame: &mut [u8],
+    frame_length: &mut u32,
+) -> u32 {
+    call!(dukpt_reversal_reply:
+        read key, read ksn, read reversed, number state, write frame, set frame_length)
+}
+
+pub fn read_reversal_reply(
+    frame: &[u8],
+    ksn: &mut [u8],
+    reversed: &mut [u8],
+    state: &mut u32,
+) -> u32 {
+    call!(dukpt_read_reversal_reply: read frame, write ksn, write reversed, set state)
+}
+
+pub fn check_reversal_reply(key: &[u8], ksn: &[u8], reversed: &[u8], frame: &[u8]) -> u32 {
+    call!(dukpt_check_reversal_reply: read key, read ksn, read reversed, read frame)
 }
 
 pub fn frame_length(bytes: &[u8], count: &mut u32) -> u32 {

@@ -1,5 +1,7 @@
 //! The exports of libdukpt, as `library/c/dukpt.h` declares them. `calls` says when a call is
 //! sound.
+//!
+//! Made of library/calls.toml by `tools/library --make`.
 
 extern "C" {
     pub fn dukpt_version() -> u32;
@@ -45,6 +47,18 @@ extern "C" {
         variant: *mut u8,
         variant_size: usize,
     ) -> u32;
+    pub fn dukpt_request_data_key(
+        key: *const u8,
+        key_size: usize,
+        variant: *mut u8,
+        variant_size: usize,
+    ) -> u32;
+    pub fn dukpt_response_data_key(
+        key: *const u8,
+        key_size: usize,
+        variant: *mut u8,
+        variant_size: usize,
+    ) -> u32;
     pub fn dukpt_check_usable(ksn: *const u8, ksn_size: usize) -> u32;
     pub fn dukpt_next_number(
         ksn: *const u8,
@@ -64,7 +78,7 @@ extern "C" {
         value: *mut u8,
         value_size: usize,
     ) -> u32;
-    pub fn dukpt_load(
+    pub fn dukpt_registers_load(
         initial: *const u8,
         initial_size: usize,
         iksn: *const u8,
@@ -80,8 +94,13 @@ extern "C" {
         image: *mut u8,
         image_size: usize,
     ) -> u32;
-    pub fn dukpt_number(image: *const u8, image_size: usize, ksn: *mut u8, ksn_size: usize) -> u32;
-    pub fn dukpt_take(
+    pub fn dukpt_registers_number(
+        image: *const u8,
+        image_size: usize,
+        ksn: *mut u8,
+        ksn_size: usize,
+    ) -> u32;
+    pub fn dukpt_registers_next(
         image: *const u8,
         image_size: usize,
         next_image: *mut u8,
@@ -91,7 +110,7 @@ extern "C" {
         ksn: *mut u8,
         ksn_size: usize,
     ) -> u32;
-    pub fn dukpt_reload(
+    pub fn dukpt_registers_reload(
         image: *const u8,
         image_size: usize,
         initial: *const u8,
@@ -175,6 +194,21 @@ extern "C" {
         text_size: usize,
         text_length: *mut u32,
     ) -> u32;
+    pub fn dukpt_wrap_with(
+        kbpk: *const u8,
+        kbpk_size: usize,
+        header: *const u8,
+        header_size: usize,
+        optional: *const u8,
+        optional_size: usize,
+        key: *const u8,
+        key_size: usize,
+        padding: *const u8,
+        padding_size: usize,
+        text: *mut u8,
+        text_size: usize,
+        text_length: *mut u32,
+    ) -> u32;
     pub fn dukpt_unwrap(
         kbpk: *const u8,
         kbpk_size: usize,
@@ -185,6 +219,28 @@ extern "C" {
         key: *mut u8,
         key_size: usize,
         key_length: *mut u32,
+    ) -> u32;
+    pub fn dukpt_unwrap_for(
+        kbpk: *const u8,
+        kbpk_size: usize,
+        usage: *const u8,
+        usage_size: usize,
+        wanted: u32,
+        text: *const u8,
+        text_size: usize,
+        key: *mut u8,
+        key_size: usize,
+    ) -> u32;
+    pub fn dukpt_unwrap_optional(
+        kbpk: *const u8,
+        kbpk_size: usize,
+        text: *const u8,
+        text_size: usize,
+        id: *const u8,
+        id_size: usize,
+        content: *mut u8,
+        content_size: usize,
+        content_length: *mut u32,
     ) -> u32;
     pub fn dukpt_payment_request(
         key: *const u8,
@@ -229,7 +285,7 @@ extern "C" {
         pin_size: usize,
         pin_length: *mut u32,
     ) -> u32;
-    pub fn dukpt_reply(
+    pub fn dukpt_request_reply(
         key: *const u8,
         key_size: usize,
         ksn: *const u8,
@@ -240,7 +296,7 @@ extern "C" {
         frame_size: usize,
         frame_length: *mut u32,
     ) -> u32;
-    pub fn dukpt_refusal(
+    pub fn dukpt_request_refusal(
         ksn: *const u8,
         ksn_size: usize,
         reason: u32,
@@ -268,6 +324,64 @@ extern "C" {
         key_size: usize,
         ksn: *const u8,
         ksn_size: usize,
+        frame: *const u8,
+        frame_size: usize,
+    ) -> u32;
+    pub fn dukpt_reversal_request(
+        key: *const u8,
+        key_size: usize,
+        ksn: *const u8,
+        ksn_size: usize,
+        reversed: *const u8,
+        reversed_size: usize,
+        frame: *mut u8,
+        frame_size: usize,
+        frame_length: *mut u32,
+    ) -> u32;
+    pub fn dukpt_read_reversal(
+        frame: *const u8,
+        frame_size: usize,
+        ksn: *mut u8,
+        ksn_size: usize,
+        reversed: *mut u8,
+        reversed_size: usize,
+        mac: *mut u8,
+        mac_size: usize,
+    ) -> u32;
+    pub fn dukpt_check_reversal(
+        key: *const u8,
+        key_size: usize,
+        frame: *const u8,
+        frame_size: usize,
+    ) -> u32;
+    pub fn dukpt_reversal_reply(
+        key: *const u8,
+        key_size: usize,
+        ksn: *const u8,
+        ksn_size: usize,
+        reversed: *const u8,
+        reversed_size: usize,
+        state: u32,
+        frame: *mut u8,
+        frame_size: usize,
+        frame_length: *mut u32,
+    ) -> u32;
+    pub fn dukpt_read_reversal_reply(
+        frame: *const u8,
+        frame_size: usize,
+        ksn: *mut u8,
+        ksn_size: usize,
+        reversed: *mut u8,
+        reversed_size: usize,
+        state: *mut u32,
+    ) -> u32;
+    pub fn dukpt_check_reversal_reply(
+        key: *const u8,
+        key_size: usize,
+        ksn: *const u8,
+        ksn_size: usize,
+        reversed: *const u8,
+        reversed_size: usize,
         frame: *const u8,
         frame_size: usize,
     ) -> u32;

@@ -1,107 +1,12 @@
 //! Why a call is refused.
 
+mod kinds;
+
+pub use kinds::Fault;
+
 use core::fmt;
 
-/// Why a call is refused. The numbers and the names are those of the library, and do not change any
-/// more. A call that is refused has changed nothing.
-#[derive(Debug, Clone, Copy, PartialEq, Eq, Hash)]
-#[non_exhaustive]
-#[repr(u32)]
-pub enum Fault {
-    /// A value has another length than the call takes.
-    Length = 1,
-    /// The counter of an initial key serial number is not zero.
-    NotInitial = 2,
-    /// The counter numbers no transaction: it is zero or has more than ten one bits.
-    NotUsable = 3,
-    /// No number is left.
-    Spent = 4,
-    /// The bytes are no image of a terminal.
-    NotAnImage = 5,
-    /// The initial key serial number is the terminal's own, or one that it had before.
-    IksnSpent = 6,
-    /// The terminal had eight initial key serial numbers before its own.
-    LoadsSpent = 7,
-    /// The PIN has fewer than 4 or more than 12 bytes.
-    PinLength = 8,
-    /// A byte of the PIN is no ASCII digit.
-    PinDigit = 9,
-    /// The PAN has fewer than 12 or more than 19 bytes.
-    PanLength = 10,
-    /// A byte of the PAN is no ASCII digit.
-    PanDigit = 11,
-    /// The block is no PIN block of this PAN.
-    NotAPinBlock = 12,
-    /// A key block has no such length, or its length field is not its length.
-    BlockLength = 13,
-    /// The first character of a key block is not B.
-    BlockVersion = 14,
-    /// A header field cannot be printed, or the optional blocks' number is not two digits.
-    BlockHeaderField = 15,
-    /// An optional block does not fit, or what follows them is no ciphertext and MAC.
-    BlockOptionalBlock = 16,
-    /// A character after the optional blocks is no hexadecimal digit.
-    BlockHex = 17,
-    /// The MAC is not that of the key block.
-    BlockMac = 18,
-    /// The key's length is neither 128 nor 192 bits, or the payload is too short for it.
-    BlockPayload = 19,
-    /// The payload would be no whole blocks, or the text longer than 512 characters.
-    BlockPadLength = 20,
-    /// The bytes are no request's frame.
-    NotARequest = 21,
-    /// The bytes are no accepted reply's frame.
-    NotAReply = 22,
-    /// The bytes are no refusal's frame.
-    NotARefusal = 23,
-    /// The two bytes are no code of a reply: 00, 14, 30, 51 or 55.
-    NotACode = 24,
-    /// The reason of a refusal is none of 1 to 6.
-    NotAReason = 25,
-    /// The reply is to another key serial number.
-    NotMine = 26,
-    /// The MAC is not that of the frame.
-    BadMac = 27,
-    /// Fewer than the two bytes of a frame's length are there.
-    PartOfFrame = 28,
-    /// A length above 62 stands where a frame would begin.
-    TooLong = 29,
-}
-
 impl Fault {
-    /// Each fault, in the order of the numbers.
-    pub const ALL: [Fault; 29] = [
-        Fault::Length,
-        Fault::NotInitial,
-        Fault::NotUsable,
-        Fault::Spent,
-        Fault::NotAnImage,
-        Fault::IksnSpent,
-        Fault::LoadsSpent,
-        Fault::PinLength,
-        Fault::PinDigit,
-        Fault::PanLength,
-        Fault::PanDigit,
-        Fault::NotAPinBlock,
-        Fault::BlockLength,
-        Fault::BlockVersion,
-        Fault::BlockHeaderField,
-        Fault::BlockOptionalBlock,
-        Fault::BlockHex,
-        Fault::BlockMac,
-        Fault::BlockPayload,
-        Fault::BlockPadLength,
-        Fault::NotARequest,
-        Fault::NotAReply,
-        Fault::NotARefusal,
-        Fault::NotACode,
-        Fault::NotAReason,
-        Fault::NotMine,
-        Fault::BadMac,
-        Fault::PartOfFrame,
-        Fault::TooLong,
-    ];
-
     /// The fault's number, by which other languages know it.
     pub fn number(self) -> u32 {
         self as u32
@@ -110,55 +15,6 @@ impl Fault {
     /// The fault with a number, if there is one.
     pub fn from_number(number: u32) -> Option<Fault> {
         Fault::ALL.into_iter().find(|fault| fault.number() == number)
-    }
-
-    /// What is wrong, as a clause.
-    fn cause(self) -> &'static str {
-        match self {
-            Fault::Length => "a value has another length than the call takes",
-            Fault::NotInitial => "the counter of an initial key serial number is not zero",
-            Fault::NotUsable => {
-                "the counter numbers no transaction: it is zero or has more than ten one bits"
-            }
-            Fault::Spent => "no number is left",
-            Fault::NotAnImage => "the bytes are no image of a terminal",
-            Fault::IksnSpent => {
-                "the initial key serial number is the terminal's own, or one that it had before"
-            }
-            Fault::LoadsSpent => "the terminal had eight initial key serial numbers before its own",
-            Fault::PinLength => "the PIN has fewer than 4 or more than 12 bytes",
-            Fault::PinDigit => "a byte of the PIN is no ASCII digit",
-            Fault::PanLength => "the PAN has fewer than 12 or more than 19 bytes",
-            Fault::PanDigit => "a byte of the PAN is no ASCII digit",
-            Fault::NotAPinBlock => "the block is no PIN block of this PAN",
-            Fault::BlockLength => {
-                "a key block has no such length, or its length field is not its length"
-            }
-            Fault::BlockVersion => "the first character of a key block is not B",
-            Fault::BlockHeaderField => {
-                "a header field cannot be printed, or the optional blocks' number is not two digits"
-            }
-            Fault::BlockOptionalBlock => {
-                "an optional block does not fit, or what follows them is no ciphertext and MAC"
-            }
-            Fault::BlockHex => "a character after the optional blocks is no hexadecimal digit",
-            Fault::BlockMac => "the MAC is not that of the key block",
-            Fault::BlockPayload => {
-                "the key's length is neither 128 nor 192 bits, or the payload is too short for it"
-            }
-            Fault::BlockPadLength => {
-                "the payload would be no whole blocks, or the text longer than 512 characters"
-            }
-            Fault::NotARequest => "the bytes are no request's frame",
-            Fault::NotAReply => "the bytes are no accepted reply's frame",
-            Fault::NotARefusal => "the bytes are no refusal's frame",
-            Fault::NotACode => "the two bytes are no code of a reply: 00, 14, 30, 51 or 55",
-            Fault::NotAReason => "the reason of a refusal is none of 1 to 6",
-            Fault::NotMine => "the reply is to another key serial number",
-            Fault::BadMac => "the MAC is not that of the frame",
-            Fault::PartOfFrame => "fewer than the two bytes of a frame's length are there",
-            Fault::TooLong => "a length above 62 stands where a frame would begin",
-        }
     }
 }
 

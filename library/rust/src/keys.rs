@@ -1,4 +1,4 @@
-//! The keys of the key tree (ANSI X9.24-1:2009 annex A).
+//! The keys of the key tree, and the variants of a transaction key (ANSI X9.24-1:2009 annex A).
 
 use crate::fault::{done, sure, Fault};
 use crate::{calls, Key, Ksn};
@@ -8,15 +8,26 @@ use crate::{calls, Key, Ksn};
 /// Refused with `NotInitial`.
 ///
 /// ```
-/// let bdk = *b"\x01\x23\x45\x67\x89\xAB\xCD\xEF\xFE\xDC\xBA\x98\x76\x54\x32\x10";
-/// let iksn = *b"\xFF\xFF\x98\x76\x54\x32\x10\xE0\x00\x00";
+/// use dukpt::{Key, Ksn};
+///
+/// let bdk = Key::new(*b"\x01\x23\x45\x67\x89\xAB\xCD\xEF\xFE\xDC\xBA\x98\x76\x54\x32\x10");
+/// let iksn = Ksn::new(*b"\xFF\xFF\x98\x76\x54\x32\x10\xE0\x00\x00");
 /// let initial = dukpt::initial_key(&bdk, &iksn)?;
-/// assert_eq!(initial, *b"\x6A\xC2\x92\xFA\xA1\x31\x5B\x4D\x85\x8A\xB3\xA3\xD7\xD5\x93\x3A");
+/// let published = *b"\x6A\xC2\x92\xFA\xA1\x31\x5B\x4D\x85\x8A\xB3\xA3\xD7\xD5\x93\x3A";
+/// assert_eq!(initial, Key::new(published));
 /// # Ok::<(), dukpt::Fault>(())
 /// ```
 pub fn initial_key(bdk: &Key, iksn: &Ksn) -> Result<Key, Fault> {
-    let mut key = [0; 16];
-    done(calls::initial_key(bdk, iksn, &mut key)).map(|()| key)
+    let mut key = Key::new([0; 16]);
+    let status = calls::initial_key(bdk.as_bytes(), iksn.as_bytes(), key.as_bytes_mut());
+    done(status).map(|()| key)
+}
+
+/// The key that a call makes whose one fault is that lengths do not fit, where they do.
+fn made(call: impl FnOnce(&mut [u8]) -> u32) -> Key {
+    let mut key = Key::new([0; 16]);
+    sure(call(key.as_bytes_mut()));
+    key
 }
 
 /// The transaction key of a key serial number, under the base derivation key. The counter may be
@@ -24,55 +35,71 @@ pub fn initial_key(bdk: &Key, iksn: &Ksn) -> Result<Key, Fault> {
 ///
 /// The example of the crate shows it.
 pub fn derive(bdk: &Key, ksn: &Ksn) -> Key {
-    let mut key = [0; 16];
-    sure(calls::derive(bdk, ksn, &mut key));
-    key
+    made(|key| calls::derive(bdk.as_bytes(), ksn.as_bytes(), key))
 }
 
 /// The transaction key of a key serial number, under the initial key of its terminal. The counter
 /// may be any: zero gives the initial key.
 ///
 /// ```
-/// let initial = *b"\x6A\xC2\x92\xFA\xA1\x31\x5B\x4D\x85\x8A\xB3\xA3\xD7\xD5\x93\x3A";
-/// let ksn = *b"\xFF\xFF\x98\x76\x54\x32\x10\xE0\x00\x01";
-/// let key = dukpt::derive_from_initial(&initial, &ksn);
-/// assert_eq!(key, *b"\x04\x26\x66\xB4\x91\x84\xCF\xA3\x68\xDE\x96\x28\xD0\x39\x7B\xC9");
+/// use dukpt::{Key, Ksn};
+///
+/// let initial = Key::new(*b"\x6A\xC2\x92\xFA\xA1\x31\x5B\x4D\x85\x8A\xB3\xA3\xD7\xD5\x93\x3A");
+/// let ksn = Ksn::new(*b"\xFF\xFF\x98\x76\x54\x32\x10\xE0\x00\x01");
+/// let published = *b"\x04\x26\x66\xB4\x91\x84\xCF\xA3\x68\xDE\x96\x28\xD0\x39\x7B\xC9";
+/// assert_eq!(dukpt::derive_from_initial(&initial, &ksn), Key::new(published));
 /// ```
 pub fn derive_from_initial(initial: &Key, ksn: &Ksn) -> Key {
-    let mut key = [0; 16];
-    sure(calls::derive_from_initial(initial, ksn, &mut key));
-    key
+    made(|key| calls::derive_from_initial(initial.as_bytes(), ksn.as_bytes(), key))
 }
 
 /// The variant of a transaction key that enciphers PINs.
 ///
 /// ```
-/// let key = *b"\x04\x26\x66\xB4\x91\x84\xCF\xA3\x68\xDE\x96\x28\xD0\x39\x7B\xC9";
-/// let pin_key = dukpt::pin_key(&key);
-/// assert_eq!(pin_key, *b"\x04\x26\x66\xB4\x91\x84\xCF\x5C\x68\xDE\x96\x28\xD0\x39\x7B\x36");
-/// let request_key = dukpt::request_key(&key);
-/// assert_eq!(request_key, *b"\x04\x26\x66\xB4\x91\x84\x30\xA3\x68\xDE\x96\x28\xD0\x39\x84\xC9");
-/// let response_key = dukpt::response_key(&key);
-/// assert_eq!(response_key, *b"\x04\x26\x66\xB4\x6E\x84\xCF\xA3\x68\xDE\x96\x28\x2F\x39\x7B\xC9");
+/// use dukpt::{pin_key, request_key, response_key, Key};
+///
+/// let key = Key::new(*b"\x04\x26\x66\xB4\x91\x84\xCF\xA3\x68\xDE\x96\x28\xD0\x39\x7B\xC9");
+/// let pin = *b"\x04\x26\x66\xB4\x91\x84\xCF\x5C\x68\xDE\x96\x28\xD0\x39\x7B\x36";
+/// assert_eq!(pin_key(&key), Key::new(pin));
+/// let request = *b"\x04\x26\x66\xB4\x91\x84\x30\xA3\x68\xDE\x96\x28\xD0\x39\x84\xC9";
+/// assert_eq!(request_key(&key), Key::new(request));
+/// let response = *b"\x04\x26\x66\xB4\x6E\x84\xCF\xA3\x68\xDE\x96\x28\x2F\x39\x7B\xC9";
+/// assert_eq!(response_key(&key), Key::new(response));
 /// ```
 pub fn pin_key(key: &Key) -> Key {
-    let mut variant = [0; 16];
-    sure(calls::pin_key(key, &mut variant));
-    variant
+    made(|variant| calls::pin_key(key.as_bytes(), variant))
 }
 
 /// The variant of a transaction key that makes the MACs of requests, as the example of [`pin_key`]
 /// shows.
 pub fn request_key(key: &Key) -> Key {
-    let mut variant = [0; 16];
-    sure(calls::request_key(key, &mut variant));
-    variant
+    made(|variant| calls::request_key(key.as_bytes(), variant))
 }
 
 /// The variant of a transaction key that makes the MACs of replies, as the example of [`pin_key`]
 /// shows.
 pub fn response_key(key: &Key) -> Key {
-    let mut variant = [0; 16];
-    sure(calls::response_key(key, &mut variant));
-    variant
+    made(|variant| calls::response_key(key.as_bytes(), variant))
+}
+
+/// The key that enciphers the data of requests: the variant of a transaction key for it, each half
+/// enciphered under the variant itself (ANSI X9.24-1:2009 annex A.4.1).
+///
+/// ```
+/// use dukpt::{request_data_key, response_data_key, Key};
+///
+/// let key = Key::new(*b"\x04\x26\x66\xB4\x91\x84\xCF\xA3\x68\xDE\x96\x28\xD0\x39\x7B\xC9");
+/// let request = *b"\x44\x8D\x3F\x07\x6D\x83\x04\x03\x6A\x55\xA3\xD7\xE0\x05\x5A\x78";
+/// assert_eq!(request_data_key(&key), Key::new(request));
+/// let response = *b"\xAD\x7B\xFC\x8B\x06\xAD\x3A\x08\xA5\x60\xB4\x10\x5C\xF8\xD9\xE5";
+/// assert_eq!(response_data_key(&key), Key::new(response));
+/// ```
+pub fn request_data_key(key: &Key) -> Key {
+    made(|variant| calls::request_data_key(key.as_bytes(), variant))
+}
+
+/// The key that enciphers the data of responses, made in the same way, as the example of
+/// [`request_data_key`] shows.
+pub fn response_data_key(key: &Key) -> Key {
+    made(|variant| calls::response_data_key(key.as_bytes(), variant))
 }

@@ -36,12 +36,12 @@ pub fn cmac<'a>(key: impl Into<TdesKey<'a>>, message: &[u8]) -> [u8; 8] {
 /// Refused with `Length`, where the message has no byte.
 ///
 /// ```
-/// let key = *b"\x01\x23\x45\x67\x89\xAB\xCD\xEF\xFE\xDC\xBA\x98\x76\x54\x32\x10";
-/// let mac = dukpt::retail_mac(&key, b"Now is the time for all ")?;
+/// let bytes = *b"\x01\x23\x45\x67\x89\xAB\xCD\xEF\xFE\xDC\xBA\x98\x76\x54\x32\x10";
+/// let mac = dukpt::retail_mac(&dukpt::Key::new(bytes), b"Now is the time for all ")?;
 /// assert_eq!(mac, *b"\xA1\xC7\x2E\x74\xEA\x3F\xA9\xB6");
 /// # Ok::<(), dukpt::Fault>(())
 /// ```
 pub fn retail_mac(key: &Key, message: &[u8]) -> Result<[u8; 8], Fault> {
     let mut mac = [0; 8];
-    done(calls::retail_mac(key, message, &mut mac)).map(|()| mac)
+    done(calls::retail_mac(key.as_bytes(), message, &mut mac)).map(|()| mac)
 }

@@ -7,7 +7,7 @@ use crate::{calls, Ksn};
 ///
 /// Refused with `NotUsable`.
 pub fn check_usable(ksn: &Ksn) -> Result<(), Fault> {
-    done(calls::check_usable(ksn))
+    done(calls::check_usable(ksn.as_bytes()))
 }
 
 /// The key serial number that a terminal uses after this one: that with the least usable counter
@@ -16,15 +16,15 @@ pub fn check_usable(ksn: &Ksn) -> Result<(), Fault> {
 /// Refused with `Spent`.
 ///
 /// ```
-/// use dukpt::{check_usable, next_number, Fault};
+/// use dukpt::{check_usable, next_number, Fault, Ksn};
 ///
-/// let ten_ones = *b"\xFF\xFF\x98\x76\x54\x32\x10\xE0\x07\xFE";
-/// assert_eq!(next_number(&ten_ones)?, *b"\xFF\xFF\x98\x76\x54\x32\x10\xE0\x08\x00");
-/// let eleven_ones = *b"\xFF\xFF\x98\x76\x54\x32\x10\xE0\x07\xFF";
+/// let ten_ones = Ksn::new(*b"\xFF\xFF\x98\x76\x54\x32\x10\xE0\x07\xFE");
+/// assert_eq!(next_number(&ten_ones)?.to_string(), "FFFF9876543210E00800");
+/// let eleven_ones = Ksn::new(*b"\xFF\xFF\x98\x76\x54\x32\x10\xE0\x07\xFF");
 /// assert_eq!(check_usable(&eleven_ones), Err(Fault::NotUsable));
 /// # Ok::<(), Fault>(())
 /// ```
 pub fn next_number(ksn: &Ksn) -> Result<Ksn, Fault> {
     let mut next = [0; 10];
-    done(calls::next_number(ksn, &mut next)).map(|()| next)
+    done(calls::next_number(ksn.as_bytes(), &mut next)).map(|()| Ksn::new(next))
 }

@@ -3,14 +3,16 @@
 use crate::bytes::Bytes;
 use crate::calls;
 use crate::fault::{done, Fault};
+use crate::secret::Secret;
 
 /// The 4 to 12 ASCII digits of a PIN.
-pub type Pin = Bytes<12>;
+pub type Pin = Secret<12>;
 
 /// The 12 to 19 ASCII digits of a PAN.
 pub type Pan = Bytes<19>;
 
-/// The PIN block of a PIN of 4 to 12 ASCII digits and a PAN of 12 to 19.
+/// The PIN block of a PIN of 4 to 12 ASCII digits and a PAN of 12 to 19. It is in clear, and as
+/// secret as the PIN.
 ///
 /// Refused with `PinLength` or `PinDigit`, then `PanLength` or `PanDigit`.
 ///
@@ -29,5 +31,5 @@ pub fn pin_block(pin: &[u8], pan: &[u8]) -> Result<[u8; 8], Fault> {
 ///
 /// Refused with `PanLength` or `PanDigit`, then `NotAPinBlock`.
 pub fn pin_of_block(block: &[u8; 8], pan: &[u8]) -> Result<Pin, Fault> {
-    Bytes::written(|pin, count| done(calls::pin_of_block(block, pan, pin, count)))
+    Secret::written(|pin, count| done(calls::pin_of_block(block, pan, pin, count)))
 }

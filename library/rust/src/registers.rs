@@ -4,17 +4,15 @@
 //! calls, and stores the next image before a key is used.
 
 use crate::fault::{done, Fault};
+use crate::secret::Secret;
 use crate::{calls, Key, Ksn};
 use core::fmt;
 
-const IMAGE_LENGTH: usize = 431;
-
-/// The image of a terminal.
-pub type Image = [u8; IMAGE_LENGTH];
+/// The image of a terminal. It has keys in it.
+pub type Image = Secret<431>;
 
 /// What a transaction takes of an image. The image is to be stored before the key is used. `Debug`
-/// leaves image and key out.
-#[derive(Clone, Copy)]
+/// tells the number alone.
 pub struct Taken {
     /// The image afterwards.
     pub image: Image,
@@ -36,34 +34,34 @@ impl fmt::Debug for Taken {
 /// Refused with `NotInitial`.
 ///
 /// ```
-/// let initial = *b"\x6A\xC2\x92\xFA\xA1\x31\x5B\x4D\x85\x8A\xB3\xA3\xD7\xD5\x93\x3A";
-/// let iksn = *b"\xFF\xFF\x98\x76\x54\x32\x10\xE0\x00\x00";
-/// let image = dukpt::load(&initial, &iksn)?;
-/// let ksn = dukpt::number(&image)?;
-/// assert_eq!(ksn, *b"\xFF\xFF\x98\x76\x54\x32\x10\xE0\x00\x01");
-/// assert_eq!(dukpt::registers_at(&initial, &ksn)?, image);
+/// use dukpt::{registers_at, registers_load, registers_number, Key, Ksn};
+///
+/// let initial = Key::new(*b"\x6A\xC2\x92\xFA\xA1\x31\x5B\x4D\x85\x8A\xB3\xA3\xD7\xD5\x93\x3A");
+/// let iksn = Ksn::new(*b"\xFF\xFF\x98\x76\x54\x32\x10\xE0\x00\x00");
+/// let image = registers_load(&initial, &iksn)?;
+/// let ksn = registers_number(&image)?;
+/// assert_eq!(ksn.to_string(), "FFFF9876543210E00001");
+/// assert_eq!(registers_at(&initial, &ksn)?, image);
 /// # Ok::<(), dukpt::Fault>(())
 /// ```
-pub fn load(initial: &Key, iksn: &Ksn) -> Result<Image, Fault> {
-    let mut image = [0; IMAGE_LENGTH];
-    done(calls::load(initial, iksn, &mut image)).map(|()| image)
+pub fn registers_load(initial: &Key, iksn: &Ksn) -> Result<Image, Fault> {
+    Secret::filled(|image| done(calls::registers_load(initial.as_bytes(), iksn.as_bytes(), image)))
 }
 
 /// The image of a terminal whose next key serial number is this one, from its initial key: what
-/// [`load`] and then [`take`] for each number before it leave.
+/// [`registers_load`] and then [`registers_next`] for each number before it leave.
 ///
 /// Refused with `NotUsable`.
 pub fn registers_at(initial: &Key, ksn: &Ksn) -> Result<Image, Fault> {
-    let mut image = [0; IMAGE_LENGTH];
-    done(calls::registers_at(initial, ksn, &mut image)).map(|()| image)
+    Secret::filled(|image| done(calls::registers_at(initial.as_bytes(), ksn.as_bytes(), image)))
 }
 
 /// The key serial number that a terminal with this image uses next.
 ///
 /// Refused with `NotAnImage`, then `Spent`.
-pub fn number(image: &[u8]) -> Result<Ksn, Fault> {
+pub fn registers_number(image: &[u8]) -> Result<Ksn, Fault> {
     let mut ksn = [0; 10];
-    done(calls::number(image, &mut ksn)).map(|()| ksn)
+    done(calls::registers_number(image, &mut ksn)).map(|()| Ksn::new(ksn))
 }
 
 /// Uses the next number of a terminal with this image. The image that it gives is to be stored
@@ -72,17 +70,20 @@ pub fn number(image: &[u8]) -> Result<Ksn, Fault> {
 /// Refused with `NotAnImage`, then `Spent`.
 ///
 /// [`Terminal::take`]: crate::Terminal::take
-pub fn take(image: &[u8]) -> Result<Taken, Fault> {
-    let (mut next_image, mut key, mut ksn) = ([0; IMAGE_LENGTH], [0; 16], [0; 10]);
-    done(calls::take(image, &mut next_image, &mut key, &mut ksn))?;
-    Ok(Taken { image: next_image, key, ksn })
+pub fn registers_next(image: &[u8]) -> Result<Taken, Fault> {
+    let (mut key, mut ksn) = (Key::new([0; 16]), [0; 10]);
+    let next_image = Secret::filled(|next_image| {
+        done(calls::registers_next(image, next_image, key.as_bytes_mut(), &mut ksn))
+    })?;
+    Ok(Taken { image: next_image, key, ksn: Ksn::new(ksn) })
 }
 
 /// The image of the terminal with this image after it is given another initial key under another
 /// initial key serial number.
 ///
 /// Refused with `NotInitial`, then `NotAnImage`, `IksnSpent`, `LoadsSpent`.
-pub fn reload(image: &[u8], initial: &Key, iksn: &Ksn) -> Result<Image, Fault> {
-    let mut next_image = [0; IMAGE_LENGTH];
-    done(calls::reload(image, initial, iksn, &mut next_image)).map(|()| next_image)
+pub fn registers_reload(image: &[u8], initial: &Key, iksn: &Ksn) -> Result<Image, Fault> {
+    Secret::filled(|next_image| {
+        done(calls::registers_reload(image, initial.as_bytes(), iksn.as_bytes(), next_image))
+    })
 }

@@ -2,10 +2,11 @@
 
 use crate::bytes::Bytes;
 use crate::fault::{done, Fault};
+use crate::secret::Secret;
 use crate::{calls, Frame, Key, Ksn, Pan, Pin};
 use core::fmt;
 
-/// The fields of a request. `Debug` leaves the PAN out.
+/// The fields of a request. `Debug` tells number and amount.
 #[derive(Clone, Copy, PartialEq, Eq)]
 pub struct Request {
     /// The key serial number.
@@ -34,8 +35,10 @@ impl fmt::Debug for Request {
 /// Refused with `PanLength` or `PanDigit`, then `PinLength` or `PinDigit`.
 ///
 /// ```
-/// let key = *b"\x04\x26\x66\xB4\x91\x84\xCF\xA3\x68\xDE\x96\x28\xD0\x39\x7B\xC9";
-/// let ksn = *b"\xFF\xFF\x98\x76\x54\x32\x10\xE0\x00\x01";
+/// use dukpt::{Key, Ksn};
+///
+/// let key = Key::new(*b"\x04\x26\x66\xB4\x91\x84\xCF\xA3\x68\xDE\x96\x28\xD0\x39\x7B\xC9");
+/// let ksn = Ksn::new(*b"\xFF\xFF\x98\x76\x54\x32\x10\xE0\x00\x01");
 /// let frame = dukpt::payment_request(&key, &ksn, b"4012345678909", b"1234", 1)?;
 /// dukpt::check_request(&key, &frame)?;
 /// let request = dukpt::read_request(&frame)?;
@@ -52,6 +55,7 @@ pub fn payment_request(
     pin: &[u8],
     amount: u32,
 ) -> Result<Frame, Fault> {
+    let (key, ksn) = (key.as_bytes(), ksn.as_bytes());
     Bytes::written(|frame, count| {
         done(calls::payment_request(key, ksn, pan, pin, amount, frame, count))
     })
@@ -65,14 +69,14 @@ pub fn read_request(frame: &[u8]) -> Result<Request, Fault> {
     let pan = Bytes::written(|pan, count| {
         done(calls::read_request(frame, &mut ksn, pan, count, &mut amount, &mut block, &mut mac))
     })?;
-    Ok(Request { ksn, pan, amount, block, mac })
+    Ok(Request { ksn: Ksn::new(ksn), pan, amount, block, mac })
 }
 
 /// Tests that a request's frame has the MAC of its bytes under the transaction key.
 ///
 /// Refused with `NotARequest`, then `BadMac`.
 pub fn check_request(key: &Key, frame: &[u8]) -> Result<(), Fault> {
-    done(calls::check_request(key, frame))
+    done(calls::check_request(key.as_bytes(), frame))
 }
 
 /// The PIN of a request's frame under the transaction key. The MAC is not compared:
@@ -80,5 +84,5 @@ pub fn check_request(key: &Key, frame: &[u8]) -> Result<(), Fault> {
 ///
 /// Refused with `NotARequest`, then `NotAPinBlock`.
 pub fn request_pin(key: &Key, frame: &[u8]) -> Result<Pin, Fault> {
-    Bytes::written(|pin, count| done(calls::request_pin(key, frame, pin, count)))
+    Secret::written(|pin, count| done(calls::request_pin(key.as_bytes(), frame, pin, count)))
 }

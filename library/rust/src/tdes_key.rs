@@ -1,13 +1,14 @@
 //! TDES keys of either length.
 
 use crate::fault::Fault;
-use core::convert::TryFrom;
+use crate::Key;
 use core::fmt;
 
-/// A TDES key of 16 bytes, whose first half is used again as the third, or of 24.
+/// A borrowed TDES key of 16 bytes, whose first half is used again as the third, or of 24.
 ///
-/// Where a function takes `impl Into<TdesKey>` it takes `&[u8; 16]` and `&[u8; 24]`. A slice
-/// becomes one by `TdesKey::try_from`, which refuses other lengths with `Length`.
+/// Where a function takes `impl Into<TdesKey>` it takes a `&Key`, a `&Key<24>`, a `&[u8; 16]` or a
+/// `&[u8; 24]`. A slice becomes one by `TdesKey::try_from`, which refuses other lengths with
+/// `Length`.
 #[derive(Clone, Copy)]
 pub enum TdesKey<'a> {
     /// Of 16 bytes.
@@ -41,6 +42,18 @@ impl<'a> From<&'a [u8; 16]> for TdesKey<'a> {
 impl<'a> From<&'a [u8; 24]> for TdesKey<'a> {
     fn from(key: &'a [u8; 24]) -> Self {
         TdesKey::Triple(key)
+    }
+}
+
+impl<'a> From<&'a Key> for TdesKey<'a> {
+    fn from(key: &'a Key) -> Self {
+        TdesKey::Double(key.as_bytes())
+    }
+}
+
+impl<'a> From<&'a Key<24>> for TdesKey<'a> {
+    fn from(key: &'a Key<24>) -> Self {
+        TdesKey::Triple(key.as_bytes())
     }
 }
 

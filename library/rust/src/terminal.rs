@@ -1,13 +1,13 @@
 //! A terminal, which stores its next image before it gives a key.
 
-use crate::bytes::Bytes;
 use crate::fault::Fault;
-use crate::registers::{load, number, registers_at, reload, take, Image};
+use crate::registers::{
+    registers_at, registers_load, registers_next, registers_number, registers_reload, Image,
+};
 use crate::{Key, Ksn};
 use core::fmt;
 
 /// A transaction key and its key serial number. `Debug` leaves the key out.
-#[derive(Clone, Copy)]
 pub struct Transaction {
     /// The transaction key.
     pub key: Key,
@@ -36,17 +36,25 @@ impl<E> From<Fault> for TerminalFault<E> {
     }
 }
 
-impl<E: fmt::Display> fmt::Display for TerminalFault<E> {
+/// Says which of both it is. What stands behind it is the error's `source`.
+impl<E> fmt::Display for TerminalFault<E> {
     fn fmt(&self, f: &mut fmt::Formatter<'_>) -> fmt::Result {
-        match self {
-            TerminalFault::Call(fault) => fault.fmt(f),
-            TerminalFault::Store(why) => write!(f, "the image was not stored: {}", why),
-        }
+        f.write_str(match self {
+            TerminalFault::Call(_) => "the call is refused",
+            TerminalFault::Store(_) => "the image was not stored",
+        })
     }
 }
 
 #[cfg(feature = "std")]
-impl<E: std::error::Error> std::error::Error for TerminalFault<E> {}
+impl<E: std::error::Error + 'static> std::error::Error for TerminalFault<E> {
+    fn source(&self) -> Option<&(dyn std::error::Error + 'static)> {
+        Some(match self {
+            TerminalFault::Call(fault) => fault,
+            TerminalFault::Store(why) => why,
+        })
+    }
+}
 
 /// A terminal over the image of its registers.
 ///
@@ -57,13 +65,15 @@ impl<E: std::error::Error> std::error::Error for TerminalFault<E> {}
 /// given.
 ///
 /// There is one terminal for a stored image, and no copy of it: two of them would use each number
-/// twice.
+/// twice. A process that is forked is such a copy. The terminal of the examples keeps a lock from
+/// reading the image to storing the next one.
 ///
 /// ```
-/// use dukpt::{Terminal, TerminalFault};
+/// use dukpt::{Key, Ksn, Terminal, TerminalFault};
 ///
-/// let initial = *b"\x6A\xC2\x92\xFA\xA1\x31\x5B\x4D\x85\x8A\xB3\xA3\xD7\xD5\x93\x3A";
-/// let mut terminal = Terminal::load(&initial, b"\xFF\xFF\x98\x76\x54\x32\x10\xE0\x00\x00")?;
+/// let initial = Key::new(*b"\x6A\xC2\x92\xFA\xA1\x31\x5B\x4D\x85\x8A\xB3\xA3\xD7\xD5\x93\x3A");
+/// let iksn = Ksn::new(*b"\xFF\xFF\x98\x76\x54\x32\x10\xE0\x00\x00");
+/// let mut terminal = Terminal::load(&initial, &iksn)?;
 /// let mut stored = terminal.image().to_vec();
 ///
 /// let full_disk = terminal.take(|_| Err("the disk is full")).unwrap_err();
@@ -73,15 +83,24 @@ impl<E: std::error::Error> std::error::Error for TerminalFault<E> {}
 ///     stored = image.to_vec();
 ///     Ok::<(), &str>(())
 /// })?;
-/// assert_eq!(taken.ksn, *b"\xFF\xFF\x98\x76\x54\x32\x10\xE0\x00\x01");
-/// assert_eq!(taken.key, *b"\x04\x26\x66\xB4\x91\x84\xCF\xA3\x68\xDE\x96\x28\xD0\x39\x7B\xC9");
+/// assert_eq!(taken.ksn.to_string(), "FFFF9876543210E00001");
+/// let published = *b"\x04\x26\x66\xB4\x91\x84\xCF\xA3\x68\xDE\x96\x28\xD0\x39\x7B\xC9";
+/// assert_eq!(taken.key, Key::new(published));
 ///
 /// let after_a_stop = Terminal::from_image(&stored)?;
-/// assert_eq!(after_a_stop.number()?, *b"\xFF\xFF\x98\x76\x54\x32\x10\xE0\x00\x02");
+/// assert_eq!(after_a_stop.number()?.to_string(), "FFFF9876543210E00002");
 /// # Ok::<(), TerminalFault<&str>>(())
 /// ```
+///
+/// It cannot be cloned:
+///
+/// ```compile_fail,E0599
+/// fn twin(terminal: &dukpt::Terminal) -> dukpt::Terminal {
+///     dukpt::Terminal::clone(terminal)
+/// }
+/// ```
 pub struct Terminal {
-    image: Bytes<431>,
+    image: Image,
 }
 
 /// Tells the next number alone.
@@ -97,26 +116,25 @@ impl Terminal {
     ///
     /// Refused with `NotInitial`.
     pub fn load(initial: &Key, iksn: &Ksn) -> Result<Self, Fault> {
-        Terminal::from_image(&load(initial, iksn)?)
+        Ok(Terminal { image: registers_load(initial, iksn)? })
     }
 
     /// A terminal whose next key serial number is this one, from its initial key.
     ///
     /// Refused with `NotUsable`.
     pub fn at(initial: &Key, ksn: &Ksn) -> Result<Self, Fault> {
-        Terminal::from_image(&registers_at(initial, ksn)?)
+        Ok(Terminal { image: registers_at(initial, ksn)? })
     }
 
     /// The terminal whose image a store kept: 431 bytes, or 350 of version 1.
     ///
     /// Refused with `NotAnImage`.
     pub fn from_image(image: &[u8]) -> Result<Self, Fault> {
-        match number(image) {
+        match registers_number(image) {
             Ok(_) | Err(Fault::Spent) => {}
             Err(fault) => return Err(fault),
         }
-        let image = Bytes::of(image).ok_or(Fault::NotAnImage)?;
-        Ok(Terminal { image })
+        Ok(Terminal { image: Image::try_from(image)? })
     }
 
     /// The image of the terminal as it is.
@@ -128,7 +146,7 @@ impl Terminal {
     ///
     /// Refused with `Spent`.
     pub fn number(&self) -> Result<Ksn, Fault> {
-        number(&self.image)
+        registers_number(&self.image)
     }
 
     /// Uses the next number: has the next image stored, and only then gives the transaction key and
@@ -139,8 +157,8 @@ impl Terminal {
         &mut self,
         store: impl FnOnce(&Image) -> Result<(), E>,
     ) -> Result<Transaction, TerminalFault<E>> {
-        let taken = take(&self.image)?;
-        self.keep(store, &taken.image)?;
+        let taken = registers_next(&self.image)?;
+        self.keep(store, taken.image)?;
         Ok(Transaction { key: taken.key, ksn: taken.ksn })
     }
 
@@ -154,18 +172,18 @@ impl Terminal {
         iksn: &Ksn,
         store: impl FnOnce(&Image) -> Result<(), E>,
     ) -> Result<(), TerminalFault<E>> {
-        let next_image = reload(&self.image, initial, iksn)?;
-        self.keep(store, &next_image)
+        let next_image = registers_reload(&self.image, initial, iksn)?;
+        self.keep(store, next_image)
     }
 
     /// Has an image stored, and has it only then.
     fn keep<E>(
         &mut self,
         store: impl FnOnce(&Image) -> Result<(), E>,
-        image: &Image,
+        image: Image,
     ) -> Result<(), TerminalFault<E>> {
-        store(image).map_err(TerminalFault::Store)?;
-        self.image = Bytes::whole(image);
+        store(&image).map_err(TerminalFault::Store)?;
+        self.image = image;
         Ok(())
     }
 }

@@ -4,7 +4,6 @@
 //! `-` is none, and a number is four bytes.
 
 use dukpt::*;
-use std::convert::TryInto;
 use std::{env, fs};
 
 /// What a call gives, part by part.
@@ -16,6 +15,14 @@ fn fixed<const N: usize>(bytes: &[u8]) -> Result<&[u8; N], Fault> {
     bytes.try_into().map_err(|_| Fault::Length)
 }
 
+fn key_in(bytes: &[u8]) -> Result<Key, Fault> {
+    Key::try_from(bytes)
+}
+
+fn ksn_in(bytes: &[u8]) -> Result<Ksn, Fault> {
+    Ksn::try_from(bytes)
+}
+
 fn number_in(bytes: &[u8]) -> Result<u32, Fault> {
     fixed(bytes).map(|bytes| u32::from_be_bytes(*bytes))
 }
@@ -24,16 +31,23 @@ fn one(bytes: &[u8]) -> Vec<Vec<u8>> {
     vec![bytes.to_vec()]
 }
 
+fn of_ksn(ksn: Ksn) -> Vec<Vec<u8>> {
+    one(ksn.as_bytes())
+}
+
 fn keys(name: &str, given: &[Vec<u8>]) -> Answer {
-    let key = fixed(&given[0])?;
-    Ok(one(&match name {
-        "initial_key" => initial_key(key, fixed(&given[1])?)?,
-        "derive" => derive(key, fixed(&given[1])?),
-        "derive_from_initial" => derive_from_initial(key, fixed(&given[1])?),
-        "pin_key" => pin_key(key),
-        "request_key" => request_key(key),
-        _ => response_key(key),
-    }))
+    let key = key_in(&given[0])?;
+    let made = match name {
+        "initial_key" => initial_key(&key, &ksn_in(&given[1])?)?,
+        "derive" => derive(&key, &ksn_in(&given[1])?),
+        "derive_from_initial" => derive_from_initial(&key, &ksn_in(&given[1])?),
+        "pin_key" => pin_key(&key),
+        "request_key" => request_key(&key),
+        "response_key" => response_key(&key),
+        "request_data_key" => request_data_key(&key),
+        _ => response_data_key(&key),
+    };
+    Ok(one(made.as_bytes()))
 }
 
 fn ciphers(name: &str, given: &[Vec<u8>]) -> Answer {
@@ -53,28 +67,47 @@ fn ciphers(name: &str, given: &[Vec<u8>]) -> Answer {
 
 fn registers(name: &str, given: &[Vec<u8>]) -> Answer {
     Ok(match name {
-        "load" => one(&load(fixed(&given[0])?, fixed(&given[1])?)?),
-        "registers_at" => one(&registers_at(fixed(&given[0])?, fixed(&given[1])?)?),
-        "number" => one(&number(&given[0])?),
-        "take" => {
-            let taken = take(&given[0])?;
-            vec![taken.image.to_vec(), taken.key.to_vec(), taken.ksn.to_vec()]
+        "registers_load" => one(&registers_load(&key_in(&given[0])?, &ksn_in(&given[1])?)?),
+        "registers_at" => one(&registers_at(&key_in(&given[0])?, &ksn_in(&given[1])?)?),
+        "registers_number" => of_ksn(registers_number(&given[0])?),
+        "registers_next" => {
+            let taken = registers_next(&given[0])?;
+            let (key, ksn) = (taken.key.as_bytes(), taken.ksn.as_bytes());
+            vec![taken.image.to_vec(), key.to_vec(), ksn.to_vec()]
         }
-        _ => one(&reload(&given[0], fixed(&given[1])?, fixed(&given[2])?)?),
+        _ => one(&registers_reload(&given[0], &key_in(&given[1])?, &ksn_in(&given[2])?)?),
     })
 }
 
-fn texts(name: &str, given: &[Vec<u8>]) -> Answer {
+fn pins(name: &str, given: &[Vec<u8>]) -> Answer {
     Ok(match name {
         "pin_block" => one(&pin_block(&given[0], &given[1])?),
-        "pin_of_block" => one(&pin_of_block(fixed(&given[0])?, &given[1])?),
+        _ => one(&pin_of_block(fixed(&given[0])?, &given[1])?),
+    })
+}
+
+fn blocks(name: &str, given: &[Vec<u8>]) -> Answer {
+    let kbpk = TdesKey::try_from(&given[0][..])?;
+    Ok(match name {
         "wrap" => {
-            let (kbpk, key) =
-                (TdesKey::try_from(&given[0][..])?, TdesKey::try_from(&given[2][..])?);
+            let key = TdesKey::try_from(&given[2][..])?;
             one(&wrap(kbpk, fixed(&given[1])?, key, &given[3])?)
         }
+        "wrap_with" => {
+            let key = TdesKey::try_from(&given[3][..])?;
+            one(&wrap_with(kbpk, fixed(&given[1])?, &given[2], key, &given[4])?)
+        }
+        "unwrap_optional" => one(&unwrap_optional(kbpk, &given[1], fixed(&given[2])?)?),
+        "unwrap_for" => {
+            let (usage, text) = (fixed(&given[1])?, &given[3]);
+            match number_in(&given[2])? {
+                16 => one(unwrap_for::<16>(kbpk, usage, text)?.as_bytes()),
+                24 => one(unwrap_for::<24>(kbpk, usage, text)?.as_bytes()),
+                _ => one(unwrap_for::<8>(kbpk, usage, text)?.as_bytes()),
+            }
+        }
         _ => {
-            let block = unwrap(TdesKey::try_from(&given[0][..])?, &given[1])?;
+            let block = unwrap(kbpk, &given[1])?;
             vec![block.header.to_vec(), block.key.to_vec()]
         }
     })
@@ -83,32 +116,70 @@ fn texts(name: &str, given: &[Vec<u8>]) -> Answer {
 fn requests(name: &str, given: &[Vec<u8>]) -> Answer {
     match name {
         "payment_request" => {
-            let (key, ksn, amount) = (fixed(&given[0])?, fixed(&given[1])?, number_in(&given[4])?);
-            payment_request(key, ksn, &given[2], &given[3], amount).map(|frame| one(&frame))
+            let (key, ksn) = (key_in(&given[0])?, ksn_in(&given[1])?);
+            let amount = number_in(&given[4])?;
+            payment_request(&key, &ksn, &given[2], &given[3], amount).map(|frame| one(&frame))
         }
         "read_request" => read_request(&given[0]).map(|it| {
-            let amount = it.amount.to_be_bytes();
-            [&it.ksn[..], &it.pan, &amount, &it.block, &it.mac].map(<[u8]>::to_vec).to_vec()
+            let (ksn, amount) = (it.ksn.as_bytes(), it.amount.to_be_bytes());
+            [&ksn[..], &it.pan, &amount, &it.block, &it.mac].map(<[u8]>::to_vec).to_vec()
         }),
-        "check_request" => check_request(fixed(&given[0])?, &given[1]).map(|()| vec![]),
-        _ => request_pin(fixed(&given[0])?, &given[1]).map(|pin| one(&pin)),
+        "check_request" => check_request(&key_in(&given[0])?, &given[1]).map(|()| vec![]),
+        _ => request_pin(&key_in(&given[0])?, &given[1]).map(|pin| one(&pin)),
     }
 }
 
 fn replies(name: &str, given: &[Vec<u8>]) -> Answer {
     Ok(match name {
-        "reply" => one(&reply(fixed(&given[0])?, fixed(&given[1])?, fixed(&given[2])?)?),
-        "refusal" => one(&refusal(fixed(&given[0])?, number_in(&given[1])?)?),
+        "request_reply" => {
+            one(&request_reply(&key_in(&given[0])?, &ksn_in(&given[1])?, fixed(&given[2])?)?)
+        }
+        "request_refusal" => one(&request_refusal(&ksn_in(&given[0])?, number_in(&given[1])?)?),
         "read_reply" => {
             let found = read_reply(&given[0])?;
-            vec![found.ksn.to_vec(), found.code.to_vec()]
+            vec![found.ksn.as_bytes().to_vec(), found.code.to_vec()]
         }
         "read_refusal" => {
             let found = read_refusal(&given[0])?;
-            vec![found.ksn.to_vec(), found.reason.to_be_bytes().to_vec()]
+            vec![found.ksn.as_bytes().to_vec(), found.reason.to_be_bytes().to_vec()]
         }
-        _ => check_reply(fixed(&given[0])?, fixed(&given[1])?, &given[2]).map(|()| vec![])?,
+        _ => check_reply(&key_in(&given[0])?, &ksn_in(&given[1])?, &given[2]).map(|()| vec![])?,
     })
+}
+
+fn reversals(name: &str, given: &[Vec<u8>]) -> Answer {
+    Ok(match name {
+        "read_reversal" => {
+            let found = read_reversal(&given[0])?;
+            let (ksn, reversed) = (found.ksn.as_bytes(), found.reversed.as_bytes());
+            vec![ksn.to_vec(), reversed.to_vec(), found.mac.to_vec()]
+        }
+        "check_reversal" => check_reversal(&key_in(&given[0])?, &given[1]).map(|()| vec![])?,
+        "read_reversal_reply" => {
+            let found = read_reversal_reply(&given[0])?;
+            let (ksn, reversed) = (found.ksn.as_bytes(), found.reversed.as_bytes());
+            vec![ksn.to_vec(), reversed.to_vec(), (found.state as u32).to_be_bytes().to_vec()]
+        }
+        _ => {
+            let (key, ksn) = (key_in(&given[0])?, ksn_in(&given[1])?);
+            let reversed = ksn_in(&given[2])?;
+            match name {
+                "reversal_request" => one(&reversal_request(&key, &ksn, &reversed)?),
+                "reversal_reply" => one(&replied(&key, &ksn, &reversed, number_in(&given[3])?)?),
+                _ => check_reversal_reply(&key, &ksn, &reversed, &given[3]).map(|()| vec![])?,
+            }
+        }
+    })
+}
+
+/// The reply to a reversal with a state that may be none: that cannot be given to the call, and is
+/// refused in its place behind its other faults.
+fn replied(key: &Key, ksn: &Ksn, reversed: &Ksn, state: u32) -> Result<Frame, Fault> {
+    let other = reversal_reply(key, ksn, reversed, ReversalState::Undone)?;
+    match ReversalState::try_from(state)? {
+        ReversalState::Undone => Ok(other),
+        state => reversal_reply(key, ksn, reversed, state),
+    }
 }
 
 fn answer(name: &str, given: &[Vec<u8>]) -> Answer {
@@ -118,18 +189,30 @@ fn answer(name: &str, given: &[Vec<u8>]) -> Answer {
         | "derive_from_initial"
         | "pin_key"
         | "request_key"
-        | "response_key" => keys(name, given),
-        "check_usable" => check_usable(fixed(&given[0])?).map(|()| vec![]),
-        "next_number" => next_number(fixed(&given[0])?).map(|next| one(&next)),
+        | "response_key"
+        | "request_data_key"
+        | "response_data_key" => keys(name, given),
+        "check_usable" => check_usable(&ksn_in(&given[0])?).map(|()| vec![]),
+        "next_number" => next_number(&ksn_in(&given[0])?).map(of_ksn),
         "check_value" | "cmac_check_value" | "cmac" | "tdes_encrypt" | "tdes_decrypt"
         | "cbc_encrypt" | "cbc_decrypt" => ciphers(name, given),
-        "retail_mac" => retail_mac(fixed(&given[0])?, &given[1]).map(|mac| one(&mac)),
-        "load" | "registers_at" | "number" | "take" | "reload" => registers(name, given),
-        "pin_block" | "pin_of_block" | "wrap" | "unwrap" => texts(name, given),
+        "retail_mac" => retail_mac(&key_in(&given[0])?, &given[1]).map(|mac| one(&mac)),
+        "registers_load" | "registers_at" | "registers_number" | "registers_next"
+        | "registers_reload" => registers(name, given),
+        "pin_block" | "pin_of_block" => pins(name, given),
+        "wrap" | "wrap_with" | "unwrap" | "unwrap_for" | "unwrap_optional" => blocks(name, given),
         "payment_request" | "read_request" | "check_request" | "request_pin" => {
             requests(name, given)
         }
-        "reply" | "refusal" | "read_reply" | "read_refusal" | "check_reply" => replies(name, given),
+        "request_reply" | "request_refusal" | "read_reply" | "read_refusal" | "check_reply" => {
+            replies(name, given)
+        }
+        "reversal_request"
+        | "read_reversal"
+        | "check_reversal"
+        | "reversal_reply"
+        | "read_reversal_reply"
+        | "check_reversal_reply" => reversals(name, given),
         "frame_length" => frame_length(&given[0]).map(|count| one(&(count as u32).to_be_bytes())),
         _ => panic!("{} is no call", name),
     }

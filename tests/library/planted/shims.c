@@ -30,20 +30,25 @@ uint32_t SHIM(pin_of_block)(SLICE_IN(block), SLICE_IN(pan), SLICE_OUT(pin), uint
 uint32_t REAL(check_reply)(SLICE_IN(key), SLICE_IN(ksn), SLICE_IN(frame));
 uint32_t SHIM(check_reply)(SLICE_IN(key), SLICE_IN(ksn), SLICE_IN(frame));
 
-/* `untested`: the key may be longer than it should. */
+/* `untested`: the key may be longer than it should. `exact`: the room may not. `refusing`: each
+   length is refused, so that no call succeeds. */
 uint32_t SHIM(derive)(SLICE_IN(bdk), SLICE_IN(ksn), SLICE_OUT(key))
 {
     if (is_planted("untested") && bdk_size > 16)
         bdk_size = 16;
+    if (is_planted("refusing") || (is_planted("exact") && key_size > 16))
+        return DUKPT_FAULT_LENGTH;
     return REAL(derive)(bdk, bdk_size, ksn, ksn_size, key, key_size);
 }
 
-/* `same`: the number that is written is that which is read. */
+/* `same`: the number that is written is that which is read. `all`: it fills a longer slice. */
 uint32_t SHIM(next_number)(SLICE_IN(ksn), SLICE_OUT(next))
 {
     uint32_t status = REAL(next_number)(ksn, ksn_size, next, next_size);
     if (is_planted("same") && status == DUKPT_OK)
         memcpy(next, ksn, ksn_size);
+    if (is_planted("all") && status == DUKPT_OK)
+        memset(next + ksn_size, 0, next_size - ksn_size);
     return status;
 }
 
@@ -74,7 +79,7 @@ uint32_t SHIM(pin_block)(SLICE_IN(pin), SLICE_IN(pan), SLICE_OUT(block))
 uint32_t SHIM(pin_of_block)(SLICE_IN(block), SLICE_IN(pan), SLICE_OUT(pin), uint32_t *pin_length)
 {
     uint32_t status;
-    if (is_planted("order") && block_size == 8 && pin_size == 12 && block[0] > 12)
+    if (is_planted("order") && block_size == 8 && pin_size >= 12 && block[0] > 12)
         return DUKPT_FAULT_NOT_A_PIN_BLOCK;
     status = REAL(pin_of_block)(block, block_size, pan, pan_size, pin, pin_size, pin_length);
     if (is_planted("rest") && status == DUKPT_OK)

@@ -10,7 +10,7 @@ use Rattle.duk_arguments.specs.declared.commands.arguments.Usage.{Usage}
 use Rattle.duk_arguments.specs.declared.commands.name.CommandName.{CommandName}
 use Rattle.duk_arguments.specs.declared.commands.name.CommandName.TheVariants as command_name
 use Rattle.duk_arguments.specs.CommandLine.{argument_rule, command, flag_rule, named_rule, option_rule, optional_rule, several_rule}
-use Rattle.duk_arguments.specs.CommandLine.{derive_command, walk_command, initial_command, issue_command, registers_command, kcv_command, mac_command, pin_command, unpin_command, translate_command, wrap_command, unwrap_command, show_command, request_command, reply_command, find_command, run_command, serve_command, new_log_command, new_journal_command, copy_journal_command}
+use Rattle.duk_arguments.specs.CommandLine.{derive_command, walk_command, initial_command, issue_command, registers_command, kcv_command, mac_command, data_command, pin_command, unpin_command, translate_command, wrap_command, unwrap_command, show_command, request_command, reply_command, find_command, run_command, serve_command, new_log_command, new_journal_command, copy_journal_command}
 
 -- the rule of an argument of the code
 abbrev pub rule_of_argument : Argument → Rule
@@ -42,6 +42,7 @@ shape_named command_name.Issue = issue_command
 shape_named command_name.Registers = registers_command
 shape_named command_name.Kcv = kcv_command
 shape_named command_name.Mac = mac_command
+shape_named command_name.Data = data_command
 shape_named command_name.Pin = pin_command
 shape_named command_name.Unpin = unpin_command
 shape_named command_name.Translate = translate_command

@@ -1,7 +1,7 @@
-//! The commands over MACs, PIN blocks and key blocks.
+//! The commands over MACs, data, PIN blocks and key blocks.
 
 ghost use Rattle.std.specs.Prelude.{◌≡◌};
-ghost use Rattle.duk_arguments.specs.CommandLine.{mac_command, pin_command, unpin_command, translate_command, wrap_command, unwrap_command, show_command};
+ghost use Rattle.duk_arguments.specs.CommandLine.{mac_command, data_command, pin_command, unpin_command, translate_command, wrap_command, unwrap_command, show_command};
 ghost use Rattle.duk_arguments.specs.inner.CommandLine.{shape_of_usage};
 
 use super::arguments::{Argument, BDK, INITIAL_KEY, KSN, PAN, Usage};
@@ -22,6 +22,28 @@ pub(super) fn mac<'a>() -> Usage<'a>
             ),
             Argument::Needed("TEXT", "The text, whose bytes the MAC is of"),
             Argument::Flag("cmac", "Prints the CMAC, and not the retail MAC"),
+            Argument::Flag("hex", "TEXT is bytes in hexadecimal"),
+        ],
+    }
+}
+
+/// `data KEY TEXT [--iv BLOCK] [--decipher] [--hex]`
+pub(super) fn enciphered<'a>() -> Usage<'a>
+    ensures { shape_of_usage result ≡ data_command }
+{
+    Usage {
+        name: "data",
+        about: "Enciphers data under a key by TDES-CBC, or deciphers them",
+        after_help: help::DATA,
+        arguments: &[
+            Argument::Needed("KEY", "The key for data, 32 or 48 hexadecimal digits"),
+            Argument::Needed("TEXT", "The text, 1 to 255 blocks of 8 bytes"),
+            Argument::Valued(
+                "iv",
+                "BLOCK",
+                "The initial vector, 16 hexadecimal digits; without it zeros",
+            ),
+            Argument::Flag("decipher", "Deciphers TEXT, which is bytes in hexadecimal"),
             Argument::Flag("hex", "TEXT is bytes in hexadecimal"),
         ],
     }

@@ -23,7 +23,7 @@ pub(super) fn derive<'a>() -> Usage<'a>
                 "trace",
                 "Prints the steps from the initial key to the transaction key",
             ),
-            Argument::Flag("all", "Prints the keys of the MACs too"),
+            Argument::Flag("all", "Prints the keys of MACs and data too"),
         ],
     }
 }

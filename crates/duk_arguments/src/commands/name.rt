@@ -17,6 +17,8 @@ pub(crate) enum CommandName {
     Kcv,
     /// `mac`
     Mac,
+    /// `data`
+    Data,
     /// `pin`
     Pin,
     /// `unpin`

@@ -1,4 +1,4 @@
-//! The text at the end of the help of the commands over MACs, PIN blocks and key blocks.
+//! The text at the end of the help of the commands over MACs, data, PIN blocks and key blocks.
 
 /// At the end of the help of `mac`.
 pub(crate) const MAC: &str = "\
@@ -19,6 +19,30 @@ Faults, on standard error with status 1, the first alone; --explain says more:
   KEY: ..        KEY as @FILE or @-: cannot read, too long, not UTF-8
   key refused    KEY is not 32 hexadecimal digits, or with --cmac not 32 or 48
   text refused   With --hex TEXT is not pairs of digits; without --cmac it is empty
+  write failed   Standard output takes no more
+  out of memory  Memory was refused";
+
+/// At the end of the help of `data`.
+pub(crate) const DATA: &str = "\
+TDES-CBC is of NIST SP 800-38A. KEY is a key for data, as `derive --all` prints it, or any other TDES
+key. TEXT has 1 to 255 whole blocks of 8 bytes: no padding is added, and none is taken away. With
+--hex or --decipher TEXT stands for the bytes of its pairs of digits.
+
+KEY is better written as @FILE (the first line of a file) or @- (of standard input): every user of
+the machine sees the words of a process.
+
+Examples:
+  $ echo 448D3F076D8304036A55A3D7E0055A78 >key.txt
+  $ dukpt data @key.txt 4012345678909D98
+  data FC0D53B7EA1FDA9EE68AAF2E70D9B950
+  $ dukpt data @key.txt FC0D53B7EA1FDA9EE68AAF2E70D9B950 --decipher
+  data 34303132333435363738393039443938
+
+Faults, on standard error with status 1, the first alone; --explain says more:
+  KEY: ..        KEY as @FILE or @-: cannot read, too long, not UTF-8
+  block refused  BLOCK is not 16 hexadecimal digits
+  key refused    KEY is not 32 or 48 hexadecimal digits
+  text refused   TEXT is not 1 to 255 blocks, or not pairs of digits with --hex or --decipher
   write failed   Standard output takes no more
   out of memory  Memory was refused";
 

@@ -25,6 +25,8 @@ Examples:
   pin 0DF3D9422ACA561A47676D07AD6BAD05
   mac-request 0DF3D9422ACAA9E547676D07AD6B52FA
   mac-response 0DF3D942D5CA56E547676D07526BADFA
+  data-request EEEEF522C67239E4A2A65FEBF4C511F4
+  data-response 6A21701227FA12E8952E89A0F6695862
 
 Faults, on standard error with status 1, the first alone; --explain says more:
   BDK: ..          BDK as @FILE or @-: cannot read, too long, not UTF-8

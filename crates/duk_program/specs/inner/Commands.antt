@@ -21,6 +21,7 @@ MakesLines (request.Initial bdk iksn) = Unit {0}
 MakesLines (request.Registers bdk ksn initial) = Unit {0}
 MakesLines (request.Kcv keys components show) = Unit {0}
 MakesLines (request.Mac key text cmac hex) = Unit {0}
+MakesLines (request.Data key text iv decipher hex) = Unit {0}
 MakesLines (request.Unpin block pan key show) = Unit {0}
 MakesLines (request.Translate block pan bdk ksn zone initial) = Unit {0}
 MakesLines (request.MakeRequest bdk ksn pan pin amount initial) = Unit {0}

@@ -20,28 +20,29 @@ is_listed name (request.Issue bdk loading iksn count ledger way) others same = o
 is_listed name (request.Registers bdk ksn initial) others same = others.1.1.1.1.0 (sym same)
 is_listed name (request.Kcv keys components show) others same = others.1.1.1.1.1.0 (sym same)
 is_listed name (request.Mac key text cmac hex) others same = others.1.1.1.1.1.1.0 (sym same)
-is_listed name (request.Pin pin pan key) others same = others.1.1.1.1.1.1.1.0 (sym same)
-is_listed name (request.Unpin block pan key show) others same = others.1.1.1.1.1.1.1.1.0 (sym same)
-is_listed name (request.Translate block pan bdk ksn zone initial) others same = others.1.1.1.1.1.1.1.1.1.0 (sym same)
-is_listed name (request.Wrap kbpk fields key pad) others same = others.1.1.1.1.1.1.1.1.1.1.0 (sym same)
-is_listed name (request.Unwrap kbpk block) others same = others.1.1.1.1.1.1.1.1.1.1.1.0 (sym same)
-is_listed name (request.Show kind what show) others same = others.1.1.1.1.1.1.1.1.1.1.1.1.0 (sym same)
-is_listed name (request.CheckFrame what bdk show initial) others same = others.1.1.1.1.1.1.1.1.1.1.1.1.0 (sym same)
-is_listed name (request.MakeRequest bdk ksn pan pin amount initial) others same = others.1.1.1.1.1.1.1.1.1.1.1.1.1.0 (sym same)
-is_listed name (request.MakeReversal bdk ksn reversed initial) others same = others.1.1.1.1.1.1.1.1.1.1.1.1.1.0 (sym same)
-is_listed name (request.CheckReply bdk asked answer initial) others same = others.1.1.1.1.1.1.1.1.1.1.1.1.1.1.0 (sym same)
-is_listed name (request.Find bdk what seeking window initial) others same = others.1.1.1.1.1.1.1.1.1.1.1.1.1.1.1.0 (sym same)
-is_listed name (request.Run config script journal) others same = others.1.1.1.1.1.1.1.1.1.1.1.1.1.1.1.1.0 (sym same)
-is_listed name (request.Serve config keeping) others same = others.1.1.1.1.1.1.1.1.1.1.1.1.1.1.1.1.1.0 (sym same)
-is_listed name (request.NewLog file records) others same = others.1.1.1.1.1.1.1.1.1.1.1.1.1.1.1.1.1.1.0 (sym same)
-is_listed name (request.NewJournal file records) others same = others.1.1.1.1.1.1.1.1.1.1.1.1.1.1.1.1.1.1.1.0 (sym same)
-is_listed name (request.CopyJournal old new) others same = others.1.1.1.1.1.1.1.1.1.1.1.1.1.1.1.1.1.1.1.1.0 (sym same)
+is_listed name (request.Data key text iv decipher hex) others same = others.1.1.1.1.1.1.1.0 (sym same)
+is_listed name (request.Pin pin pan key) others same = others.1.1.1.1.1.1.1.1.0 (sym same)
+is_listed name (request.Unpin block pan key show) others same = others.1.1.1.1.1.1.1.1.1.0 (sym same)
+is_listed name (request.Translate block pan bdk ksn zone initial) others same = others.1.1.1.1.1.1.1.1.1.1.0 (sym same)
+is_listed name (request.Wrap kbpk fields key pad) others same = others.1.1.1.1.1.1.1.1.1.1.1.0 (sym same)
+is_listed name (request.Unwrap kbpk block) others same = others.1.1.1.1.1.1.1.1.1.1.1.1.0 (sym same)
+is_listed name (request.Show kind what show) others same = others.1.1.1.1.1.1.1.1.1.1.1.1.1.0 (sym same)
+is_listed name (request.CheckFrame what bdk show initial) others same = others.1.1.1.1.1.1.1.1.1.1.1.1.1.0 (sym same)
+is_listed name (request.MakeRequest bdk ksn pan pin amount initial) others same = others.1.1.1.1.1.1.1.1.1.1.1.1.1.1.0 (sym same)
+is_listed name (request.MakeReversal bdk ksn reversed initial) others same = others.1.1.1.1.1.1.1.1.1.1.1.1.1.1.0 (sym same)
+is_listed name (request.CheckReply bdk asked answer initial) others same = others.1.1.1.1.1.1.1.1.1.1.1.1.1.1.1.0 (sym same)
+is_listed name (request.Find bdk what seeking window initial) others same = others.1.1.1.1.1.1.1.1.1.1.1.1.1.1.1.1.0 (sym same)
+is_listed name (request.Run config script journal) others same = others.1.1.1.1.1.1.1.1.1.1.1.1.1.1.1.1.1.0 (sym same)
+is_listed name (request.Serve config keeping) others same = others.1.1.1.1.1.1.1.1.1.1.1.1.1.1.1.1.1.1.0 (sym same)
+is_listed name (request.NewLog file records) others same = others.1.1.1.1.1.1.1.1.1.1.1.1.1.1.1.1.1.1.1.0 (sym same)
+is_listed name (request.NewJournal file records) others same = others.1.1.1.1.1.1.1.1.1.1.1.1.1.1.1.1.1.1.1.1.0 (sym same)
+is_listed name (request.CopyJournal old new) others same = others.1.1.1.1.1.1.1.1.1.1.1.1.1.1.1.1.1.1.1.1.1.0 (sym same)
 
 pub returns-clause-all : goal.returns-clause-all
 returns-clause-all c = λ asked same.
     let commands = c.commands.result in
     let name = c.args.name.now in
-    let count : length commands ≡ 21 = sym (length-map _ _) ∙ ap length c.commands.ensures in
+    let count : length commands ≡ 22 = sym (length-map _ _) ∙ ap length c.commands.ensures in
     let each : Each (λ (command : CommandName). (shape_named command).name ≢ name) commands =
     each_so_far (λ (command : CommandName). (shape_named command).name ≢ name) commands
     c.loop-command.command-index (omega arith) c.loop-command.invariant in

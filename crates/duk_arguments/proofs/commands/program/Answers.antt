@@ -20,17 +20,17 @@ one_more commands i d within =
     ∙ ap given (map-append shape_named (take i commands) (get_or commands i d ∷ []))
     ∙ fold-append with_subcommand _ (map shape_named (take i commands)) _
 
-are_all : (commands : List CommandName) (i : ℕ) → map shape_named commands ≡ command_line.subs → i ≡ 21
+are_all : (commands : List CommandName) (i : ℕ) → map shape_named commands ≡ command_line.subs → i ≡ 22
     → given (map shape_named (take i commands)) ≡ command_line
 are_all commands i shapes all =
-    let count : length commands ≡ 21 = sym (length-map _ _) ∙ ap length shapes in
+    let count : length commands ≡ 22 = sym (length-map _ _) ∙ ap length shapes in
     ap (λ (n : ℕ). given (map shape_named (take n commands))) (all ∙ sym count)
     ∙ ap (λ (xs : List CommandName). given (map shape_named xs)) (take-length commands)
     ∙ ap given shapes
 
 pub loop-command-preserved : goal.loop-command-preserved
 loop-command-preserved c =
-    let count : length c.commands.result ≡ 21 = sym (length-map _ _) ∙ ap length c.commands.ensures in
+    let count : length c.commands.result ≡ 22 = sym (length-map _ _) ∙ ap length c.commands.ensures in
     let more = one_more c.commands.result c.loop-command.command-index _ (omega (arith, count, c.loop-command-test.true)) in
     let made = c.in_ok-command_of.ensures in
     c.in_ok-program.ensures.shape made.1

@@ -29,6 +29,15 @@ returns-in-Mac-clause-begun c = rw c.in-Mac.is c.mac_lines.ensures.lines
 pub returns-in-Mac-clause-refused : goal.returns-in-Mac-clause-refused
 returns-in-Mac-clause-refused c = rw c.in-Mac.is c.mac_lines.ensures.refused
 
+pub returns-in-Data-clause-lines : goal.returns-in-Data-clause-lines
+returns-in-Data-clause-lines c = rw c.in-Data.is c.data_lines.ensures.lines
+
+pub returns-in-Data-clause-begun : goal.returns-in-Data-clause-begun
+returns-in-Data-clause-begun c = rw c.in-Data.is c.data_lines.ensures.lines
+
+pub returns-in-Data-clause-refused : goal.returns-in-Data-clause-refused
+returns-in-Data-clause-refused c = rw c.in-Data.is c.data_lines.ensures.refused
+
 pub returns-in-Unpin-clause-lines : goal.returns-in-Unpin-clause-lines
 returns-in-Unpin-clause-lines c = rw c.in-Unpin.is c.unpin_lines.ensures.lines
 

@@ -1,0 +1,12 @@
+pub mod LaneWords
+pub mod SumsOfBlocks
+pub mod LaneBlocks
+pub mod BitsOfMasks
+pub mod JoinedHalves
+pub mod WrittenPlaces
+pub mod SerialBlocks
+pub mod PathsDown
+pub mod LanesDown
+pub mod OneMoreGroup
+pub mod NextBlocks
+pub mod LanesAlong

@@ -1,0 +1,24 @@
+//! Work on many terminals at once: a lane for each, 64 at a time.
+//!
+//! A word holds one bit of each lane, so that one computation enciphers a block of each lane under
+//! the lane's own key. Every result is, lane by lane, that of the function for one terminal.
+#![tactic(auto)]
+
+mod cipher;
+mod derivation;
+mod key;
+mod masks;
+mod nodes;
+mod retail;
+mod transposed;
+mod turns;
+mod variants;
+mod walk;
+
+pub use cipher::{des_decrypt, des_encrypt};
+pub use derivation::{derive_group, derive_many, derived_keys, transaction_keys};
+pub use key::LaneKeys;
+pub use masks::{chosen, masked, xor};
+pub use nodes::{initial_keys, step};
+pub use retail::{retail_group, retail_macs};
+pub use transposed::{gather_blocks, gather_keys, scatter_keys, spread_key};

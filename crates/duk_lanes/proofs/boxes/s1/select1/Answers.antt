@@ -1,0 +1,41 @@
+-- Made by tools/circuits of tools/circuits.txt.
+use Rattle.std.proofs.Common.{[], ◌∷◌, ap, ◌∙◌}
+use Rattle.duk_lanes.proofs.Gates.{picked, is_run, ◌also◌}
+use Rattle.duk_lanes.proofs.CircuitOf1.{gates1, outputs1, is_box1}
+use Rattle.duk_lanes.proofs.boxes.s1.select1.Goals as goal
+
+pub returns : goal.returns
+returns g c = λ i h.
+    let lane = g.L.Lanes.lane in
+    ap (picked outputs1) (is_run gates1 (lane c.args.f i ∷ lane c.args.e i ∷ lane c.args.d i ∷ lane c.args.c i ∷ lane c.args.b i ∷ lane c.args.a i ∷ [])
+    (lane c.xor-x1.result i ∷ lane c.and_not-x2.result i ∷ lane c.and_not-x3.result i ∷ lane c.xor-x4.result i
+    ∷ lane c.and-x5.result i ∷ lane c.or-x6.result i ∷ lane c.and_not-x7.result i ∷ lane c.and_not-x8.result i
+    ∷ lane c.or-x9.result i ∷ lane c.and_not-x10.result i ∷ lane c.xor-x11.result i ∷ lane c.xor-x12.result i
+    ∷ lane c.xor-x13.result i ∷ lane c.xor-x14.result i ∷ lane c.and-x15.result i ∷ lane c.xor-x16.result i
+    ∷ lane c.and-x17.result i ∷ lane c.xor-x18.result i ∷ lane c.xor-x19.result i ∷ lane c.and-x20.result i
+    ∷ lane c.and-x21.result i ∷ lane c.and_not-x22.result i ∷ lane c.or-x23.result i ∷ lane c.xor-x24.result i
+    ∷ lane c.xor-x25.result i ∷ lane c.xor-x26.result i ∷ lane c.or-x27.result i ∷ lane c.and_not-x28.result i
+    ∷ lane c.and-x29.result i ∷ lane c.xor-x30.result i ∷ lane c.or-x31.result i ∷ lane c.xor-x32.result i
+    ∷ lane c.xor-x33.result i ∷ lane c.xor-x34.result i ∷ lane c.and_not-x35.result i ∷ lane c.xor-x36.result i
+    ∷ lane c.not-x37.result i ∷ lane c.xor-x38.result i ∷ lane c.xor-x39.result i ∷ lane c.and-x40.result i
+    ∷ lane c.xor-x41.result i ∷ lane c.not-x42.result i ∷ lane c.and_not-x43.result i ∷ lane c.xor-x44.result i
+    ∷ lane c.or-x45.result i ∷ lane c.and-x46.result i ∷ lane c.xor-x47.result i ∷ lane c.xor-x48.result i
+    ∷ lane c.and-x49.result i ∷ lane c.xor-x50.result i ∷ lane c.and_not-x51.result i ∷ lane c.and_not-x52.result i
+    ∷ lane c.xor-x53.result i ∷ lane c.xor-x54.result i
+    ∷ [])
+    (c.xor-x1.ensures i h also c.and_not-x2.ensures i h also c.and_not-x3.ensures i h also c.xor-x4.ensures i h
+    also c.and-x5.ensures i h also c.or-x6.ensures i h also c.and_not-x7.ensures i h also c.and_not-x8.ensures i h
+    also c.or-x9.ensures i h also c.and_not-x10.ensures i h also c.xor-x11.ensures i h also c.xor-x12.ensures i h
+    also c.xor-x13.ensures i h also c.xor-x14.ensures i h also c.and-x15.ensures i h also c.xor-x16.ensures i h
+    also c.and-x17.ensures i h also c.xor-x18.ensures i h also c.xor-x19.ensures i h also c.and-x20.ensures i h
+    also c.and-x21.ensures i h also c.and_not-x22.ensures i h also c.or-x23.ensures i h also c.xor-x24.ensures i h
+    also c.xor-x25.ensures i h also c.xor-x26.ensures i h also c.or-x27.ensures i h also c.and_not-x28.ensures i h
+    also c.and-x29.ensures i h also c.xor-x30.ensures i h also c.or-x31.ensures i h also c.xor-x32.ensures i h
+    also c.xor-x33.ensures i h also c.xor-x34.ensures i h also c.and_not-x35.ensures i h also c.xor-x36.ensures i h
+    also c.not-x37.ensures i h also c.xor-x38.ensures i h also c.xor-x39.ensures i h also c.and-x40.ensures i h
+    also c.xor-x41.ensures i h also c.not-x42.ensures i h also c.and_not-x43.ensures i h also c.xor-x44.ensures i h
+    also c.or-x45.ensures i h also c.and-x46.ensures i h also c.xor-x47.ensures i h also c.xor-x48.ensures i h
+    also c.and-x49.ensures i h also c.xor-x50.ensures i h also c.and_not-x51.ensures i h also c.and_not-x52.ensures i h
+    also c.xor-x53.ensures i h also c.xor-x54.ensures i h
+    also tt))
+    ∙ is_box1 (lane c.args.a i) (lane c.args.b i) (lane c.args.c i) (lane c.args.d i) (lane c.args.e i) (lane c.args.f i)

@@ -1,0 +1,4 @@
+pub mod Exchanges
+pub mod Schedule
+pub mod Wiring
+pub mod Words

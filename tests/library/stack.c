@@ -1,0 +1,180 @@
+/* How deep the calls go on the stack, and what they leave there:
+
+       stack SEED CASES
+
+   CASES cases of each call are drawn. Each runs on a stack that is painted before, once without and
+   once with dukpt_wipe_stack behind it. A line for each call has how many bytes below its caller it
+   used at most, and in how many cases a key or a PIN of its arguments was there afterwards, without
+   and with the wipe: `done NAME BYTES FOUND LEFT`. The last line has how many bytes the wipe itself
+   leaves as they were, of those DUKPT_STACK_BYTES below its caller: `wipe BYTES`. */
+#define _GNU_SOURCE
+#include "calls.h"
+#include "draw.h"
+
+#include <dukpt.h>
+#include <stdio.h>
+#include <stdlib.h>
+#include <string.h>
+#include <ucontext.h>
+
+enum { STACK_BYTES = 1 << 18, PAINTS = 2, KEY_PART = 8, LEAST_PIN_SOUGHT = 6 };
+
+static const uint8_t paints[PAINTS] = {0xA5, 0x5A};
+/* What a case leaves on the stack, for each paint. */
+static uint8_t stack[PAINTS][STACK_BYTES] __attribute__((aligned(4096)));
+
+/* What runs on the painted stack: a call, or none, and perhaps the wipe. Its frame ends at the place
+   `bottom`, below which all is of the call and of the wipe. */
+static struct {
+    const struct call *call;
+    struct argument arguments[MOST_ARGUMENTS];
+    int wipes;
+    uint8_t *bottom;
+    ucontext_t main, painted;
+} run;
+
+static void run_case(void)
+{
+    __asm__ volatile("mov %%rsp, %0" : "=r"(run.bottom));
+    if (run.call != NULL)
+        run.call->library(run.arguments);
+    if (run.wipes)
+        dukpt_wipe_stack();
+}
+
+/* Runs a case on a stack that is painted before. */
+static void run_painted(int paint)
+{
+    memset(stack[paint], paints[paint], STACK_BYTES);
+    if (getcontext(&run.painted) != 0)
+        abort();
+    run.painted.uc_stack.ss_sp = stack[paint];
+    run.painted.uc_stack.ss_size = STACK_BYTES;
+    run.painted.uc_link = &run.main;
+    makecontext(&run.painted, run_case, 0);
+    if (swapcontext(&run.main, &run.painted) != 0)
+        abort();
+}
+
+/* Runs a case once for each paint, with arguments of its own each time. */
+static void run_all(const struct call *call, const struct argument *given, int wipes)
+{
+    static uint8_t bytes[MOST_ARGUMENTS][MOST_BYTES];
+    for (int paint = 0; paint < PAINTS; paint++) {
+        for (size_t at = 0; call != NULL && at < argument_count(call); at++) {
+            run.arguments[at] = given[at];
+            run.arguments[at].bytes = bytes[at];
+            memcpy(bytes[at], given[at].bytes, given[at].size);
+        }
+        run.call = call;
+        run.wipes = wipes;
+        run_painted(paint);
+    }
+}
+
+/* Whether a byte has its paint on each stack: by chance something else looks like one of them. */
+static int is_painted(size_t place)
+{
+    return stack[0][place] == paints[0] && stack[1][place] == paints[1];
+}
+
+/* Where the frame of what ran ends, from the begin of a stack. */
+static size_t bottom(void)
+{
+    return (size_t)(run.bottom - stack[PAINTS - 1]);
+}
+
+/* How many bytes of the stack below its caller were used. */
+static size_t depth(void)
+{
+    size_t place = 0;
+    while (place < bottom() && is_painted(place))
+        place++;
+    return bottom() - place;
+}
+
+/* Whether bytes stand on a stack. Zeros do anywhere: an image may have them for a key. */
+static int is_there(const uint8_t *bytes, size_t size)
+{
+    static const uint8_t zeros[MOST_BYTES];
+    if (memcmp(bytes, zeros, size) == 0)
+        return 0;
+    for (int paint = 0; paint < PAINTS; paint++)
+        if (memmem(stack[paint], STACK_BYTES, bytes, size) != NULL)
+            return 1;
+    return 0;
+}
+
+/* Whether an argument is a key. */
+static int is_key(const struct parameter *parameter)
+{
+    return is_slice(parameter) && (parameter->most == 16 || parameter->most == 24);
+}
+
+/* Whether an argument is a PIN that does not stand anywhere by chance. */
+static int is_pin(const struct parameter *parameter, const struct argument *given)
+{
+    return parameter->sizes == FROM_TO && parameter->most == 12 && given->size >= LEAST_PIN_SOUGHT
+           && given->size <= parameter->most;
+}
+
+/* Whether a PIN or a key among arguments, or a half or a third of a key, is on the stack. */
+static int has_secret(const struct call *call, const struct argument *arguments)
+{
+    for (size_t at = 0; at < argument_count(call); at++) {
+        const struct parameter *parameter = &call->parameters[at];
+        const struct argument *it = &arguments[at];
+        if (is_pin(parameter, it) && is_there(it->bytes, it->size))
+            return 1;
+        for (size_t part = 0; is_key(parameter) && part + KEY_PART <= it->size; part += KEY_PART)
+            if (is_there(it->bytes + part, KEY_PART))
+                return 1;
+    }
+    return 0;
+}
+
+/* The same of the arguments as they are given, and as the call leaves them. */
+static int leaves_secret(const struct call *call, const struct argument *given)
+{
+    return has_secret(call, given) || has_secret(call, run.arguments);
+}
+
+static void try_call(struct chance *chance, const struct call *call, long cases)
+{
+    static uint8_t bytes[MOST_ARGUMENTS][MOST_BYTES];
+    struct argument given[MOST_ARGUMENTS] = {{0}};
+    size_t deepest = 0;
+    long found = 0, left = 0;
+    for (size_t at = 0; at < MOST_ARGUMENTS; at++)
+        given[at].bytes = bytes[at];
+    for (; cases > 0; cases--) {
+        draw_arguments(chance, call, given);
+        run_all(call, given, 0);
+        deepest = depth() > deepest ? depth() : deepest;
+        found += leaves_secret(call, given);
+        run_all(call, given, 1);
+        left += leaves_secret(call, given);
+    }
+    printf("done %s %lu %ld %ld\n", call->name, (unsigned long)deepest, found, left);
+}
+
+static void try_wipe(void)
+{
+    long left = 0;
+    run_all(NULL, NULL, 1);
+    for (size_t place = bottom() - DUKPT_STACK_BYTES; place < bottom(); place++)
+        left += is_painted(place);
+    printf("wipe %ld\n", left);
+}
+
+int main(int words, char **word)
+{
+    struct chance chance;
+    if (words != 3)
+        return 2;
+    chance.state = strtoull(word[1], NULL, 10);
+    for (size_t at = 0; at < call_count; at++)
+        try_call(&chance, &calls[at], atol(word[2]));
+    try_wipe();
+    return 0;
+}

@@ -1,0 +1,1 @@
+"""What is made of the table of the calls: a module for each language or kind of file."""
