@@ -21,4 +21,4 @@ pub use key::LaneKeys;
 pub use masks::{chosen, masked, xor};
 pub use nodes::{initial_keys, step};
 pub use retail::{retail_group, retail_macs};
-pub use transposed::{gather_blocks, gather_keys, scatter_keys, spread_key};
+pub use transposed::{WIDTH, gather_blocks, gather_keys, scatter_keys, spread_key};

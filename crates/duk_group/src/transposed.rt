@@ -10,6 +10,9 @@ use crate::key::LaneKeys;
 use duk_lanes::{gather, scatter, spread};
 use duk_tdes::Key;
 
+/// How many lanes there are: so many terminals are worked on at once.
+pub const WIDTH: usize = 64;
+
 /// A block in each lane.
 pub fn gather_blocks(blocks: &[[u8; 8]; 64]) -> [u64; 64]
     ensures { (i : ℕ) → i < 64 → IsBlock (bytes_at blocks.now i)
