@@ -19,6 +19,7 @@ use crate::optional::after_optional;
 use crate::payload::key_in;
 use crate::sealing::{block_mac, decipher};
 use crate::text::{BlockText, MAX_TEXT};
+use duk_mac::same_mac;
 use duk_tdes::{Key, KeyBytes, array_of};
 
 /// Reads a key block under the key block protection key: its header and the key that it binds to
@@ -119,7 +120,7 @@ fn open_payload<const N: usize>(
     let (ciphertext, mac) = bytes.as_slice().split_at(sealed_part.len() / 2 - 8);
     let mac = array_of(mac);
     let payload = decipher(kbpk, mac, ciphertext);
-    if block_mac(kbpk, front, payload.as_slice()) == mac {
+    if same_mac(&block_mac(kbpk, front, payload.as_slice()), &mac) {
         Ok(payload)
     } else {
         Err(BlockFault::Mac)

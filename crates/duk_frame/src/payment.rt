@@ -11,7 +11,7 @@ ghost use Rattle.duk_tree.specs.Serial.{Serial};
 use crate::frame::{Frame, mac_text};
 use crate::laws;
 use crate::request::request_text;
-use duk_mac::retail;
+use duk_mac::{retail, same_mac};
 use duk_pin::{Pan, Pin, encode};
 use duk_tdes::{Key, tdes_encrypt};
 use duk_tree::{Ksn, pin_key, request_key};
@@ -37,5 +37,5 @@ pub fn is_payment_reply(response_key: &Key<16>, reply: &[u8], mac: [u8; 8]) -> b
         → IsTrue result ↔ (reply.now ≡ authenticated response_key.now (reply_text ksn code)) }
 {
     laws::mac_texts();
-    retail(response_key, mac_text(reply)) == mac
+    same_mac(&retail(response_key, mac_text(reply)), &mac)
 }

@@ -10,7 +10,7 @@ use crate::numbers::ReversalNumbers;
 use crate::reply::ReversalReply;
 use crate::reversal::Reversal;
 use duk_frame::Frame;
-use duk_mac::retail;
+use duk_mac::{retail, same_mac};
 use duk_tdes::Key;
 use duk_tree::request_key;
 
@@ -33,5 +33,5 @@ pub fn is_reversal_reply(response_key: &Key<16>, reply: &ReversalReply) -> bool
 {
     laws::mac_texts();
     let text = ReversalReply::text(reply.numbers, reply.state);
-    retail(response_key, text.as_slice()) == reply.mac
+    same_mac(&retail(response_key, text.as_slice()), &reply.mac)
 }

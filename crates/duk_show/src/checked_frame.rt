@@ -20,7 +20,7 @@ use crate::frame::{
 };
 use duk_commands::{KeyArgument, LINES_ROOM, Lines, push_line, push_text_line};
 use duk_frame::{AnswerFrame, Request, mac_text, read_answer, read_request};
-use duk_mac::retail;
+use duk_mac::{retail, same_mac};
 use duk_reversal::{Reversal, ReversalReply, read_reversal, read_reversal_reply};
 use duk_tdes::{Key, tdes_decrypt};
 use duk_tree::{Ksn, pin_key, request_key, response_key, transaction_key, usable};
@@ -209,7 +209,7 @@ fn verdict_on(expected: [u8; 8], mac: [u8; 8]) -> &'static str
     ensures verdict { IsVerdict expected mac result.now }
     ensures short { length result.now ≤ 5 }
 {
-    if expected == mac { "right" } else { "wrong" }
+    if same_mac(&expected, &mac) { "right" } else { "wrong" }
 }
 
 /// Appends the line of a PIN block in clear, where it is to be shown.

@@ -17,7 +17,7 @@ use crate::progress::tell_progress;
 use crate::sought::Sought;
 use duk_frame::mac_text;
 use duk_io::Sink;
-use duk_mac::{cmac, retail};
+use duk_mac::{cmac, retail, same_mac};
 use duk_pin::decode;
 use duk_regs::Registers;
 use duk_tdes::{Key, tdes_decrypt, tdes_encrypt};
@@ -124,7 +124,7 @@ fn way_of(sought: &Sought, key: &Key<16>) -> Option<Way>
 {
     match sought {
         Sought::Frame { bytes, mac, .. } => {
-            way_where(retail(key, mac_text(bytes.as_slice())) == *mac, Way::Retail)
+            way_where(same_mac(&retail(key, mac_text(bytes.as_slice())), mac), Way::Retail)
         }
         Sought::Mac { message, mac } => mac_of(key, message.as_slice(), *mac),
         Sought::PinBlock { pan, block } => {
@@ -147,10 +147,10 @@ fn mac_of(key: &Key<16>, message: &[u8], mac: [u8; 8]) -> Option<Way>
         × (cmac_of key.now message.now ≡ mac)) }
     ensures no_cipher { result ≢ Some Way.Cipher }
 {
-    if retail(key, message) == mac {
+    if same_mac(&retail(key, message), &mac) {
         Some(Way::Retail)
     } else {
-        way_where(cmac(key, message) == mac, Way::Cmac)
+        way_where(same_mac(&cmac(key, message), &mac), Way::Cmac)
     }
 }
 

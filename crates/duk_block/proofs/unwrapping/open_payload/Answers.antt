@@ -7,8 +7,6 @@ use Rattle.hex.proofs.HexLemmas.{decode_of-ok}
 use Rattle.duk_block.specs.KeyBlock.{mac_of, ciphertext_of}
 use Rattle.duk_block.specs.Faults.{HasSealedPart, HasParts}
 use Rattle.duk_block.specs.Hexadecimal.{IsHexadecimal}
-use Rattle.std.proofs.lemmas.Slice.Eq.{slice_eq-Decides}
-use Rattle.std.proofs.lemmas.Bool.Decides.{Decides-eqb}
 use Rattle.duk_block.specs.declared.fault.BlockFault.TheVariants.{Hex, Mac}
 use Rattle.duk_block.proofs.FaultOrder.{met_next}
 use Rattle.duk_block.proofs.OneSealedPart.{HasSealedPart-same, HasParts-same, sealed_part_after}
@@ -46,14 +44,14 @@ array_of-mac-requires g c =
     let read = decode_of-ok c.args.sealed_part.now c.in-Some.bytes.items c.in-Some.ensures in
     (lit< tt, omega (arith, read.2, ap length c.as_slice.ensures.value, c.split_at.ensures.back_len))
 
-pub returns-then-eq-clause-found : goal.returns-then-eq-clause-found
-returns-then-eq-clause-found g c =
+pub returns-then-same_mac-clause-found : goal.returns-then-same_mac-clause-found
+returns-then-same_mac-clause-found g c =
     let text = c.args.text.now in
     let sealed_part = c.args.sealed_part.now in
     let payload = c.decipher-payload.result.items in
     let ciphertext = c.split_at.result.0.now in
     let mac = c.array_of-mac.result in
-    let same : c.block_mac.result ≡ mac = (slice_eq-Decides Decides-eqb c.block_mac.result mac c.eq.result c.eq.ensures).0 c.if-eq.true in
+    let same : c.block_mac.result ≡ mac = c.same_mac.ensures.0 c.if-same_mac.true in
     record {
       front = take (length text - length sealed_part) text;
       ciphertext = ciphertext;
@@ -65,13 +63,13 @@ returns-then-eq-clause-found g c =
       enciphered = c.decipher-payload.ensures.payload;
     }
 
-pub returns-then-eq-clause-length : goal.returns-then-eq-clause-length
-returns-then-eq-clause-length g c =
+pub returns-then-same_mac-clause-length : goal.returns-then-same_mac-clause-length
+returns-then-same_mac-clause-length g c =
     let read = decode_of-ok c.args.sealed_part.now c.in-Some.bytes.items c.in-Some.ensures in
     omega (arith, c.decipher-payload.ensures.width, c.split_at.ensures.front_len, c.requires.sealed_part.least)
 
-pub returns-then-eq-clause-only : goal.returns-then-eq-clause-only
-returns-then-eq-clause-only g c = λ payload other.
+pub returns-then-same_mac-clause-only : goal.returns-then-same_mac-clause-only
+returns-then-same_mac-clause-only g c = λ payload other.
     let text = c.args.text.now in
     let key = c.args.kbpk.now in
     let sealed_part = c.args.sealed_part.now in
@@ -84,8 +82,8 @@ returns-then-eq-clause-only g c = λ payload other.
     let same = HasParts-same text other.front other.ciphertext other.mac front ciphertext mac other.parts parts in
     c.decipher-payload.ensures.only payload other.payload_is (sym same.ciphertexts ∙ other.enciphered ∙ ap (λ m. ciphertext_of key m payload) same.macs)
 
-pub returns-else-eq-clause-refused : goal.returns-else-eq-clause-refused
-returns-else-eq-clause-refused g c =
+pub returns-else-same_mac-clause-refused : goal.returns-else-same_mac-clause-refused
+returns-else-same_mac-clause-refused g c =
     let text = c.args.text.now in
     let key = c.args.kbpk.now in
     let sealed_part = c.args.sealed_part.now in
@@ -110,6 +108,6 @@ returns-else-eq-clause-refused g c =
           ∙ ap (λ f. mac_of key f met.0) (sym same.fronts)
           ∙ sym other.authentic
           ∙ same.macs in
-          false≢true (sym c.if-eq.false ∙ (slice_eq-Decides Decides-eqb c.block_mac.result mac c.eq.result c.eq.ensures).1 macs);
+          false≢true (sym c.if-same_mac.false ∙ c.same_mac.ensures.1 macs);
       earlier_met = met_next text key Hex Mac refl c.requires.met (sealed_part, c.requires.sealed_part, read.1);
     }

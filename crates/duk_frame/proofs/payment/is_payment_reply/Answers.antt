@@ -1,6 +1,4 @@
 use Rattle.std.proofs.Common.{◌≡◌, ◌++◌, sym, ap, ◌∙◌}
-use Rattle.std.proofs.lemmas.Bool.Decides.{Decides-eqb}
-use Rattle.std.proofs.lemmas.Slice.Eq.{slice_eq-Decides}
 use Rattle.duk_mac.specs.Retail.{retail_of}
 use Rattle.duk_frame.specs.Answer.{reply_text}
 use Rattle.duk_frame.specs.Frame.{framed}
@@ -14,7 +12,7 @@ returns c = λ ksn code is.
     let texts = c.mac_texts.ensures.reply c.args.reply.now ksn code mac is in
     let made : c.retail.result ≡ retail_of c.args.response_key.now text =
     c.retail.ensures ∙ ap (retail_of c.args.response_key.now) (c.mac_text.ensures ∙ texts.1) in
-    let equal = slice_eq-Decides Decides-eqb c.retail.result mac c.eq.result c.eq.ensures in (
+    let equal = c.same_mac.ensures in (
       λ yes. is.laid_out ∙ ap (λ mac. framed (text ++ mac)) (sym (equal.0 yes) ∙ made),
       λ same. equal.1 (made ∙ sym (same_mac text mac (retail_of c.args.response_key.now text) (sym is.laid_out ∙ same))),
     )
