@@ -1,4 +1,5 @@
 pub mod LanesOfWords
+pub mod LanesOfPairs
 pub mod ExchangesByDifference
 pub mod Transposed
 pub mod BlocksOfWords

@@ -10,9 +10,11 @@ mod cipher;
 mod lanes;
 mod rounds;
 mod transposition;
+mod wide;
 mod wiring;
 mod words;
 
 pub use cipher::{decrypt, encrypt};
 pub use lanes::Lanes;
 pub use transposition::{gather, scatter, spread};
+pub use wide::{gather_wide, scatter_wide, spread_wide};
