@@ -1,9 +1,10 @@
 //! Transaction keys of key serial numbers at random.
 
 ghost use Rattle.std.specs.Prelude.{◌≤◌};
+ghost use Rattle.duk_group.specs.declared.transposed.TheConstants.{WIDTH};
 
 use crate::random::Random;
-use duk_group::derive_group;
+use duk_group::{WIDTH, derive_group};
 use duk_tdes::Key;
 use duk_tree::{Ksn, derive};
 use std::io;
@@ -25,26 +26,26 @@ pub fn derive_at_random<W: Write>(count: u32, output: &mut W) -> io::Result<()> 
     Ok(())
 }
 
-/// Writes the same keys, made 64 at once.
+/// Writes the same keys, made `WIDTH` at once.
 pub fn derive_in_groups<W: Write>(count: u32, output: &mut W) -> io::Result<()> {
     let bdk = Key::new(BDK.to_be_bytes());
     let mut random = Random::from(SEED);
-    for _ in 0..count / 64 {
-        write_group(&bdk, 64, &mut random, output)?;
+    for _ in 0..count / WIDTH as u32 {
+        write_group(&bdk, WIDTH, &mut random, output)?;
     }
-    write_group(&bdk, (count % 64) as usize, &mut random, output)
+    write_group(&bdk, (count % WIDTH as u32) as usize, &mut random, output)
 }
 
-/// Writes the keys of a group of at most 64 numbers.
+/// Writes the keys of a group of at most `WIDTH` numbers.
 fn write_group<W: Write>(
     bdk: &Key<16>,
     size: usize,
     random: &mut Random,
     output: &mut W,
 ) -> io::Result<()>
-    requires { size ≤ 64 }
+    requires { size ≤ WIDTH }
 {
-    let mut numbers = [Ksn::from_bytes([0; 10]); 64];
+    let mut numbers = [Ksn::from_bytes([0; 10]); WIDTH];
     for place in 0..size {
         numbers[place] = next_number(random);
     }

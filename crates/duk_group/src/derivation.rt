@@ -2,23 +2,24 @@
 
 ghost use Rattle.std.specs.Prelude.{◌≡◌, ◌<◌, ◌≤◌, ℕ, map, take, length};
 ghost use Rattle.duk_tree.specs.Derivation.{transaction_key_of, derived_key_of};
-ghost use Rattle.duk_lanes.specs.Words.{word_lane};
+ghost use Rattle.duk_lanes.specs.Words.{wide_lane};
 ghost use Rattle.duk_group.specs.Blocks.{block_of, key_of};
 ghost use Rattle.duk_group.specs.Numbers.{number_at};
 ghost use Rattle.duk_tree.specs.Serial.{iksn_bytes};
+ghost use Rattle.duk_group.specs.declared.transposed.TheConstants.{WIDTH};
 
 use crate::key::LaneKeys;
 use crate::nodes::{initial_keys, step};
-use crate::transposed::{gather_blocks, scatter_keys, spread_key};
+use crate::transposed::{WIDTH, Word, gather_blocks, scatter_keys, spread_key};
 use crate::turns::{PAUSE, blocks_of_turns, going};
 use crate::walk::{COUNTER_BITS, advance};
 use duk_tdes::{Key, array_of};
 use duk_tree::Ksn;
 
-/// The transaction keys of at most 64 key serial numbers, under one base derivation key, in their
+/// The transaction keys of at most `WIDTH` key serial numbers, under one base derivation key, in their
 /// order.
-pub fn derive_group(bdk: &Key<16>, numbers: &[Ksn]) -> [Key<16>; 64]
-    requires { length numbers.now ≤ 64 }
+pub fn derive_group(bdk: &Key<16>, numbers: &[Ksn]) -> [Key<16>; WIDTH]
+    requires { length numbers.now ≤ WIDTH }
     ensures { take (length numbers.now) result ≡ map (derived_key_of bdk.now) numbers.now }
 {
     scatter_keys(&derived_keys(bdk, numbers))
@@ -32,7 +33,7 @@ pub fn derive_many(bdk: &Key<16>, numbers: &[Ksn], keys: &mut [Key<16>])
 {
     let mut done = 0;
     while done < numbers.len() {
-        let count = (numbers.len() - done).min(64);
+        let count = (numbers.len() - done).min(WIDTH);
         let end = done + count;
         let group = derive_group(bdk, &numbers[done..end]);
         keys[done..end].copy_from_slice(&group[..count]);
@@ -40,30 +41,30 @@ pub fn derive_many(bdk: &Key<16>, numbers: &[Ksn], keys: &mut [Key<16>])
     }
 }
 
-/// The transaction keys of at most 64 key serial numbers, under one base derivation key, a lane for
+/// The transaction keys of at most `WIDTH` key serial numbers, under one base derivation key, a lane for
 /// each.
-pub fn derived_keys(bdk: &Key<16>, numbers: &[Ksn]) -> LaneKeys<u64>
-    requires { length numbers.now ≤ 64 }
+pub fn derived_keys(bdk: &Key<16>, numbers: &[Ksn]) -> LaneKeys<Word>
+    requires { length numbers.now ≤ WIDTH }
     ensures { (i : ℕ) → i < length numbers.now
-        → key_of word_lane i result.left result.right
+        → key_of wide_lane i result.left result.right
         ≡ derived_key_of bdk.now (number_at numbers.now i) }
 {
     let initial = initial_keys(&spread_key(bdk), &first_blocks(numbers));
     transaction_keys(&initial, numbers)
 }
 
-/// The transaction keys of at most 64 key serial numbers, each under its lane's initial key.
-pub fn transaction_keys(initial: &LaneKeys<u64>, numbers: &[Ksn]) -> LaneKeys<u64>
-    requires { length numbers.now ≤ 64 }
+/// The transaction keys of at most `WIDTH` key serial numbers, each under its lane's initial key.
+pub fn transaction_keys(initial: &LaneKeys<Word>, numbers: &[Ksn]) -> LaneKeys<Word>
+    requires { length numbers.now ≤ WIDTH }
     ensures { (i : ℕ) → i < length numbers.now
-        → key_of word_lane i result.left result.right
-        ≡ transaction_key_of (key_of word_lane i initial.now.left initial.now.right)
+        → key_of wide_lane i result.left result.right
+        ≡ transaction_key_of (key_of wide_lane i initial.now.left initial.now.right)
         (number_at numbers.now i).iksn (number_at numbers.now i).counter }
 {
     duk_tree::laws::serials();
     let mut keys = *initial;
-    let mut places = [COUNTER_BITS; 64];
-    let mut turns = [PAUSE; 64];
+    let mut places = [COUNTER_BITS; WIDTH];
+    let mut turns = [PAUSE; WIDTH];
     for _ in 0..COUNTER_BITS {
         if !advance(numbers, &mut places, &mut turns) {
             return keys;
@@ -75,13 +76,13 @@ pub fn transaction_keys(initial: &LaneKeys<u64>, numbers: &[Ksn]) -> LaneKeys<u6
 }
 
 /// The first eight bytes of each initial key serial number, a lane for each.
-fn first_blocks(numbers: &[Ksn]) -> [u64; 64]
-    requires { length numbers.now ≤ 64 }
-    ensures { (i : ℕ) → i < length numbers.now → block_of word_lane i result
+fn first_blocks(numbers: &[Ksn]) -> [Word; 64]
+    requires { length numbers.now ≤ WIDTH }
+    ensures { (i : ℕ) → i < length numbers.now → block_of wide_lane i result
         ≡ take 8 (iksn_bytes (number_at numbers.now i).iksn) }
 {
     duk_tree::laws::serials();
-    let mut blocks = [[0; 8]; 64];
+    let mut blocks = [[0; 8]; WIDTH];
     for (i, number) in numbers.iter().enumerate() {
         blocks[i] = array_of(&number.iksn().bytes()[..8]);
     }

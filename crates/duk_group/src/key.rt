@@ -17,6 +17,15 @@ pub struct LaneKeys<L: Lanes> {
 }
 
 impl<L: Lanes> LaneKeys<L> {
+    /// The keys with these halves.
+    #[inline(always)]
+    pub fn new(left: [L; 64], right: [L; 64]) -> Self
+        ensures left { result.left ≡ left }
+        ensures right { result.right ≡ right }
+    {
+        LaneKeys { left, right }
+    }
+
     /// Each lane's key with the same mask on both of its halves.
     pub fn masked(&self, mask: &[u8; 8]) -> Self
         ensures { (i : ℕ) → i < L.count → key_of L.lane i result.left result.right

@@ -1,4 +1,4 @@
-//! Work on many terminals at once: a lane for each, 64 at a time.
+//! Work on many terminals at once: a lane for each, `WIDTH` at a time.
 //!
 //! A word holds one bit of each lane, so that one computation enciphers a block of each lane under
 //! the lane's own key. Every result is, lane by lane, that of the function for one terminal.
@@ -21,4 +21,4 @@ pub use key::LaneKeys;
 pub use masks::{chosen, masked, xor};
 pub use nodes::{initial_keys, step};
 pub use retail::{retail_group, retail_macs};
-pub use transposed::{WIDTH, gather_blocks, gather_keys, scatter_keys, spread_key};
+pub use transposed::{WIDTH, Word, gather_blocks, gather_keys, scatter_keys, spread_key};

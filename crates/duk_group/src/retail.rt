@@ -1,39 +1,40 @@
 //! The retail MACs of many messages at once (ANSI X9.19), each under a key of its own.
 
 ghost use Rattle.std.specs.Prelude.{◌≡◌, ◌<◌, ◌≤◌, ◌-◌, ◌*◌, ◌^◌, ◌++◌, ℕ, length, replicate};
-ghost use Rattle.duk_lanes.specs.Words.{word_lane};
+ghost use Rattle.duk_lanes.specs.Words.{wide_lane};
 ghost use Rattle.duk_mac.specs.Retail.{retail_of};
 ghost use Rattle.duk_group.specs.Blocks.{block_of, key_of};
 ghost use Rattle.duk_group.specs.Numbers.{bytes_at, message_at};
 ghost use Rattle.duk_group.specs.inner.Messages.{IsNextBlock};
 ghost use Rattle.duk_group.specs.inner.Turns.{turn_at};
+ghost use Rattle.duk_group.specs.declared.transposed.TheConstants.{WIDTH};
 
 use crate::cipher::{des_decrypt, des_encrypt};
 use crate::key::LaneKeys;
 use crate::masks::{chosen, xor};
-use crate::transposed::gather_keys;
+use crate::transposed::{WIDTH, Word, gather_keys};
 use crate::turns::{PAUSE, Turn, blocks_of_turns, going};
-use duk_lanes::{scatter, spread};
+use duk_lanes::{scatter_wide, spread_wide};
 use duk_tdes::Key;
 
-/// The retail MACs of at most 64 messages, each under the key at its place, in their order. Each
+/// The retail MACs of at most `WIDTH` messages, each under the key at its place, in their order. Each
 /// message is filled with zero bytes to whole blocks, an empty one to none.
-pub fn retail_group(keys: &[Key<16>], messages: &[&[u8]]) -> [[u8; 8]; 64]
-    requires few { length messages.now ≤ 64 }
+pub fn retail_group(keys: &[Key<16>], messages: &[&[u8]]) -> [[u8; 8]; WIDTH]
+    requires few { length messages.now ≤ WIDTH }
     requires keys { length keys.now ≡ length messages.now }
     ensures { (i : ℕ) → i < length messages.now
         → bytes_at result i ≡ retail_of (bytes_at keys.now i) (message_at messages.now i) }
 {
-    scatter(&retail_macs(&gather_keys(keys), messages))
+    scatter_wide(&retail_macs(&gather_keys(keys), messages))
 }
 
-/// The retail MACs of at most 64 messages, each under the key of its lane.
-pub fn retail_macs(keys: &LaneKeys<u64>, messages: &[&[u8]]) -> [u64; 64]
-    requires { length messages.now ≤ 64 }
-    ensures { (i : ℕ) → i < length messages.now → block_of word_lane i result
-        ≡ retail_of (key_of word_lane i keys.now.left keys.now.right) (message_at messages.now i) }
+/// The retail MACs of at most `WIDTH` messages, each under the key of its lane.
+pub fn retail_macs(keys: &LaneKeys<Word>, messages: &[&[u8]]) -> [Word; 64]
+    requires { length messages.now ≤ WIDTH }
+    ensures { (i : ℕ) → i < length messages.now → block_of wide_lane i result
+        ≡ retail_of (key_of wide_lane i keys.now.left keys.now.right) (message_at messages.now i) }
 {
-    let mut chain = spread([0; 8]);
+    let mut chain = spread_wide([0; 8]);
     for count in 0..most_blocks(messages) {
         let turns = next_blocks(messages, count);
         let next = des_encrypt(&keys.left, &xor(&chain, &blocks_of_turns(&turns)));
@@ -69,13 +70,13 @@ fn block_count(message: &[u8]) -> usize
 }
 
 /// The next block of each message after so many.
-fn next_blocks(messages: &[&[u8]], count: usize) -> [Turn; 64]
-    requires few { length messages.now ≤ 64 }
+fn next_blocks(messages: &[&[u8]], count: usize) -> [Turn; WIDTH]
+    requires few { length messages.now ≤ WIDTH }
     requires fits { 8 * count < 2 ^ 64 }
     ensures { (i : ℕ) → i < length messages.now
         → IsNextBlock (message_at messages.now i) count (turn_at result i) }
 {
-    let mut turns = [PAUSE; 64];
+    let mut turns = [PAUSE; WIDTH];
     for (i, message) in messages.iter().enumerate() {
         turns[i] = next_block(message, count);
     }

@@ -7,7 +7,9 @@ ghost use Rattle.std.specs.Prelude.{◌≡◌, ◌<◌, ◌≤◌, ℕ, false, l
 ghost use Rattle.duk_group.specs.Numbers.{number_at};
 ghost use Rattle.duk_group.specs.inner.Turns.{turn_at};
 ghost use Rattle.duk_group.specs.inner.Walk.{IsNext};
+ghost use Rattle.duk_group.specs.declared.transposed.TheConstants.{WIDTH};
 
+use crate::transposed::WIDTH;
 use crate::turns::{PAUSE, Turn};
 use duk_tree::Ksn;
 
@@ -39,8 +41,8 @@ fn next_node(number: Ksn, place: u32) -> (u32, Turn)
 
 /// Goes on to the next node of each lane, and says whether any lane had one. A lane stands at a
 /// place of its counter, and its turn is what it goes on with.
-pub(crate) fn advance(numbers: &[Ksn], places: &mut [u32; 64], turns: &mut [Turn; 64]) -> bool
-    requires few { length numbers.now ≤ 64 }
+pub(crate) fn advance(numbers: &[Ksn], places: &mut [u32; WIDTH], turns: &mut [Turn; WIDTH]) -> bool
+    requires few { length numbers.now ≤ WIDTH }
     requires places { (i : ℕ) → i < length numbers.now → slice_index places.old i ≤ 21 }
     ensures next { (i : ℕ) → i < length numbers.now
         → IsNext (number_at numbers.now i) (slice_index places.old i) (slice_index places.new i)

@@ -1,5 +1,6 @@
 pub mod LanesOfWords
 pub mod LanesOfPairs
+pub mod LanesOfFlags
 pub mod ExchangesByDifference
 pub mod Transposed
 pub mod BlocksOfWords

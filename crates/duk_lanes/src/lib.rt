@@ -17,4 +17,4 @@ mod words;
 pub use cipher::{decrypt, encrypt};
 pub use lanes::Lanes;
 pub use transposition::{gather, scatter, spread};
-pub use wide::{gather_wide, scatter_wide, spread_wide};
+pub use wide::{gather_wide, scatter_wide, spread_wide, word_of_flags};

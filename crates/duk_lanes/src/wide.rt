@@ -1,6 +1,6 @@
 //! Words of two words of 64 bits, side by side in a register: 128 lanes.
 
-ghost use Rattle.std.specs.Prelude.{◌≡◌, ℕ, ◌+◌, ◌++◌, ◌<◌, [], length, slice_index_or};
+ghost use Rattle.std.specs.Prelude.{◌≡◌, ℕ, ◌+◌, ◌++◌, ◌<◌, [], false, length, slice_index_or};
 ghost use Rattle.duk_des.specs.Bits.{bits_of_bytes, bytes_of_bits};
 ghost use Rattle.duk_lanes.specs.Lanes.{lane_of};
 ghost use Rattle.duk_lanes.specs.Words.{word_lane, wide_lane};
@@ -71,6 +71,26 @@ pub fn spread_wide(block: [u8; 8]) -> [u64x2; 64]
 {
     let words = spread(block);
     paired(&words, &words)
+}
+
+/// The word with these flags in its lanes.
+pub fn word_of_flags(flags: &[bool; 128]) -> u64x2
+    ensures { (i : ℕ) → i < 128 → wide_lane result i ≡ slice_index_or flags.now i false }
+{
+    u64x2::from_array([half_word(&flags[..64]), half_word(&flags[64..])])
+}
+
+/// The word of 64 bits with these flags in its lanes.
+#[inline(always)]
+fn half_word(flags: &[bool]) -> u64
+    requires { length flags.now ≡ 64 }
+    ensures { (i : ℕ) → i < 64 → word_lane result i ≡ slice_index_or flags.now i false }
+{
+    let mut word = 0;
+    for i in 0..64 {
+        word |= u64::from(flags[i]) << i;
+    }
+    word
 }
 
 /// The array of 64 blocks.

@@ -9,7 +9,7 @@ pub returns : goal.returns
 returns c = λ i h.
     let iksn = (number_at c.args.numbers.now i).iksn in
     let root : Serial = record { iksn = iksn; counter = 0 } in
-    let lane : i < 64 = omega arith in
+    let lane : i < 128 = omega arith in
     let P : List ℕ → Type 0 = IsBlock in
     let is = c.loop-i.invariant.below i (omega arith) in
     c.gather_blocks.ensures i lane (subst P (sym is) (eight_of_ten 0 (iksn_bytes iksn) (omega arith) (c.serials.ensures.ten root) (c.serials.ensures.are_bytes root)))

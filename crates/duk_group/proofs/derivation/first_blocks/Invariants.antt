@@ -5,6 +5,6 @@ use Rattle.duk_group.proofs.derivation.first_blocks.Given as goal
 
 abbrev pub invariant-loop-i : goal.invariant-loop-i
 invariant-loop-i l = record {
-  size : length l.blocks ≡ 64;
+  size : length l.blocks ≡ 128;
   below : (p : ℕ) → p < l.i → bytes_at l.blocks p ≡ take 8 (iksn_bytes (number_at l.numbers p).iksn);
 }

@@ -6,6 +6,6 @@ use Rattle.duk_group.proofs.retail.next_blocks.Given as goal
 
 abbrev pub invariant-loop-i : goal.invariant-loop-i
 invariant-loop-i l = record {
-  size : length l.turns ≡ 64;
+  size : length l.turns ≡ 128;
   below : (p : ℕ) → p < l.i → IsNextBlock (message_at l.messages p) l.count (turn_at l.turns p);
 }

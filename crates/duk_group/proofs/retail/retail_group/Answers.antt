@@ -7,6 +7,6 @@ use Rattle.duk_group.proofs.retail.retail_group.Goals as goal
 pub returns : goal.returns
 unfolding block_of
 returns c = λ i h.
-    c.scatter.ensures i (omega arith)
+    c.scatter_wide.ensures i (omega arith)
     ∙ c.retail_macs.ensures i h
     ∙ ap (λ key. retail_of key (message_at c.args.messages.now i)) (c.gather_keys.ensures i (omega arith))

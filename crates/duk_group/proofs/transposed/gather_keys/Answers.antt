@@ -1,6 +1,8 @@
 use Rattle.std.proofs.Common.{◌≡◌, ℕ, List, [], ◌<◌, ◌++◌, ap₂, ◌∙◌, length-set, arith}
 use Rattle.std.proofs.lemmas.List.{get_or_default}
 use Rattle.duk_tdes.specs.Tdes.{first_key, second_key}
+use Rattle.duk_lanes.specs.Words.{wide_lane}
+use Rattle.duk_group.specs.Blocks.{key_of}
 use Rattle.duk_group.specs.Numbers.{bytes_at}
 use Rattle.duk_group.proofs.JoinedHalves.{AreHalvesOf, half_block, halves_joined}
 use Rattle.duk_group.proofs.WrittenPlaces.{written_below_both}
@@ -8,9 +10,10 @@ use Rattle.duk_group.proofs.transposed.gather_keys.Goals as goal
 
 pub returns : goal.returns
 returns c = λ i h.
-    let lane : i < 64 = omega arith in
+    let lane : i < 128 = omega arith in
     let halves = c.loop-i.invariant.each i (omega arith) in
-    ap₂ (λ (left right : List ℕ). left ++ right) (c.gather_blocks.ensures i lane halves.left_block) (c.gather_blocks-2.ensures i lane halves.right_block)
+    ap₂ (λ (left right : List (List ℕ)). key_of wide_lane i left right) c.new.ensures.left c.new.ensures.right
+    ∙ ap₂ (λ (left right : List ℕ). left ++ right) (c.gather_blocks.ensures i lane halves.left_block) (c.gather_blocks-2.ensures i lane halves.right_block)
     ∙ halves.joined
 
 pub loop-i-preserved : goal.loop-i-preserved

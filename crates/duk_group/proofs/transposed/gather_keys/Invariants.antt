@@ -5,7 +5,7 @@ use Rattle.duk_group.proofs.transposed.gather_keys.Given as goal
 
 abbrev pub invariant-loop-i : goal.invariant-loop-i
 invariant-loop-i l = record {
-  left_size : length l.left ≡ 64;
-  right_size : length l.right ≡ 64;
+  left_size : length l.left ≡ 128;
+  right_size : length l.right ≡ 128;
   each : (p : ℕ) → p < l.i → AreHalvesOf (bytes_at l.keys p) (bytes_at l.left p) (bytes_at l.right p);
 }

@@ -6,4 +6,4 @@ pub returns : goal.returns
 unfolding block_of
 returns c = λ i h.
     c.loop-i.invariant.below i (omega arith)
-    ∙ ap₂ (λ (left right : List ℕ). left ++ right) (c.scatter-left.ensures i h) (c.scatter-right.ensures i h)
+    ∙ ap₂ (λ (left right : List ℕ). left ++ right) (c.scatter_wide-left.ensures i h) (c.scatter_wide-right.ensures i h)
