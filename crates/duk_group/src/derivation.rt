@@ -1,6 +1,6 @@
 //! The transaction keys of many key serial numbers at once (ANSI X9.24-1:2009 annex A).
 
-ghost use Rattle.std.specs.Prelude.{◌≡◌, ◌<◌, ◌≤◌, ℕ, map, take, length};
+ghost use Rattle.std.specs.Prelude.{◌≡◌, ◌<◌, ◌≤◌, ◌-◌, ℕ, map, take, drop, length, replicate};
 ghost use Rattle.duk_tree.specs.Derivation.{transaction_key_of, derived_key_of};
 ghost use Rattle.duk_lanes.specs.Words.{wide_lane};
 ghost use Rattle.duk_group.specs.Blocks.{block_of, key_of};
@@ -10,19 +10,22 @@ ghost use Rattle.duk_group.specs.declared.transposed.TheConstants.{WIDTH};
 
 use crate::key::LaneKeys;
 use crate::nodes::{initial_keys, step};
-use crate::transposed::{WIDTH, Word, gather_blocks, scatter_keys, spread_key};
+use crate::transposed::{WIDTH, Word, first_of, gather_blocks, scatter_keys, spread_key};
 use crate::turns::{PAUSE, blocks_of_turns, going};
 use crate::walk::{COUNTER_BITS, advance};
 use duk_tdes::{Key, array_of};
 use duk_tree::Ksn;
 
 /// The transaction keys of at most `WIDTH` key serial numbers, under one base derivation key, in their
-/// order.
+/// order. Behind the last one there are keys of zeros.
 pub fn derive_group(bdk: &Key<16>, numbers: &[Ksn]) -> [Key<16>; WIDTH]
     requires { length numbers.now ≤ WIDTH }
-    ensures { take (length numbers.now) result ≡ map (derived_key_of bdk.now) numbers.now }
+    ensures keys { take (length numbers.now) result ≡ map (derived_key_of bdk.now) numbers.now }
+    ensures rest { drop (length numbers.now) result
+        ≡ replicate (WIDTH - length numbers.now) (replicate 16 0) }
 {
-    scatter_keys(&derived_keys(bdk, numbers))
+    let keys = scatter_keys(&derived_keys(&spread_key(bdk), numbers));
+    first_of(&keys, numbers.len(), Key::new([0; 16]))
 }
 
 /// The transaction keys of key serial numbers, under one base derivation key, in their order:
@@ -41,15 +44,16 @@ pub fn derive_many(bdk: &Key<16>, numbers: &[Ksn], keys: &mut [Key<16>])
     }
 }
 
-/// The transaction keys of at most `WIDTH` key serial numbers, under one base derivation key, a lane for
-/// each.
-pub fn derived_keys(bdk: &Key<16>, numbers: &[Ksn]) -> LaneKeys<Word>
+/// The transaction keys of at most `WIDTH` key serial numbers, a lane for each, under the base
+/// derivation key of the lane.
+pub fn derived_keys(bdks: &LaneKeys<Word>, numbers: &[Ksn]) -> LaneKeys<Word>
     requires { length numbers.now ≤ WIDTH }
     ensures { (i : ℕ) → i < length numbers.now
         → key_of wide_lane i result.left result.right
-        ≡ derived_key_of bdk.now (number_at numbers.now i) }
+        ≡ derived_key_of (key_of wide_lane i bdks.now.left bdks.now.right)
+        (number_at numbers.now i) }
 {
-    let initial = initial_keys(&spread_key(bdk), &first_blocks(numbers));
+    let initial = initial_keys(bdks, &first_blocks(numbers));
     transaction_keys(&initial, numbers)
 }
 

@@ -1,6 +1,6 @@
 //! Into lanes and out of them.
 
-ghost use Rattle.std.specs.Prelude.{◌≡◌, ◌<◌, ◌≤◌, ◌++◌, ℕ, length};
+ghost use Rattle.std.specs.Prelude.{◌≡◌, ◌<◌, ◌≤◌, ◌-◌, ◌++◌, ℕ, length, take, drop, replicate};
 ghost use Rattle.duk_des.specs.Block.{IsBlock};
 ghost use Rattle.duk_lanes.specs.Words.{wide_lane};
 ghost use Rattle.duk_group.specs.Blocks.{block_of, key_of};
@@ -65,6 +65,17 @@ pub fn scatter_keys(keys: &LaneKeys<Word>) -> [Key<16>; WIDTH]
         all[i] = join(left[i], right[i]);
     }
     all
+}
+
+/// The first `count` of all, and this one in the places behind them.
+pub(crate) fn first_of<T: Copy>(all: &[T; WIDTH], count: usize, filler: T) -> [T; WIDTH]
+    requires { count ≤ WIDTH }
+    ensures first { take count result ≡ take count all.now }
+    ensures rest { drop count result ≡ replicate (WIDTH - count) filler }
+{
+    let mut kept = [filler; WIDTH];
+    kept[..count].copy_from_slice(&all[..count]);
+    kept
 }
 
 /// The key of two halves.

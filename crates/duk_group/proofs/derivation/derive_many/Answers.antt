@@ -20,7 +20,7 @@ loop-done-preserved c =
     let is : part ≡ map f (take count (drop done numbers)) =
     c.copy_from_slice.ensures.after
     ∙ ap (λ n. take n group) (sym long)
-    ∙ c.derive_group-group.ensures
+    ∙ c.derive_group-group.ensures.keys
     ∙ ap (λ n. map f (take n (drop done numbers))) width in
     let part_long : length part ≡ count = ap length is ∙ length-map (take count (drop done numbers)) f ∙ length-take-le count (drop done numbers) (omega (arith, length-drop done numbers)) in
     record {
