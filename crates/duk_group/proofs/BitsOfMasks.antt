@@ -4,7 +4,7 @@ use mathlib.Core.Bool.{xor}
 use Rattle.std.proofs.lemmas.Bool.{cases_lt}
 use Rattle.std.proofs.lemmas.List.{get_or_append_left, get_or-append_right}
 use Rattle.duk_des.specs.Bits.{bits_of, bits_of_bytes}
-use Rattle.duk_des.proofs.BitsOfNumbers.{length-bits_of}
+use Rattle.duk_group.proofs.BitsAndBytes.{length-bits_of}
 
 get_or-bits_of : (count number p : ℕ) → p < count → get_or (bits_of count number) p false ≡ (number / 2 ^ (count - 1 - p) % 2 == 1)
 get_or-bits_of zero number p below = absurd (omega arith)

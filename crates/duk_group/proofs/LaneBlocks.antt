@@ -7,10 +7,9 @@ use Rattle.duk_des.specs.Des.{encipher, decipher, des_encrypted, des_decrypted}
 use Rattle.duk_tdes.specs.Key.{xor_bytes}
 use Rattle.duk_tdes.specs.Tdes.{first_key, second_key, tdes_encrypted, tdes_decrypted}
 use Rattle.duk_tree.specs.Derivation.{both_halves, half_step_of}
-use Rattle.duk_des.proofs.BitsOfNumbers.{bits_of_bytes-bytes_of_bits, bytes_of_bits-bits_of_bytes}
-use Rattle.duk_des.proofs.BitsOfXor.{length-xor_bits, get_or-xor_bits}
 use Rattle.duk_lanes.specs.Lanes.{lane_of}
 use Rattle.duk_group.specs.Blocks.{block_of, key_of}
+use Rattle.duk_group.proofs.BitsAndBytes.{bits_of_bytes-bytes_of_bits, bytes_of_bits-bits_of_bytes, length-xor_bits, get_or-xor_bits}
 use Rattle.duk_group.proofs.LaneWords.{length-lane_of, lane_of-is}
 use Rattle.duk_group.proofs.SumsOfBlocks.{bytes_of_bits-xor_bits}
 

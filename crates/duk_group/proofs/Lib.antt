@@ -1,3 +1,5 @@
+pub mod BitsAndBytes
+pub mod FilledBlocks
 pub mod LaneWords
 pub mod SumsOfBlocks
 pub mod LaneBlocks

@@ -7,7 +7,7 @@ use Rattle.std.proofs.lemmas.List.Elements.{All-append, All-replicate, All-take,
 use Rattle.duk_des.specs.Block.{IsBlock}
 use Rattle.duk_tdes.specs.Blocks.{blocks_of}
 use Rattle.duk_mac.specs.Retail.{zero_filled}
-use Rattle.duk_mac.proofs.LastBlockFilled.{filled-more, filled-one}
+use Rattle.duk_group.proofs.FilledBlocks.{filled-more, filled-one}
 
 pub no_block : (rest : List ℕ) → length rest ≡ 0 → blocks_of (zero_filled rest) ≡ []
 unfolding blocks_of

@@ -4,8 +4,7 @@ use mathlib.Core.Bool.{xor}
 use Rattle.std.proofs.lemmas.Nat.{xor_block}
 use Rattle.duk_des.specs.Bits.{xor_bits, digit, number_of, bytes_of_bits}
 use Rattle.duk_des.specs.Bytes.{xor_bytes}
-use Rattle.duk_des.proofs.BitsOfNumbers.{number_of-lt}
-use Rattle.duk_des.proofs.BitsOfXor.{length-xor_bits}
+use Rattle.duk_group.proofs.BitsAndBytes.{number_of-lt, length-xor_bits}
 
 digit-xor : (a b : Bool) → digit (xor a b) ≡ bit_xor (digit a) (digit b)
 unfolding xor

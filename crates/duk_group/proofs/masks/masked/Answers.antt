@@ -3,8 +3,8 @@ use borrow.Author.Count.{below_more}
 use Rattle.std.proofs.lemmas.List.{get_or_default}
 use Rattle.std.specs.Bool.{xor}
 use Rattle.duk_des.specs.Bits.{bits_of_bytes}
-use Rattle.duk_des.proofs.BitsOfNumbers.{length-bits_of_bytes}
 use Rattle.duk_lanes.specs.Lanes.{lane_of}
+use Rattle.duk_group.proofs.BitsAndBytes.{length-bits_of_bytes}
 use Rattle.duk_group.proofs.BitsOfMasks.{bit_of_mask, flipped, not_flipped}
 use Rattle.duk_group.proofs.LaneWords.{bit_of_word, one_more_place, other_place}
 use Rattle.duk_group.proofs.LaneBlocks.{block_of-masked}
