@@ -16,8 +16,8 @@ use crate::walk::{COUNTER_BITS, advance};
 use duk_tdes::{Key, array_of};
 use duk_tree::Ksn;
 
-/// The transaction keys of at most `WIDTH` key serial numbers, under one base derivation key, in their
-/// order. Behind the last one there are keys of zeros.
+/// The transaction keys of at most `WIDTH` key serial numbers, under one base derivation key, in
+/// their order. Behind the last one there are keys of zeros.
 pub fn derive_group(bdk: &Key<16>, numbers: &[Ksn]) -> [Key<16>; WIDTH]
     requires { length numbers.now ≤ WIDTH }
     ensures keys { take (length numbers.now) result ≡ map (derived_key_of bdk.now) numbers.now }

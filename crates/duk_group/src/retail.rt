@@ -17,9 +17,9 @@ use crate::turns::{PAUSE, Turn, blocks_of_turns, going};
 use duk_lanes::{scatter_wide, spread_wide};
 use duk_tdes::Key;
 
-/// The retail MACs of at most `WIDTH` messages, each under the key at its place, in their order. Each
-/// message is filled with zero bytes to whole blocks, an empty one to none. Behind the last MAC there
-/// are blocks of zeros.
+/// The retail MACs of at most `WIDTH` messages, each under the key at its place, in their order.
+/// Each message is filled with zero bytes to whole blocks, an empty one to none. Behind the last
+/// MAC there are blocks of zeros.
 pub fn retail_group(keys: &[Key<16>], messages: &[&[u8]]) -> [[u8; 8]; WIDTH]
     requires few { length messages.now ≤ WIDTH }
     requires keys { length keys.now ≡ length messages.now }

@@ -1,4 +1,4 @@
-//! Words of two words of 64 bits, side by side in a register: 128 lanes.
+//! Words of 128 bits, two words of 64 side by side in a register: 128 lanes.
 
 ghost use Rattle.std.specs.Prelude.{◌≡◌, ℕ, ◌+◌, ◌++◌, ◌<◌, [], false, length, slice_index_or};
 ghost use Rattle.duk_des.specs.Bits.{bits_of_bytes, bytes_of_bits};
@@ -103,7 +103,7 @@ fn half_of(blocks: &[[u8; 8]]) -> [[u8; 8]; 64]
     half
 }
 
-/// Two times 64 blocks, one after the other.
+/// The first 64 blocks and the second 64, one after the other.
 fn joined(first: &[[u8; 8]; 64], second: &[[u8; 8]; 64]) -> [[u8; 8]; 128]
     ensures { result ≡ first.now ++ second.now }
 {
