@@ -4,6 +4,9 @@ pub mod LaneWords
 pub mod SumsOfBlocks
 pub mod LaneBlocks
 pub mod BitsOfMasks
+pub mod ChildrenInRows
+pub mod CountersInOrder
+pub mod MaskedRegisters
 pub mod JoinedHalves
 pub mod WrittenPlaces
 pub mod SerialBlocks

@@ -1,3 +1,4 @@
 pub mod Blocks
+pub mod InOrder
 pub mod Numbers
 pub mod inner

@@ -1,3 +1,5 @@
 pub mod Turns
 pub mod Walk
 pub mod Messages
+pub mod Block
+pub mod InOrder

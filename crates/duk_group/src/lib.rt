@@ -4,8 +4,10 @@
 //! the lane's own key. Every result is, lane by lane, that of the function for one terminal.
 #![tactic(auto)]
 
+mod block;
 mod cipher;
 mod derivation;
+mod in_order;
 mod key;
 mod masks;
 mod nodes;
@@ -17,6 +19,7 @@ mod walk;
 
 pub use cipher::{des_decrypt, des_encrypt};
 pub use derivation::{derive_group, derive_many, derived_keys, transaction_keys};
+pub use in_order::KeysInOrder;
 pub use key::LaneKeys;
 pub use masks::{chosen, masked, xor};
 pub use nodes::{initial_keys, step};
