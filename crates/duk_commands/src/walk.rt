@@ -1,20 +1,19 @@
 //! The command `walk`: a terminal from its first number on.
 
-ghost use Rattle.std.specs.Prelude.{◌≡◌, ◌⊎◌, ◌+◌, ◌≤◌, ◌++◌, ℕ, List, OnOk, OnErr, IfOk, IfErr, IfSome, IfNone};
+ghost use Rattle.std.specs.Prelude.{◌≡◌, ◌⊎◌, ◌+◌, ◌≤◌, ◌++◌, ℕ, OnOk, OnErr, IfOk, IfErr, IsSome, IsNone};
 ghost use Rattle.std.specs.Option.{option_copied};
 ghost use Rattle.arrayvec.specs.ArrayVec.{array_vec_len};
-ghost use Rattle.duk_regs.specs.Registers.{AreFutureKeysOf};
 ghost use Rattle.duk_commands.specs.Answer.{IsDone, IsNotDone, streams};
 ghost use Rattle.duk_commands.specs.Walk.{AreWalkArguments, Asked, IsWalkRefused, number_text, spent_line, walk_of, walk_arguments};
-ghost use Rattle.duk_commands.specs.inner.Walk.{HasPrinted, HasPrintedInPart, HasWalked, HasWalkedInPart, IsLoaded, IsSpentWithin, Passes};
+ghost use Rattle.duk_commands.specs.inner.Walk.{HasPrinted, HasPrintedInPart, HasWalked, HasWalkedInPart, IsAskedFor, IsSpentWithin, Passes, before_first};
 
 use crate::count::{read_count, read_skip};
 use crate::fault::{Fault, report};
 use crate::key_argument::KeyArgument;
+use duk_group::KeysInOrder;
 use duk_io::{
     BUFFER_ROOM, Buffer, Sink, WriteFailed, append_hex, make_room, write_out, write_text,
 };
-use duk_regs::Registers;
 use duk_tdes::Key;
 use duk_tree::{Iksn, Ksn};
 
@@ -24,14 +23,16 @@ const LONGEST_LINE: usize = 54;
 /// What the arguments ask for: a terminal, and how many numbers it passes and then prints.
 #[derive(Drop)]
 struct Walk {
-    registers: Registers,
+    initial: Key<16>,
+    iksn: Iksn,
     skip: u32,
     count: u32,
 }
 
-/// Loads a terminal with the initial key of its initial key serial number, takes `skip` numbers and
-/// then writes up to `count`, a line each: the key serial number and, unless `alone`, the key that
-/// `take` gave. The line `spent` comes where a number is to be taken and none is left. Gives the
+/// Passes `skip` numbers of the terminal with this initial key and initial key serial number, and
+/// then writes up to `count`, a line each: the key serial number and, unless `alone`, its
+/// transaction key. The line `spent` comes where a number is to be passed or written and none is
+/// left. Gives the
 /// status: 0, or 1 with a line on `fault`.
 ///
 /// `key` is to be 32 hexadecimal digits of either case, `iksn` 20 with a counter of zero, `count`
@@ -77,7 +78,7 @@ fn read_walk(
 ) -> Result<Walk, Fault>
     ensures loaded { IfOk result (λ walk. (asked : Asked)
         × AreWalkArguments given.entry iksn.now count.now (option_copied skip.entry) asked
-        × IsLoaded asked walk.registers walk.skip walk.count) }
+        × IsAskedFor asked walk.initial walk.iksn walk.skip walk.count) }
     ensures refused { IfErr result
         (IsWalkRefused given.entry iksn.now count.now (option_copied skip.entry)) }
 {
@@ -85,9 +86,9 @@ fn read_walk(
     let iksn = Iksn::parse(iksn).ok_or(Fault::IksnRefused)?;
     let count = read_count(count).ok_or(Fault::CountRefused)?;
     let skip = read_skip(skip).ok_or(Fault::CountRefused)?;
-    let registers = Registers::load(given.initial_key(&key, iksn), iksn);
     Ok(Walk {
-        registers,
+        initial: given.initial_key(&key, iksn),
+        iksn,
         skip,
         count,
     })
@@ -95,56 +96,52 @@ fn read_walk(
 
 /// Passes numbers and writes the lines of those after them.
 fn write_walk<W: Sink>(walk: Walk, alone: bool, output: &mut W) -> Result<(), WriteFailed>
-    ensures written { (initial : List ℕ) → AreFutureKeysOf initial walk.registers → OnOk result
-        (HasWalked initial alone walk.registers walk.skip walk.count
+    ensures written { OnOk result
+        (HasWalked (before_first walk.initial walk.iksn) alone walk.skip walk.count
         (W.known output.old) (W.known output.new)) }
-    ensures cut { (initial : List ℕ) → AreFutureKeysOf initial walk.registers → OnErr result
-        (HasWalkedInPart initial alone walk.registers walk.skip walk.count
+    ensures cut { OnErr result
+        (HasWalkedInPart (before_first walk.initial walk.iksn) alone walk.skip walk.count
         (W.known output.old) (W.known output.new)) }
 {
-    let Walk {
-        registers,
-        skip,
-        count,
-    } = walk;
-    match pass_numbers(registers, skip) {
-        Some(registers) => write_numbers(registers, count, alone, output),
+    let mut keys = KeysInOrder::new(walk.initial, walk.iksn);
+    match pass_numbers(&mut keys, walk.skip) {
+        Some(()) => write_numbers(&mut keys, walk.count, alone, output),
         None => write_text(output, b"spent\n"),
     }
 }
 
-/// Takes so many numbers. None: the terminal was spent before that.
-fn pass_numbers(mut registers: Registers, skip: u32) -> Option<Registers>
-    ensures passed { IfSome result (λ left. Passes registers skip left) }
-    ensures spent { IfNone result (IsSpentWithin registers skip) }
+/// Passes so many numbers. None: the terminal was spent before that.
+fn pass_numbers(keys: &mut KeysInOrder, skip: u32) -> Option<()>
+    ensures passed { IsSome result → Passes keys.old skip keys.new }
+    ensures spent { IsNone result → IsSpentWithin keys.old skip }
 {
     for _passed in 0..skip {
-        registers.use_next()?;
+        keys.pass()?;
     }
-    Some(registers)
+    Some(())
 }
 
-/// Takes so many numbers and writes the line of each, and `spent` where none is left.
+/// Uses so many numbers and writes the line of each, and `spent` where none is left.
 fn write_numbers<W: Sink>(
-    mut registers: Registers,
+    keys: &mut KeysInOrder,
     count: u32,
     alone: bool,
     output: &mut W,
 ) -> Result<(), WriteFailed>
-    ensures written { (initial : List ℕ) → AreFutureKeysOf initial registers → OnOk result
-        (HasPrinted initial alone registers count (W.known output.old) (W.known output.new)) }
-    ensures cut { (initial : List ℕ) → AreFutureKeysOf initial registers → OnErr result
-        (HasPrintedInPart initial alone registers count (W.known output.old) (W.known output.new)) }
+    ensures written { OnOk result
+        (HasPrinted keys.old alone count (W.known output.old) (W.known output.new)) }
+    ensures cut { OnErr result
+        (HasPrintedInPart keys.old alone count (W.known output.old) (W.known output.new)) }
 {
     duk_io::laws::writes();
     let mut lines = Buffer::new();
     for _printed in 0..count {
         make_room(&mut lines, LONGEST_LINE, output)?;
-        let Some(taken) = registers.use_next() else {
+        let Some(used) = keys.use_next() else {
             push_spent(&mut lines);
             return write_out(&mut lines, output);
         };
-        push_number(&mut lines, taken.1, &taken.0, alone);
+        push_number(&mut lines, used.1, &used.0, alone);
     }
     write_out(&mut lines, output)
 }

@@ -14,11 +14,5 @@ returns-clause-loaded c =
         count_read = search rules;
         skip_read = search rules;
       },
-      record {
-        future_keys = c.load-registers.ensures.future_keys;
-        same_iksn = c.load-registers.ensures.iksn;
-        first = c.load-registers.ensures.counter;
-        same_skip = refl;
-        same_count = refl;
-      },
+      record { same_initial = refl; same_iksn = refl; same_skip = refl; same_count = refl },
     )

@@ -8,8 +8,8 @@ returns-in-Ok-write_walk-clause-done g c zero =
     let loaded = c.in-Ok.ensures.loaded in
     let asked = loaded.0 in
     let walk = c.in-Ok.walk in
-    let has = c.in-Ok-write_walk.ensures.written asked.initial loaded.2.future_keys in
-    let passed = as_asked asked c.args.alone walk.registers walk.skip walk.count walk.count has.0 loaded.2 has.1 in
+    let has = c.in-Ok-write_walk.ensures.written in
+    let passed = as_asked asked c.args.alone walk.initial walk.iksn walk.skip walk.count walk.count has.0 loaded.2 has.1 in
     let line = number_line asked.initial asked.iksn c.args.alone in
     record {
       text = has.0;
@@ -29,7 +29,7 @@ returns-in-Err-write_walk-clause-not_done g c one =
     let loaded = c.in-Ok.ensures.loaded in
     let asked = loaded.0 in
     let walk = c.in-Ok.walk in
-    let has = c.in-Err-write_walk.ensures.cut asked.initial loaded.2.future_keys in
+    let has = c.in-Err-write_walk.ensures.cut in
     inr (record {
       text = has.1;
       asked = record {
@@ -37,7 +37,7 @@ returns-in-Err-write_walk-clause-not_done g c one =
         reached = has.0;
         read = loaded.1;
         not_more = subst (λ n. has.0 ≤ n) loaded.2.same_count has.2;
-        lines = as_asked asked c.args.alone walk.registers walk.skip walk.count has.0 has.1 loaded.2 has.3;
+        lines = as_asked asked c.args.alone walk.initial walk.iksn walk.skip walk.count has.0 has.1 loaded.2 has.3;
       };
       failed = record { prefix = has.4; line = c.report-in-Err-write_walk.ensures.line };
     })
