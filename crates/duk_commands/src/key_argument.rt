@@ -4,8 +4,9 @@ ghost use Rattle.std.specs.Prelude.{◌≡◌, None, Some, MatchResult};
 ghost use Rattle.duk_commands.specs.KeyArgument.{initial_from, key_argument, key_fault, key_in};
 
 use crate::fault::Fault;
+use duk_group::initial_key;
 use duk_tdes::Key;
-use duk_tree::{Iksn, initial_key};
+use duk_tree::Iksn;
 
 /// The key from which a command starts, as written.
 #[derive(Clone, Copy)]
