@@ -1,9 +1,9 @@
-//! The transaction keys of a block of counters, all made at once: lane `i` has the 64 counters from
-//! the 64th of `i` on, and row `low` of the block has one key of each lane.
+//! The transaction keys of a block of counters, made together. Each lane has 64 successive counters,
+//! and each of the 64 rows has one key of each lane.
 //!
-//! The first counter of each lane ends in six zero bits, and its key is made by a walk down its
-//! path. Each other one is a step below the counter that lacks its lowest one bit, which stands in
-//! the same lane: so no lane waits for another.
+//! The first counter of a lane ends in six zero bits, and its key is made by a walk down its path.
+//! The key of each other one is a step below that of the counter without its lowest one bit, which
+//! is in the same lane: so no lane waits for another.
 
 ghost use Rattle.std.specs.Prelude.{◌≡◌, ◌<◌, ◌≤◌, ◌+◌, ◌*◌, ◌^◌, ◌%◌, ◌⊎◌, ℕ, List, [], slice_index_or};
 ghost use Rattle.duk_lanes.specs.Words.{wide_lane};
@@ -21,16 +21,17 @@ use crate::transposed::{WIDTH, Word, gather_blocks, scatter_keys, spread_key};
 use duk_tdes::Key;
 use duk_tree::{Iksn, Ksn};
 
-/// The low bits of a counter that tell the row of a block.
+/// How many low bits of a counter tell its row.
 const LOW_BITS: u32 = 6;
 
-/// The rows of a block.
+/// How many rows a block has: one for each counter of a lane.
 const ROWS: usize = 64;
 
-/// The counters of a block.
-const COUNTERS: u32 = 64 * WIDTH as u32;
+/// How many counters a block has.
+const COUNTERS: u32 = (ROWS * WIDTH) as u32;
 
-/// A block: the counter that it begins with, and its keys. Before the first it begins nowhere.
+/// The block that was made last: the counter that it begins with, and its keys in rows. The counter
+/// is none before the first block is made.
 #[derive(Drop)]
 pub(crate) struct Block {
     base: Option<u32>,

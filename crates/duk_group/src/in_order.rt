@@ -15,8 +15,9 @@ use std::marker::Model;
 const SPENT: u32 = 1 << 21;
 
 /// A terminal whose numbers are gone through in their order, from its first on. The keys of some
-/// thousand counters are made at once, so a number with its key costs a fraction of a derivation. It
-/// has no `Debug`, so that no key is printed by chance.
+/// thousand counters are made together in lanes, where the next number is not among those that were
+/// made last: so no table is read at a place that depends on a key. It is some hundred kilobytes
+/// large. It has no `Debug`, so that no key is printed by chance.
 #[derive(Drop)]
 pub struct KeysInOrder {
     initial: Key<16>,
