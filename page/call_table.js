@@ -9,10 +9,14 @@ export const COUNT = "count";
 /** Another number that a call writes. */
 export const WORD = "word";
 
-/** The arguments of each call, in their order. A slice that it writes stands as its length. */
+/**
+ * The arguments of each call, in their order. A slice that it writes stands as its length: so many
+ * bytes, or so many for each so many of one of the slices and numbers that the call is given.
+ */
 export const CALLS = {
   initial_key: [READ, READ, 16],
   derive: [READ, READ, 16],
+  derive_many: [READ, READ, { size: 16, each: 10, of: 1 }],
   derive_from_initial: [READ, READ, 16],
   pin_key: [READ, 16],
   request_key: [READ, 16],
@@ -44,6 +48,7 @@ export const CALLS = {
   payment_request: [READ, READ, READ, READ, READ, 64, COUNT],
   read_request: [READ, 10, 19, COUNT, WORD, 8, 8],
   check_request: [READ, READ],
+  check_requests: [READ, READ, { size: 1, each: 64, of: 1 }],
   request_pin: [READ, READ, 12, COUNT],
   request_reply: [READ, READ, READ, 64, COUNT],
   request_refusal: [READ, READ, 64, COUNT],

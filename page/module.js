@@ -34,7 +34,8 @@ export function version() {
  *
  * Throws the Fault of a status that is not 0.
  */
-export function call(name, ...given) {
+export function call(name, ...all) {
+  const given = [...all];
   const memory = new Uint8Array(library.memory.buffer);
   const words = [];
   const written = [];
@@ -46,7 +47,7 @@ export function call(name, ...given) {
       continue;
     }
     const isWord = kind === COUNT || kind === WORD;
-    const length = isWord ? 4 : value?.length ?? kind;
+    const length = isWord ? 4 : value?.length ?? room(kind, all);
     const at = end;
     end = Math.ceil((at + length) / 8) * 8;
     if (end > memory.length) throw new Fault(0, `at most ${memory.length - front - 1024} bytes`);
@@ -63,6 +64,12 @@ export function call(name, ...given) {
     // No key stays in the memory behind a call.
     memory.fill(0, front, end);
   }
+}
+
+/** How many bytes a slice has that a call writes, by what the call is given. */
+function room(length, given) {
+  if (typeof length === "number") return length;
+  return length.size * Math.floor(given[length.of].length / length.each);
 }
 
 /** What a call wrote. */

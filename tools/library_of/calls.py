@@ -12,6 +12,9 @@ IN, OUT, IN_OUT = WAYS = "in", "out", "in out"
 
 PREFIX = "dukpt_"
 
+# The length of a slice that is written, where it follows from that of one that is read.
+FOR_EACH = re.compile(r"(\d+) for each (\d+) of (\w+)")
+
 
 class Unreadable(Exception):
     """That a file has not the form in which it is read here."""
@@ -23,8 +26,8 @@ class Parameter:
 
     name: str
     way: str
-    # How many bytes a slice has: in words, or of a slice that is written a number. A number has
-    # none.
+    # How many bytes a slice has: in words, or of a slice that is written a number, or how many for
+    # each so many of another one. A number has none.
     length: Union[str, int, None]
     words: str
 

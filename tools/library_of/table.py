@@ -6,7 +6,8 @@ import tomllib
 from pathlib import Path
 from typing import Any, Iterator, Mapping, Sequence, Union
 
-from .calls import IN, IN_OUT, OUT, WAYS, Call, Fault, Group, Parameter, Table, Unreadable
+from .calls import (
+    BYTES, FOR_EACH, IN_OUT, OUT, WAYS, Call, Fault, Group, Parameter, Table, Unreadable)
 
 FILE = ("library", "calls.toml")
 NAME = re.compile(r"[a-z][a-z0-9_]*")
@@ -58,6 +59,8 @@ def read_call(name: str, call: Mapping[str, Any], faults: Mapping[str, Any]) -> 
     for one in (*call["faults"], *names):
         if [*call["faults"], *names].count(one) > 1:
             raise Unreadable(f"{name}: {one} stands more than once")
+    for it in parameters:
+        check_each(name, it, parameters)
     takes, _, count = call.get("takes", "").partition(" ")
     return Call(name, plain(call["about"]), parameters, tuple(call["faults"]), call["answers"],
                 call.get("by", ""), takes, int(count or len(parameters)), call.get("gives", ""))
@@ -73,12 +76,23 @@ def read_parameter(call: str, row: Sequence[str]) -> Parameter:
     return Parameter(name, way, read_length(f"{call}: {name}", way, length), words)
 
 
+def check_each(call: str, parameter: Parameter, parameters: Sequence[Parameter]) -> None:
+    """That a slice with so many bytes for each of another one stands behind that one."""
+    found = FOR_EACH.fullmatch(str(parameter.length))
+    if found is None:
+        return
+    before = parameters[:parameters.index(parameter)]
+    if not any((it.kind, it.name, it.length) == (BYTES, found[3], f"a multiple of {found[2]}")
+               for it in before):
+        raise Unreadable(f"{call}: {parameter.name}: {parameter.length} is no length")
+
+
 def read_length(place: str, way: str, length: str) -> Union[str, int, None]:
     if length == "number" and way != IN_OUT:
         return None
     if way == OUT and length.isdecimal():
         return int(length)
-    if way != OUT and LENGTHS.fullmatch(length):
+    if (FOR_EACH if way == OUT else LENGTHS).fullmatch(length):
         return length
     raise Unreadable(f"{place}: {length} is no length")
 

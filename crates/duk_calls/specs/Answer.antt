@@ -1,5 +1,5 @@
 -- How a call ends: this project's own.
-use Rattle.std.specs.Prelude.{◌≡◌, ◌≤◌, ℕ, List, [], ◌∷◌, ◌++◌, drop, length, map, Result, Ok, Err}
+use Rattle.std.specs.Prelude.{◌≡◌, ◌≤◌, ◌*◌, ℕ, List, [], ◌∷◌, ◌++◌, drop, length, map, take, Result, Ok, Err}
 use Rattle.duk_calls.specs.Fault.{fault_number}
 use Rattle.duk_calls.specs.declared.fault.Fault.{Fault}
 use Rattle.duk_calls.specs.declared.fault.Fault.TheVariants.{Length}
@@ -58,3 +58,7 @@ with_front front bytes = front ++ drop (length front) bytes
 -- a buffer in whose front these were written
 abbrev pub filled : List ℕ → Buffer → Buffer
 filled front old = buffer (with_front front old.bytes) (length front)
+
+-- what stands at a place of a slice in which each thing has so many bytes
+abbrev pub part_at : ℕ → List ℕ → ℕ → List ℕ
+part_at size bytes i = take size (drop (size * i) bytes)

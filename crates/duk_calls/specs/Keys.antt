@@ -1,8 +1,8 @@
 -- What the calls over keys answer (ANSI X9.24-1:2009 annex A). The faults are this project's own.
-use Rattle.std.specs.Prelude.{◌≡◌, ℕ, List, [], ◌∷◌}
+use Rattle.std.specs.Prelude.{◌≡◌, ◌<◌, ◌≤◌, ◌*◌, ◌/◌, ◌%◌, ℕ, List, [], ◌∷◌, drop, length}
 use Rattle.duk_tree.specs.Derivation.{derived_key_of, initial_key_of, transaction_key_of}
 use Rattle.duk_tree.specs.Serial.{serial_of_bytes}
-use Rattle.duk_calls.specs.Answer.{Answer, Ends, EndsIfFit, HaveLengths, HaveRoom, with_front}
+use Rattle.duk_calls.specs.Answer.{Answer, Ends, EndsIfFit, HaveLengths, HaveRoom, part_at, with_front}
 use Rattle.duk_calls.specs.declared.fault.Fault.{Fault}
 use Rattle.duk_calls.specs.declared.fault.Fault.TheVariants.{Length, NotInitial}
 
@@ -34,6 +34,23 @@ abbrev pub DeriveAnswers : List ℕ → List ℕ → List ℕ → List ℕ → A
 DeriveAnswers bdk ksn old new =
     EndsIfFit (FitDerivation bdk ksn old)
     (new ≡ with_front (derived_key_of bdk (serial_of_bytes ksn)) old) (new ≡ old)
+
+-- a base derivation key, whole key serial numbers, and room for a key of each
+pub record FitDerivations (bdk ksns keys : List ℕ) : Type 0 where
+  pub bdk_is : length bdk ≡ 16
+  pub whole : length ksns % 10 ≡ 0
+  pub room : 16 * (length ksns / 10) ≤ length keys
+
+-- at the place of each key serial number stands its transaction key; the bytes behind the keys stay
+-- as they were
+pub record HoldsKeys (bdk ksns old new : List ℕ) : Type 0 where
+  pub each : (i : ℕ) → i < length ksns / 10
+      → part_at 16 new i ≡ derived_key_of bdk (serial_of_bytes (part_at 10 ksns i))
+  pub behind : drop (16 * (length ksns / 10)) new ≡ drop (16 * (length ksns / 10)) old
+
+abbrev pub DeriveManyAnswers : List ℕ → List ℕ → List ℕ → List ℕ → Answer → Type 0
+DeriveManyAnswers bdk ksns old new =
+    EndsIfFit (FitDerivations bdk ksns old) (HoldsKeys bdk ksns old new) (new ≡ old)
 
 -- the transaction key of ten bytes, under the initial key of their terminal
 abbrev pub key_under : List ℕ → List ℕ → List ℕ

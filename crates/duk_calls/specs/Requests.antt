@@ -1,21 +1,23 @@
 -- What the calls over request frames answer: formats of this project's own over ISO 9564-1, ANSI
 -- X9.19 and the variants of ANSI X9.24-1:2009 annex A.
-use Rattle.std.specs.Prelude.{◌≡◌, ◌≢◌, ◌⊎◌, ℕ, List, [], ◌∷◌, ⊤}
+use Rattle.std.specs.Prelude.{◌≡◌, ◌≢◌, ◌⊎◌, ◌<◌, ◌≤◌, ◌+◌, ◌/◌, ◌%◌, ℕ, List, [], ◌∷◌, ⊤, Ok, Err, drop, length, slice_index_or, take}
 use Rattle.duk_frame.specs.Frame.{mac_text_of}
 use Rattle.duk_frame.specs.Payment.{payment_request}
 use Rattle.duk_frame.specs.Request.{IsRequest}
+use Rattle.duk_frame.specs.Stream.{said_length}
 use Rattle.duk_frame.specs.declared.request.Request.{Request}
 use Rattle.duk_mac.specs.Retail.{retail_of}
 use Rattle.duk_pin.specs.Pan.{IsPan}
 use Rattle.duk_pin.specs.Pin.{IsPin}
 use Rattle.duk_pin.specs.PinBlock.{IsPinBlock}
 use Rattle.duk_tdes.specs.Tdes.{tdes_decrypted}
-use Rattle.duk_tree.specs.Derivation.{pin_key_of, request_key_of}
+use Rattle.duk_tree.specs.Derivation.{derived_key_of, pin_key_of, request_key_of}
+use Rattle.duk_tree.specs.Path.{IsUsable}
 use Rattle.duk_tree.specs.Serial.{serial_bytes, serial_of_bytes}
-use Rattle.duk_calls.specs.Answer.{Answer, Buffer, Ends, HaveLengths, HaveRoom, filled, with_front}
+use Rattle.duk_calls.specs.Answer.{Answer, Buffer, Ends, EndsIfFit, HaveLengths, HaveRoom, Reports, filled, part_at, with_front}
 use Rattle.duk_calls.specs.Pins.{IsNoPan, IsNoPin}
 use Rattle.duk_calls.specs.declared.fault.Fault.{Fault}
-use Rattle.duk_calls.specs.declared.fault.Fault.TheVariants.{Length, Pin, NotAPinBlock, NotARequest, BadMac}
+use Rattle.duk_calls.specs.declared.fault.Fault.TheVariants.{Length, Pin, NotAPinBlock, NotARequest, NotUsable, BadMac}
 
 -- a payment: transaction key, key serial number, PAN, PIN and amount
 pub record Payment : Type 0 where
@@ -119,6 +121,45 @@ abbrev pub CheckRequestAnswers : List ℕ → List ℕ → Answer → Type 0
 CheckRequestAnswers key frame =
     let Fit = HaveLengths (key ∷ []) (16 ∷ []) in
     Ends (Fit × IsAuthenticRequest key frame) (IsCheckRefused Fit key frame) ⊤
+
+-- the frame with which bytes begin: the two bytes of its length, and as many as these say
+abbrev pub front_frame : List ℕ → List ℕ
+front_frame bytes = take (2 + said_length bytes) bytes
+
+-- the frame is this request's, and its key serial number numbers a transaction
+pub record IsNumbered (frame : List ℕ) (request : Request) : Type 0 where
+  pub is_request : IsRequest frame request
+  pub usable : IsUsable request.ksn.counter
+
+-- what is told of a frame: that it is a request's, with its MAC under the transaction key of its own
+-- key serial number, or the first of its faults
+abbrev pub IsVerdict : List ℕ → List ℕ → Answer → Type 0
+IsVerdict bdk frame (Ok _) =
+    (request : Request) × IsNumbered frame request
+    × IsAuthenticRequest (derived_key_of bdk request.ksn) frame
+IsVerdict bdk frame (Err NotARequest) = IsNoRequest frame
+IsVerdict bdk frame (Err NotUsable) =
+    (request : Request) × IsRequest frame request × ¬ IsUsable request.ksn.counter
+IsVerdict bdk frame (Err BadMac) =
+    (request : Request) × IsNumbered frame request
+    × IsForgedRequest (derived_key_of bdk request.ksn) frame
+IsVerdict bdk frame (Err _) = ⊥
+
+-- a base derivation key, places of 64 bytes for frames, and room for a result of each
+pub record FitChecks (bdk frames results : List ℕ) : Type 0 where
+  pub bdk_is : length bdk ≡ 16
+  pub whole : length frames % 64 ≡ 0
+  pub room : length frames / 64 ≤ length results
+
+-- at the place of each frame stands what is told of it; the bytes behind stay as they were
+pub record HoldsVerdicts (bdk frames old new : List ℕ) : Type 0 where
+  pub each : (i : ℕ) → i < length frames / 64
+      → Reports (slice_index_or new i 0) (IsVerdict bdk (front_frame (part_at 64 frames i)))
+  pub behind : drop (length frames / 64) new ≡ drop (length frames / 64) old
+
+abbrev pub CheckRequestsAnswers : List ℕ → List ℕ → List ℕ → List ℕ → Answer → Type 0
+CheckRequestsAnswers bdk frames old new =
+    EndsIfFit (FitChecks bdk frames old) (HoldsVerdicts bdk frames old new) (new ≡ old)
 
 -- the frame is a request's whose PIN block, deciphered under the transaction key's variant for
 -- PINs, is that of this PIN

@@ -16,6 +16,8 @@ mod fault;
 mod frames;
 mod keys;
 mod macs;
+mod many_keys;
+mod many_requests;
 mod numbers;
 mod optional;
 mod pins;
@@ -33,6 +35,8 @@ pub use keys::{
     response_data_key, response_key,
 };
 pub use macs::{check_value, cmac, cmac_check_value, retail_mac};
+pub use many_keys::derive_many;
+pub use many_requests::check_requests;
 pub use numbers::{check_usable, next_number};
 pub use optional::{unwrap_optional, wrap_with};
 pub use pins::{pin_block, pin_of_block};

@@ -14,14 +14,14 @@ ghost use Rattle.duk_tdes.specs.Cbc.{cbc_decrypted, cbc_encrypted};
 ghost use Rattle.duk_tdes.specs.Tdes.{tdes_decrypted, tdes_encrypted};
 ghost use Rattle.duk_tree.specs.Derivation.{pin_key_of, request_key_of, response_key_of};
 ghost use Rattle.duk_calls.specs.Answer.{Reports, buffer};
-ghost use Rattle.duk_calls.specs.Keys.{DeriveAnswers, DeriveFromInitialAnswers, InitialKeyAnswers, VariantAnswers};
+ghost use Rattle.duk_calls.specs.Keys.{DeriveAnswers, DeriveFromInitialAnswers, DeriveManyAnswers, InitialKeyAnswers, VariantAnswers};
 ghost use Rattle.duk_calls.specs.Numbers.{CheckUsableAnswers, NextNumberAnswers};
 ghost use Rattle.duk_calls.specs.Macs.{CheckValueAnswers, CmacAnswers, RetailMacAnswers};
 ghost use Rattle.duk_calls.specs.Registers.{RegistersAtAnswers, RegistersLoadAnswers, RegistersNextAnswers, RegistersNumberAnswers, RegistersReloadAnswers, next_parts};
 ghost use Rattle.duk_calls.specs.Ciphers.{BlockAnswers, ChainAnswers};
 ghost use Rattle.duk_calls.specs.Pins.{PinBlockAnswers, PinOfBlockAnswers};
 ghost use Rattle.duk_calls.specs.Blocks.{UnwrapAnswers, UnwrapForAnswers, UnwrapOptionalAnswers, WrapAnswers, WrapWithAnswers, unwrapped, wanting, wrapping, wrapping_with};
-ghost use Rattle.duk_calls.specs.Requests.{CheckRequestAnswers, PaymentRequestAnswers, ReadRequestAnswers, RequestPinAnswers, payment, request_parts};
+ghost use Rattle.duk_calls.specs.Requests.{CheckRequestAnswers, CheckRequestsAnswers, PaymentRequestAnswers, ReadRequestAnswers, RequestPinAnswers, payment, request_parts};
 ghost use Rattle.duk_calls.specs.Replies.{CheckReplyAnswers, ReadRefusalAnswers, ReadReplyAnswers, RequestRefusalAnswers, RequestReplyAnswers, refusal_parts, reply_parts};
 ghost use Rattle.duk_calls.specs.Reversals.{CheckReversalAnswers, CheckReversalReplyAnswers, ReadReversalAnswers, ReadReversalReplyAnswers, ReversalReplyAnswers, ReversalRequestAnswers, reversal_parts, reversal_reply_parts, reversing};
 ghost use Rattle.duk_calls.specs.Frames.{FrameLengthAnswers};
@@ -51,6 +51,16 @@ pub extern "C" fn dukpt_derive(bdk: &[u8], ksn: &[u8], key: &mut [u8]) -> u32
     ensures { Reports result (DeriveAnswers bdk.now ksn.now key.old key.new) }
 {
     status(duk_calls::derive(bdk, ksn, key))
+}
+
+/// Writes the transaction keys of key serial numbers under one base derivation key, each at the
+/// place of its number. The counters may be any, as those of `derive`: this gives the same keys,
+/// and makes many of them in less time.
+#[unsafe(no_mangle)]
+pub extern "C" fn dukpt_derive_many(bdk: &[u8], ksns: &[u8], keys: &mut [u8]) -> u32
+    ensures { Reports result (DeriveManyAnswers bdk.now ksns.now keys.old keys.new) }
+{
+    status(duk_calls::derive_many(bdk, ksns, keys))
 }
 
 /// Writes the transaction key of a key serial number under the initial key of its terminal. The
@@ -402,6 +412,18 @@ pub extern "C" fn dukpt_check_request(key: &[u8], frame: &[u8]) -> u32
     ensures { Reports result (CheckRequestAnswers key.now frame.now) }
 {
     status(duk_calls::check_request(key, frame))
+}
+
+/// Writes what is told of frames: 0 for a request with its MAC under the transaction key of its own
+/// key serial number, which is derived of the base derivation key, and else the number of its first
+/// fault: `NotARequest`; `NotUsable`; `BadMac`. Each frame stands at the begin of 64 bytes, and
+/// what is behind it is not looked at. It checks many of them in less time than `derive` and
+/// `check_request`.
+#[unsafe(no_mangle)]
+pub extern "C" fn dukpt_check_requests(bdk: &[u8], frames: &[u8], results: &mut [u8]) -> u32
+    ensures { Reports result (CheckRequestsAnswers bdk.now frames.now results.old results.new) }
+{
+    status(duk_calls::check_requests(bdk, frames, results))
 }
 
 /// Writes the PIN of a request under the transaction key. The MAC is not compared: `check_request`

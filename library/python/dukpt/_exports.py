@@ -23,6 +23,7 @@ EXPORTS: Final[Mapping[str, Mapping[str, Kind]]] = {
     "dukpt_version": {},
     "dukpt_initial_key": {"bdk": "bytes", "iksn": "bytes", "key": "buffer"},
     "dukpt_derive": {"bdk": "bytes", "ksn": "bytes", "key": "buffer"},
+    "dukpt_derive_many": {"bdk": "bytes", "ksns": "bytes", "keys": "buffer"},
     "dukpt_derive_from_initial": {"initial": "bytes", "ksn": "bytes", "key": "buffer"},
     "dukpt_pin_key": {"key": "bytes", "variant": "buffer"},
     "dukpt_request_key": {"key": "bytes", "variant": "buffer"},
@@ -70,6 +71,7 @@ EXPORTS: Final[Mapping[str, Mapping[str, Kind]]] = {
         "frame": "bytes", "ksn": "buffer", "pan": "buffer", "pan_length": "count",
         "amount": "count", "block": "buffer", "mac": "buffer"},
     "dukpt_check_request": {"key": "bytes", "frame": "bytes"},
+    "dukpt_check_requests": {"bdk": "bytes", "frames": "bytes", "results": "buffer"},
     "dukpt_request_pin": {"key": "bytes", "frame": "bytes", "pin": "buffer", "pin_length": "count"},
     "dukpt_request_reply": {
         "key": "bytes", "ksn": "bytes", "code": "bytes", "frame": "buffer",

@@ -51,6 +51,10 @@ pub fn derive(bdk: &[u8], ksn: &[u8], key: &mut [u8]) -> u32 {
     call!(dukpt_derive: read bdk, read ksn, write key)
 }
 
+pub fn derive_many(bdk: &[u8], ksns: &[u8], keys: &mut [u8]) -> u32 {
+    call!(dukpt_derive_many: read bdk, read ksns, write keys)
+}
+
 pub fn derive_from_initial(initial: &[u8], ksn: &[u8], key: &mut [u8]) -> u32 {
     call!(dukpt_derive_from_initial: read initial, read ksn, write key)
 }
@@ -219,6 +223,10 @@ pub fn read_request(
 
 pub fn check_request(key: &[u8], frame: &[u8]) -> u32 {
     call!(dukpt_check_request: read key, read frame)
+}
+
+pub fn check_requests(bdk: &[u8], frames: &[u8], results: &mut [u8]) -> u32 {
+    call!(dukpt_check_requests: read bdk, read frames, write results)
 }
 
 pub fn request_pin(key: &[u8], frame: &[u8], pin: &mut [u8], pin_length: &mut u32) -> u32 {

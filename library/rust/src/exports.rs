@@ -21,6 +21,14 @@ extern "C" {
         key: *mut u8,
         key_size: usize,
     ) -> u32;
+    pub fn dukpt_derive_many(
+        bdk: *const u8,
+        bdk_size: usize,
+        ksns: *const u8,
+        ksns_size: usize,
+        keys: *mut u8,
+        keys_size: usize,
+    ) -> u32;
     pub fn dukpt_derive_from_initial(
         initial: *const u8,
         initial_size: usize,
@@ -275,6 +283,14 @@ extern "C" {
         key_size: usize,
         frame: *const u8,
         frame_size: usize,
+    ) -> u32;
+    pub fn dukpt_check_requests(
+        bdk: *const u8,
+        bdk_size: usize,
+        frames: *const u8,
+        frames_size: usize,
+        results: *mut u8,
+        results_size: usize,
     ) -> u32;
     pub fn dukpt_request_pin(
         key: *const u8,

@@ -3,7 +3,7 @@ from __future__ import annotations
 
 from typing import Iterator
 
-from ..calls import BYTES, COUNT, IN_OUT, NUMBER, Call, Table
+from ..calls import BYTES, COUNT, FOR_EACH, IN_OUT, NUMBER, OUT, Call, Parameter, Table
 from .layout import NOTE, filled
 
 HEAD = f"""\
@@ -18,7 +18,10 @@ export const COUNT = "count";
 /** Another number that a call writes. */
 export const WORD = "word";
 
-/** The arguments of each call, in their order. A slice that it writes stands as its length. */
+/**
+ * The arguments of each call, in their order. A slice that it writes stands as its length: so many
+ * bytes, or so many for each so many of one of the slices and numbers that the call is given.
+ */
 export const CALLS = {{
 """
 NAMES = """};
@@ -48,5 +51,13 @@ def arguments(call: Call) -> Iterator[str]:
         elif it.kind == COUNT:
             yield "COUNT" if it in counts else "WORD"
         else:
-            yield "CHANGED" if it.way == IN_OUT else str(it.length)
+            yield "CHANGED" if it.way == IN_OUT else length(call, it)
 
+
+def length(call: Call, parameter: Parameter) -> str:
+    """How many bytes a slice has that is written."""
+    found = FOR_EACH.fullmatch(str(parameter.length))
+    if found is None:
+        return str(parameter.length)
+    given = [it.name for it in call.parameters if it.way != OUT]
+    return f"{{ size: {found[1]}, each: {found[2]}, of: {given.index(found[3])} }}"
