@@ -26,7 +26,7 @@ C99, CPP17 = ("-x", "c", "-std=c99"), ("-x", "c++", "-std=c++17")
 CASES, BY_CLIENT = 100_000, 500
 SANITIZED_CASES, WATCHED_CASES = 2_000, 30
 # How deep the calls go on the stack, as tests/test_library_secrets.py measures it.
-STACK_BYTES = 16384
+STACK_BYTES = 81920
 # The lengths of the formats, by their names in the header.
 LENGTHS = {
     "KEY_BYTES": 16, "TRIPLE_KEY_BYTES": 24, "KSN_BYTES": 10, "BLOCK_BYTES": 8, "MAC_BYTES": 8,

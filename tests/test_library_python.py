@@ -32,6 +32,7 @@ COUNTS = {
     **dict.fromkeys(("reversal_request", "read_reversal", "check_reversal", "reversal_reply",
                      "read_reversal_reply", "check_reversal_reply"), 1_200),
     **dict.fromkeys(("derive", "derive_from_initial"), 600),
+    **dict.fromkeys(("derive_many", "check_requests"), 150),
     **dict.fromkeys(("registers_load", "registers_at", "registers_reload", "wrap", "wrap_with",
                      "unwrap", "unwrap_for", "unwrap_optional"), 250),
 }
@@ -167,8 +168,8 @@ class TestCases(PythonLibraryCase):
                 self.assertEqual(given, case.given)
 
     def test_keys(self) -> None:
-        self.try_calls("initial_key", "derive", "derive_from_initial", "pin_key", "request_key",
-                       "response_key", "request_data_key", "response_data_key")
+        self.try_calls("initial_key", "derive", "derive_many", "derive_from_initial", "pin_key",
+                       "request_key", "response_key", "request_data_key", "response_data_key")
 
     def test_numbers_and_macs(self) -> None:
         self.try_calls("check_usable", "next_number", "check_value", "cmac_check_value", "cmac",
@@ -186,7 +187,8 @@ class TestCases(PythonLibraryCase):
         self.try_calls("wrap", "wrap_with", "unwrap", "unwrap_for", "unwrap_optional")
 
     def test_frames(self) -> None:
-        self.try_calls("payment_request", "read_request", "check_request", "request_pin",
+        self.try_calls("payment_request", "read_request", "check_request", "check_requests",
+                       "request_pin",
                        "request_reply", "request_refusal", "read_reply", "read_refusal",
                        "check_reply", "frame_length")
 
@@ -196,7 +198,7 @@ class TestCases(PythonLibraryCase):
 
     def test_all_calls_are_tried(self) -> None:
         self.assertEqual(sorted(COUNTS), sorted(names()))
-        self.assertEqual(len(COUNTS), 46)
+        self.assertEqual(len(COUNTS), 48)
 
 
 def refused_calls() -> Iterator[tuple[str, str, tuple[Any, ...]]]:
@@ -291,6 +293,46 @@ class TestFaults(PythonLibraryCase):
     def test_lengths_are_told(self) -> None:
         with self.assertRaisesRegex(self.dukpt.faults.Length, "bdk has 15, ksn has 10"):
             self.dukpt.derive(KEY[1:], KSN)
+        with self.assertRaisesRegex(self.dukpt.faults.Length, r"ksns\[1\] has 9"):
+            self.dukpt.derive_many(KEY, [KSN, KSN[1:], b""])
+
+
+class TestLists(PythonLibraryCase):
+    """Calls over lists."""
+
+    def test_items(self) -> None:
+        """Items of any kind, as bytes and the like; no item at all."""
+        key, frame = self.dukpt.derive(BASE, KSN), self.own_request()
+        self.assertEqual(self.dukpt.derive_many(BASE, iter([KSN, bytearray(KSN)])), [key, key])
+        self.assertEqual(self.dukpt.check_requests(BASE, (it for it in (memoryview(frame),))),
+                         [None])
+        self.assertEqual(self.dukpt.derive_many(BASE, []), [])
+        self.assertEqual(self.dukpt.check_requests(BASE, []), [])
+        self.assertEqual(f"{self.dukpt.derive_many(BASE, [KSN])}", "[<16 secret bytes>]")
+        with self.assertRaisesRegex(TypeError, r"frames\[1\] is to be bytes, and not str"):
+            self.dukpt.check_requests(BASE, [frame, "frame"])
+
+    def test_whole_frames(self) -> None:
+        """A frame that is cut, or has bytes behind it, is no request's, as by `check_request`."""
+        frame = self.own_request()
+        zeros = self.ending_in_zero()
+        others = [frame[:-1], zeros[:-1], frame + b"\0", frame + frame, frame[:2], frame[:1], b"",
+                  b"\0\x3f" + bytes(63)]
+        told = self.dukpt.check_requests(BASE, [*others, frame, zeros])
+        self.assertEqual([str(it).split(" ")[0] for it in told],
+                         ["NotARequest"] * len(others) + ["None"] * 2)
+        for other in others:
+            with self.assertRaises(self.dukpt.faults.NotARequest):
+                self.dukpt.check_request(self.dukpt.derive(BASE, KSN), other)
+
+    def own_request(self, amount: int = 1) -> bytes:
+        key = self.dukpt.derive(BASE, KSN)
+        made: bytes = self.dukpt.payment_request(key, KSN, PAN, b"1234", amount)
+        return made
+
+    def ending_in_zero(self) -> bytes:
+        """A request whose MAC ends in a zero byte."""
+        return next(it for it in map(self.own_request, range(10_000)) if it[-1] == 0)
 
 
 class TestNumbers(PythonLibraryCase):

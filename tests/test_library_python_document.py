@@ -18,6 +18,7 @@ from .test_ciphers import BASE, IKSN
 EXAMPLES = re.compile(r"^```python\n(.*?)^```$", re.MULTILINE | re.DOTALL)
 PRINTED = re.compile(r"^ *print\(.*\)  # (.*)$", re.MULTILINE)
 FAULT = "OtherUsage (34): the key in the key block has another usage, or is no TDES key"
+OTHER_MAC = "BadMac (27): the MAC is not that of the frame"
 SECONDS = 60
 
 
@@ -28,7 +29,8 @@ def wanted() -> list[str]:
     data = cbc_encrypt(request_data_key(key), bytes(8), b"16 bytes of data")
     return [
         "<16 secret bytes>", key.hex().upper(), encrypt_block(key, bytes(8))[:3].hex().upper(),
-        f"{hidden:016X}", data.hex().upper(), f"<dukpt.Terminal, next {number}>", f"{number} 500",
+        f"{hidden:016X}", data.hex().upper(), "15 True", f"14 {OTHER_MAC}",
+        f"<dukpt.Terminal, next {number}>", f"{number} 500",
         write_reply(key, IKSN + 1, "00").hex().upper(), f"Reply(ksn={number}, code=00)", "True",
         "True", f"{IKSN:020X}", FAULT]
 

@@ -11,13 +11,20 @@ from .support.program import Word
 from .test_library_c import STACK_BYTES, LibraryCase
 
 STACK_CASES, SECRET_CASES = 100, 4
+# How deep the calls go at most that are not over many terminals.
+ALONE_BYTES = 16384
 # Calls of which the stack has keys or PINs behind some case, where nothing wipes it.
-LEAVING = ("derive", "check_value", "registers_load", "registers_next", "cbc_encrypt", "cmac",
-           "retail_mac", "pin_block", "wrap", "wrap_with", "unwrap", "unwrap_for", "payment_request")
-# Calls that compare what they make of a key, as a MAC: the answer is no secret.
+LEAVING = ("derive", "derive_many", "check_value", "registers_load", "registers_next",
+           "cbc_encrypt", "cmac", "retail_mac", "pin_block", "wrap", "wrap_with", "unwrap",
+           "unwrap_for", "payment_request")
+# Calls over many terminals at once, which use no table.
+IN_LANES = ("derive_many", "check_requests")
+# Calls that compare what they make of a key, as a MAC: the answer is no secret. `check_requests`
+# compares too, but without a branch.
 COMPARING = ("pin_of_block", "unwrap", "unwrap_for", "unwrap_optional", "check_request",
              "request_pin", "check_reply", "check_reversal", "check_reversal_reply")
 BRANCH, ADDRESS = "Conditional jump or move depends on uninitialised", "Use of uninitialised value"
+MEMCHECK = ("--error-limit=no", "--leak-check=no", "--num-callers=1")
 # Lines of callgrind's report that tell which run it is of.
 OF_A_RUN = re.compile(r"^(?:cmd|pid|desc|part|creator):.*\n", re.MULTILINE)
 # Two wipes in the place of the library's.
@@ -59,6 +66,10 @@ class Stack(LibraryCase):
             deepest = max(depth for depth, _, _ in found.values())
             self.assertLessEqual(deepest, STACK_BYTES)
             self.assertGreater(2 * deepest, STACK_BYTES)
+            alone = max(depth for name, (depth, _, _) in found.items()
+                        if name.removeprefix("dukpt_") not in IN_LANES)
+            self.assertLessEqual(alone, ALONE_BYTES)
+            self.assertGreater(2 * alone, ALONE_BYTES)
             self.assertEqual({name for name, (_, _, left) in found.items() if left > 0}, set())
             self.assertEqual(unwiped, 0)
             leaving = {name.removeprefix("dukpt_") for name, it in found.items() if it[1] > 0}
@@ -85,24 +96,34 @@ class Time(LibraryCase):
         demand("valgrind")
         self.tried, self.seed = program("secrets", self.folder()), self.seed_word()
 
-    def run_secrets(self, options: Sequence[Word], *words: str) -> str:
-        """What valgrind says while the program runs."""
+    def run_secrets(self, options: Sequence[Word], *words: str, only: str = "") -> str:
+        """What valgrind says while the program runs, with all calls or with one alone."""
+        words = (*words, f"dukpt_{only}") if only else words
         done = subprocess.run(
             ["valgrind", "--quiet", *map(str, options), str(self.tried), self.seed,
              str(SECRET_CASES), *words], capture_output=True, text=True, check=False)
         self.assertEqual(done.returncode, 0, done.stderr[-2000:])
         called = [line.removeprefix("done dukpt_") for line in done.stdout.splitlines()]
-        self.assertEqual(called, [name.removeprefix("dukpt_") for name in CALLS
-                                  if name.removeprefix("dukpt_") not in COMPARING])
+        every = [name.removeprefix("dukpt_") for name in CALLS]
+        self.assertEqual(called, [only] if only else [it for it in every if it not in COMPARING])
         return done.stderr
 
     def test_branches(self) -> None:
         """No branch depends on a key; addresses do."""
-        memcheck = ("--error-limit=no", "--leak-check=no", "--num-callers=1")
-        said = self.run_secrets(memcheck, self.seed_word())
+        said = self.run_secrets(MEMCHECK, self.seed_word())
         self.assertNotIn(BRANCH, said)
         self.assertIn(ADDRESS, said)
-        self.assertIn(BRANCH, self.run_secrets(memcheck, self.seed_word(), "branch"))
+        self.assertIn(BRANCH, self.run_secrets(MEMCHECK, self.seed_word(), "branch"))
+
+    def test_in_lanes(self) -> None:
+        """No branch and no address of the calls over many terminals depends on a key, or on what is
+        made of one; of a call with tables addresses do."""
+        for name in IN_LANES:
+            self.assertEqual(self.run_secrets(MEMCHECK, self.seed_word(), only=name), "", name)
+        for name in ("derive", "retail_mac"):
+            said = self.run_secrets(MEMCHECK, self.seed_word(), only=name)
+            self.assertNotIn(BRANCH, said)
+            self.assertIn(ADDRESS, said, name)
 
     def test_instructions(self) -> None:
         """Whatever the keys are, each instruction runs as often."""

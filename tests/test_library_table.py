@@ -43,6 +43,9 @@ BY_HAND: Sequence[tuple[str, str, str]] = (
     (HEADER, " *   value   out  3 ", " *   value   out  4 "),
     (DOCUMENT, "`next` 10", "`next` 11"),
     (PAGE, "cmac_check_value: [READ, 5]", "cmac_check_value: [READ, 8]"),
+    (HEADER, "16 for each 10 of ksns", "16 for each 20 of ksns"),
+    (DOCUMENT, "1 for each 64 of frames", "2 for each 64 of frames"),
+    (PAGE, "size: 1, each: 64, of: 1", "size: 1, each: 64, of: 0"),
     # The order of two arguments, or the kind of one.
     (HEADER, "dukpt_derive(const uint8_t *bdk, size_t bdk_size",
      "dukpt_derive(const uint8_t *ksn, size_t ksn_size"),
@@ -82,6 +85,7 @@ arguments = [
 BDK = '    ["bdk", "in", "16", "base derivation key"],\n'
 KSN = '    ["ksn", "in", "10", "key serial number"],\n'
 DERIVE_HAS = "bdk: &[u8], ksn: &[u8], key: &mut [u8]"
+KEYS = '["keys", "out", "16 for each 10 of ksns", '
 NOT_MINE, BAD_MAC = "NotMine = [26, ", "BadMac = [27, "
 
 # In the table texts become others: these made files are told then, and these lines.
@@ -89,6 +93,7 @@ IN_TABLE: Sequence[tuple[str, str, set[str], Sequence[str]]] = (
     # A length that is read, and one that is written.
     (DERIVE, DERIVE.replace('"in", "10"', '"in", "12"'), {HEADER, DOCUMENT}, ()),
     (DERIVE, DERIVE.replace('"out", "16"', '"out", "24"'), {HEADER, DOCUMENT, PAGE}, ()),
+    (KEYS, KEYS.replace("16", "24"), {HEADER, DOCUMENT, PAGE}, ()),
     # The order of two arguments.
     (DERIVE, DERIVE.replace(BDK + KSN, KSN + BDK), OF_CALLS,
      [f"{CRATE}: derive has the arguments {DERIVE_HAS}, and in the table ksn: &[u8], bdk: &[u8],"
@@ -119,6 +124,10 @@ IN_TABLE: Sequence[tuple[str, str, set[str], Sequence[str]]] = (
     (DERIVE, DERIVE.replace("ksn", "bdk"), set(), [f"{TABLE}: derive: bdk stands more than once"]),
     (DERIVE, DERIVE.replace('"out", "16"', '"out", "16 or 24"'), set(),
      [f"{TABLE}: derive: key: 16 or 24 is no length"]),
+    *((KEYS, KEYS.replace("16 for each 10 of ksns", length), set(),
+       [f"{TABLE}: derive_many: keys: {length} is no length"])
+      for length in ("16 for each of ksns", "16 for each 8 of ksns", "16 for each 10 of bdk",
+                     "16 for each 10 of keys", "a multiple of 16")),
     (DERIVE, DERIVE.replace('"10", ', ""), set(),
      [f"{TABLE}: derive: ['ksn', 'in', 'key serial number'] has not name, way, length and words"]),
     ('["PartOfFrame", "TooLong"]', '["PartOfFrame", "Long"]', set(),
@@ -228,6 +237,9 @@ FILL = b"1"
 # How many bytes a slice of any length has, but none, and what numbers are, but 0.
 SIZES, NUMBERS = {"padding": 6}, {"wanted": 16, "reason": 1, "state": 1}
 BEYOND = 6
+# Slices of parts, and how long a part is; how the length of a slice begins that has so many bytes
+# for each of them.
+PARTS, FOR_EACH = {"ksns": 10, "frames": 64}, " for each "
 INITIAL, IKSN = bytes(range(16)), 0xFFFF9876543210E00000
 # The fault of another length, where the words of an argument name one.
 NAMED = re.compile(r"(?:another length is|fewer are) `(\w+)`")
@@ -251,14 +263,42 @@ def others(length: str) -> Iterator[str]:
             yield f"{length[:found.start()]}{number}{length[found.end():]}"
 
 
-def fits(way: str, length: str, size: int) -> bool:
-    """Whether a slice may have so many bytes."""
+def fits(way: str, length: str, size: int, sizes: Mapping[str, int]) -> bool:
+    """Whether a slice may have so many bytes, where the others have these sizes."""
     first, *others = numbers_in(length)
+    if FOR_EACH in length:
+        return size >= least_size(length, sizes)
     if way == "out" or length.endswith(" or more"):
         return size >= first
     if length.startswith("a multiple of "):
         return size % first == 0
     return first <= size <= others[0] if " to " in length else size in (first, *others)
+
+
+def least_size(length: str, sizes: Mapping[str, int]) -> int:
+    """How many bytes a slice has at least with so many for each so many of another one."""
+    size, each = numbers_in(length)
+    return size * (sizes[length.split(" ")[-1]] // each)
+
+
+def are_roomy(rows: Sequence[Row], sizes: Mapping[str, int]) -> bool:
+    """Whether each slice has room that has so many bytes for each part of another one."""
+    return all(sizes[argument] >= least_size(length, sizes)
+               for argument, _, length, _ in rows if FOR_EACH in length)
+
+
+def right_sizes(rows: Sequence[Row]) -> dict[str, int]:
+    """A size of each slice that is right. Of parts there are as many as one has bytes: another length
+    of a part makes another number of them."""
+    right: dict[str, int] = {}
+    for argument, _, length, _ in rows:
+        numbers = numbers_in(length) or [SIZES.get(argument, 0)]
+        right[argument] = numbers[0]
+        if argument in PARTS:
+            right[argument] = PARTS[argument] ** 2
+        if FOR_EACH in length:
+            right[argument] = least_size(length, right)
+    return right
 
 
 def content(argument: str, size: int) -> bytes:
@@ -307,16 +347,17 @@ class TestLengths(Case):
                     self.check_call(name, call["arguments"], call["faults"])
 
     def check_call(self, name: str, rows: Sequence[Row], faults: Sequence[str]) -> None:
-        right = {argument: (numbers_in(length) or [SIZES.get(argument, 0)])[0]
-                 for argument, _, length, _ in rows}
+        right = right_sizes(rows)
         for argument, way, length, words in rows:
             if length in ("number", "any"):
                 continue
             fault = found[1] if (found := NAMED.search(words)) else "Length"
             self.assertIn(fault, faults, f"{name}, {argument}")
-            for size in range(2 * max(numbers_in(length)) + BEYOND):
-                status = self.status(name, rows, {**right, argument: size})
-                self.assertEqual(status != FAULTS.index(fault), fits(way, length, size),
+            for size in range(2 * max(*numbers_in(length), right[argument]) + BEYOND):
+                sizes = {**right, argument: size}
+                status = self.status(name, rows, sizes)
+                is_right = fits(way, length, size, sizes) and are_roomy(rows, sizes)
+                self.assertEqual(status != FAULTS.index(fault), is_right,
                                  f"{name}, {argument} of {size} bytes: status {status}")
 
     def status(self, name: str, rows: Sequence[Row], sizes: Mapping[str, int]) -> int:

@@ -14,20 +14,22 @@ from .support.page_module import PageModule
 from .test_ciphers import BASE, vectors
 
 COUNT, COUNT_OF_COSTLY = 2_000, 1_000
-KEYS = ("initial_key", "derive", "derive_from_initial", "pin_key", "request_key", "response_key",
-        "request_data_key", "response_data_key", "check_usable", "next_number", "check_value",
-        "cmac_check_value")
+KEYS = ("initial_key", "derive", "derive_many", "derive_from_initial", "pin_key", "request_key",
+        "response_key", "request_data_key", "response_data_key", "check_usable", "next_number",
+        "check_value", "cmac_check_value")
 REGISTERS = ("registers_load", "registers_at", "registers_number", "registers_next",
              "registers_reload")
 CIPHERS = ("tdes_encrypt", "tdes_decrypt", "cbc_encrypt", "cbc_decrypt", "cmac", "retail_mac",
            "pin_block", "pin_of_block")
 KEY_BLOCKS = ("wrap", "wrap_with", "unwrap", "unwrap_for", "unwrap_optional")
-FRAMES = ("payment_request", "read_request", "check_request", "request_pin", "request_reply",
-          "request_refusal", "read_reply", "read_refusal", "check_reply", "frame_length")
+FRAMES = ("payment_request", "read_request", "check_request", "check_requests", "request_pin",
+          "request_reply", "request_refusal", "read_reply", "read_refusal", "check_reply",
+          "frame_length")
 REVERSALS = ("reversal_request", "read_reversal", "check_reversal", "reversal_reply",
              "read_reversal_reply", "check_reversal_reply")
-COSTLY = {f"dukpt_{it}" for it in (*KEY_BLOCKS, *REGISTERS) if it not in (
-    "registers_number", "registers_next")}
+COSTLY = {f"dukpt_{it}" for it in (
+    *KEY_BLOCKS, *REGISTERS, "derive_many", "check_requests") if it not in (
+        "registers_number", "registers_next")}
 # Of each piece of so many cases how many are judged one by one.
 PIECE, JUDGED = 5_000, 60
 VERSION = 0x000100

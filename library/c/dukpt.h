@@ -184,8 +184,9 @@
 #define DUKPT_CODE_BYTES 2             /* the code of a reply */
 #define DUKPT_FRAME_ROOM 64            /* a frame with the two bytes of its length */
 
-/* How many bytes of the stack below its caller a call uses at most. It is measured, not proved. */
-#define DUKPT_STACK_BYTES 16384
+/* How many bytes of the stack below its caller a call uses at most. It is measured, not proved.
+ * dukpt_derive_many and dukpt_check_requests use most of it; the other calls use 16384 at most. */
+#define DUKPT_STACK_BYTES 81920
 
 /* What GCC and clang are told of a call: that its status is to be looked at, that no pointer is
  * null, and that no other argument reaches what it writes. */

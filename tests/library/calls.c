@@ -36,6 +36,9 @@
 #define FRAME_IN(fault) {BYTES, AS_DRAWN, 0, 64, fault}
 #define COUNT_OUT {COUNT, ANY_SIZE, 0, 0, 0}
 #define NUMBER_IN {NUMBER, ANY_SIZE, 0, 0, 0}
+/* Up to three parts: more are drawn seldom. */
+#define PARTS_IN(size) {BYTES, PARTS, size, 3 * (size), DUKPT_FAULT_LENGTH}
+#define FOR_EACH_OUT(size) {BUFFER, FOR_EACH, size, 3 * (size), DUKPT_FAULT_LENGTH}
 
 #define CALL(name) "dukpt_" #name, library_##name, peer_##name
 
@@ -43,6 +46,7 @@ const struct call calls[] = {
     {CALL(initial_key), draw_initial_number, LENGTHS | STATUS(FAULT_NOT_INITIAL),
      {KEY_IN, KSN_IN, KEY_OUT}},
     {CALL(derive), draw_number, LENGTHS, {KEY_IN, KSN_IN, KEY_OUT}},
+    {CALL(derive_many), draw_numbers, LENGTHS, {KEY_IN, PARTS_IN(10), FOR_EACH_OUT(16)}},
     {CALL(derive_from_initial), draw_number, LENGTHS, {KEY_IN, KSN_IN, KEY_OUT}},
     {CALL(pin_key), NULL, LENGTHS, {KEY_IN, KEY_OUT}},
     {CALL(request_key), NULL, LENGTHS, {KEY_IN, KEY_OUT}},
@@ -90,6 +94,7 @@ const struct call calls[] = {
     {CALL(check_request), draw_request_of_key,
      LENGTHS | STATUS(FAULT_NOT_A_REQUEST) | STATUS(FAULT_BAD_MAC),
      {KEY_IN, FRAME_IN(DUKPT_FAULT_NOT_A_REQUEST)}},
+    {CALL(check_requests), draw_requests, LENGTHS, {KEY_IN, PARTS_IN(64), FOR_EACH_OUT(1)}},
     {CALL(request_pin), draw_request_of_key,
      LENGTHS | STATUS(FAULT_NOT_A_REQUEST) | STATUS(FAULT_NOT_A_PIN_BLOCK),
      {KEY_IN, FRAME_IN(DUKPT_FAULT_NOT_A_REQUEST), OUT(12), COUNT_OUT}},
@@ -137,4 +142,9 @@ size_t argument_count(const struct call *call)
 int is_slice(const struct parameter *parameter)
 {
     return parameter->kind == BYTES || parameter->kind == BUFFER;
+}
+
+size_t size_for_each(const struct call *call, const struct argument *given, size_t at)
+{
+    return call->parameters[at].least * (given[at - 1].size / call->parameters[at - 1].least);
 }

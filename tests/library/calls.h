@@ -7,7 +7,7 @@
 #include <stddef.h>
 #include <stdint.h>
 
-enum { MOST_ARGUMENTS = 7, MOST_BYTES = 1200 };
+enum { MOST_ARGUMENTS = 7, MOST_BYTES = 8448 };
 
 /* What an argument is: bytes that are read, bytes that are written, a number that is written, a
    number that is read. */
@@ -22,6 +22,8 @@ enum sizes {
     FROM_TO,          /* `least` to `most` */
     AT_LEAST,         /* `least`, or more: up to `most` are drawn */
     WHOLE_BLOCKS,     /* a multiple of 8 */
+    PARTS,            /* a multiple of `least` */
+    FOR_EACH,         /* `least` for each part of the slice before it, or more */
     AS_DRAWN,         /* that of the drawn case alone */
     OPTIONAL_BLOCKS,  /* optional blocks as they are drawn, or none */
     FILLING_BLOCKS,   /* padding: with the length of the key and the key it makes whole blocks */
@@ -62,5 +64,8 @@ size_t argument_count(const struct call *call);
 
 /* Whether an argument is a slice. */
 int is_slice(const struct parameter *parameter);
+
+/* How many bytes a slice with so many for each part of the slice before it has to have at least. */
+size_t size_for_each(const struct call *call, const struct argument *given, size_t at);
 
 #endif

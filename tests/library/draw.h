@@ -12,6 +12,7 @@ void resize(struct chance *chance, struct argument *slice, size_t size);
 /* draw_numbers.c */
 uint32_t draw_counter(struct chance *chance);
 void draw_number(struct chance *chance, struct argument *given);
+void draw_numbers(struct chance *chance, struct argument *given);
 void draw_initial_number(struct chance *chance, struct argument *given);
 void draw_only_number(struct chance *chance, struct argument *given);
 /* A number that the first one mostly may reverse. */
@@ -39,6 +40,7 @@ void draw_optional(struct chance *chance, struct argument *given);
 /* draw_frames.c */
 void draw_request(struct chance *chance, struct argument *given);
 void draw_request_of_key(struct chance *chance, struct argument *given);
+void draw_requests(struct chance *chance, struct argument *given);
 void draw_code(struct chance *chance, struct argument *given);
 void draw_reason(struct chance *chance, struct argument *given);
 void draw_reply(struct chance *chance, struct argument *given);

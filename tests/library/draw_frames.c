@@ -23,20 +23,21 @@ static const uint8_t *draw_code_of_five(struct chance *chance)
     return codes[below(chance, 5)];
 }
 
-/* A request under a key, mostly with the PIN block of a PIN. */
-static void put_request(struct chance *chance, const uint8_t *key, struct argument *frame)
+/* A request under a key, mostly with the PIN block of a PIN. Gives the number of its bytes. */
+static size_t put_request(struct chance *chance, const uint8_t *key, const uint8_t *ksn,
+                          uint8_t *frame)
 {
     struct request request;
     uint8_t pin[12];
     request.pan_digits = 12 + below(chance, 8);
     draw_digits(chance, request.pan, request.pan_digits);
     draw_digits(chance, pin, sizeof pin);
-    draw_bytes(chance, request.ksn, KSN_BYTES);
+    memcpy(request.ksn, ksn, KSN_BYTES);
     draw_bytes(chance, (uint8_t *)&request.amount, sizeof request.amount);
     block_of_pin(pin, 4 + below(chance, 9), request.pan, request.pan_digits, request.block);
     if (one_in(chance, 6))
         request.block[below(chance, BLOCK_BYTES)] ^= (uint8_t)(1u << below(chance, 8));
-    frame->size = write_request(key, &request, frame->bytes);
+    return write_request(key, &request, frame);
 }
 
 static void put_reply(struct chance *chance, const uint8_t *key, const uint8_t *ksn,
@@ -65,7 +66,7 @@ static void draw_frame(struct chance *chance, enum kind_of_frame kind, struct ar
         kind = (enum kind_of_frame)below(chance, FRAME_KINDS);
     switch (kind) {
     case REQUEST:
-        put_request(chance, key, frame);
+        frame->size = put_request(chance, key, ksn, frame->bytes);
         break;
     case REPLY:
         put_reply(chance, key, ksn, frame);
@@ -98,13 +99,39 @@ void draw_refusal(struct chance *chance, struct argument *given)
 
 void draw_request_of_key(struct chance *chance, struct argument *given)
 {
+    uint8_t ksn[KSN_BYTES];
+    draw_bytes(chance, ksn, sizeof ksn);
     if (one_in(chance, 12)) {
         draw_frame(chance, REQUEST, &given[1]);
         return;
     }
-    put_request(chance, given[0].bytes, &given[1]);
+    given[1].size = put_request(chance, given[0].bytes, ksn, given[1].bytes);
     if (one_in(chance, 4))
         spoil_frame(chance, &given[1]);
+}
+
+/* A frame in 64 bytes: mostly the request of a transaction under its key. */
+static void put_own_request(struct chance *chance, const uint8_t *bdk, uint8_t *place)
+{
+    uint8_t ksn[KSN_BYTES], key[KEY_BYTES];
+    size_t size;
+    draw_bytes(chance, ksn, sizeof ksn);
+    number_with(ksn, counter_after(draw_counter(chance) % (SPENT_COUNTER / 2)), ksn);
+    if (one_in(chance, 8))
+        number_with(ksn, draw_counter(chance), ksn);
+    tree_derived_key(bdk, ksn, key);
+    size = put_request(chance, key, ksn, place);
+    if (one_in(chance, 8))
+        place[size - 1 - below(chance, BLOCK_BYTES)] ^= (uint8_t)(1u << below(chance, 8));
+    if (one_in(chance, 8))
+        place[below(chance, (uint32_t)size)] ^= (uint8_t)(1u << below(chance, 8));
+}
+
+void draw_requests(struct chance *chance, struct argument *given)
+{
+    for (size_t at = 0; at < given[1].size; at += FRAME_BYTES)
+        if (!one_in(chance, 16))
+            put_own_request(chance, given[0].bytes, given[1].bytes + at);
 }
 
 void draw_reply_of_key(struct chance *chance, struct argument *given)

@@ -30,6 +30,12 @@ void draw_number(struct chance *chance, struct argument *given)
     draw_only_number(chance, given + 1);
 }
 
+void draw_numbers(struct chance *chance, struct argument *given)
+{
+    for (size_t at = 0; at < given[1].size; at += KSN_BYTES)
+        number_with(given[1].bytes + at, draw_counter(chance), given[1].bytes + at);
+}
+
 void draw_initial_number(struct chance *chance, struct argument *given)
 {
     uint32_t counter = one_in(chance, 8) ? draw_counter(chance) : 0;

@@ -48,6 +48,11 @@ static int is_right(const struct call *call, const struct argument *given, size_
         return size >= parameter->least;
     case WHOLE_BLOCKS:
         return size % 8 == 0;
+    case PARTS:
+        return size % parameter->least == 0
+               && given[at + 1].size >= size_for_each(call, given, at + 1);
+    case FOR_EACH:
+        return size >= size_for_each(call, given, at);
     case AS_DRAWN:
         return size == drawn;
     default:

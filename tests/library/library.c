@@ -20,6 +20,11 @@ uint32_t library_derive(const struct argument *given)
     return dukpt_derive(SLICE_AT(0), SLICE_AT(1), SLICE_AT(2));
 }
 
+uint32_t library_derive_many(const struct argument *given)
+{
+    return dukpt_derive_many(SLICE_AT(0), SLICE_AT(1), SLICE_AT(2));
+}
+
 uint32_t library_derive_from_initial(const struct argument *given)
 {
     return dukpt_derive_from_initial(SLICE_AT(0), SLICE_AT(1), SLICE_AT(2));
@@ -176,6 +181,11 @@ uint32_t library_read_request(const struct argument *given)
 uint32_t library_check_request(const struct argument *given)
 {
     return dukpt_check_request(SLICE_AT(0), SLICE_AT(1));
+}
+
+uint32_t library_check_requests(const struct argument *given)
+{
+    return dukpt_check_requests(SLICE_AT(0), SLICE_AT(1), SLICE_AT(2));
 }
 
 uint32_t library_request_pin(const struct argument *given)

@@ -6,6 +6,7 @@
 
 uint32_t library_initial_key(const struct argument *given);
 uint32_t library_derive(const struct argument *given);
+uint32_t library_derive_many(const struct argument *given);
 uint32_t library_derive_from_initial(const struct argument *given);
 uint32_t library_pin_key(const struct argument *given);
 uint32_t library_request_key(const struct argument *given);
@@ -37,6 +38,7 @@ uint32_t library_unwrap_optional(const struct argument *given);
 uint32_t library_payment_request(const struct argument *given);
 uint32_t library_read_request(const struct argument *given);
 uint32_t library_check_request(const struct argument *given);
+uint32_t library_check_requests(const struct argument *given);
 uint32_t library_request_pin(const struct argument *given);
 uint32_t library_request_reply(const struct argument *given);
 uint32_t library_request_refusal(const struct argument *given);

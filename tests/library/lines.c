@@ -7,7 +7,7 @@
 #include <stdlib.h>
 #include <string.h>
 
-enum { MOST_LINE = 8192 };
+enum { MOST_LINE = 4 * MOST_BYTES };
 
 static const struct call *call_named(const char *name)
 {

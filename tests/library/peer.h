@@ -7,6 +7,7 @@
 
 uint32_t peer_initial_key(struct argument *given);
 uint32_t peer_derive(struct argument *given);
+uint32_t peer_derive_many(struct argument *given);
 uint32_t peer_derive_from_initial(struct argument *given);
 uint32_t peer_pin_key(struct argument *given);
 uint32_t peer_request_key(struct argument *given);
@@ -38,6 +39,7 @@ uint32_t peer_unwrap_optional(struct argument *given);
 uint32_t peer_payment_request(struct argument *given);
 uint32_t peer_read_request(struct argument *given);
 uint32_t peer_check_request(struct argument *given);
+uint32_t peer_check_requests(struct argument *given);
 uint32_t peer_request_pin(struct argument *given);
 uint32_t peer_request_reply(struct argument *given);
 uint32_t peer_request_refusal(struct argument *given);

@@ -78,15 +78,24 @@ uint32_t peer_derive_from_initial(struct argument *given)
 
 uint32_t peer_derive(struct argument *given)
 {
-    uint8_t iksn[KSN_BYTES], initial[KEY_BYTES];
-    struct argument under_initial[3];
+    uint8_t key[KEY_BYTES];
     if (!are_key_and_number(given))
         return DUKPT_FAULT_LENGTH;
-    number_with(given[1].bytes, 0, iksn);
-    tree_initial_key(given[0].bytes, iksn, initial);
-    memcpy(under_initial, given, sizeof under_initial);
-    under_initial[0].bytes = initial;
-    return peer_derive_from_initial(under_initial);
+    tree_derived_key(given[0].bytes, given[1].bytes, key);
+    write_bytes(&given[2], key, sizeof key);
+    return DUKPT_OK;
+}
+
+uint32_t peer_derive_many(struct argument *given)
+{
+    size_t count = given[1].size / KSN_BYTES;
+    if (given[0].size != KEY_BYTES || given[1].size % KSN_BYTES != 0
+        || !has_room(&given[2], KEY_BYTES * count))
+        return DUKPT_FAULT_LENGTH;
+    for (size_t at = 0; at < count; at++)
+        tree_derived_key(given[0].bytes, given[1].bytes + KSN_BYTES * at,
+                         given[2].bytes + KEY_BYTES * at);
+    return DUKPT_OK;
 }
 
 static uint32_t answer_variant(struct argument *given, enum variant variant)

@@ -35,6 +35,7 @@ void write_front(struct argument *room, struct argument *count, const uint8_t *b
 /* peer_tree.c: the key tree. A step gives the key of a number from that of its parent. */
 void tree_initial_key(const uint8_t *bdk, const uint8_t *iksn, uint8_t *key);
 void tree_derive(const uint8_t *initial, const uint8_t *ksn, uint8_t *key);
+void tree_derived_key(const uint8_t *bdk, const uint8_t *ksn, uint8_t *key);
 void tree_step(const uint8_t *parent, const uint8_t *ksn, uint8_t *key);
 
 /* peer_numbers.c: key serial numbers, and the variants of keys. */

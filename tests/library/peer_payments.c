@@ -57,6 +57,32 @@ uint32_t peer_check_request(struct argument *given)
     return memcmp(mac, request.mac, BLOCK_BYTES) == 0 ? DUKPT_OK : DUKPT_FAULT_BAD_MAC;
 }
 
+/* What is told of a frame at the begin of 64 bytes. */
+static uint32_t told_of_frame(const struct argument *bdk, uint8_t *place)
+{
+    uint8_t key[KEY_BYTES];
+    struct request request;
+    struct argument given[2] = {{key, KEY_BYTES, 0}, {place, 0, 0}};
+    given[1].size = 2 + (size_t)(place[0] << 8 | place[1]);
+    if (given[1].size > FRAME_BYTES || !read_request(place, given[1].size, &request))
+        return DUKPT_FAULT_NOT_A_REQUEST;
+    if (!is_usable(counter_in(request.ksn)))
+        return DUKPT_FAULT_NOT_USABLE;
+    tree_derived_key(bdk->bytes, request.ksn, key);
+    return peer_check_request(given);
+}
+
+uint32_t peer_check_requests(struct argument *given)
+{
+    size_t count = given[1].size / FRAME_BYTES;
+    if (given[0].size != KEY_BYTES || given[1].size % FRAME_BYTES != 0
+        || !has_room(&given[2], count))
+        return DUKPT_FAULT_LENGTH;
+    for (size_t at = 0; at < count; at++)
+        given[2].bytes[at] = (uint8_t)told_of_frame(&given[0], given[1].bytes + FRAME_BYTES * at);
+    return DUKPT_OK;
+}
+
 uint32_t peer_request_pin(struct argument *given)
 {
     struct request request;

@@ -28,3 +28,11 @@ void tree_derive(const uint8_t *initial, const uint8_t *ksn, uint8_t *key)
         tree_step(parent, number, key);
     }
 }
+
+void tree_derived_key(const uint8_t *bdk, const uint8_t *ksn, uint8_t *key)
+{
+    uint8_t iksn[SERIAL], initial[KEY];
+    number_with(ksn, 0, iksn);
+    tree_initial_key(bdk, iksn, initial);
+    tree_derive(initial, ksn, key);
+}

@@ -1,13 +1,14 @@
 /* The calls with keys that are secret:
 
-       valgrind secrets SEED CASES KEYS [branch]
+       valgrind secrets SEED CASES KEYS [branch | CALL]
 
    CASES cases of each call are drawn. Each key among the arguments, those in an image too, is drawn
    anew of the seed KEYS alone, and marked as undefined. So memcheck reports each branch and each
    address that depends on a key itself; and callgrind counts the same instructions whatever KEYS is,
    if no branch depends on a key or on what is made of it. Of calls that compare what they make of a
-   key, as a MAC, the answer is no secret: they are left out. With `branch` the program itself
-   branches on a key, which has to be seen. */
+   key, as a MAC, the answer is no secret: they are left out, but for `dukpt_check_requests`, which
+   compares without a branch. With `branch` the program itself branches on a key, which has to be
+   seen. With a call's name it is the only one. */
 #include "calls.h"
 #include "draw.h"
 #include "peer_parts.h"
@@ -27,6 +28,12 @@ static int compares(const struct call *call)
                                  | UINT64_C(1) << DUKPT_FAULT_BLOCK_MAC
                                  | UINT64_C(1) << DUKPT_FAULT_NOT_A_PIN_BLOCK;
     return (call->statuses & told) != 0;
+}
+
+/* Whether a call is to be tried: this one alone, or each that compares nothing. */
+static int is_wanted(const struct call *call, const char *only)
+{
+    return only == NULL ? !compares(call) : strcmp(call->name, only) == 0;
 }
 
 /* Whether a call reads a key. */
@@ -100,6 +107,7 @@ int main(int words, char **word)
 {
     struct chance chance, keys;
     struct argument given[MOST_ARGUMENTS] = {{0}};
+    int is_branching;
     if (words != 4 && words != 5)
         return 2;
     chance.state = strtoull(word[1], NULL, 10);
@@ -107,10 +115,11 @@ int main(int words, char **word)
     for (size_t at = 0; at < MOST_ARGUMENTS; at++)
         if ((given[at].bytes = calloc(1, MOST_BYTES)) == NULL)
             return 1;
+    is_branching = words == 5 && strcmp(word[4], "branch") == 0;
     for (size_t at = 0; at < call_count; at++)
-        if (!compares(&calls[at]))
+        if (is_wanted(&calls[at], words == 5 && !is_branching ? word[4] : NULL))
             try_call(&chance, &keys, &calls[at], given, atol(word[2]));
-    if (words == 5)
+    if (is_branching)
         branch_on_key(&keys);
     for (size_t at = 0; at < MOST_ARGUMENTS; at++)
         free(given[at].bytes);

@@ -105,10 +105,12 @@ static int is_there(const uint8_t *bytes, size_t size)
     return 0;
 }
 
-/* Whether an argument is a key. */
+/* Whether an argument is a key, or keys one after the other. */
 static int is_key(const struct parameter *parameter)
 {
-    return is_slice(parameter) && (parameter->most == 16 || parameter->most == 24);
+    return is_slice(parameter)
+           && (parameter->most == 16 || parameter->most == 24
+               || (parameter->sizes == FOR_EACH && parameter->least == 16));
 }
 
 /* Whether an argument is a PIN that does not stand anywhere by chance. */

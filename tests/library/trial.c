@@ -8,8 +8,8 @@
 #include <string.h>
 #include <sys/mman.h>
 
-/* The bytes before a slice in its page, and what they hold. */
-enum { PAGE = 4096, GUARD = 32, GUARD_BYTE = 0xA5 };
+/* The bytes of the pages of a slice, those before it there, and what these hold. */
+enum { PAGES = 3 * 4096, GUARD = 32, GUARD_BYTE = 0xA5 };
 
 static uint8_t *new_bytes(size_t size)
 {
@@ -19,14 +19,14 @@ static uint8_t *new_bytes(size_t size)
     return bytes;
 }
 
-/* The end of a page behind which no memory is. */
+/* The end of pages behind which no memory is. */
 static uint8_t *new_end(void)
 {
     int way = MAP_PRIVATE | MAP_ANONYMOUS;
-    uint8_t *pages = mmap(NULL, 2 * PAGE, PROT_READ | PROT_WRITE, way, -1, 0);
-    if (pages == MAP_FAILED || mprotect(pages + PAGE, PAGE, PROT_NONE) != 0)
+    uint8_t *pages = mmap(NULL, 2 * PAGES, PROT_READ | PROT_WRITE, way, -1, 0);
+    if (pages == MAP_FAILED || mprotect(pages + PAGES, PAGES, PROT_NONE) != 0)
         abort();
-    return pages + PAGE;
+    return pages + PAGES;
 }
 
 static uint8_t *ends[MOST_ARGUMENTS];
@@ -47,7 +47,7 @@ void close_trial(struct trial *trial)
     for (size_t i = 0; i < MOST_ARGUMENTS; i++) {
         free(trial->given[i].bytes);
         free(trial->wanted[i].bytes);
-        munmap(ends[i] - PAGE, 2 * PAGE);
+        munmap(ends[i] - PAGES, 2 * PAGES);
     }
 }
 

@@ -23,6 +23,8 @@ IN_PLACE = ("tdes_encrypt", "tdes_decrypt", "cbc_encrypt", "cbc_decrypt")
 WITHOUT_LENGTH = ("read_refusal", "read_reversal_reply")
 # The call that is told how many bytes it is to write, and by which argument.
 TOLD = {"unwrap_for": 2}
+# The calls over many terminals: how many bytes each has in what is read, and in what is written.
+OF_MANY = {"derive_many": (10, 16), "check_requests": (64, 1)}
 
 
 @dataclass(frozen=True)
@@ -71,6 +73,9 @@ def outputs(name: str, arguments: Sequence[Argument]) -> list[Argument]:
         before = kind
     if name in TOLD:
         made[-1] = made[-1][: arguments[TOLD[name]]]
+    if name in OF_MANY:
+        each, size = OF_MANY[name]
+        made[-1] = made[-1][: size * (len(arguments[1]) // each)]
     return made
 
 

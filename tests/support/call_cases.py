@@ -22,6 +22,8 @@ from .pin_blocks import PAN_LENGTHS, PIN_LENGTHS
 Argument = Union[bytes, int]
 # The room for a frame, and for a key block.
 FRAME_ROOM, BLOCK_ROOM = 64, 512
+# About as many terminals as the library works on at once.
+NEAR_GROUPS = (63, 64, 65, 127, 128, 129, 130)
 
 
 @dataclass(frozen=True)
@@ -108,6 +110,11 @@ class Chance:
     def keys(self, count: int) -> list[bytes]:
         return self.bytes(count, 16)
 
+    def group_sizes(self, count: int) -> list[int]:
+        """How many terminals each call has: mostly few, and some near one or two groups of them."""
+        return [self.chance.choice(NEAR_GROUPS) if self.chance.random() < 0.03
+                else self.chance.randrange(4) for _ in range(count)]
+
     def tdes_keys(self, count: int) -> list[bytes]:
         return self.bytes(count, 16, 24)
 
@@ -175,6 +182,19 @@ def derive(chance: Chance, count: int) -> Iterator[Drawn]:
     keys = many.transaction_keys(initials, serials)
     for base, serial, old, key in zip(bases, serials, olds, keys):
         yield [base, bytes_of(serial), old], 0, [key]
+
+
+@drawn("derive_many", "bbo")
+def derive_many(chance: Chance, count: int) -> Iterator[Drawn]:
+    sizes, bases = chance.group_sizes(count), chance.keys(count)
+    serials = chance.serials(sum(sizes))
+    each = [base for base, size in zip(bases, sizes) for _ in range(size)]
+    keys = many.transaction_keys(many.initial_keys(each, list(map(iksn_of, serials))), serials)
+    made = iter(zip(serials, keys))
+    for base, size in zip(bases, sizes):
+        these = [next(made) for _ in range(size)]
+        ksns = b"".join(bytes_of(serial) for serial, _ in these)
+        yield [base, ksns, chance.chance.randbytes(16 * size)], 0, [b"".join(it for _, it in these)]
 
 
 @drawn("derive_from_initial", "bbo")

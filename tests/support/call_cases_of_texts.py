@@ -5,6 +5,7 @@ from typing import Callable, Iterator, Sequence
 
 from . import many
 from .call_cases import FRAME_ROOM, Argument, Chance, Drawn, drawn
+from .dukpt import counter_of, iksn_of, usable
 from .frames import CODES, REASONS, bytes_of, write_refusal
 from .library_calls import STATUS
 from .pin_blocks import pin_block, pin_in
@@ -108,6 +109,35 @@ def of_request(chance: Chance, count: int) -> Iterator[Drawn]:
 def check_request(chance: Chance, count: int) -> Iterator[Drawn]:
     for key, *_, frame in requests(chance, count):
         yield [key, frame], 0, []
+
+
+@drawn("check_requests", "bbo")
+def check_requests(chance: Chance, count: int) -> Iterator[Drawn]:
+    """One in eight numbers is any; one frame in twelve is no request's, and one has another MAC."""
+    sizes, bases = chance.group_sizes(count), chance.keys(count)
+    each = [base for base, size in zip(bases, sizes) for _ in range(size)]
+    pairs = zip(chance.usables(len(each)), chance.serials(len(each)))
+    serials = [one if chance.chance.random() < 0.875 else other for one, other in pairs]
+    keys = many.transaction_keys(many.initial_keys(each, list(map(iksn_of, serials))), serials)
+    frames = many.requests(keys, serials, chance.pans(len(each)), chance.pins(len(each)),
+                           chance.numbers(len(each)))
+    told = iter([told_of(chance, serial, frame) for serial, frame in zip(serials, frames)])
+    for base, size in zip(bases, sizes):
+        these = [next(told) for _ in range(size)]
+        places = b"".join(place for place, _ in these)
+        old = chance.chance.randbytes(size)
+        yield [base, places, old], 0, [bytes(result for _, result in these)]
+
+
+def told_of(chance: Chance, serial: int, frame: bytes) -> tuple[bytes, int]:
+    """The 64 bytes of a frame, which is perhaps another one, and what is told of it."""
+    way = chance.chance.randrange(12)
+    result = 0 if usable(counter_of(serial)) else STATUS["NotUsable"]
+    if way == 0:
+        frame, result = frame[:3] + b"\2" + frame[4:], STATUS["NotARequest"]
+    if way == 1:
+        frame, result = frame[:-1] + bytes([frame[-1] ^ 1]), result or STATUS["BadMac"]
+    return frame + chance.chance.randbytes(FRAME_ROOM - len(frame)), result
 
 
 @drawn("request_pin", "bboc")

@@ -95,7 +95,7 @@ def build() -> None:
 PROGRAMS = ROOT / "tests" / "library"
 OVER_OPENSSL = ROOT / "bench" / "openssl"
 OBJECTS = ROOT / "out" / "library-tests"
-MAINS = ("random", "lengths", "lines", "stack", "secrets")
+MAINS = ("random", "lengths", "lines", "stack", "secrets", "many")
 STRICT = ("-Wall", "-Wextra", "-Wpedantic", "-Werror")
 PLAIN = ("-O2",)
 SANITIZED = ("-O1", "-g", "-fsanitize=address,undefined", "-fno-sanitize-recover=all")

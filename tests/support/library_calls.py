@@ -16,13 +16,13 @@ from .library_blocks import (
     write_optional_content, write_unwrapped, write_unwrapped_for, write_wrapped, write_wrapped_with)
 from .library_frames import (
     check_reply, check_request, write_frame_length, write_refusal, write_refusal_parts, write_reply,
-    write_reply_parts, write_request, write_request_parts, write_request_pin)
+    write_reply_parts, write_request, write_request_parts, write_request_pin, write_verdicts)
 from .library_reversals import (
     check_reversal, check_reversal_reply, write_reversal, write_reversal_parts,
     write_reversal_reply, write_reversal_reply_parts)
 from .library_values import (
     BLOCK, FAULTS, IMAGE, KEY, KSN, STATUS, TDES_KEYS, Fault, Value, demand, found_pin, number,
-    octets, pan_of, pin_of, roomy, sized)
+    octets, pan_of, parts, pin_of, roomy, sized)
 from .macs import cmac, retail_mac
 from .pin_blocks import PIN_LENGTHS, pin_block
 
@@ -76,6 +76,13 @@ def write_derived(bdk: bytes, ksn: bytes, key: bytes) -> Sequence[Value]:
     sized((bdk, KEY), (ksn, KSN))
     roomy((key, KEY))
     return [derive(bdk, number(ksn))]
+
+
+def write_derived_many(bdk: bytes, ksns: bytes, keys: bytes) -> Sequence[Value]:
+    sized((bdk, KEY))
+    demand(len(ksns) % KSN == 0)
+    roomy((keys, KEY * (len(ksns) // KSN)))
+    return [b"".join(derive(bdk, number(ksn)) for ksn in parts(ksns, KSN))]
 
 
 def write_derived_from_initial(initial: bytes, ksn: bytes, key: bytes) -> Sequence[Value]:
@@ -229,6 +236,7 @@ def takes(letters: str, written: Callable[..., Sequence[Value]]) -> Call:
 CALLS: dict[str, Call] = {
     "dukpt_initial_key": takes("bbw", write_initial_key),
     "dukpt_derive": takes("bbw", write_derived),
+    "dukpt_derive_many": takes("bbw", write_derived_many),
     "dukpt_derive_from_initial": takes("bbw", write_derived_from_initial),
     "dukpt_pin_key": takes("bw", variant_by(pin_key)),
     "dukpt_request_key": takes("bw", variant_by(request_key)),
@@ -260,6 +268,7 @@ CALLS: dict[str, Call] = {
     "dukpt_payment_request": takes("bbbbnwc", write_request),
     "dukpt_read_request": takes("bwwccww", write_request_parts),
     "dukpt_check_request": takes("bb", check_request),
+    "dukpt_check_requests": takes("bbw", write_verdicts),
     "dukpt_request_pin": takes("bbwc", write_request_pin),
     "dukpt_request_reply": takes("bbbwc", write_reply),
     "dukpt_request_refusal": takes("bnwc", write_refusal),

@@ -5,10 +5,10 @@ from typing import Sequence
 
 from . import frames
 from .des import decrypt_block
-from .dukpt import pin_key, request_key, response_key
+from .dukpt import counter_of, derive, pin_key, request_key, response_key, usable
 from .library_values import (
-    BLOCK, KEY, KSN, ROOM, Fault, Value, demand, found_pin, number, octets, pan_of, pin_of, roomy,
-    sized)
+    BLOCK, KEY, KSN, ROOM, STATUS, Fault, Value, demand, found_pin, number, octets, pan_of, parts,
+    pin_of, roomy, sized)
 from .macs import retail_mac
 from .pin_blocks import PAN_LENGTHS, PIN_LENGTHS
 
@@ -44,6 +44,29 @@ def check_request(key: bytes, frame: bytes) -> Sequence[Value]:
     request = request_in(frame)
     demand(retail_mac(request_key(key), request.text) == request.mac, "BadMac")
     return []
+
+
+def check_own(bdk: bytes, frame: bytes) -> None:
+    """That a frame is a request, with its MAC under the transaction key of its own number."""
+    request = request_in(frame)
+    demand(usable(counter_of(request.serial)), "NotUsable")
+    check_request(derive(bdk, request.serial), frame)
+
+
+def verdict(bdk: bytes, place: bytes) -> int:
+    """What is told of the frame at the begin of 64 bytes."""
+    try:
+        check_own(bdk, place[: 2 + number(place[:2])])
+    except Fault as why:
+        return STATUS[str(why)]
+    return 0
+
+
+def write_verdicts(bdk: bytes, places: bytes, results: bytes) -> Sequence[Value]:
+    sized((bdk, KEY))
+    demand(len(places) % ROOM == 0)
+    roomy((results, len(places) // ROOM))
+    return [bytes(verdict(bdk, place) for place in parts(places, ROOM))]
 
 
 def write_request_pin(key: bytes, frame: bytes, pin: bytes, _: int) -> Sequence[Value]:

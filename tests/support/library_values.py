@@ -41,6 +41,11 @@ def roomy(*pairs: tuple[bytes, int]) -> None:
     demand(all(len(it) >= size for it, size in pairs))
 
 
+def parts(data: bytes, size: int) -> list[bytes]:
+    """Bytes in parts of one size; the last one may be shorter."""
+    return [data[at : at + size] for at in range(0, len(data), size)]
+
+
 def number(data: bytes) -> int:
     return int.from_bytes(data, "big")
 

@@ -17,7 +17,7 @@ from ._blocks import KeyBlock, unwrap, unwrap_for, unwrap_optional, wrap, wrap_w
 from ._ciphers import cbc_decrypt, cbc_encrypt, tdes_decrypt, tdes_encrypt
 from ._frames import frame_length
 from ._keys import (
-    derive, derive_from_initial, initial_key, pin_key, request_data_key, request_key,
+    derive, derive_from_initial, derive_many, initial_key, pin_key, request_data_key, request_key,
     response_data_key, response_key)
 from ._library import version
 from ._macs import check_value, cmac, cmac_check_value, retail_mac
@@ -27,7 +27,8 @@ from ._registers import (
     Taken, registers_at, registers_load, registers_next, registers_number, registers_reload)
 from ._replies import (
     Refusal, Reply, check_reply, read_refusal, read_reply, request_refusal, request_reply)
-from ._requests import Request, check_request, payment_request, read_request, request_pin
+from ._requests import (
+    Request, check_request, check_requests, payment_request, read_request, request_pin)
 from ._reversals import (
     NONE_STANDS, UNDONE, Reversal, ReversalReply, check_reversal, check_reversal_reply,
     read_reversal, read_reversal_reply, reversal_reply, reversal_request)
@@ -39,13 +40,14 @@ from .faults import DukptError
 __all__ = [
     "DukptError", "KeyBlock", "NONE_STANDS", "Refusal", "Reply", "Request", "Reversal",
     "ReversalReply", "Secret", "Taken", "Terminal", "Transaction", "UNDONE", "__version__",
-    "cbc_decrypt", "cbc_encrypt", "check_reply", "check_request", "check_reversal",
-    "check_reversal_reply", "check_usable", "check_value", "cmac", "cmac_check_value", "derive",
-    "derive_from_initial", "faults", "frame_length", "initial_key", "next_number",
-    "payment_request", "pin_block", "pin_key", "pin_of_block", "read_refusal", "read_reply",
-    "read_request", "read_reversal", "read_reversal_reply", "registers_at", "registers_load",
-    "registers_next", "registers_number", "registers_reload", "request_data_key", "request_key",
-    "request_pin", "request_refusal", "request_reply", "response_data_key", "response_key",
-    "retail_mac", "reversal_reply", "reversal_request", "tdes_decrypt", "tdes_encrypt", "unwrap",
-    "unwrap_for", "unwrap_optional", "version", "wrap", "wrap_with",
+    "cbc_decrypt", "cbc_encrypt", "check_reply", "check_request", "check_requests",
+    "check_reversal", "check_reversal_reply", "check_usable", "check_value", "cmac",
+    "cmac_check_value", "derive", "derive_from_initial", "derive_many", "faults", "frame_length",
+    "initial_key", "next_number", "payment_request", "pin_block", "pin_key", "pin_of_block",
+    "read_refusal", "read_reply", "read_request", "read_reversal", "read_reversal_reply",
+    "registers_at", "registers_load", "registers_next", "registers_number", "registers_reload",
+    "request_data_key", "request_key", "request_pin", "request_refusal", "request_reply",
+    "response_data_key", "response_key", "retail_mac", "reversal_reply", "reversal_request",
+    "tdes_decrypt", "tdes_encrypt", "unwrap", "unwrap_for", "unwrap_optional", "version", "wrap",
+    "wrap_with",
 ]

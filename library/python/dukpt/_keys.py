@@ -1,7 +1,9 @@
 """The keys of the key tree (ANSI X9.24-1:2009 annex A)."""
 from __future__ import annotations
 
-from ._library import Data, call, room
+from typing import Iterable
+
+from ._library import Data, call, joined, parts, room
 from ._values import Secret
 
 
@@ -33,6 +35,23 @@ def derive(bdk: Data, ksn: Data) -> Secret:
     key = room(16)
     call("dukpt_derive", bdk=bdk, ksn=ksn, key=key)
     return Secret(key.raw)
+
+
+def derive_many(bdk: Data, ksns: Iterable[Data]) -> list[Secret]:
+    """The transaction keys (16 bytes each) of key serial numbers (10 each) under one base derivation
+    key (16), in their order. They are those of `derive`, and many are made in less time.
+
+    Raises `Length`.
+
+    >>> bdk = bytes.fromhex("0123456789ABCDEFFEDCBA9876543210")
+    >>> ksns = [bytes.fromhex(f"FFFF9876543210E0000{number}") for number in (1, 2)]
+    >>> [key.hex().upper() for key in derive_many(bdk, ksns)]
+    ['042666B49184CFA368DE9628D0397BC9', 'C46551CEF9FD24B0AA9AD834130D3BC7']
+    """
+    held = joined("ksns", ksns, 10)
+    keys = room(16 * (len(held) // 10))
+    call("dukpt_derive_many", bdk=bdk, ksns=held, keys=keys)
+    return [Secret(key) for key in parts(keys, 16)]
 
 
 def derive_from_initial(initial: Data, ksn: Data) -> Secret:

@@ -4,7 +4,7 @@ from __future__ import annotations
 import ctypes
 import os
 from pathlib import Path
-from typing import Final, Iterator, Union
+from typing import Final, Iterable, Iterator, Union
 
 from ._exports import EXPORTS, Kind
 from ._version import demand_version, version_text
@@ -108,6 +108,20 @@ def as_bytes(name: str, value: object) -> bytes:
         return memoryview(value).tobytes()  # type: ignore[arg-type]
     except TypeError:
         raise TypeError(f"{name} is to be bytes, and not {type(value).__name__}") from None
+
+
+def joined(name: str, values: Iterable[Data], size: int) -> bytes:
+    """Values of one size, one after the other. It raises Length where one has another."""
+    held = [as_bytes(f"{name}[{at}]", value) for at, value in enumerate(values)]
+    for at, value in enumerate(held):
+        if len(value) != size:
+            raise Length(f"{name}[{at}] has {len(value)}")
+    return b"".join(held)
+
+
+def parts(buffer: Buffer, size: int) -> list[bytes]:
+    """What a call wrote, in parts of one size."""
+    return [buffer.raw[at : at + size] for at in range(0, len(buffer), size)]
 
 
 def as_number(name: str, value: object) -> int:

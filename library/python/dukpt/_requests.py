@@ -2,10 +2,11 @@
 from __future__ import annotations
 
 from ctypes import c_uint32
-from typing import NamedTuple
+from typing import Iterable, NamedTuple, Optional
 
-from ._library import Data, call, filled, room
+from ._library import Data, as_bytes, call, fault_of, filled, room
 from ._values import Secret, shown
+from .faults import DukptError
 
 
 class Request(NamedTuple):
@@ -69,6 +70,33 @@ def check_request(key: Data, frame: Data) -> None:
     >>> check_request(bytes.fromhex("042666B49184CFA368DE9628D0397BC9"), frame)
     """
     call("dukpt_check_request", key=key, frame=frame)
+
+
+def check_requests(bdk: Data, frames: Iterable[Data]) -> list[Optional[DukptError]]:
+    """Tests that frames are requests, each with the MAC of its bytes under the transaction key of its
+    own key serial number, which is derived of the base derivation key (16 bytes). For each frame it
+    gives None, or the first of its faults: `NotARequest`, `NotUsable`, `BadMac`. Many are tested in
+    less time than by `derive` and `check_request`.
+
+    Raises `Length`.
+
+    >>> frame = bytes.fromhex("002E0101FFFF9876543210E000010D34303132333435363738393039"
+    ...                       "000000011B9C1845EB993A7AA05619896B683F13")
+    >>> bdk = bytes.fromhex("0123456789ABCDEFFEDCBA9876543210")
+    >>> check_requests(bdk, [frame, frame[:-1] + b"\\0", b""])
+    [None, BadMac(), NotARequest()]
+    """
+    places = b"".join(place_of(as_bytes(f"frames[{at}]", it)) for at, it in enumerate(frames))
+    results = room(len(places) // 64)
+    call("dukpt_check_requests", bdk=bdk, frames=places, results=results)
+    return [fault_of(status) if status else None for status in results.raw]
+
+
+def place_of(frame: bytes) -> bytes:
+    """A frame as it stands in 64 bytes. One that has not the length which it says is no request's,
+    as zeros are not."""
+    is_whole = 2 <= len(frame) <= 64 and len(frame) == 2 + int.from_bytes(frame[:2], "big")
+    return frame.ljust(64, b"\0") if is_whole else bytes(64)
 
 
 def request_pin(key: Data, frame: Data) -> Secret:

@@ -1,7 +1,11 @@
 //! The keys of the key tree, and the variants of a transaction key (ANSI X9.24-1:2009 annex A).
 
 use crate::fault::{done, sure, Fault};
+use crate::wipe::Wiped;
 use crate::{calls, Key, Ksn};
+
+/// How many numbers are given to a call at once, out of arrays of their bytes.
+const GROUP: usize = 128;
 
 /// The initial key of an initial key serial number, under the base derivation key.
 ///
@@ -36,6 +40,42 @@ fn made(call: impl FnOnce(&mut [u8]) -> u32) -> Key {
 /// The example of the crate shows it.
 pub fn derive(bdk: &Key, ksn: &Ksn) -> Key {
     made(|key| calls::derive(bdk.as_bytes(), ksn.as_bytes(), key))
+}
+
+/// Writes the transaction keys of key serial numbers, under one base derivation key, in the front
+/// of a slice with room for as many. They are those of [`derive`], and many are made in less time.
+///
+/// Refused with `Length`, where the slice is shorter.
+///
+/// ```
+/// use dukpt::{Key, Ksn};
+///
+/// let bdk = Key::new(*b"\x01\x23\x45\x67\x89\xAB\xCD\xEF\xFE\xDC\xBA\x98\x76\x54\x32\x10");
+/// let ksns = [1, 2].map(|n| Ksn::new([0xFF, 0xFF, 0x98, 0x76, 0x54, 0x32, 0x10, 0xE0, 0x00, n]));
+/// let mut keys = [Key::new([0; 16]), Key::new([0; 16])];
+/// dukpt::derive_many(&bdk, &ksns, &mut keys)?;
+/// assert_eq!(keys, ksns.map(|ksn| dukpt::derive(&bdk, &ksn)));
+/// # Ok::<(), dukpt::Fault>(())
+/// ```
+pub fn derive_many(bdk: &Key, ksns: &[Ksn], keys: &mut [Key]) -> Result<(), Fault> {
+    let keys = keys.get_mut(..ksns.len()).ok_or(Fault::Length)?;
+    for (ksns, keys) in ksns.chunks(GROUP).zip(keys.chunks_mut(GROUP)) {
+        derive_group(bdk, ksns, keys);
+    }
+    Ok(())
+}
+
+/// Writes the transaction keys of at most a group of key serial numbers.
+fn derive_group(bdk: &Key, ksns: &[Ksn], keys: &mut [Key]) {
+    let (mut numbers, mut made) = ([0; 10 * GROUP], Wiped([0; 16 * GROUP]));
+    for (place, ksn) in numbers.chunks_exact_mut(10).zip(ksns) {
+        place.copy_from_slice(ksn.as_bytes());
+    }
+    let made = &mut made.0[..16 * ksns.len()];
+    sure(calls::derive_many(bdk.as_bytes(), &numbers[..10 * ksns.len()], made));
+    for (key, bytes) in keys.iter_mut().zip(made.chunks_exact(16)) {
+        key.as_bytes_mut().copy_from_slice(bytes);
+    }
 }
 
 /// The transaction key of a key serial number, under the initial key of its terminal. The counter

@@ -54,7 +54,7 @@ pub use fault::Fault;
 pub use frames::{frame_length, Frame};
 pub use key::Key;
 pub use keys::{
-    derive, derive_from_initial, initial_key, pin_key, request_data_key, request_key,
+    derive, derive_from_initial, derive_many, initial_key, pin_key, request_data_key, request_key,
     response_data_key, response_key,
 };
 pub use ksn::Ksn;
@@ -67,7 +67,9 @@ pub use registers::{
 pub use replies::{
     check_reply, read_refusal, read_reply, request_refusal, request_reply, Refusal, Reply,
 };
-pub use requests::{check_request, payment_request, read_request, request_pin, Request};
+pub use requests::{
+    check_request, check_requests, payment_request, read_request, request_pin, Request,
+};
 pub use reversals::{
     check_reversal, check_reversal_reply, read_reversal, read_reversal_reply, reversal_reply,
     reversal_request, Reversal, ReversalReply, ReversalState,

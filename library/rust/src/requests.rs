@@ -1,10 +1,13 @@
 //! Request frames (docs/FORMATS.md).
 
 use crate::bytes::Bytes;
-use crate::fault::{done, Fault};
+use crate::fault::{done, sure, Fault};
 use crate::secret::Secret;
 use crate::{calls, Frame, Key, Ksn, Pan, Pin};
 use core::fmt;
+
+/// How many frames are given to a call at once, out of an array of 64 bytes for each.
+const GROUP: usize = 128;
 
 /// The fields of a request. `Debug` tells number and amount.
 #[derive(Clone, Copy, PartialEq, Eq)]
@@ -77,6 +80,67 @@ pub fn read_request(frame: &[u8]) -> Result<Request, Fault> {
 /// Refused with `NotARequest`, then `BadMac`.
 pub fn check_request(key: &Key, frame: &[u8]) -> Result<(), Fault> {
     done(calls::check_request(key.as_bytes(), frame))
+}
+
+/// Tests that frames are requests, each with the MAC of its bytes under the transaction key of its
+/// own key serial number, which is derived of the base derivation key. What is told of them goes in
+/// the front of a slice with room for as many: that a frame is right, or the first of its faults,
+/// `NotARequest`, `NotUsable` or `BadMac`. Many are tested in less time than by [`derive`] and
+/// [`check_request`].
+///
+/// Refused with `Length`, where the slice is shorter.
+///
+/// ```
+/// use dukpt::{Fault, Key, Ksn};
+///
+/// let bdk = Key::new(*b"\x01\x23\x45\x67\x89\xAB\xCD\xEF\xFE\xDC\xBA\x98\x76\x54\x32\x10");
+/// let ksn = Ksn::new(*b"\xFF\xFF\x98\x76\x54\x32\x10\xE0\x00\x01");
+/// let key = dukpt::derive(&bdk, &ksn);
+/// let frame = dukpt::payment_request(&key, &ksn, b"4012345678909", b"1234", 1)?;
+/// let mut results = [Ok(()); 2];
+/// dukpt::check_requests(&bdk, &[&frame[..], &frame[1..]], &mut results)?;
+/// assert_eq!(results, [Ok(()), Err(Fault::NotARequest)]);
+/// # Ok::<(), dukpt::Fault>(())
+/// ```
+///
+/// [`derive`]: crate::derive
+pub fn check_requests<F: AsRef<[u8]>>(
+    bdk: &Key,
+    frames: &[F],
+    results: &mut [Result<(), Fault>],
+) -> Result<(), Fault> {
+    let results = results.get_mut(..frames.len()).ok_or(Fault::Length)?;
+    for (frames, results) in frames.chunks(GROUP).zip(results.chunks_mut(GROUP)) {
+        check_group(bdk, frames, results);
+    }
+    Ok(())
+}
+
+/// Tests at most a group of frames. One that has not the length which it says stands as zeros,
+/// which are no request's.
+fn check_group<F: AsRef<[u8]>>(bdk: &Key, frames: &[F], results: &mut [Result<(), Fault>]) {
+    let (mut places, mut told) = ([0; 64 * GROUP], [0; GROUP]);
+    for (place, frame) in places.chunks_exact_mut(64).zip(frames) {
+        let frame = frame.as_ref();
+        if is_whole(frame) {
+            place[..frame.len()].copy_from_slice(frame);
+        }
+    }
+    let told = &mut told[..frames.len()];
+    sure(calls::check_requests(bdk.as_bytes(), &places[..64 * frames.len()], told));
+    for (result, status) in results.iter_mut().zip(told) {
+        *result = done(u32::from(*status));
+    }
+}
+
+/// Whether bytes are a frame of at most 64 bytes with the length that it says.
+fn is_whole(frame: &[u8]) -> bool {
+    match *frame {
+        [high, low, ..] => {
+            frame.len() <= 64 && frame.len() == 2 + usize::from(u16::from_be_bytes([high, low]))
+        }
+        _ => false,
+    }
 }
 
 /// The PIN of a request's frame under the transaction key. The MAC is not compared:

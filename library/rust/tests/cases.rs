@@ -50,6 +50,37 @@ fn keys(name: &str, given: &[Vec<u8>]) -> Answer {
     Ok(one(made.as_bytes()))
 }
 
+/// Bytes in parts of one size. Others cannot be given to a call over a list, and are refused in its
+/// place.
+fn parts(bytes: &[u8], size: usize) -> Result<Vec<&[u8]>, Fault> {
+    if bytes.len() % size == 0 {
+        Ok(bytes.chunks(size).collect())
+    } else {
+        Err(Fault::Length)
+    }
+}
+
+fn many(name: &str, given: &[Vec<u8>]) -> Answer {
+    let bdk = key_in(&given[0])?;
+    if name == "derive_many" {
+        let ksns = parts(&given[1], 10)?.into_iter().map(ksn_in).collect::<Result<Vec<_>, _>>()?;
+        let mut keys = vec![Key::new([0; 16]); ksns.len()];
+        derive_many(&bdk, &ksns, &mut keys)?;
+        return Ok(one(&keys.iter().flat_map(|key| *key.as_bytes()).collect::<Vec<_>>()));
+    }
+    let frames: Vec<_> = parts(&given[1], 64)?.into_iter().map(front_frame).collect();
+    let mut results = vec![Ok(()); frames.len()];
+    check_requests(&bdk, &frames, &mut results)?;
+    let number = |result: Result<(), Fault>| result.err().map_or(0, |fault| fault.number() as u8);
+    Ok(one(&results.into_iter().map(number).collect::<Vec<_>>()))
+}
+
+/// The frame at the begin of 64 bytes, or all of them where it would be longer.
+fn front_frame(place: &[u8]) -> &[u8] {
+    let end = 2 + usize::from(u16::from_be_bytes([place[0], place[1]]));
+    place.get(..end).unwrap_or(place)
+}
+
 fn ciphers(name: &str, given: &[Vec<u8>]) -> Answer {
     let key = TdesKey::try_from(&given[0][..])?;
     let mut bytes = given.last().cloned().unwrap_or_default();
@@ -192,6 +223,7 @@ fn answer(name: &str, given: &[Vec<u8>]) -> Answer {
         | "response_key"
         | "request_data_key"
         | "response_data_key" => keys(name, given),
+        "derive_many" | "check_requests" => many(name, given),
         "check_usable" => check_usable(&ksn_in(&given[0])?).map(|()| vec![]),
         "next_number" => next_number(&ksn_in(&given[0])?).map(of_ksn),
         "check_value" | "cmac_check_value" | "cmac" | "tdes_encrypt" | "tdes_decrypt"
