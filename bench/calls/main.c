@@ -7,6 +7,7 @@
 #include <string.h>
 
 /* The sample keys of ANSI X9.24-1, and the sample key block of ANSI X9.143 with its protection key. */
+static const char BASE_KEY[] = "0123456789ABCDEFFEDCBA9876543210";
 static const char INITIAL_KEY[] = "6AC292FAA1315B4D858AB3A3D7D5933A";
 static const char IKSN[] = "FFFF9876543210E00000";
 static const char TRANSACTION_KEY[] = "042666B49184CFA368DE9628D0397BC9";
@@ -18,6 +19,8 @@ static const char KEY_BLOCK[] =
 static const char REQUEST[] =
     "0101FFFF9876543210E000010D34303132333435363738393039000000011B9C1845EB993A7A";
 enum { REQUEST_BYTES = (sizeof REQUEST - 1) / 2 };
+/* How many keys are derived in a call, and how many requests are checked in one. */
+enum { DERIVED = 10000, CHECKED = 1000 };
 
 /* Each enciphered block is the right half of the next key. */
 static void repeat_pin(long count)
@@ -71,12 +74,60 @@ static void repeat_take(long count)
     fwrite(image, 1, IMAGE, stdout);
 }
 
+/* Keys of numbers at random, many in a call. */
+static void repeat_derive_many(long count)
+{
+    static uint8_t ksns[DERIVED * SERIAL], keys[DERIVED * KEY];
+    uint64_t state = RANDOM;
+    uint8_t bdk[KEY];
+    read_hex(BASE_KEY, bdk, KEY);
+    for (; count > 0; count -= DERIVED) {
+        long numbers = count < DERIVED ? count : DERIVED;
+        draw_serials(&state, ksns, numbers);
+        derive_many(bdk, ksns, numbers, keys);
+        fwrite(keys, KEY, (size_t)numbers, stdout);
+    }
+}
+
+/* Puts the request of a number in its place, with the MAC under its transaction key. */
+static void put_request(const uint8_t bdk[KEY], const uint8_t ksn[SERIAL], uint8_t frame[PLACE])
+{
+    uint8_t key[KEY];
+    frame[0] = 0;
+    frame[1] = REQUEST_BYTES + BLOCK;
+    read_hex(REQUEST, frame + 2, REQUEST_BYTES);
+    memcpy(frame + 4, ksn, SERIAL);
+    derive(bdk, ksn, key);
+    key[6] ^= 0xFF;
+    key[BLOCK + 6] ^= 0xFF;
+    retail(key, frame + 2, REQUEST_BYTES, frame + 2 + REQUEST_BYTES);
+}
+
+/* Requests of numbers at random, many in a call. Before each call one more gets another MAC. */
+static void repeat_check(long count)
+{
+    static uint8_t ksns[CHECKED * SERIAL], frames[CHECKED * PLACE], results[CHECKED];
+    uint64_t state = RANDOM;
+    uint8_t bdk[KEY];
+    read_hex(BASE_KEY, bdk, KEY);
+    draw_serials(&state, ksns, CHECKED);
+    for (long i = 0; i < CHECKED; i++)
+        put_request(bdk, ksns + SERIAL * i, frames + PLACE * i);
+    for (long at = 0; count > 0; count -= CHECKED, at++) {
+        long requests = count < CHECKED ? count : CHECKED;
+        frames[PLACE * (at % CHECKED) + REQUEST_BYTES + 2] ^= 1;
+        check_requests(bdk, frames, requests, results);
+        fwrite(results, 1, (size_t)requests, stdout);
+    }
+}
+
 static const struct {
     const char *name;
     void (*repeat)(long count);
 } works[] = {
     {"derive", derive_at_random}, {"pin", repeat_pin},   {"mac", repeat_mac},
     {"unwrap", repeat_unwrap},    {"take", repeat_take},
+    {"derive-many", repeat_derive_many}, {"check", repeat_check},
 };
 
 int main(int words, char **word)
@@ -87,6 +138,6 @@ int main(int words, char **word)
             return fflush(stdout) == 0 ? 0 : 1;
         }
     }
-    fputs("usage: derive|pin|mac|unwrap|take COUNT\n", stderr);
+    fputs("usage: derive|pin|mac|unwrap|take|derive-many|check COUNT\n", stderr);
     return 2;
 }

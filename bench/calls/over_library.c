@@ -21,6 +21,17 @@ void derive(const uint8_t bdk[KEY], const uint8_t ksn[SERIAL], uint8_t key[KEY])
     demand(dukpt_derive(bdk, KEY, ksn, SERIAL, key, KEY));
 }
 
+void derive_many(const uint8_t bdk[KEY], const uint8_t *ksns, long count, uint8_t *keys)
+{
+    size_t numbers = (size_t)count;
+    demand(dukpt_derive_many(bdk, KEY, ksns, SERIAL * numbers, keys, KEY * numbers));
+}
+
+void check_requests(const uint8_t bdk[KEY], const uint8_t *frames, long count, uint8_t *results)
+{
+    demand(dukpt_check_requests(bdk, KEY, frames, PLACE * (size_t)count, results, (size_t)count));
+}
+
 void encipher_pin(const uint8_t key[KEY], const char *pin, const char *pan, uint8_t block[BLOCK])
 {
     uint8_t pin_key[KEY];

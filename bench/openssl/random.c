@@ -33,10 +33,16 @@ static void next_serial(uint64_t *state, uint8_t ksn[SERIAL])
         ksn[2 + i] = (uint8_t)(number >> (56 - 8 * i));
 }
 
+void draw_serials(uint64_t *state, uint8_t *ksns, long count)
+{
+    for (; count > 0; count--, ksns += SERIAL)
+        next_serial(state, ksns);
+}
+
 void derive_at_random(long count)
 {
     uint8_t bdk[KEY], ksn[SERIAL], key[KEY];
-    uint64_t state = 88172645463325252u;
+    uint64_t state = RANDOM;
     read_hex("0123456789ABCDEFFEDCBA9876543210", bdk, KEY);
     while (count-- > 0) {
         next_serial(&state, ksn);

@@ -6,7 +6,7 @@
 #include <stddef.h>
 #include <stdint.h>
 
-enum { BLOCK = 8, KEY = 16, SERIAL = 10, IMAGE = 431, FIELDS = 7, MOST_PIN = 12 };
+enum { BLOCK = 8, KEY = 16, SERIAL = 10, IMAGE = 431, FIELDS = 7, MOST_PIN = 12, PLACE = 64 };
 
 /* tree.c: keys of the key tree. */
 void walk(const uint8_t bdk[KEY], const uint8_t iksn[SERIAL], long count);
@@ -44,8 +44,17 @@ void encipher_pin(const uint8_t key[KEY], const char *pin, const char *pan, uint
 /* blocks.c: fields and key of a key block whose key has 16 bytes. Another text ends the program. */
 void unwrap(const uint8_t kbpk[KEY], const char *text, uint8_t fields[FIELDS], uint8_t key[KEY]);
 
-/* random.c: transaction keys of key serial numbers at random, the same ones in each run. */
+/* random.c: transaction keys of key serial numbers at random, the same ones in each run, and such
+   numbers, after a state that begins as RANDOM. */
+#define RANDOM UINT64_C(88172645463325252)
 void derive_at_random(long count);
+void draw_serials(uint64_t *state, uint8_t *ksns, long count);
+
+/* lists.c: the keys of numbers that stand one after the other, and for each frame at the begin of 64
+   bytes 0 where it is a request with its MAC, and else 21, 3 or 27: it is none, its number numbers no
+   transaction, it has another MAC. */
+void derive_many(const uint8_t bdk[KEY], const uint8_t *ksns, long count, uint8_t *keys);
+void check_requests(const uint8_t bdk[KEY], const uint8_t *frames, long count, uint8_t *results);
 
 /* serve.c: answers the requests of standard input over the journal in a file, and gives a status. */
 int serve(const char *path);
