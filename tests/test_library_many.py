@@ -1,4 +1,4 @@
-"""The library's calls over many terminals at once: each place of a group, and groups of each length.
+"""The library's calls over many terminals at once: each place of a group, groups of each length.
 
 Keys are compared with the standards' values, with the bench's own ciphers, and by a million with
 libcrypto.
@@ -14,7 +14,7 @@ from .support.call_cases import Argument, Chance, Drawn, derive_many
 from .support.call_cases_of_texts import check_requests
 from .support.dukpt import derive
 from .support.library import built_library, program
-from .support.library_values import KEY, KSN, ROOM, number, parts
+from .support.library_values import KEY, KSN, ROOM, STATUS, number, parts
 from .test_ciphers import BASE, vectors
 from .test_library_c import LibraryCase
 
@@ -94,7 +94,7 @@ class Groups(LibraryCase):
             other = place[:spot] + bytes([place[spot] ^ bit]) + place[spot + 1 :]
             told = self.call("dukpt_check_requests", bdk,
                              b"".join([*places[:at], other, *places[at + 1 :]]), MOST)
-            self.assertEqual(told, results[:at] + b"\x1b" + results[at + 1 :], at)
+            self.assertEqual(told, results[:at] + bytes([STATUS["BadMac"]]) + results[at + 1 :], at)
 
     def right_requests(self) -> tuple[bytes, list[bytes], bytes]:
         """Requests that are right, and what is told of them: nothing."""

@@ -288,7 +288,7 @@ def are_roomy(rows: Sequence[Row], sizes: Mapping[str, int]) -> bool:
 
 
 def right_sizes(rows: Sequence[Row]) -> dict[str, int]:
-    """A size of each slice that is right. Of parts there are as many as one has bytes: another length
+    """A right size of each slice. Of parts there are as many as one has bytes: another length
     of a part makes another number of them."""
     right: dict[str, int] = {}
     for argument, _, length, _ in rows:
