@@ -1,8 +1,8 @@
 """Times services on the file system of TMPDIR: `dukpt serve` over a log in memory, a log in a file and
-a journal, and the service of bench/openssl over a journal.
+a journal, the service of bench/openssl over a journal, and that of an earlier program where one is given.
 
 Each round makes a new log or journal for each service, and takes them in turn. What counts is the time
-of the whole process by the clock, and its processor time. All have to give the same answers, and both
+of the whole process by the clock, and its processor time. All have to give the same answers, and all
 journals the same bytes.
 
 Then the journal is paired with each other service over a file. Each request goes to both, and waits for
@@ -19,7 +19,7 @@ import time
 from dataclasses import dataclass, field
 from pathlib import Path
 from statistics import median
-from typing import Callable, Iterator, NamedTuple, Sequence
+from typing import Callable, Iterator, NamedTuple, Optional, Sequence
 
 from timing import ROOT
 
@@ -76,9 +76,13 @@ class Pair:
         return f"{1e6 * median(self.own):.0f} µs | {1e6 * median(self.journals):.0f} µs | {ratio:.2f}"
 
 
-def services(dukpt: str, peer: str, config: str, folder: str) -> list[Service]:
-    """The services, with their files in a folder."""
-    log, journal, other = (os.path.join(folder, name) for name in ("log", "journal", "other"))
+def services(
+    dukpt: str, peer: str, before: Optional[str], config: str, folder: str
+) -> list[Service]:
+    """The services, with their files in a folder. One of an earlier program is among them where that is
+    given."""
+    log, journal, other, old = (
+        os.path.join(folder, name) for name in ("log", "journal", "other", "before"))
 
     def make_log(count: int) -> None:
         with open(log, "wb") as it:
@@ -100,6 +104,8 @@ def services(dukpt: str, peer: str, config: str, folder: str) -> list[Service]:
         Service("log in a file", (*serve, "--log", log), log, make_log),
         Service(JOURNAL, (*serve, "--journal", journal), journal, maker(journal), True),
         Service("C over a journal", (peer, "serve", other), other, maker(other), True),
+        *([Service("journal, before", (before, "serve", config, "--journal", old), old, maker(old), True)]
+          if before else []),
     ]
 
 
@@ -161,10 +167,9 @@ def end(it: Service, process: subprocess.Popen) -> float:
 
 
 def show_services(
-    folder: str, dukpt: str, peer: str, config: str, requests: str, rounds: int, one_by_one: int
+    folder: str, found: Sequence[Service], requests: str, rounds: int, one_by_one: int
 ) -> None:
     answers = os.path.join(folder, "answers")
-    found = services(dukpt, peer, config, folder)
     whole, pairs = [[] for _ in found], pairs_of(found)
     some = Path(requests).read_bytes()[: one_by_one * REQUEST]
     for at in range(rounds):
