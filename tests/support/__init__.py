@@ -15,6 +15,7 @@
 | `cut_disk`, `user_files`, `cut_file` | a log on a file system in user space, whose power can be lost |
 | `small_files` | a file system that a few pages fill |
 | `lives`, `stand_in` | lives of a service on such a log, and their judge; what shows that it judges |
+| `addresses` | the addresses of two runs side by side, by valgrind |
 | `traced_files`, `copy_stand_in` | the calls on files, by strace; ways to copy a journal, right and wrong |
 | `driver`, `driver_keys` | the program `duk_driver`, and what it is asked |
 | `binding_cases`, `python_library`, `rust_library` | the packages over the library, and cases for them |
