@@ -3,7 +3,8 @@
 Two runs differ in their keys alone, and in the MACs and enciphered PIN blocks that come of these. Place by
 place the texts of their keys have both a digit or both a letter, and so can be read alike. A service is
 watched from its first read of requests on: before that it makes key blocks of its configuration's keys and
-opens them again, once, by tables.
+opens them again, once, by tables. Of `walk`, which prints keys, a digit that is written may be looked up
+in a table of the sixteen digits.
 """
 from __future__ import annotations
 
@@ -152,6 +153,11 @@ class Commands(ProgramCase):
         self.assertEqual([it.status for it in ended], [0, 0])
         self.tells(str(found))
         return found, [it.output.decode().splitlines() for it in ended] + lines
+
+    def test_walk(self) -> None:
+        found, lines = self.printed("walk", "@bdk", f"{IKSN:X}", str(NUMBERS))
+        self.assertEqual(lines[:2], lines[2:])
+        self.assertTrue(found.is_digits_alone, found)
 
     def test_tables_are_seen(self) -> None:
         found, lines = self.printed("derive", "@bdk", f"{IKSN + 1:X}")
