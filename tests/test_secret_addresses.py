@@ -30,8 +30,9 @@ from .support.service_case import stream_of, with_room
 # How many numbers a terminal walks, how many payments there are, and how many of them are reversed and how
 # many come again.
 NUMBERS, PAYMENTS, REVERSALS, REPEATS = 2_000, 160, 20, 20
-# How many requests and reversals have a wrong MAC. What is reversed then has this other bit in its counter.
-WRONG, ANOTHER = 16, 1 << 12
+# How many requests and reversals have a wrong MAC: of more groups than one, and where few are enough. What is
+# reversed then has this other bit in its counter.
+WRONG, FEW, ANOTHER = 150, 16, 1 << 12
 APPROVED, WRONG_MAC = "00", 4
 # The bytes of a MAC.
 MAC = 8
@@ -238,11 +239,18 @@ class Services(ProgramCase):
         found = self.served(ON_JOURNAL, (one, given_to(one, seed)), (other, given_to(other, seed)))
         self.assertIsNone(found.parted, found)
 
+    def test_groups(self) -> None:
+        """Where keys are derived, and MACs and PIN blocks made and compared, for frames in groups, no
+        address depends on a key: these frames have no reply, which has a MAC of its own."""
+        found = self.served(ON_JOURNAL, *((it, with_wrong_macs(it, MAC - 1, WRONG))
+                                          for it in banks(self.chance)))
+        self.assertTrue(found.is_nothing, found)
+
     def test_wrong_macs(self) -> None:
         """No comparison of MACs ends early: under the same key it is the same whether their first byte is
         wrong or their last."""
         bank = banks(self.chance)[0]
-        first, last = (with_wrong_macs(bank, place, WRONG) for place in (0, MAC - 1))
+        first, last = (with_wrong_macs(bank, place, FEW) for place in (0, MAC - 1))
         # Over a log there are no reversals.
         for words, step in ((ON_JOURNAL, 1), (IN_MEMORY, 2)):
             found = self.served(words, (bank, first[::step]), (bank, last[::step]))

@@ -44,15 +44,11 @@ class Symbols:
         demand("nm", "readelf")
         head = said("readelf", "--file-header", "--segments", "--wide", program.path)
         base = ANYWHERE if re.search(r"^\s*Type:\s+DYN", head, re.MULTILINE) else 0
-        found = {}
-        for line in said("nm", "--defined-only", program.path).splitlines():
-            place, kind, name = line.split(" ", 2)
-            if kind in "tTwW":
-                found[base + int(place, 16)] = name
-        self.places = sorted(found)
-        self.names = [found[it] for it in self.places]
-        main = self.places[self.names.index("main")]
-        self.main = re.compile(rb"^I  %08x," % main, re.MULTILINE)
+        lines = [line.split(" ", 2) for line in said("nm", "--defined-only", program.path).splitlines()]
+        found = [(base + int(place, 16), name) for place, kind, name in lines if kind in "tTwW"]
+        self.places, self.names = zip(*sorted(found))
+        self.main = re.compile(rb"^I  %08x," % dict((name, place) for place, name in found)["main"],
+                               re.MULTILINE)
         self.end, self.digits, data = 0, [], program.path.read_bytes()
         for line in re.findall(r"^\s*LOAD\s+(.*)$", head, re.MULTILINE):
             offset, place, _, size = (int(it, 16) for it in line.split()[:4])
