@@ -32,8 +32,10 @@ from .support.service_case import stream_of, with_room
 NUMBERS, PAYMENTS, REVERSALS, REPEATS = 2_000, 160, 20, 20
 # How many requests and reversals have a wrong MAC: of more groups than one, and where few are enough. What is
 # reversed then has this other bit in its counter.
-WRONG, FEW, ANOTHER = 150, 16, 1 << 12
+WRONG, FEW, ANOTHER = 70, 16, 1 << 12
 APPROVED, WRONG_MAC = "00", 4
+# The crates of the ciphers.
+CIPHERS = {"duk_des", "duk_tdes", "duk_mac"}
 # The bytes of a MAC.
 MAC = 8
 KEY = re.compile(rb'(?<=")[0-9A-F]{32}(?=")')
@@ -233,11 +235,14 @@ class Services(ProgramCase):
         return found
 
     def test_journal(self) -> None:
-        """No branch depends on a key, whatever comes."""
+        """Whatever comes, no branch depends on a key, and no address but one of a table of a cipher: those of
+        a reply's MAC, and of the PIN block under the zone key."""
         one, other = banks(self.chance)
         seed = self.chance.random()
         found = self.served(ON_JOURNAL, (one, given_to(one, seed)), (other, given_to(other, seed)))
         self.assertIsNone(found.parted, found)
+        self.assertFalse(found.digits, found)
+        self.assertLessEqual({name.partition("::")[0] for name in found.addresses}, CIPHERS, found)
 
     def test_groups(self) -> None:
         """Where keys are derived, and MACs and PIN blocks made and compared, for frames in groups, no
