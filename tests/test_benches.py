@@ -20,7 +20,7 @@ MEASURED = [
     "TDES-CBC over 1 MiB, enciphered", "TDES-CBC over 1 MiB, deciphered",
     "10", "100", "1,000",
     "100", "1,000",
-    "log in memory", "log in a file", "journal", "C over a journal",
+    "log in memory", "log in a file", "journal", "C over a journal", "journal, before",
 ]
 CALLS = [
     "derivation, `libdukpt.a`", "derivation, `libdukpt.so`", "PIN block, enciphered",
@@ -67,8 +67,9 @@ class Benches(Case):
         return done.stdout.splitlines()
 
     def test_measure(self) -> None:
-        found = self.lines_of("measure", "--short", "--rounds", "1", "--program", path_of("dukpt"),
-                              "--bench", path_of("duk_bench"))
+        dukpt = path_of("dukpt")
+        found = self.lines_of("measure", "--short", "--rounds", "1", "--program", dukpt,
+                              "--before-program", dukpt, "--bench", path_of("duk_bench"))
         self.assertEqual(rows(found), MEASURED)
 
     def test_library(self) -> None:
