@@ -1,1 +1,4 @@
+mod AskedNumbers
 mod KeySets
+mod NoDifference
+mod WrittenPlaces

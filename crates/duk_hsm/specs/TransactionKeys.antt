@@ -4,10 +4,18 @@ use Rattle.std.specs.Prelude.{◌≡◌, ℕ, List, Option}
 use Rattle.duk_tree.specs.Serial.{Serial}
 use Rattle.duk_hsm.specs.Keys.{HsmKeys}
 use Rattle.duk_hsm.specs.Commands.{IsTransactionKey}
+use Rattle.duk_hsm.specs.declared.known.Known.{Known}
 
--- what the commands of a transaction need: its key, and perhaps a zone key
+-- a transaction key, and perhaps a MAC and a deciphered PIN block that were made beforehand with it
+pub record Prepared : Type 0 where
+  pub key : List ℕ
+  pub known : Option Known
+
+-- what the commands of a transaction need: its key, what was made beforehand with it, and perhaps a
+-- zone key
 pub record TransactionKeys : Type 0 where
   pub key : List ℕ
+  pub known : Option Known
   pub zone : Option (List ℕ)
 
 -- a key serial number is opened under the held keys: with its transaction key and the zone key

@@ -1,9 +1,10 @@
--- What contracts see of the fields of a security module, and of a number that it opened: this
+-- What contracts see of the fields of a security module, and of numbers that it opened: this
 -- project's own.
 use Rattle.std.specs.Prelude.{◌≡◌, ℕ, Option}
 use Rattle.std.specs.Option.{option_map}
 use Rattle.duk_tdes.specs.KeyBytes.{bytes_of, key_from}
 use Rattle.duk_tdes.specs.declared.key.KeyBytes.{KeyBytes}
+use Rattle.duk_hsm.specs.declared.group.OpenedGroup.TheInside as group
 use Rattle.duk_hsm.specs.declared.hsm.Hsm.TheInside as hsm
 use Rattle.duk_hsm.specs.declared.transaction.Transaction.TheInside as transaction
 
@@ -17,3 +18,6 @@ HsmHasZone fields = HasItsLength fields.zone
 
 abbrev pub TransactionHasZone : transaction.Inside → Type 0
 TransactionHasZone fields = HasItsLength fields.zone
+
+abbrev pub GroupHasZone : group.Inside → Type 0
+GroupHasZone fields = HasItsLength fields.zone

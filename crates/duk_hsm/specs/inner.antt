@@ -1,2 +1,5 @@
 pub mod Keys
+pub mod Group
+pub mod Known
+pub mod ShortText
 pub mod TransactionKeys

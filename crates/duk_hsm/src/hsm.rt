@@ -1,17 +1,23 @@
 //! A host security module.
 
-ghost use Rattle.std.specs.Prelude.{◌≡◌, ◌↔◌, ◌<◌, None, [], IfOk, IfErr, IsOk, IsSome, IsTrue, length};
+ghost use Rattle.std.specs.Prelude.{◌≡◌, ◌↔◌, ◌<◌, ◌≤◌, None, [], IfOk, IfErr, IsOk, IsSome, IsTrue, length};
 ghost use Rattle.duk_tdes.specs.Tdes.{IsTdesLength};
 ghost use Rattle.duk_hsm.specs.Keys.{AreHsmKeys, key_set_of};
 ghost use Rattle.duk_hsm.specs.Load.{IsBdkLoaded, IsZoneLoaded, LoadBdkRefused, LoadZoneRefused};
 ghost use Rattle.duk_hsm.specs.Commands.{IsIssued, IsReplyMac, IsRequestMac, IsTranslated, IssueRefused, NoTransactionKey, TranslateRefused, VerifyRefused};
+ghost use Rattle.duk_hsm.specs.Group.{AreOpened, numbers_of};
 ghost use Rattle.duk_hsm.specs.TransactionKeys.{AreTransactionKeys};
+ghost use Rattle.duk_hsm.specs.inner.Group.{IsBaseKey};
 
+use crate::asked::Asked;
 use crate::fault::HsmFault;
+use crate::group::{OpenedGroup, base_keys, derived};
 use crate::key_set::{KeySet, SLOTS, bdk_with};
+use crate::prepared::PreparedKey;
 use crate::transaction::Transaction;
 use arrayvec::ArrayVec;
 use duk_block::{BlockText, KeyUse, unwrap_double_for, unwrap_for, wrap};
+use duk_group::WIDTH;
 use duk_pin::Pan;
 use duk_tdes::{Key, KeyBytes};
 use duk_tree::{Iksn, Ksn, PREFIX_LENGTH, derive, initial_key, usable};
@@ -137,9 +143,33 @@ impl<const N: usize> Hsm<N> {
         ensures opened { IfOk result (AreTransactionKeys self.now ksn) }
         ensures refused { IfErr result (NoTransactionKey self.now ksn) }
     {
+        let bdk = self.base_key(ksn)?;
+        let prepared = PreparedKey::new(derive(&bdk, ksn));
+        Ok(Transaction::new(prepared, self.zone))
+    }
+
+    /// Opens at most `WIDTH` key serial numbers together: for each place of the group, what `open`
+    /// answers for the number there. All transaction keys are derived side by side, and with them
+    /// what the transactions are going to be asked first is made beforehand.
+    pub fn open_group(&self, asked: &[Asked]) -> OpenedGroup
+        requires few { length asked.now ≤ WIDTH }
+        ensures opened { AreOpened self.now (numbers_of asked.now) result }
+    {
+        let places = derived(&base_keys(self, asked), asked);
+        OpenedGroup::new(places, self.zone)
+    }
+
+    /// The base derivation key from which the transaction key of a key serial number is derived.
+    ///
+    /// Refused with `NoKeySet`, and then with `BadCounter`, where the counter numbers no
+    /// transaction.
+    pub(crate) fn base_key(&self, ksn: Ksn) -> Result<Key<16>, HsmFault>
+        ensures found { IfOk result (IsBaseKey self.now ksn) }
+        ensures refused { IfErr result (NoTransactionKey self.now ksn) }
+    {
         let bdk = self.key_set(&ksn.prefix()).ok_or(HsmFault::NoKeySet)?;
         if usable(ksn.counter()) {
-            Ok(Transaction::new(derive(&bdk, ksn), self.zone))
+            Ok(bdk)
         } else {
             Err(HsmFault::BadCounter)
         }

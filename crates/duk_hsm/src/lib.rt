@@ -6,13 +6,23 @@
 //! heap.
 #![tactic(auto)]
 
+mod asked;
+mod comparison;
+mod derivation;
 mod fault;
+mod group;
 mod hsm;
 mod key_set;
+mod known;
+mod lanes;
 pub mod laws;
 mod pin_block;
+mod prepared;
+mod text;
 mod transaction;
 
+pub use asked::Asked;
 pub use fault::HsmFault;
+pub use group::OpenedGroup;
 pub use hsm::Hsm;
 pub use transaction::Transaction;

@@ -10,22 +10,23 @@ ghost use Rattle.duk_hsm.specs.Commands.{IsReplyMac, IsRequestMac, IsTranslated,
 ghost use Rattle.duk_hsm.specs.TransactionKeys.{AreTransactionKeys};
 ghost use Rattle.duk_hsm.specs.inner.TransactionKeys.{transaction_keys};
 
+use crate::comparison::is_same_mac;
 use crate::fault::HsmFault;
 use crate::pin_block::pin_in;
-use duk_mac::retail;
+use crate::prepared::PreparedKey;
 use duk_pin::{Pan, encode};
-use duk_tdes::{Key, KeyBytes};
-use duk_tree::{request_key, response_key};
+use duk_tdes::KeyBytes;
 use std::marker::Model;
 
 /// A key serial number that a host security module opened: its transaction key, which is derived
-/// once for all commands of the transaction, and the module's zone key.
+/// once for all commands of the transaction, and the module's zone key. One that was opened
+/// together with others also holds what was made beforehand with the key.
 ///
 /// It shows neither: it has no `Debug` and no `==`, and its commands answer as those of the module
 /// do. It is not copied either.
 #[derive(Drop)]
 pub struct Transaction {
-    key: Key<16>,
+    prepared: PreparedKey,
     zone: Option<KeyBytes>,
 }
 
@@ -35,15 +36,15 @@ impl Model for Transaction {
 
     ghost Value = { TransactionKeys };
 
-    ghost view = { λ transaction. transaction_keys transaction.key transaction.zone };
+    ghost view = { λ transaction. transaction_keys transaction.prepared transaction.zone };
 }
 
 impl Transaction {
     /// The transaction with this key, in a module that holds this zone key.
-    pub(crate) fn new(key: Key<16>, zone: Option<KeyBytes>) -> Self
-        ensures { result ≡ transaction_keys key zone }
+    pub(crate) fn new(prepared: PreparedKey, zone: Option<KeyBytes>) -> Self
+        ensures { result ≡ transaction_keys prepared zone }
     {
-        Transaction { key, zone }
+        Transaction { prepared, zone }
     }
 
     /// Whether `mac` is the retail MAC of a text, which is not empty, under the transaction
@@ -55,7 +56,7 @@ impl Transaction {
         ensures refused { (keys : HsmKeys) (ksn : Serial) → AreTransactionKeys keys ksn self.now
             → IfErr result (VerifyRefused keys ksn text.now mac) }
     {
-        if retail(&request_key(&self.key), text) == mac {
+        if is_same_mac(&self.prepared.request_mac(text), &mac) {
             Ok(())
         } else {
             Err(HsmFault::BadMac)
@@ -69,7 +70,7 @@ impl Transaction {
         ensures made { (keys : HsmKeys) (ksn : Serial) → AreTransactionKeys keys ksn self.now
             → IsReplyMac keys ksn text.now result }
     {
-        retail(&response_key(&self.key), text)
+        self.prepared.response_mac(text)
     }
 
     /// Turns a PIN block that is enciphered under the transaction key's variant for PINs into one
@@ -85,7 +86,7 @@ impl Transaction {
             → IfErr result (TranslateRefused keys ksn block pan.now) }
     {
         let zone = self.zone.as_ref().ok_or(HsmFault::NoZone)?;
-        let pin = pin_in(&self.key, block, pan).ok_or(HsmFault::BadPinBlock)?;
+        let pin = pin_in(&self.prepared, block, pan).ok_or(HsmFault::BadPinBlock)?;
         Ok(zone.encrypt(encode(&pin, pan)))
     }
 }

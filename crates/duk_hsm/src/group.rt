@@ -1,0 +1,113 @@
+//! Key serial numbers that are opened together.
+
+ghost use Rattle.std.specs.Prelude.{◌≡◌, ◌<◌, ◌≤◌, ℕ, List, IfOk, IfErr, length};
+ghost use Rattle.duk_group.specs.Numbers.{number_at};
+ghost use Rattle.duk_tree.specs.Serial.{Serial};
+ghost use Rattle.duk_hsm.specs.Commands.{NoTransactionKey};
+ghost use Rattle.duk_hsm.specs.Group.{AreOpened, numbers_of, place_at};
+ghost use Rattle.duk_hsm.specs.Keys.{HsmKeys};
+ghost use Rattle.duk_hsm.specs.TransactionKeys.{AreTransactionKeys};
+ghost use Rattle.duk_hsm.specs.inner.Group.{IsBase, IsDerived, base_at, opened_places};
+
+use crate::asked::Asked;
+use crate::fault::HsmFault;
+use crate::hsm::Hsm;
+use crate::lanes::prepared_keys;
+use crate::prepared::PreparedKey;
+use crate::transaction::Transaction;
+use duk_group::WIDTH;
+use duk_tdes::{Key, KeyBytes};
+use std::marker::Model;
+
+/// Key serial numbers that a host security module opened together: for each place what `open`
+/// answers for the number there, with what was made beforehand.
+///
+/// As a transaction, it shows no key and is not copied.
+#[derive(Drop)]
+pub struct OpenedGroup {
+    places: [Result<PreparedKey, HsmFault>; WIDTH],
+    zone: Option<KeyBytes>,
+}
+
+impl Model for OpenedGroup {
+    ghost use Rattle.duk_hsm.specs.Group.{OpenedPlaces};
+    ghost use Rattle.duk_hsm.specs.inner.Group.{opened_places};
+
+    ghost Value = { OpenedPlaces };
+
+    ghost view = { λ group. opened_places group.places group.zone };
+}
+
+impl OpenedGroup {
+    /// What was opened at each place, in a module that holds this zone key.
+    pub(crate) fn new(
+        places: [Result<PreparedKey, HsmFault>; WIDTH],
+        zone: Option<KeyBytes>,
+    ) -> Self
+        ensures { result ≡ opened_places places zone }
+    {
+        OpenedGroup { places, zone }
+    }
+
+    /// What `open` answers for the key serial number at a place. Refused with what that is refused
+    /// with, and past the last place with `NoKeySet`.
+    pub fn transaction(&self, place: usize) -> Result<Transaction, HsmFault>
+        ensures opened { (keys : HsmKeys) (numbers : List Serial) → place < length numbers
+            → AreOpened keys numbers self.now
+            → IfOk result (AreTransactionKeys keys (number_at numbers place)) }
+        ensures refused { (keys : HsmKeys) (numbers : List Serial) → place < length numbers
+            → AreOpened keys numbers self.now
+            → IfErr result (NoTransactionKey keys (number_at numbers place)) }
+    {
+        let prepared = self.places.get(place).copied();
+        let prepared = prepared.unwrap_or(Err(HsmFault::NoKeySet))?;
+        Ok(Transaction::new(prepared, self.zone))
+    }
+}
+
+/// The base derivation keys of the key serial numbers, in their order.
+pub(crate) fn base_keys<const N: usize>(
+    hsm: &Hsm<N>,
+    asked: &[Asked],
+) -> [Result<Key<16>, HsmFault>; WIDTH]
+    requires few { length asked.now ≤ WIDTH }
+    ensures { (i : ℕ) → i < length asked.now
+        → IsBase hsm.now (number_at (numbers_of asked.now) i) (base_at result i) }
+{
+    let mut bases = [Err(HsmFault::NoKeySet); WIDTH];
+    for (i, one) in asked.iter().enumerate() {
+        bases[i] = hsm.base_key(one.ksn());
+    }
+    bases
+}
+
+/// The transaction keys under these base derivation keys, in their order.
+pub(crate) fn derived(
+    bases: &[Result<Key<16>, HsmFault>; WIDTH],
+    asked: &[Asked],
+) -> [Result<PreparedKey, HsmFault>; WIDTH]
+    requires few { length asked.now ≤ WIDTH }
+    ensures { (i : ℕ) → i < length asked.now
+        → IsDerived (number_at (numbers_of asked.now) i) (base_at bases.now i) (place_at result i) }
+{
+    let prepared = prepared_keys(bases, asked);
+    let mut places = [Err(HsmFault::NoKeySet); WIDTH];
+    for i in 0..WIDTH {
+        places[i] = unless_refused(bases[i], prepared[i]);
+    }
+    places
+}
+
+/// The prepared key, or the refusal in the place of a base derivation key.
+fn unless_refused(
+    base: Result<Key<16>, HsmFault>,
+    prepared: PreparedKey,
+) -> Result<PreparedKey, HsmFault>
+    ensures opened { IfOk base (λ _. result ≡ Ok prepared) }
+    ensures refused { IfErr base (λ why. result ≡ Err why) }
+{
+    match base {
+        Ok(_) => Ok(prepared),
+        Err(why) => Err(why),
+    }
+}

@@ -1,0 +1,147 @@
+//! The work for key serial numbers that are opened together: a lane for each.
+
+ghost use Rattle.std.specs.Prelude.{◌≡◌, ◌<◌, ◌≤◌, ℕ, List, IsOk, length};
+ghost use Rattle.duk_des.specs.Block.{IsBlock};
+ghost use Rattle.duk_group.specs.Numbers.{bytes_at, message_at, number_at};
+ghost use Rattle.duk_mac.specs.Retail.{retail_of};
+ghost use Rattle.duk_tdes.specs.Tdes.{tdes_decrypted};
+ghost use Rattle.duk_tree.specs.Derivation.{derived_key_of, pin_key_of, request_key_of};
+ghost use Rattle.duk_hsm.specs.Group.{numbers_of};
+ghost use Rattle.duk_hsm.specs.inner.Group.{asked_at, base_at, prepared_at};
+
+use crate::asked::Asked;
+use crate::derivation::derived_keys;
+use crate::fault::HsmFault;
+use crate::known::Known;
+use crate::prepared::PreparedKey;
+use duk_group::{WIDTH, gather_blocks, gather_keys, retail_macs, scatter_keys};
+use duk_lanes::scatter;
+use duk_tdes::Key;
+use duk_tree::Ksn;
+
+/// The transaction keys of key serial numbers under the base derivation keys at their places, each
+/// with what it is asked for first. Where there is no base derivation key, any key stands.
+pub(crate) fn prepared_keys(
+    bases: &[Result<Key<16>, HsmFault>; WIDTH],
+    asked: &[Asked],
+) -> [PreparedKey; WIDTH]
+    requires few { length asked.now ≤ WIDTH }
+    ensures { (i : ℕ) (bdk : List ℕ) → i < length asked.now → base_at bases.now i ≡ Ok bdk
+        → (prepared_at result i).key
+        ≡ derived_key_of bdk (number_at (numbers_of asked.now) i) }
+{
+    let made = make(
+        &keys_of(bases),
+        &numbers_in(bases, asked),
+        &texts_in(asked),
+        &blocks_in(asked),
+    );
+    let mut prepared = [PreparedKey::new(Key::new([0; 16])); WIDTH];
+    for (i, one) in asked.iter().enumerate() {
+        let known = Known {
+            text: one.text(),
+            mac: made.macs[i],
+            block: one.block(),
+            clear: made.clears[i],
+        };
+        prepared[i] = PreparedKey::with(made.keys[i], known);
+    }
+    prepared
+}
+
+/// What the lanes made, place by place.
+#[derive(Drop)]
+struct Made {
+    /// The transaction keys.
+    keys: [Key<16>; WIDTH],
+    /// The MACs of the texts under their variants for requests.
+    macs: [[u8; 8]; WIDTH],
+    /// The blocks, deciphered under their variants for PINs.
+    clears: [[u8; 8]; WIDTH],
+}
+
+/// The transaction keys of key serial numbers under these base derivation keys, the MACs of texts
+/// and the clear blocks, in all lanes.
+fn make(
+    bdks: &[Key<16>; WIDTH],
+    numbers: &[Ksn; WIDTH],
+    texts: &[&[u8]; WIDTH],
+    blocks: &[[u8; 8]; WIDTH],
+) -> Made
+    ensures size { length result.keys ≡ WIDTH }
+    ensures keys { (i : ℕ) → i < WIDTH
+        → bytes_at result.keys i
+        ≡ derived_key_of (bytes_at bdks.now i) (number_at numbers.now i) }
+    ensures macs { (i : ℕ) → i < WIDTH
+        → bytes_at result.macs i
+        ≡ retail_of (request_key_of (bytes_at result.keys i)) (message_at texts.now i) }
+    ensures clears { (i : ℕ) → i < WIDTH → IsBlock (bytes_at blocks.now i)
+        → bytes_at result.clears i
+        ≡ tdes_decrypted (pin_key_of (bytes_at result.keys i)) (bytes_at blocks.now i) }
+{
+    let keys = derived_keys(&gather_keys(bdks), numbers);
+    let macs = retail_macs(&keys.request_keys(), texts);
+    let clears = keys.pin_keys().decrypt(&gather_blocks(blocks));
+    Made {
+        keys: scatter_keys(&keys),
+        macs: scatter(&macs),
+        clears: scatter(&clears),
+    }
+}
+
+/// The base derivation keys, and keys of zeros where there are none.
+fn keys_of(bases: &[Result<Key<16>, HsmFault>; WIDTH]) -> [Key<16>; WIDTH]
+    ensures { (i : ℕ) (bdk : List ℕ) → i < WIDTH → base_at bases.now i ≡ Ok bdk
+        → bytes_at result i ≡ bdk }
+{
+    let mut keys = [Key::new([0; 16]); WIDTH];
+    for i in 0..WIDTH {
+        if let Ok(bdk) = bases[i] {
+            keys[i] = bdk;
+        }
+    }
+    keys
+}
+
+/// The key serial numbers that are derived. One that is refused is not: in its place stands the
+/// number of zeros, which needs no step, so that no refused counter makes the others wait.
+fn numbers_in(bases: &[Result<Key<16>, HsmFault>; WIDTH], asked: &[Asked]) -> [Ksn; WIDTH]
+    requires few { length asked.now ≤ WIDTH }
+    ensures { (i : ℕ) → i < length asked.now → IsOk (base_at bases.now i)
+        → number_at result i ≡ number_at (numbers_of asked.now) i }
+{
+    let mut numbers = [Ksn::from_bytes([0; 10]); WIDTH];
+    for (i, one) in asked.iter().enumerate() {
+        if bases[i].is_ok() {
+            numbers[i] = one.ksn();
+        }
+    }
+    numbers
+}
+
+/// The texts.
+fn texts_in<'a>(asked: &'a [Asked]) -> [&'a [u8]; WIDTH]
+    requires few { length asked.now ≤ WIDTH }
+    ensures { (i : ℕ) → i < length asked.now
+        → message_at result i ≡ (asked_at asked.now i).text }
+{
+    let mut texts: [&'a [u8]; WIDTH] = [&[]; WIDTH];
+    for (i, one) in asked.iter().enumerate() {
+        texts[i] = one.text_bytes();
+    }
+    texts
+}
+
+/// The PIN blocks.
+fn blocks_in(asked: &[Asked]) -> [[u8; 8]; WIDTH]
+    requires few { length asked.now ≤ WIDTH }
+    ensures value { (i : ℕ) → i < length asked.now
+        → bytes_at result i ≡ (asked_at asked.now i).block }
+    ensures whole { (i : ℕ) → i < length asked.now → IsBlock (bytes_at result i) }
+{
+    let mut blocks = [[0; 8]; WIDTH];
+    for (i, one) in asked.iter().enumerate() {
+        blocks[i] = one.block();
+    }
+    blocks
+}
