@@ -1,4 +1,3 @@
 mod AskedNumbers
 mod KeySets
-mod NoDifference
 mod WrittenPlaces

@@ -2,4 +2,3 @@ pub mod Keys
 pub mod Group
 pub mod Known
 pub mod ShortText
-pub mod TransactionKeys

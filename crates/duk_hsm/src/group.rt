@@ -7,7 +7,7 @@ ghost use Rattle.duk_hsm.specs.Commands.{NoTransactionKey};
 ghost use Rattle.duk_hsm.specs.Group.{AreOpened, numbers_of, place_at};
 ghost use Rattle.duk_hsm.specs.Keys.{HsmKeys};
 ghost use Rattle.duk_hsm.specs.TransactionKeys.{AreTransactionKeys};
-ghost use Rattle.duk_hsm.specs.inner.Group.{IsBase, IsDerived, base_at, opened_places};
+ghost use Rattle.duk_hsm.specs.inner.Group.{IsBase, IsDerived, base_at};
 
 use crate::asked::Asked;
 use crate::fault::HsmFault;
@@ -26,27 +26,22 @@ use std::marker::Model;
 #[derive(Drop)]
 pub struct OpenedGroup {
     places: [Result<PreparedKey, HsmFault>; WIDTH],
-    zone: Option<KeyBytes>,
 }
 
 impl Model for OpenedGroup {
     ghost use Rattle.duk_hsm.specs.Group.{OpenedPlaces};
-    ghost use Rattle.duk_hsm.specs.inner.Group.{opened_places};
 
     ghost Value = { OpenedPlaces };
 
-    ghost view = { λ group. opened_places group.places group.zone };
+    ghost view = { λ group. record { places = group.places } };
 }
 
 impl OpenedGroup {
-    /// What was opened at each place, in a module that holds this zone key.
-    pub(crate) fn new(
-        places: [Result<PreparedKey, HsmFault>; WIDTH],
-        zone: Option<KeyBytes>,
-    ) -> Self
-        ensures { result ≡ opened_places places zone }
+    /// What was opened at each place.
+    pub(crate) fn new(places: [Result<PreparedKey, HsmFault>; WIDTH]) -> Self
+        ensures { result ≡ record { places = places } }
     {
-        OpenedGroup { places, zone }
+        OpenedGroup { places }
     }
 
     /// What `open` answers for the key serial number at a place. Refused with what that is refused
@@ -61,7 +56,7 @@ impl OpenedGroup {
     {
         let prepared = self.places.get(place).copied();
         let prepared = prepared.unwrap_or(Err(HsmFault::NoKeySet))?;
-        Ok(Transaction::new(prepared, self.zone))
+        Ok(Transaction::new(prepared))
     }
 }
 
@@ -85,12 +80,14 @@ pub(crate) fn base_keys<const N: usize>(
 pub(crate) fn derived(
     bases: &[Result<Key<16>, HsmFault>; WIDTH],
     asked: &[Asked],
+    zone: Option<KeyBytes>,
 ) -> [Result<PreparedKey, HsmFault>; WIDTH]
     requires few { length asked.now ≤ WIDTH }
     ensures { (i : ℕ) → i < length asked.now
-        → IsDerived (number_at (numbers_of asked.now) i) (base_at bases.now i) (place_at result i) }
+        → IsDerived (number_at (numbers_of asked.now) i) zone (base_at bases.now i)
+        (place_at result i) }
 {
-    let prepared = prepared_keys(bases, asked);
+    let prepared = prepared_keys(bases, asked, zone);
     let mut places = [Err(HsmFault::NoKeySet); WIDTH];
     for i in 0..WIDTH {
         places[i] = unless_refused(bases[i], prepared[i]);

@@ -144,8 +144,8 @@ impl<const N: usize> Hsm<N> {
         ensures refused { IfErr result (NoTransactionKey self.now ksn) }
     {
         let bdk = self.base_key(ksn)?;
-        let prepared = PreparedKey::new(derive(&bdk, ksn));
-        Ok(Transaction::new(prepared, self.zone))
+        let prepared = PreparedKey::new(derive(&bdk, ksn), self.zone);
+        Ok(Transaction::new(prepared))
     }
 
     /// Opens at most `WIDTH` key serial numbers together: for each place of the group, what `open`
@@ -155,8 +155,7 @@ impl<const N: usize> Hsm<N> {
         requires few { length asked.now ≤ WIDTH }
         ensures opened { AreOpened self.now (numbers_of asked.now) result }
     {
-        let places = derived(&base_keys(self, asked), asked);
-        OpenedGroup::new(places, self.zone)
+        OpenedGroup::new(derived(&base_keys(self, asked), asked, self.zone))
     }
 
     /// The base derivation key from which the transaction key of a key serial number is derived.

@@ -1,50 +1,56 @@
 //! The work for key serial numbers that are opened together: a lane for each.
 
-ghost use Rattle.std.specs.Prelude.{◌≡◌, ◌<◌, ◌≤◌, ℕ, List, IsOk, length};
+ghost use Rattle.std.specs.Prelude.{◌≡◌, ◌<◌, ◌≤◌, ℕ, List, IfSome, IsOk, length};
+ghost use Rattle.std.specs.Option.{option_map};
 ghost use Rattle.duk_des.specs.Block.{IsBlock};
+ghost use Rattle.duk_group.specs.Blocks.{block_of};
 ghost use Rattle.duk_group.specs.Numbers.{bytes_at, message_at, number_at};
+ghost use Rattle.duk_lanes.specs.Words.{word_lane};
 ghost use Rattle.duk_mac.specs.Retail.{retail_of};
 ghost use Rattle.duk_tdes.specs.Tdes.{tdes_decrypted};
 ghost use Rattle.duk_tree.specs.Derivation.{derived_key_of, pin_key_of, request_key_of};
 ghost use Rattle.duk_hsm.specs.Group.{numbers_of};
-ghost use Rattle.duk_hsm.specs.inner.Group.{asked_at, base_at, prepared_at};
+ghost use Rattle.duk_hsm.specs.inner.Group.{IsDerivedKey, asked_at, base_at, prepared_at};
+ghost use Rattle.duk_hsm.specs.inner.Known.{under};
 
 use crate::asked::Asked;
 use crate::derivation::derived_keys;
 use crate::fault::HsmFault;
 use crate::known::Known;
+use crate::pin_block::translation_of;
 use crate::prepared::PreparedKey;
-use duk_group::{WIDTH, gather_blocks, gather_keys, retail_macs, scatter_keys};
+use duk_group::{WIDTH, encrypt_under, gather_blocks, gather_keys, retail_macs, scatter_keys};
 use duk_lanes::scatter;
-use duk_tdes::Key;
+use duk_tdes::{Key, KeyBytes};
 use duk_tree::Ksn;
 
 /// The transaction keys of key serial numbers under the base derivation keys at their places, each
-/// with what it is asked for first. Where there is no base derivation key, any key stands.
+/// with the zone key and what it is asked for first. Where there is no base derivation key, any key
+/// stands.
 pub(crate) fn prepared_keys(
     bases: &[Result<Key<16>, HsmFault>; WIDTH],
     asked: &[Asked],
+    zone: Option<KeyBytes>,
 ) -> [PreparedKey; WIDTH]
     requires few { length asked.now ≤ WIDTH }
     ensures { (i : ℕ) (bdk : List ℕ) → i < length asked.now → base_at bases.now i ≡ Ok bdk
-        → (prepared_at result i).key
-        ≡ derived_key_of bdk (number_at (numbers_of asked.now) i) }
+        → IsDerivedKey (number_at (numbers_of asked.now) i) zone bdk (prepared_at result i) }
 {
     let made = make(
         &keys_of(bases),
         &numbers_in(bases, asked),
         &texts_in(asked),
         &blocks_in(asked),
+        &zone,
     );
-    let mut prepared = [PreparedKey::new(Key::new([0; 16])); WIDTH];
+    let mut prepared = [PreparedKey::new(Key::new([0; 16]), None); WIDTH];
     for (i, one) in asked.iter().enumerate() {
         let known = Known {
             text: one.text(),
             mac: made.macs[i],
-            block: one.block(),
-            clear: made.clears[i],
+            translation: translation_of(one.pin(), made.clears[i], made.cipher(i)),
         };
-        prepared[i] = PreparedKey::with(made.keys[i], known);
+        prepared[i] = PreparedKey::with(made.keys[i], zone, known);
     }
     prepared
 }
@@ -58,15 +64,31 @@ struct Made {
     macs: [[u8; 8]; WIDTH],
     /// The blocks, deciphered under their variants for PINs.
     clears: [[u8; 8]; WIDTH],
+    /// These, enciphered under the zone key, where one is held.
+    ciphers: Option<[[u8; 8]; WIDTH]>,
 }
 
-/// The transaction keys of key serial numbers under these base derivation keys, the MACs of texts
-/// and the clear blocks, in all lanes.
+impl Made {
+    /// The block at a place under the zone key, where one is held.
+    fn cipher(&self, place: usize) -> Option<[u8; 8]>
+        requires { place < WIDTH }
+        ensures { result ≡ option_map (λ blocks. bytes_at blocks place) self.now.ciphers }
+    {
+        match &self.ciphers {
+            Some(ciphers) => Some(ciphers[place]),
+            None => None,
+        }
+    }
+}
+
+/// The transaction keys of key serial numbers under these base derivation keys, the MACs of texts,
+/// and the blocks, deciphered and enciphered again under the zone key, in all lanes.
 fn make(
     bdks: &[Key<16>; WIDTH],
     numbers: &[Ksn; WIDTH],
     texts: &[&[u8]; WIDTH],
     blocks: &[[u8; 8]; WIDTH],
+    zone: &Option<KeyBytes>,
 ) -> Made
     ensures size { length result.keys ≡ WIDTH }
     ensures keys { (i : ℕ) → i < WIDTH
@@ -78,6 +100,9 @@ fn make(
     ensures clears { (i : ℕ) → i < WIDTH → IsBlock (bytes_at blocks.now i)
         → bytes_at result.clears i
         ≡ tdes_decrypted (pin_key_of (bytes_at result.keys i)) (bytes_at blocks.now i) }
+    ensures ciphers { (i : ℕ) → i < WIDTH
+        → option_map (λ blocks. bytes_at blocks i) result.ciphers
+        ≡ under zone.now (bytes_at result.clears i) }
 {
     let keys = derived_keys(&gather_keys(bdks), numbers);
     let macs = retail_macs(&keys.request_keys(), texts);
@@ -86,6 +111,18 @@ fn make(
         keys: scatter_keys(&keys),
         macs: scatter(&macs),
         clears: scatter(&clears),
+        ciphers: under_zone(zone, &clears),
+    }
+}
+
+/// The block of each lane, enciphered under the zone key, where one is held.
+fn under_zone(zone: &Option<KeyBytes>, blocks: &[u64; 64]) -> Option<[[u8; 8]; WIDTH]>
+    ensures { (i : ℕ) → i < WIDTH → option_map (λ blocks. bytes_at blocks i) result
+        ≡ under zone.now (block_of word_lane i blocks.now) }
+{
+    match zone {
+        Some(zone) => Some(scatter(&encrypt_under(zone, blocks))),
+        None => None,
     }
 }
 
@@ -132,11 +169,11 @@ fn texts_in<'a>(asked: &'a [Asked]) -> [&'a [u8]; WIDTH]
     texts
 }
 
-/// The PIN blocks.
+/// The PIN blocks, and zeros where none is going to be translated.
 fn blocks_in(asked: &[Asked]) -> [[u8; 8]; WIDTH]
     requires few { length asked.now ≤ WIDTH }
     ensures value { (i : ℕ) → i < length asked.now
-        → bytes_at result i ≡ (asked_at asked.now i).block }
+        → IfSome (asked_at asked.now i).pin (λ pin. bytes_at result i ≡ pin.block) }
     ensures whole { (i : ℕ) → i < length asked.now → IsBlock (bytes_at result i) }
 {
     let mut blocks = [[0; 8]; WIDTH];

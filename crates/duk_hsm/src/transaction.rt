@@ -8,14 +8,11 @@ ghost use Rattle.duk_tree.specs.Serial.{Serial};
 ghost use Rattle.duk_hsm.specs.Keys.{HsmKeys};
 ghost use Rattle.duk_hsm.specs.Commands.{IsReplyMac, IsRequestMac, IsTranslated, TranslateRefused, VerifyRefused};
 ghost use Rattle.duk_hsm.specs.TransactionKeys.{AreTransactionKeys};
-ghost use Rattle.duk_hsm.specs.inner.TransactionKeys.{transaction_keys};
 
-use crate::comparison::is_same_mac;
 use crate::fault::HsmFault;
-use crate::pin_block::pin_in;
 use crate::prepared::PreparedKey;
-use duk_pin::{Pan, encode};
-use duk_tdes::KeyBytes;
+use duk_mac::same_mac;
+use duk_pin::Pan;
 use std::marker::Model;
 
 /// A key serial number that a host security module opened: its transaction key, which is derived
@@ -27,24 +24,22 @@ use std::marker::Model;
 #[derive(Drop)]
 pub struct Transaction {
     prepared: PreparedKey,
-    zone: Option<KeyBytes>,
 }
 
 impl Model for Transaction {
     ghost use Rattle.duk_hsm.specs.TransactionKeys.{TransactionKeys};
-    ghost use Rattle.duk_hsm.specs.inner.TransactionKeys.{transaction_keys};
 
     ghost Value = { TransactionKeys };
 
-    ghost view = { λ transaction. transaction_keys transaction.prepared transaction.zone };
+    ghost view = { λ transaction. transaction.prepared };
 }
 
 impl Transaction {
-    /// The transaction with this key, in a module that holds this zone key.
-    pub(crate) fn new(prepared: PreparedKey, zone: Option<KeyBytes>) -> Self
-        ensures { result ≡ transaction_keys prepared zone }
+    /// The transaction with this key.
+    pub(crate) fn new(prepared: PreparedKey) -> Self
+        ensures { result ≡ prepared }
     {
-        Transaction { prepared, zone }
+        Transaction { prepared }
     }
 
     /// Whether `mac` is the retail MAC of a text, which is not empty, under the transaction
@@ -56,7 +51,7 @@ impl Transaction {
         ensures refused { (keys : HsmKeys) (ksn : Serial) → AreTransactionKeys keys ksn self.now
             → IfErr result (VerifyRefused keys ksn text.now mac) }
     {
-        if is_same_mac(&self.prepared.request_mac(text), &mac) {
+        if same_mac(&self.prepared.request_mac(text), &mac) {
             Ok(())
         } else {
             Err(HsmFault::BadMac)
@@ -85,8 +80,8 @@ impl Transaction {
         ensures refused { (keys : HsmKeys) (ksn : Serial) → AreTransactionKeys keys ksn self.now
             → IfErr result (TranslateRefused keys ksn block pan.now) }
     {
-        let zone = self.zone.as_ref().ok_or(HsmFault::NoZone)?;
-        let pin = pin_in(&self.prepared, block, pan).ok_or(HsmFault::BadPinBlock)?;
-        Ok(zone.encrypt(encode(&pin, pan)))
+        let zone = self.prepared.zone().ok_or(HsmFault::NoZone)?;
+        let translated = self.prepared.translated(&zone, block, pan);
+        translated.ok_or(HsmFault::BadPinBlock)
     }
 }

@@ -1,6 +1,6 @@
 use Rattle.std.proofs.Common.{◌≡◌, ◌∙◌, ◌<◌, ℕ, List, Result, Ok, Err, IfOk, IfErr, length, get_or, subst, length-set, arith}
 use Rattle.std.proofs.lemmas.List.{get_or_default}
-use Rattle.duk_hsm.specs.TransactionKeys.{Prepared}
+use Rattle.duk_hsm.specs.TransactionKeys.{TransactionKeys}
 use Rattle.duk_hsm.specs.inner.Group.{base_at, prepared_at}
 use Rattle.duk_hsm.specs.declared.fault.HsmFault.{HsmFault}
 use Rattle.duk_hsm.specs.declared.fault.HsmFault.TheVariants.{NoKeySet}
@@ -18,7 +18,7 @@ loop-i-preserved c =
     let found : get_or prepared i c.index-prepared-i.result ≡ prepared_at prepared i = get_or_default prepared i c.index-prepared-i.result _ (omega arith) in
     let Opens : Result (List ℕ) HsmFault → Type 0 = λ base. IfOk base (λ _. place ≡ Ok (prepared_at prepared i)) in
     let Refuses : Result (List ℕ) HsmFault → Type 0 = λ base. IfErr base (λ why. place ≡ Err why) in
-    let Finds : Prepared → Type 0 = λ prepared. IfOk (get_or bases i c.index-bases-i.result) (λ _. place ≡ Ok prepared) in
+    let Finds : TransactionKeys → Type 0 = λ prepared. IfOk (get_or bases i c.index-bases-i.result) (λ _. place ≡ Ok prepared) in
     record {
       size = length-set c.loop-i.places i place ∙ c.loop-i.invariant.size;
       opened =

@@ -5,6 +5,7 @@ use Rattle.duk_group.specs.Numbers.{message_at}
 use Rattle.duk_mac.specs.Retail.{retail_of}
 use Rattle.duk_tdes.specs.Tdes.{tdes_decrypted}
 use Rattle.duk_tree.specs.Derivation.{pin_key_of, request_key_of}
+use Rattle.duk_hsm.specs.inner.Known.{under}
 use Rattle.duk_hsm.proofs.lanes.make.Goals as goal
 
 pub returns-clause-macs : goal.returns-clause-macs
@@ -23,3 +24,7 @@ returns-clause-clears c = λ i h is_block.
     ∙ ap₂ (λ (key block : List ℕ). tdes_decrypted key block)
     (c.pin_keys.ensures i (omega arith) ∙ ap pin_key_of (sym (c.scatter_keys.ensures i (omega arith))))
     (c.gather_blocks.ensures i (omega arith) is_block)
+
+pub returns-clause-ciphers : goal.returns-clause-ciphers
+unfolding block_of
+returns-clause-ciphers c = λ i h. c.under_zone.ensures i h ∙ ap (under c.args.zone.now) (sym (c.scatter-2.ensures i (omega arith)))

@@ -7,5 +7,6 @@ use Rattle.duk_hsm.proofs.lanes.prepared_keys.Given as goal
 abbrev pub invariant-loop-i : goal.invariant-loop-i
 invariant-loop-i l = record {
   size : length l.prepared ≡ WIDTH;
-  below : (p : ℕ) → p < l.i → (prepared_at l.prepared p).key ≡ bytes_at l.made.keys p;
+  keys : (p : ℕ) → p < l.i → (prepared_at l.prepared p).key ≡ bytes_at l.made.keys p;
+  zones : (p : ℕ) → p < l.i → (prepared_at l.prepared p).zone ≡ l.zone;
 }
