@@ -1,3 +1,4 @@
 mod AskedNumbers
 mod KeySets
+mod RepliesOfGroups
 mod WrittenPlaces

@@ -1,12 +1,12 @@
 //! Key serial numbers that are opened together.
 
-ghost use Rattle.std.specs.Prelude.{◌≡◌, ◌<◌, ◌≤◌, ℕ, List, IfOk, IfErr, length};
-ghost use Rattle.duk_group.specs.Numbers.{number_at};
+ghost use Rattle.std.specs.Prelude.{◌≡◌, ◌<◌, ◌≤◌, ℕ, List, Ok, IfOk, IfErr, length};
+ghost use Rattle.duk_group.specs.Numbers.{bytes_at, message_at, number_at};
 ghost use Rattle.duk_tree.specs.Serial.{Serial};
-ghost use Rattle.duk_hsm.specs.Commands.{NoTransactionKey};
+ghost use Rattle.duk_hsm.specs.Commands.{HasTransactionKey, IsReplyMac, NoTransactionKey};
 ghost use Rattle.duk_hsm.specs.Group.{AreOpened, numbers_of, place_at};
 ghost use Rattle.duk_hsm.specs.Keys.{HsmKeys};
-ghost use Rattle.duk_hsm.specs.TransactionKeys.{AreTransactionKeys};
+ghost use Rattle.duk_hsm.specs.TransactionKeys.{AreTransactionKeys, TransactionKeys};
 ghost use Rattle.duk_hsm.specs.inner.Group.{IsBase, IsDerived, base_at};
 
 use crate::asked::Asked;
@@ -15,7 +15,8 @@ use crate::hsm::Hsm;
 use crate::lanes::prepared_keys;
 use crate::prepared::PreparedKey;
 use crate::transaction::Transaction;
-use duk_group::WIDTH;
+use duk_group::{WIDTH, gather_keys, retail_macs};
+use duk_lanes::scatter;
 use duk_tdes::{Key, KeyBytes};
 use std::marker::Model;
 
@@ -58,6 +59,35 @@ impl OpenedGroup {
         let prepared = prepared.unwrap_or(Err(HsmFault::NoKeySet))?;
         Ok(Transaction::new(prepared))
     }
+
+    /// The retail MACs of texts, in lanes: each under the variant for responses of the transaction
+    /// key at its place. An empty text stands at a place that has no reply. How long the texts are
+    /// is no secret.
+    pub fn reply_macs(&self, texts: &[&[u8]]) -> [[u8; 8]; WIDTH]
+        requires few { length texts.now ≤ WIDTH }
+        ensures made { (keys : HsmKeys) (numbers : List Serial) (place : ℕ)
+            → AreOpened keys numbers self.now → place < length numbers → place < length texts.now
+            → HasTransactionKey keys (number_at numbers place)
+            → IsReplyMac keys (number_at numbers place) (message_at texts.now place)
+            (bytes_at result place) }
+    {
+        let keys = gather_keys(&opened_keys(&self.places)).response_keys();
+        scatter(&retail_macs(&keys, texts))
+    }
+}
+
+/// The transaction keys, and keys of zeros at the places of numbers that are refused.
+fn opened_keys(places: &[Result<PreparedKey, HsmFault>; WIDTH]) -> [Key<16>; WIDTH]
+    ensures { (i : ℕ) (opened : TransactionKeys) → i < WIDTH → place_at places.now i ≡ Ok opened
+        → bytes_at result i ≡ opened.key }
+{
+    let mut keys = [Key::new([0; 16]); WIDTH];
+    for i in 0..WIDTH {
+        if let Ok(prepared) = places[i] {
+            keys[i] = prepared.key();
+        }
+    }
+    keys
 }
 
 /// The base derivation keys of the key serial numbers, in their order.
