@@ -1,25 +1,26 @@
 //! TDES in lanes under one key, the same in every lane (NIST SP 800-67 section 3).
 
 ghost use Rattle.std.specs.Prelude.{◌≡◌, ◌<◌, ℕ};
-ghost use Rattle.duk_lanes.specs.Words.{word_lane};
+ghost use Rattle.duk_lanes.specs.Words.{wide_lane};
 ghost use Rattle.duk_tdes.specs.KeyBytes.{bytes_of};
 ghost use Rattle.duk_tdes.specs.Tdes.{first_key, second_key, third_key, tdes_encrypted};
 ghost use Rattle.duk_group.specs.Blocks.{block_of};
 ghost use Rattle.duk_group.specs.declared.transposed.TheConstants.{WIDTH};
 
 use crate::cipher::{des_decrypt, des_encrypt};
-use duk_lanes::spread;
+use crate::transposed::Word;
+use duk_lanes::spread_wide;
 use duk_tdes::{Key, KeyBytes, array_of};
 
 /// Each lane's block enciphered under a key of 16 or 24 bytes, the same for all.
-pub fn encrypt_under(key: &KeyBytes, block: &[u64; 64]) -> [u64; 64]
-    ensures { (i : ℕ) → i < WIDTH → block_of word_lane i result
-        ≡ tdes_encrypted (bytes_of key.now) (block_of word_lane i block.now) }
+pub fn encrypt_under(key: &KeyBytes, block: &[Word; 64]) -> [Word; 64]
+    ensures { (i : ℕ) → i < WIDTH → block_of wide_lane i result
+        ≡ tdes_encrypted (bytes_of key.now) (block_of wide_lane i block.now) }
 {
     let (k1, k2, k3) = single_keys(key);
-    let first = des_encrypt(&spread(k1.bytes()), block);
-    let second = des_decrypt(&spread(k2.bytes()), &first);
-    des_encrypt(&spread(k3.bytes()), &second)
+    let first = des_encrypt(&spread_wide(k1.bytes()), block);
+    let second = des_decrypt(&spread_wide(k2.bytes()), &first);
+    des_encrypt(&spread_wide(k3.bytes()), &second)
 }
 
 /// The three single keys of a key: K1, K2 and K3, which is K1 again in a key of 16 bytes.

@@ -16,7 +16,7 @@ use crate::lanes::prepared_keys;
 use crate::prepared::PreparedKey;
 use crate::transaction::Transaction;
 use duk_group::{WIDTH, gather_keys, retail_macs};
-use duk_lanes::scatter;
+use duk_lanes::scatter_wide;
 use duk_tdes::{Key, KeyBytes};
 use std::marker::Model;
 
@@ -72,7 +72,7 @@ impl OpenedGroup {
             (bytes_at result place) }
     {
         let keys = gather_keys(&opened_keys(&self.places)).response_keys();
-        scatter(&retail_macs(&keys, texts))
+        scatter_wide(&retail_macs(&keys, texts))
     }
 }
 

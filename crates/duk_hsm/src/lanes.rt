@@ -5,7 +5,7 @@ ghost use Rattle.std.specs.Option.{option_map};
 ghost use Rattle.duk_des.specs.Block.{IsBlock};
 ghost use Rattle.duk_group.specs.Blocks.{block_of};
 ghost use Rattle.duk_group.specs.Numbers.{bytes_at, message_at, number_at};
-ghost use Rattle.duk_lanes.specs.Words.{word_lane};
+ghost use Rattle.duk_lanes.specs.Words.{wide_lane};
 ghost use Rattle.duk_mac.specs.Retail.{retail_of};
 ghost use Rattle.duk_tdes.specs.Tdes.{tdes_decrypted};
 ghost use Rattle.duk_tree.specs.Derivation.{derived_key_of, pin_key_of, request_key_of};
@@ -14,13 +14,14 @@ ghost use Rattle.duk_hsm.specs.inner.Group.{IsDerivedKey, asked_at, base_at, pre
 ghost use Rattle.duk_hsm.specs.inner.Known.{under};
 
 use crate::asked::Asked;
-use crate::derivation::derived_keys;
 use crate::fault::HsmFault;
 use crate::known::Known;
 use crate::pin_block::translation_of;
 use crate::prepared::PreparedKey;
-use duk_group::{WIDTH, encrypt_under, gather_blocks, gather_keys, retail_macs, scatter_keys};
-use duk_lanes::scatter;
+use duk_group::{
+    WIDTH, Word, derived_keys, encrypt_under, gather_blocks, gather_keys, retail_macs, scatter_keys,
+};
+use duk_lanes::scatter_wide;
 use duk_tdes::{Key, KeyBytes};
 use duk_tree::Ksn;
 
@@ -109,19 +110,19 @@ fn make(
     let clears = keys.pin_keys().decrypt(&gather_blocks(blocks));
     Made {
         keys: scatter_keys(&keys),
-        macs: scatter(&macs),
-        clears: scatter(&clears),
+        macs: scatter_wide(&macs),
+        clears: scatter_wide(&clears),
         ciphers: under_zone(zone, &clears),
     }
 }
 
 /// The block of each lane, enciphered under the zone key, where one is held.
-fn under_zone(zone: &Option<KeyBytes>, blocks: &[u64; 64]) -> Option<[[u8; 8]; WIDTH]>
+fn under_zone(zone: &Option<KeyBytes>, blocks: &[Word; 64]) -> Option<[[u8; 8]; WIDTH]>
     ensures { (i : ℕ) → i < WIDTH → option_map (λ blocks. bytes_at blocks i) result
-        ≡ under zone.now (block_of word_lane i blocks.now) }
+        ≡ under zone.now (block_of wide_lane i blocks.now) }
 {
     match zone {
-        Some(zone) => Some(scatter(&encrypt_under(zone, blocks))),
+        Some(zone) => Some(scatter_wide(&encrypt_under(zone, blocks))),
         None => None,
     }
 }

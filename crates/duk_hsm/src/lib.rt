@@ -7,7 +7,6 @@
 #![tactic(auto)]
 
 mod asked;
-mod derivation;
 mod fault;
 mod group;
 mod hsm;

@@ -11,7 +11,7 @@ use Rattle.duk_hsm.proofs.lanes.make.Goals as goal
 pub returns-clause-macs : goal.returns-clause-macs
 unfolding block_of
 returns-clause-macs c = λ i h.
-    c.scatter.ensures i (omega arith)
+    c.scatter_wide.ensures i (omega arith)
     ∙ c.retail_macs-macs.ensures i (omega arith)
     ∙ ap (λ key. retail_of key (message_at c.args.texts.now i)) (c.request_keys.ensures i (omega arith))
     ∙ ap (λ key. retail_of (request_key_of key) (message_at c.args.texts.now i)) (sym (c.scatter_keys.ensures i (omega arith)))
@@ -19,7 +19,7 @@ returns-clause-macs c = λ i h.
 pub returns-clause-clears : goal.returns-clause-clears
 unfolding block_of
 returns-clause-clears c = λ i h is_block.
-    c.scatter-2.ensures i (omega arith)
+    c.scatter_wide-2.ensures i (omega arith)
     ∙ c.decrypt-clears.ensures i (omega arith)
     ∙ ap₂ (λ (key block : List ℕ). tdes_decrypted key block)
     (c.pin_keys.ensures i (omega arith) ∙ ap pin_key_of (sym (c.scatter_keys.ensures i (omega arith))))
@@ -27,4 +27,4 @@ returns-clause-clears c = λ i h is_block.
 
 pub returns-clause-ciphers : goal.returns-clause-ciphers
 unfolding block_of
-returns-clause-ciphers c = λ i h. c.under_zone.ensures i h ∙ ap (under c.args.zone.now) (sym (c.scatter-2.ensures i (omega arith)))
+returns-clause-ciphers c = λ i h. c.under_zone.ensures i h ∙ ap (under c.args.zone.now) (sym (c.scatter_wide-2.ensures i (omega arith)))

@@ -19,7 +19,7 @@ returns c = record {
       reply_made keys (number_at numbers place) (place_at c.self.inside.places place) (bytes_at c.opened_keys.result place) text _
       (opened.places_are place within) has
       (λ one is. c.opened_keys.ensures place one lane is)
-      (c.scatter.ensures place (omega (arith, lane))
+      (c.scatter_wide.ensures place (omega (arith, lane))
       ∙ c.retail_macs.ensures place here
       ∙ ap (λ key. retail_of key text) (c.response_keys-keys.ensures place (omega (arith, lane)) ∙ ap response_key_of (c.gather_keys.ensures place (omega (arith, lane)))));
 }
