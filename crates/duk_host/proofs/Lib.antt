@@ -9,6 +9,7 @@ mod AcceptedIsAnswered
 mod RestartReadsAll
 mod Reasons
 mod NumberRefuses
+mod Opened
 mod RefusalsAreRead
 mod UsedAgain
 mod OneAnswer

@@ -1,6 +1,6 @@
 -- How a host judges a request: the reason for which it is refused, or the reply to it. This
 -- project's own, over the transaction keys of ANSI X9.24-1:2009 annex A.
-use Rattle.std.specs.Prelude.{◌≡◌, ◌⊎◌, ◌<◌, ℕ, List, Some, None, IsSome, replicate}
+use Rattle.std.specs.Prelude.{◌≡◌, ◌⊎◌, ◌<◌, ℕ, List, Result, Some, None, IfErr, IfOk, IsSome, replicate}
 use Rattle.duk_frame.specs.Answer.{refusal_text}
 use Rattle.duk_frame.specs.Frame.{framed}
 use Rattle.duk_frame.specs.Payment.{payment_reply}
@@ -8,8 +8,10 @@ use Rattle.duk_frame.specs.Request.{IsRequest, request_bytes, request_text}
 use Rattle.duk_frame.specs.declared.code.Code.{Code}
 use Rattle.duk_frame.specs.declared.code.Code.TheVariants.{Unreadable}
 use Rattle.duk_frame.specs.declared.request.Request.{Request}
-use Rattle.duk_hsm.specs.Commands.{HasNoPin, IsRequestMac, IsTransactionKey, IsTranslated}
+use Rattle.duk_hsm.specs.Commands.{HasNoPin, IsRequestMac, IsTransactionKey, IsTranslated, NoTransactionKey}
 use Rattle.duk_hsm.specs.Keys.{HsmKeys, key_set_of}
+use Rattle.duk_hsm.specs.TransactionKeys.{AreTransactionKeys, TransactionKeys}
+use Rattle.duk_hsm.specs.declared.fault.HsmFault.{HsmFault}
 use Rattle.duk_io.specs.FirstFault.{IsFirst}
 use Rattle.duk_store.specs.Log.{Numbers}
 use Rattle.duk_tree.specs.Path.{IsUsable}
@@ -55,6 +57,17 @@ reason_number reason.LogFull = 6
 -- its key set is held, and its counter numbers a transaction
 abbrev pub IsAuthentic : HsmKeys → Request → Type 0
 IsAuthentic keys request = IsRequestMac keys request.ksn (authenticated_text request) request.mac
+
+-- what opening a key serial number gives under the held keys: its transaction keys, or why it has none
+pub record IsOpenedTo (keys : HsmKeys) (ksn : Serial) (opened : Result TransactionKeys HsmFault)
+    : Type 0 where
+  pub given : IfOk opened (AreTransactionKeys keys ksn)
+  pub refused : IfErr opened (NoTransactionKey keys ksn)
+
+-- where the bytes are a request, this is what opening its number gives
+abbrev pub OpensRequest : HsmKeys → List ℕ → Result TransactionKeys HsmFault → Type 0
+OpensRequest keys bytes opened =
+    (request : Request) → IsRequest bytes request → IsOpenedTo keys request.ksn opened
 
 -- the frame of the request is one of the latest that were accepted, and this reply was given to it
 abbrev pub WasGiven : JudgementBasis → Request → List ℕ → Type 0

@@ -3,10 +3,11 @@
 ghost use Rattle.std.specs.Prelude.{◌≡◌, ◌≤◌, ◌<◌, ℕ, List, IfOk, IfErr, OnOk, length};
 ghost use Rattle.duk_frame.specs.Frame.{mac_text_of};
 ghost use Rattle.duk_frame.specs.Request.{IsRequest};
+ghost use Rattle.duk_hsm.specs.Keys.{HsmKeys};
 ghost use Rattle.duk_hsm.specs.TransactionKeys.{AreTransactionKeys};
 ghost use Rattle.duk_host.specs.Handle.{IsVerdictOn};
 ghost use Rattle.duk_host.specs.inner.Judged.{IfFresh, IfSettled, IsReasonAgainstMac, IsReasonAgainstNumber, IsSettled};
-ghost use Rattle.duk_host.specs.Judgement.{Decision, IsAcceptable, IsAuthentic, basis_with, authenticated_text};
+ghost use Rattle.duk_host.specs.Judgement.{Decision, IsAcceptable, IsAuthentic, IsOpenedTo, basis_with, authenticated_text};
 ghost use Rattle.duk_host.specs.Used.{IsUsed};
 
 use crate::answered::Answered;
@@ -49,7 +50,7 @@ pub(crate) fn judge<const N: usize>(
         return Judgement::Settled(Reason::Malformed.answer(Ksn::from_bytes([0; 10])));
     };
     duk_frame::laws::mac_texts();
-    let transaction = match open_authentic(hsm, &request, mac_text(bytes)) {
+    let transaction = match verified(hsm.open(request.ksn), &request, mac_text(bytes)) {
         Ok(transaction) => transaction,
         Err(reason) => return Judgement::Settled(reason.answer(request.ksn)),
     };
@@ -80,21 +81,26 @@ pub(crate) fn check_number(used: &UsedNumbers, room: u64, ksn: Ksn) -> Result<()
     }
 }
 
-/// The transaction of a request with this text, or the least reason against its MAC.
-pub(crate) fn open_authentic<const N: usize>(
-    hsm: &Hsm<N>,
+/// The transaction that the number of a request with this text was opened to, or the least reason
+/// against its MAC.
+pub(crate) fn verified(
+    opened: Result<Transaction, HsmFault>,
     request: &Request,
     text: &[u8],
 ) -> Result<Transaction, Reason>
     requires text { text.now ≡ authenticated_text request.now }
-    ensures opened { IfOk result (AreTransactionKeys hsm.now request.now.ksn) }
-    ensures authentic { IfOk result (λ _. IsAuthentic hsm.now request.now) }
-    ensures refused { IfErr result (IsReasonAgainstMac hsm.now request.now) }
+    ensures opened { IfOk result (λ transaction. (keys : HsmKeys)
+        → IsOpenedTo keys request.now.ksn opened
+        → AreTransactionKeys keys request.now.ksn transaction) }
+    ensures authentic { IfOk result (λ _. (keys : HsmKeys)
+        → IsOpenedTo keys request.now.ksn opened → IsAuthentic keys request.now) }
+    ensures refused { IfErr result (λ reason. (keys : HsmKeys)
+        → IsOpenedTo keys request.now.ksn opened → IsReasonAgainstMac keys request.now reason) }
 {
-    let transaction = match hsm.open(request.ksn) {
+    let transaction = match opened {
         Ok(transaction) => transaction,
         Err(HsmFault::NoKeySet) => return Err(Reason::UnknownKeySet),
-        // The only other fault of this call is that of the counter.
+        // The only other fault of an opening is that of the counter.
         Err(_) => return Err(Reason::BadCounter),
     };
     match transaction.verify(text, request.mac) {

@@ -7,19 +7,19 @@ ghost use Rattle.duk_hsm.specs.Keys.{HsmKeys};
 ghost use Rattle.duk_hsm.specs.TransactionKeys.{AreTransactionKeys};
 ghost use Rattle.duk_store.specs.Log.{Numbers};
 ghost use Rattle.duk_tree.specs.Serial.{Serial};
-ghost use Rattle.duk_host.specs.Judgement.{Decision, IsAcceptable, IsAuthentic, IsRefusalFor, basis_with};
+ghost use Rattle.duk_host.specs.Judgement.{Decision, IsAcceptable, IsAuthentic, IsRefusalFor, OpensRequest, basis_with};
 ghost use Rattle.duk_host.specs.Used.{IsUsed};
 
-use crate::judge::{check_number, open_authentic};
+use crate::judge::{check_number, verified};
 use crate::payment::Payment;
 use crate::reason::Reason;
 use crate::used::UsedNumbers;
 use duk_frame::{Frame, mac_text, read_request};
-use duk_hsm::Hsm;
+use duk_hsm::{Hsm, HsmFault, Transaction};
 use duk_tree::Ksn;
 
-/// Reads a request and verifies its MAC, or gives the frame of its refusal, whose reason is one of 1
-/// to 4.
+/// Reads a request, opens its number and verifies its MAC, or gives the frame of its refusal, whose
+/// reason is one of 1 to 4.
 pub fn authenticate<const N: usize>(hsm: &Hsm<N>, bytes: &[u8]) -> Result<Payment, Frame>
     ensures request { IfOk result (λ payment. IsRequest bytes.now payment.request) }
     ensures authentic { IfOk result (λ payment. IsAuthentic hsm.now payment.request) }
@@ -30,12 +30,40 @@ pub fn authenticate<const N: usize>(hsm: &Hsm<N>, bytes: &[u8]) -> Result<Paymen
     ensures not_authentic { IfErr result (λ _. (request : Request)
         → IsRequest bytes.now request → ¬ IsAuthentic hsm.now request) }
 {
+    duk_frame::laws::one_reading();
+    let opened = match read_request(bytes) {
+        Some(request) => hsm.open(request.ksn),
+        // It is not looked at where there is no request.
+        None => Err(HsmFault::NoKeySet),
+    };
+    authenticate_opened(opened, bytes)
+}
+
+/// Reads a request whose number was opened to this and verifies its MAC, or gives the frame of its
+/// refusal, as `authenticate` does. What was opened is not looked at where the bytes are no request.
+pub fn authenticate_opened(
+    opened: Result<Transaction, HsmFault>,
+    bytes: &[u8],
+) -> Result<Payment, Frame>
+    ensures request { IfOk result (λ payment. IsRequest bytes.now payment.request) }
+    ensures authentic { IfOk result (λ payment. (keys : HsmKeys)
+        → OpensRequest keys bytes.now opened → IsAuthentic keys payment.request) }
+    ensures opened { IfOk result (λ payment. (keys : HsmKeys)
+        → OpensRequest keys bytes.now opened
+        → AreTransactionKeys keys payment.request.ksn payment.transaction) }
+    ensures refused { IfErr result (λ frame. (keys : HsmKeys) (numbers : Numbers) (room : ℕ)
+        → (decides : Decision) → OpensRequest keys bytes.now opened
+        → IsRefusalFor (basis_with keys numbers [] room decides) bytes.now frame.items) }
+    ensures not_authentic { IfErr result (λ _. (keys : HsmKeys) (request : Request)
+        → OpensRequest keys bytes.now opened → IsRequest bytes.now request
+        → ¬ IsAuthentic keys request) }
+{
     let Some(request) = read_request(bytes) else {
         return Err(Reason::Malformed.answer(Ksn::from_bytes([0; 10])).frame);
     };
     duk_frame::laws::mac_texts();
     duk_frame::laws::one_reading();
-    match open_authentic(hsm, &request, mac_text(bytes)) {
+    match verified(opened, &request, mac_text(bytes)) {
         Ok(transaction) => Ok(Payment {
             request,
             transaction,
