@@ -11,15 +11,13 @@ use Rattle.duk_journal.specs.Groups.{Entries}
 use Rattle.duk_journal.specs.declared.entry.Decided.{Decided}
 use Rattle.duk_journal.specs.declared.entry.Decided.TheVariants.{Payment, Reversal as Reversed}
 use Rattle.duk_journal.specs.declared.entry.Entry.{Entry}
-use Rattle.duk_reversal.specs.Reversal.{IsReversal}
-use Rattle.duk_reversal.specs.declared.reversal.Reversal.{Reversal}
 use Rattle.duk_reversal.specs.declared.state.ReversalState.{ReversalState}
 use Rattle.duk_tree.specs.Serial.{Serial}
 use Rattle.duk_line.specs.Host.{IndexOf, IsIndexOf}
 use Rattle.duk_line.specs.Judgement.{IsSettled, entry_of, line_basis, room_for_payments}
 use Rattle.duk_line.specs.Latest.{payment_entry, used_by}
 use Rattle.duk_line.specs.inner.Index.{TakesNumbers}
-use Rattle.duk_line.specs.inner.Judged.{AcceptableBy, IsCodeKept, JudgesFrame}
+use Rattle.duk_line.specs.inner.Judged.{AcceptableBy, IsCodeKept, IsNoReversal, JudgesFrame}
 use Rattle.duk_line.specs.inner.Latest.{entry_under, with_latest}
 use Rattle.duk_line.proofs.Judging.{index_more}
 
@@ -34,9 +32,6 @@ not_none found amount code payment none = absurd (cc (payment, none))
 
 pub not_reversal : (found : Option Decided) (amount : ℕ) (code : Code) (counter : ℕ) (state : ReversalState) → found ≡ Some (Payment amount code) → found ≡ Some (Reversed counter state) → ⊥
 not_reversal found amount code counter state payment reversal = absurd (cc (payment, reversal))
-
-abbrev pub IsNoReversal : List ℕ → Type 0
-IsNoReversal bytes = (reversal : Reversal) → ¬ IsReversal bytes reversal
 
 -- the numbers that the entries use are the used ones of their index
 pub has_used : (entries : Entries) (index : IndexOf) → IsIndexOf entries index → (ksn : Serial) → Contains (used_by entries) ksn ↔ IsUsed index.used ksn

@@ -10,6 +10,7 @@ pub mod Ring
 pub mod NumbersTaken
 pub mod Indexed
 pub mod Judging
+pub mod NumbersOpened
 pub mod JudgingPayments
 pub mod JudgingReversals
 pub mod Answering

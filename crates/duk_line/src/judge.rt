@@ -1,20 +1,24 @@
 //! How the frames of a group are judged.
 
-ghost use Rattle.std.specs.Prelude.{◌≡◌, ◌≤◌, ◌-◌, ℕ, [], All, IfOk, IfSome, IsSome, OnErr, OnOk, length, map};
+ghost use Rattle.std.specs.Prelude.{◌≡◌, ◌≤◌, ◌<◌, ◌-◌, ℕ, [], All, IfOk, IfSome, IsSome, OnErr, OnOk, length, map};
 ghost use Rattle.std.specs.Option.{option_to_list};
+ghost use Rattle.duk_hsm.specs.Keys.{HsmKeys};
 ghost use Rattle.duk_journal.specs.Entry.{MayStandUnder};
 ghost use Rattle.duk_tree.specs.Path.{IsUsable};
 ghost use Rattle.duk_line.specs.Group.{most_frames};
+ghost use Rattle.duk_line.specs.Host.{IndexOf};
 ghost use Rattle.duk_line.specs.Judgement.{room_for_payments};
-ghost use Rattle.duk_line.specs.inner.Judged.{JudgesFirst, JudgesFrame, JudgesFrames, MayBeAccepted};
+ghost use Rattle.duk_line.specs.inner.Judged.{AreJudgedSoFar, JudgesFirst, JudgesFrame, JudgesFrames, MayBeAccepted, OpensFrame};
 
 use crate::group::Group;
 use crate::index::Index;
+use crate::opening::open_frames;
 use crate::payment::judge_payment;
 use crate::reversal::judge_reversal;
 use duk_frame::Frame;
+use duk_group::WIDTH;
 use duk_host::Issuer;
-use duk_hsm::Hsm;
+use duk_hsm::{Hsm, HsmFault, Transaction};
 use duk_journal::Entry;
 use duk_reversal::read_reversal;
 use std::alloc::AllocError;
@@ -36,7 +40,8 @@ struct Room {
 
 /// Judges frames in turn, each with the index and the room as the earlier ones leave them, and adds
 /// their answers and entries to the group. A journal keeps so many entries, and has room for so
-/// many more.
+/// many more. The numbers of `WIDTH` frames at a time are opened together, before the first of
+/// these is judged.
 ///
 /// Where memory is refused, the frames before are judged, and there is no reason against the next.
 /// The index is then no longer that of a list of entries.
@@ -66,12 +71,62 @@ pub(crate) fn judge_frames<const N: usize, I: Issuer>(
     ensures fits { length group.new.entries ≤ room }
     ensures most { length group.new.entries ≤ most_frames }
 {
-    for frame in frames {
-        let left = room_after(kept, room, group.entries().len() as u64);
-        let judged = judge_frame(hsm, issuer, index, left, frame.as_slice())?;
-        group.push(judged.answer, judged.added);
+    let mut judged = 0;
+    while judged < frames.len() {
+        judged = judge_next(hsm, issuer, index, kept, room, frames, judged, group)?;
     }
     Ok(())
+}
+
+/// Judges the frames from a place on whose numbers are opened together, and gives the place after
+/// them.
+fn judge_next<const N: usize, I: Issuer>(
+    hsm: &Hsm<N>,
+    issuer: &I,
+    index: &mut Index,
+    kept: u64,
+    room: u64,
+    frames: &[Frame],
+    from: usize,
+    group: &mut Group,
+) -> Result<usize, AllocError>
+    requires few { length frames.now ≤ most_frames }
+    requires zone { IsSome hsm.now.zone }
+    requires from { from < length frames.now }
+    requires so_far { (before : IndexOf) × AreJudgedSoFar hsm.now (I.decides issuer.now) kept room
+        (map (λ frame. frame.items) frames.now) from before index.old group.old.answers
+        group.old.entries }
+    ensures further { IfOk result (λ to. from < to) }
+    ensures within { IfOk result (λ to. to ≤ length frames.now) }
+    ensures judged { IfOk result (λ to. (before : IndexOf)
+        → AreJudgedSoFar hsm.now (I.decides issuer.now) kept room
+        (map (λ frame. frame.items) frames.now) from before index.old group.old.answers
+        group.old.entries
+        → AreJudgedSoFar hsm.now (I.decides issuer.now) kept room
+        (map (λ frame. frame.items) frames.now) to before index.new group.new.answers
+        group.new.entries) }
+    ensures stopped { OnErr result ((before : IndexOf) (capacity : ℕ)
+        → AreJudgedSoFar hsm.now (I.decides issuer.now) kept room
+        (map (λ frame. frame.items) frames.now) from before index.old group.old.answers
+        group.old.entries
+        → room ≡ capacity - kept
+        → JudgesFirst hsm.now (I.decides issuer.now) capacity room
+        (map (λ frame. frame.items) frames.now) before group.new.answers
+        group.new.entries) }
+    ensures usable { All (λ entry. IsUsable entry.number.counter) group.new.entries }
+    ensures stand { All (λ entry. MayStandUnder entry.number entry.decided) group.new.entries }
+    ensures fits { length group.new.entries ≤ room }
+    ensures most { length group.new.entries ≤ most_frames }
+{
+    let to = frames.len().min(from + WIDTH);
+    let opened = open_frames(hsm, &frames[from..to]);
+    for place in from..to {
+        let left = room_after(kept, room, group.entries().len() as u64);
+        let transaction = opened.transaction(place - from);
+        let judged = judge_frame(transaction, issuer, index, left, frames[place].as_slice())?;
+        group.push(judged.answer, judged.added);
+    }
+    Ok(to)
 }
 
 /// The room that entries leave which are added to a journal: one that keeps so many, and has room
@@ -93,32 +148,34 @@ fn room_after(kept: u64, room: u64, added: u64) -> Room
     Room { entries, payments }
 }
 
-/// Judges a frame: as a reversal where it is one, and else as a request. Memory is refused only
-/// where there is no reason against it.
-fn judge_frame<const N: usize, I: Issuer>(
-    hsm: &Hsm<N>,
+/// Judges a frame, whose number was opened to this: as a reversal where it is one, and else as a
+/// request. Memory is refused only where there is no reason against it.
+fn judge_frame<I: Issuer>(
+    opened: Result<Transaction, HsmFault>,
     issuer: &I,
     index: &mut Index,
     room: Room,
     frame: &[u8],
 ) -> Result<Judged, AllocError>
-    requires zone { IsSome hsm.now.zone }
+    requires opened { (keys : HsmKeys) × IsSome keys.zone × OpensFrame keys frame.now opened }
     requires within { room.payments ≤ room.entries }
-    ensures judged { IfOk result (λ judged. (capacity : ℕ)
+    ensures judged { IfOk result (λ judged. (keys : HsmKeys) (capacity : ℕ)
+        → OpensFrame keys frame.now opened
         → room.payments ≡ room_for_payments capacity room.entries
-        → JudgesFrame hsm.now (I.decides issuer.now) capacity room.entries frame.now
+        → JudgesFrame keys (I.decides issuer.now) capacity room.entries frame.now
         index.old index.new judged.answer.items judged.added) }
     ensures usable { IfOk result
         (λ judged. IfSome judged.added (λ entry. IsUsable entry.number.counter)) }
     ensures stands { IfOk result
         (λ judged. IfSome judged.added (λ entry. MayStandUnder entry.number entry.decided)) }
     ensures room { IfOk result (λ judged. length (option_to_list judged.added) ≤ room.entries) }
-    ensures refused { OnErr result ((capacity : ℕ)
+    ensures refused { OnErr result ((keys : HsmKeys) (capacity : ℕ)
+        → OpensFrame keys frame.now opened
         → room.payments ≡ room_for_payments capacity room.entries
-        → MayBeAccepted hsm.now index.old capacity room.entries frame.now) }
+        → MayBeAccepted keys index.old capacity room.entries frame.now) }
 {
     match read_reversal(frame) {
-        Some(reversal) => judge_reversal(hsm, index, room.entries, &reversal),
-        None => judge_payment(hsm, issuer, index, room.payments, frame),
+        Some(reversal) => judge_reversal(opened, index, room.entries, &reversal),
+        None => judge_payment(opened, issuer, index, room.payments, frame),
     }
 }

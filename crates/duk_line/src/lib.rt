@@ -3,7 +3,8 @@
 //! It judges requests as `duk_host` does, and reversals of payments, a group of frames at a time: what
 //! a group accepts goes into the journal together, with one pair of syncs, before any answer of the
 //! group goes out. The journal keeps what was decided, so a request or a reversal that is one of the
-//! latest is given its reply again in any run with the same keys. A restart reads the journal by large
+//! latest is given its reply again in any run with the same keys. The key serial numbers of a group
+//! are opened many at a time, and its frames are judged in turn. A restart reads the journal by large
 //! pieces.
 #![tactic(auto)]
 
@@ -14,6 +15,7 @@ mod index;
 mod judge;
 mod latest;
 pub mod laws;
+mod opening;
 mod payment;
 mod reading;
 mod reason;

@@ -4,50 +4,49 @@ ghost use Rattle.std.specs.Prelude.{◌≡◌, ◌≤◌, ◌<◌, ℕ, List, If
 ghost use Rattle.std.specs.Option.{option_to_list};
 ghost use Rattle.duk_frame.specs.Request.{IsRequest};
 ghost use Rattle.duk_frame.specs.declared.code.Code.{Code};
-ghost use Rattle.duk_host.specs.Judgement.{IsAuthentic};
+ghost use Rattle.duk_host.specs.Judgement.{IsAuthentic, OpensRequest};
 ghost use Rattle.duk_hsm.specs.Keys.{HsmKeys};
 ghost use Rattle.duk_hsm.specs.TransactionKeys.{AreTransactionKeys};
 ghost use Rattle.duk_journal.specs.Entry.{MayStandUnder};
-ghost use Rattle.duk_reversal.specs.Reversal.{IsReversal};
-ghost use Rattle.duk_reversal.specs.declared.reversal.Reversal.{Reversal};
 ghost use Rattle.duk_tree.specs.Path.{IsUsable};
 ghost use Rattle.duk_line.specs.Judgement.{entry_of, room_for_payments};
-ghost use Rattle.duk_line.specs.inner.Judged.{AcceptableBy, IsCodeKept, JudgesFrame, MayBeAccepted, SettlesBy};
+ghost use Rattle.duk_line.specs.inner.Judged.{AcceptableBy, IsCodeKept, IsNoReversal, JudgesFrame, MayBeAccepted, SettlesBy};
 
 use crate::index::Index;
 use crate::judge::Judged;
 use duk_frame::{Code, Frame, Request};
-use duk_host::{Issuer, Payment, admit, authenticate, code_for, reply_with};
-use duk_hsm::Hsm;
+use duk_host::{Issuer, Payment, admit, authenticate_opened, code_for, reply_with};
+use duk_hsm::{HsmFault, Transaction};
 use duk_journal::{Decided, Entry};
 use duk_tree::Ksn;
 use std::alloc::AllocError;
 
-/// Judges a frame that is no reversal, where there is room for so many payments. Memory is refused
-/// only at a request against which there is no reason.
-pub(crate) fn judge_payment<const N: usize, I: Issuer>(
-    hsm: &Hsm<N>,
+/// Judges a frame that is no reversal, whose number was opened to this, where there is room for so
+/// many payments. Memory is refused only at a request against which there is no reason.
+pub(crate) fn judge_payment<I: Issuer>(
+    opened: Result<Transaction, HsmFault>,
     issuer: &I,
     index: &mut Index,
     room: u64,
     frame: &[u8],
 ) -> Result<Judged, AllocError>
-    requires zone { IsSome hsm.now.zone }
-    requires no_reversal { (reversal : Reversal) → ¬ IsReversal frame.now reversal }
-    ensures judged { IfOk result (λ judged. (capacity all : ℕ)
-        → room ≡ room_for_payments capacity all
-        → JudgesFrame hsm.now (I.decides issuer.now) capacity all frame.now
+    requires opened { (keys : HsmKeys) × IsSome keys.zone × OpensRequest keys frame.now opened }
+    requires no_reversal { IsNoReversal frame.now }
+    ensures judged { IfOk result (λ judged. (keys : HsmKeys) (capacity all : ℕ)
+        → OpensRequest keys frame.now opened → room ≡ room_for_payments capacity all
+        → JudgesFrame keys (I.decides issuer.now) capacity all frame.now
         index.old index.new judged.answer.items judged.added) }
     ensures usable { IfOk result
         (λ judged. IfSome judged.added (λ entry. IsUsable entry.number.counter)) }
     ensures stands { IfOk result
         (λ judged. IfSome judged.added (λ entry. MayStandUnder entry.number entry.decided)) }
     ensures room { IfOk result (λ judged. length (option_to_list judged.added) ≤ room) }
-    ensures refused { OnErr result ((capacity all : ℕ) → room ≡ room_for_payments capacity all
-        → MayBeAccepted hsm.now index.old capacity all frame.now) }
+    ensures refused { OnErr result ((keys : HsmKeys) (capacity all : ℕ)
+        → OpensRequest keys frame.now opened → room ≡ room_for_payments capacity all
+        → MayBeAccepted keys index.old capacity all frame.now) }
 {
-    match settle(hsm, index, room, frame) {
-        Ok(opened) => accept(issuer, index, &opened),
+    match settle(opened, index, room, frame) {
+        Ok(payment) => accept(issuer, index, &payment),
         Err(answer) => Ok(Judged {
             answer,
             added: None,
@@ -57,35 +56,39 @@ pub(crate) fn judge_payment<const N: usize, I: Issuer>(
 
 /// The request that is to be accepted, or the answer that changes nothing: a refusal, or a reply
 /// that is given again.
-fn settle<const N: usize>(
-    hsm: &Hsm<N>,
+fn settle(
+    opened: Result<Transaction, HsmFault>,
     index: &Index,
     room: u64,
     frame: &[u8],
 ) -> Result<Payment, Frame>
-    requires no_reversal { (reversal : Reversal) → ¬ IsReversal frame.now reversal }
-    ensures request { IfOk result (λ opened. IsRequest frame.now opened.request) }
-    ensures authentic { IfOk result (λ opened. IsAuthentic hsm.now opened.request) }
-    ensures opened { IfOk result
-        (λ opened. AreTransactionKeys hsm.now opened.request.ksn opened.transaction) }
-    ensures acceptable { IfOk result
-        (λ opened. AcceptableBy hsm.now index.now room opened.request) }
+    requires opened { (keys : HsmKeys) × IsSome keys.zone × OpensRequest keys frame.now opened }
+    requires no_reversal { IsNoReversal frame.now }
+    ensures request { IfOk result (λ payment. IsRequest frame.now payment.request) }
+    ensures authentic { IfOk result (λ payment. (keys : HsmKeys)
+        → OpensRequest keys frame.now opened → IsAuthentic keys payment.request) }
+    ensures opened { IfOk result (λ payment. (keys : HsmKeys)
+        → OpensRequest keys frame.now opened
+        → AreTransactionKeys keys payment.request.ksn payment.transaction) }
+    ensures acceptable { IfOk result (λ payment. (keys : HsmKeys)
+        → OpensRequest keys frame.now opened
+        → AcceptableBy keys index.now room payment.request) }
     ensures room { OnOk result (0 < room) }
-    ensures settled { IfErr result (λ answer. (capacity all : ℕ)
-        → room ≡ room_for_payments capacity all
-        → SettlesBy hsm.now index.now capacity all frame.now answer.items) }
+    ensures settled { IfErr result (λ answer. (keys : HsmKeys) (capacity all : ℕ)
+        → OpensRequest keys frame.now opened → room ≡ room_for_payments capacity all
+        → SettlesBy keys index.now capacity all frame.now answer.items) }
 {
     duk_frame::laws::one_reading();
-    let opened = match authenticate(hsm, frame) {
-        Ok(opened) => opened,
+    let payment = match authenticate_opened(opened, frame) {
+        Ok(payment) => payment,
         Err(refusal) => return Err(refusal),
     };
-    let request = &opened.request;
+    let request = &payment.request;
     if let Some(code) = code_kept(index, request.ksn, request.mac) {
-        return Err(reply_with(&opened.transaction, request.ksn, code));
+        return Err(reply_with(&payment.transaction, request.ksn, code));
     }
-    match admit(&opened, index.used(), room) {
-        Ok(()) => Ok(opened),
+    match admit(&payment, index.used(), room) {
+        Ok(()) => Ok(payment),
         Err(refusal) => Err(refusal),
     }
 }

@@ -2,7 +2,7 @@
 
 ghost use Rattle.std.specs.Prelude.{◌≡◌, ◌≤◌, ◌<◌, ℕ, List, IfErr, IfNone, IfOk, IfSome, OnErr, OnOk, length};
 ghost use Rattle.std.specs.Option.{option_to_list};
-ghost use Rattle.duk_host.specs.Judgement.{Decision};
+ghost use Rattle.duk_host.specs.Judgement.{Decision, IsOpenedTo};
 ghost use Rattle.duk_host.specs.Used.{IsUsed};
 ghost use Rattle.duk_hsm.specs.Keys.{HsmKeys};
 ghost use Rattle.duk_hsm.specs.TransactionKeys.{AreTransactionKeys};
@@ -20,32 +20,35 @@ use crate::index::Index;
 use crate::judge::Judged;
 use crate::reason::Reason;
 use duk_frame::Frame;
-use duk_hsm::{Hsm, HsmFault, Transaction};
+use duk_hsm::{HsmFault, Transaction};
 use duk_journal::{Decided, Entry};
 use duk_reversal::{Reversal, ReversalNumbers, ReversalReply, ReversalState};
 use duk_tree::Ksn;
 use std::alloc::AllocError;
 
-/// Judges a reversal, where there is room for so many entries. Memory is refused only where there
-/// is no reason against it.
-pub(crate) fn judge_reversal<const N: usize>(
-    hsm: &Hsm<N>,
+/// Judges a reversal, whose number was opened to this, where there is room for so many entries.
+/// Memory is refused only where there is no reason against it.
+pub(crate) fn judge_reversal(
+    opened: Result<Transaction, HsmFault>,
     index: &mut Index,
     room: u64,
     reversal: &Reversal,
 ) -> Result<Judged, AllocError>
-    ensures judged { IfOk result (λ judged. (decides : Decision) (capacity : ℕ) (bytes : List ℕ)
-        → IsReversal bytes reversal.now → JudgesFrame hsm.now decides capacity room bytes
+    requires opened { (keys : HsmKeys) × IsOpenedTo keys reversal.now.numbers.ksn opened }
+    ensures judged { IfOk result (λ judged. (keys : HsmKeys) (decides : Decision) (capacity : ℕ)
+        → (bytes : List ℕ) → IsOpenedTo keys reversal.now.numbers.ksn opened
+        → IsReversal bytes reversal.now → JudgesFrame keys decides capacity room bytes
         index.old index.new judged.answer.items judged.added) }
     ensures usable { IfOk result
         (λ judged. IfSome judged.added (λ entry. IsUsable entry.number.counter)) }
     ensures stands { IfOk result
         (λ judged. IfSome judged.added (λ entry. MayStandUnder entry.number entry.decided)) }
     ensures room { IfOk result (λ judged. length (option_to_list judged.added) ≤ room) }
-    ensures refused { OnErr result ((capacity : ℕ) (bytes : List ℕ)
-        → IsReversal bytes reversal.now → MayBeAccepted hsm.now index.old capacity room bytes) }
+    ensures refused { OnErr result ((keys : HsmKeys) (capacity : ℕ) (bytes : List ℕ)
+        → IsOpenedTo keys reversal.now.numbers.ksn opened → IsReversal bytes reversal.now
+        → MayBeAccepted keys index.old capacity room bytes) }
 {
-    match settle(hsm, index, room, reversal) {
+    match settle(opened, index, room, reversal) {
         Ok(transaction) => accept(index, reversal, &transaction),
         Err(answer) => Ok(Judged {
             answer,
@@ -56,22 +59,28 @@ pub(crate) fn judge_reversal<const N: usize>(
 
 /// The transaction of a reversal that is to be accepted, or the answer that changes nothing: a
 /// refusal, or its reply that is given again.
-fn settle<const N: usize>(
-    hsm: &Hsm<N>,
+fn settle(
+    opened: Result<Transaction, HsmFault>,
     index: &Index,
     room: u64,
     reversal: &Reversal,
 ) -> Result<Transaction, Frame>
-    ensures opened { IfOk result (AreTransactionKeys hsm.now reversal.now.numbers.ksn) }
-    ensures acceptable { OnOk result (ReversalAcceptableBy hsm.now index.now room reversal.now) }
-    ensures authentic { OnOk result (IsAuthenticReversal hsm.now reversal.now) }
+    ensures opened { IfOk result (λ transaction. (keys : HsmKeys)
+        → IsOpenedTo keys reversal.now.numbers.ksn opened
+        → AreTransactionKeys keys reversal.now.numbers.ksn transaction) }
+    ensures acceptable { OnOk result ((keys : HsmKeys)
+        → IsOpenedTo keys reversal.now.numbers.ksn opened
+        → ReversalAcceptableBy keys index.now room reversal.now) }
+    ensures authentic { OnOk result ((keys : HsmKeys)
+        → IsOpenedTo keys reversal.now.numbers.ksn opened
+        → IsAuthenticReversal keys reversal.now) }
     ensures room { OnOk result (0 < room) }
-    ensures settled { IfErr result (λ answer. (capacity : ℕ) (bytes : List ℕ)
-        → IsReversal bytes reversal.now
-        → SettlesBy hsm.now index.now capacity room bytes answer.items) }
+    ensures settled { IfErr result (λ answer. (keys : HsmKeys) (capacity : ℕ) (bytes : List ℕ)
+        → IsOpenedTo keys reversal.now.numbers.ksn opened → IsReversal bytes reversal.now
+        → SettlesBy keys index.now capacity room bytes answer.items) }
 {
     let ksn = reversal.numbers.ksn();
-    let transaction = match open_authentic(hsm, reversal) {
+    let transaction = match verified(opened, reversal) {
         Ok(transaction) => transaction,
         Err(reason) => return Err(reason.answer(ksn)),
     };
@@ -84,16 +93,25 @@ fn settle<const N: usize>(
     }
 }
 
-/// The transaction of a reversal, or the least reason against its MAC.
-fn open_authentic<const N: usize>(hsm: &Hsm<N>, reversal: &Reversal) -> Result<Transaction, Reason>
-    ensures opened { IfOk result (AreTransactionKeys hsm.now reversal.now.numbers.ksn) }
-    ensures authentic { OnOk result (IsAuthenticReversal hsm.now reversal.now) }
-    ensures refused { IfErr result (IsAgainstMac hsm.now reversal.now) }
+/// The transaction that the number of a reversal was opened to, or the least reason against its MAC.
+fn verified(
+    opened: Result<Transaction, HsmFault>,
+    reversal: &Reversal,
+) -> Result<Transaction, Reason>
+    ensures opened { IfOk result (λ transaction. (keys : HsmKeys)
+        → IsOpenedTo keys reversal.now.numbers.ksn opened
+        → AreTransactionKeys keys reversal.now.numbers.ksn transaction) }
+    ensures authentic { OnOk result ((keys : HsmKeys)
+        → IsOpenedTo keys reversal.now.numbers.ksn opened
+        → IsAuthenticReversal keys reversal.now) }
+    ensures refused { IfErr result (λ reason. (keys : HsmKeys)
+        → IsOpenedTo keys reversal.now.numbers.ksn opened
+        → IsAgainstMac keys reversal.now reason) }
 {
-    let transaction = match hsm.open(reversal.numbers.ksn()) {
+    let transaction = match opened {
         Ok(transaction) => transaction,
         Err(HsmFault::NoKeySet) => return Err(Reason::UnknownKeySet),
-        // The only other fault of this call is that of the counter.
+        // The only other fault of an opening is that of the counter.
         Err(_) => return Err(Reason::BadCounter),
     };
     let text = Reversal::text(reversal.numbers);

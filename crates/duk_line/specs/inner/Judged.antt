@@ -1,16 +1,20 @@
 -- What single functions make of a frame and of the index of some entries: this project's own.
-use Rattle.std.specs.Prelude.{◌≡◌, ◌≤◌, ◌<◌, ◌-◌, ◌++◌, ℕ, List, [], All, Contains, None, Option, get_or, length, take}
+use Rattle.std.specs.Prelude.{◌≡◌, ◌≤◌, ◌<◌, ◌-◌, ◌++◌, ◌∷◌, ℕ, List, [], All, Contains, None, Option, Result, get_or, length, take}
 use Rattle.std.specs.Option.{option_to_list}
 use Rattle.duk_frame.specs.declared.code.Code.{Code}
+use Rattle.duk_frame.specs.Request.{IsRequest}
 use Rattle.duk_frame.specs.declared.request.Request.{Request}
-use Rattle.duk_host.specs.Judgement.{Decision, IsAcceptable, basis_with}
+use Rattle.duk_host.specs.Judgement.{Decision, IsAcceptable, IsOpenedTo, OpensRequest, basis_with}
 use Rattle.duk_host.specs.Used.{IsUsed}
 use Rattle.duk_hsm.specs.Commands.{HasBadCounter, IsOtherMac}
+use Rattle.duk_hsm.specs.Group.{AreOpened, OpenedPlaces}
 use Rattle.duk_hsm.specs.Keys.{HsmKeys, key_set_of}
+use Rattle.duk_hsm.specs.TransactionKeys.{TransactionKeys}
+use Rattle.duk_hsm.specs.declared.fault.HsmFault.{HsmFault}
 use Rattle.duk_journal.specs.Entry.{MayStandUnder}
 use Rattle.duk_journal.specs.Groups.{Entries}
 use Rattle.duk_journal.specs.declared.entry.Entry.{Entry}
-use Rattle.duk_reversal.specs.Reversal.{reversal_text}
+use Rattle.duk_reversal.specs.Reversal.{IsReversal, reversal_text}
 use Rattle.duk_reversal.specs.declared.reversal.Reversal as reversal_frame
 use Rattle.duk_reversal.specs.declared.state.ReversalState.{ReversalState}
 use Rattle.duk_tree.specs.Path.{IsUsable}
@@ -21,6 +25,37 @@ use Rattle.duk_line.specs.Judgement.{IsJudged, IsReversalAcceptable, IsSettled, 
 use Rattle.duk_line.specs.Latest.{payment_entry, used_by}
 use Rattle.duk_line.specs.declared.reason.Reason.{Reason}
 use Rattle.duk_line.specs.declared.reason.Reason.TheVariants as reason
+
+-- the bytes are no reversal
+abbrev pub IsNoReversal : List ℕ → Type 0
+IsNoReversal bytes = (reversal : reversal_frame.Reversal) → ¬ IsReversal bytes reversal
+
+-- what opening the number of a frame gives: of a reversal the one that it uses, of a request its own.
+-- Of other bytes nothing is said
+pub record OpensFrame (keys : HsmKeys) (bytes : List ℕ) (opened : Result TransactionKeys HsmFault)
+    : Type 0 where
+  pub reversal : (reversal : reversal_frame.Reversal) → IsReversal bytes reversal
+      → IsOpenedTo keys reversal.numbers.ksn opened
+  pub request : IsNoReversal bytes → OpensRequest keys bytes opened
+
+-- the number of a frame
+pub record IsNumberOf (bytes : List ℕ) (ksn : Serial) : Type 0 where
+  pub reversal : (reversal : reversal_frame.Reversal) → IsReversal bytes reversal
+      → ksn ≡ reversal.numbers.ksn
+  pub request : IsNoReversal bytes → (request : Request) → IsRequest bytes request
+      → ksn ≡ request.ksn
+
+-- the numbers of frames, in their order
+abbrev pub AreNumbersOf : List (List ℕ) → List Serial → Type 0
+AreNumbersOf [] [] = Unit {0}
+AreNumbersOf (bytes ∷ frames) (ksn ∷ numbers) = IsNumberOf bytes ksn × AreNumbersOf frames numbers
+AreNumbersOf _ _ = ⊥
+
+-- the numbers of frames are opened together
+pub record OpensFrames (keys : HsmKeys) (frames : List (List ℕ)) (opened : OpenedPlaces) : Type 0 where
+  pub numbers : List Serial
+  pub numbers_are : AreNumbersOf frames numbers
+  pub are_opened : AreOpened keys numbers opened
 
 -- the payment with this number and this MAC is one of the latest entries of an index, with this code,
 -- and is not undone

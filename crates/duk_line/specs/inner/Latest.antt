@@ -1,6 +1,6 @@
 -- How the entries that can be answered again lie in memory: in a map by their numbers, whose places
 -- are a ring once there are as many as can be: this project's own.
-use Rattle.std.specs.Prelude.{◌≡◌, ◌<◌, ◌≤◌, ◌+◌, ◌*◌, ◌/◌, ◌%◌, ◌^◌, ◌++◌, ◌∷◌, [], ℕ, List, drop, take, map, Contains}
+use Rattle.std.specs.Prelude.{◌≡◌, ◌<◌, ◌≤◌, ◌*◌, ◌/◌, ◌%◌, ◌^◌, ◌++◌, ◌∷◌, [], ℕ, List, drop, take, map, Contains}
 use Rattle.duk_journal.specs.Groups.{Entries}
 use Rattle.duk_journal.specs.declared.entry.Decided.{Decided}
 use Rattle.duk_journal.specs.declared.entry.Entry.{Entry}

@@ -2,27 +2,32 @@ use Rattle.std.proofs.Common.{◌∙◌, ap, subst}
 use Rattle.duk_host.specs.Used.{IsUsed}
 use Rattle.duk_line.specs.Judgement.{refusal_of}
 use Rattle.duk_line.specs.inner.Judged.{IsAgainstNumber}
-use Rattle.duk_line.proofs.JudgingReversals.{refused_number, refused_unread}
+use Rattle.duk_line.proofs.JudgingReversals.{given_again, refused_number, refused_unread}
 use Rattle.duk_line.proofs.reversal.settle.Goals as goal
 
 pub returns-in-Err-clause-settled : goal.returns-in-Err-clause-settled
-returns-in-Err-clause-settled g c = λ capacity bytes is_reversal entries decides is_index.
-    refused_unread c.args.hsm.now c.args.index.now entries capacity c.args.room decides bytes c.answer.result.items c.args.reversal.now is_reversal c.in-Err.reason c.in-Err.ensures.refused
+returns-in-Err-clause-settled c = λ keys capacity bytes is is_reversal entries decides is_index.
+    refused_unread keys c.args.index.now entries capacity c.args.room decides bytes c.answer.result.items c.args.reversal.now is_reversal c.in-Err.reason (c.in-Err.ensures.refused keys is)
     (c.answer.ensures ∙ ap (λ ksn. refusal_of ksn c.in-Err.reason) c.ksn-ksn.ensures.value)
 
+pub returns-in-Some-clause-settled : goal.returns-in-Some-clause-settled
+returns-in-Some-clause-settled c = λ keys capacity bytes is is_reversal entries decides is_index.
+    given_again keys c.args.index.now entries capacity c.args.room decides bytes c.reply_with.result.items c.args.reversal.now is_reversal c.in-Some.state is_index
+    (c.in-Ok.ensures.authentic keys is) c.in-Some.ensures.found (c.reply_with.ensures keys (c.in-Ok.ensures.opened keys is))
+
 pub returns-in-Err-check_number-clause-settled : goal.returns-in-Err-check_number-clause-settled
-returns-in-Err-check_number-clause-settled g c = λ capacity bytes is_reversal entries decides is_index.
+returns-in-Err-check_number-clause-settled c = λ keys capacity bytes is is_reversal entries decides is_index.
     let why = c.in-Err-check_number.reason in
     let against = subst (λ ksn. IsAgainstNumber c.args.index.now c.args.room ksn why) c.ksn-ksn.ensures.value c.in-Err-check_number.ensures.refused in
-    refused_number c.args.hsm.now c.args.index.now entries capacity c.args.room decides bytes c.answer-in-Err-check_number.result.items c.args.reversal.now is_reversal why is_index
-    c.in-Ok.ensures.authentic c.in_default.ensures.none against (c.answer-in-Err-check_number.ensures ∙ ap (λ ksn. refusal_of ksn why) c.ksn-ksn.ensures.value)
+    refused_number keys c.args.index.now entries capacity c.args.room decides bytes c.answer-in-Err-check_number.result.items c.args.reversal.now is_reversal why is_index
+    (c.in-Ok.ensures.authentic keys is) c.in_default.ensures.none against (c.answer-in-Err-check_number.ensures ∙ ap (λ ksn. refusal_of ksn why) c.ksn-ksn.ensures.value)
 
 pub returns-in-Ok-check_number-clause-acceptable : goal.returns-in-Ok-check_number-clause-acceptable
-returns-in-Ok-check_number-clause-acceptable g c = λ entries capacity decides is_index.
+returns-in-Ok-check_number-clause-acceptable c = λ keys is entries capacity decides is_index.
     let ksn = c.args.reversal.now.numbers.ksn in
     let fresh = subst (λ ksn. ¬ IsUsed c.args.index.now.used ksn) c.ksn-ksn.ensures.value c.in-Ok-check_number.ensures.fresh in
     record {
-      authentic = c.in-Ok.ensures.authentic;
+      authentic = c.in-Ok.ensures.authentic keys is;
       new = λ used. fresh ((is_index.sets.used_are ksn).1 used);
       room = c.in-Ok-check_number.ensures.room;
     }
