@@ -1,9 +1,8 @@
 //! The requests of many transactions checked at once, a group of them in lanes.
 //!
-//! No branch and no address depends on a key or on what is made of one: a request's MAC is compared
-//! by the differences of all of its bytes, of which a number is made.
+//! No branch and no address depends on a key or on what is made of one.
 
-ghost use Rattle.std.specs.Prelude.{◌≡◌, ◌≢◌, ◌⊎◌, ◌↔◌, ◌<◌, ◌≤◌, ◌/◌, ◌%◌, List, ℕ, length, slice_index_or};
+ghost use Rattle.std.specs.Prelude.{◌≡◌, ◌≢◌, ◌⊎◌, ◌<◌, ◌≤◌, ◌/◌, ◌%◌, List, ℕ, length, slice_index_or};
 ghost use Rattle.duk_frame.specs.Frame.{mac_text_of};
 ghost use Rattle.duk_frame.specs.Request.{IsRequest};
 ghost use Rattle.duk_frame.specs.declared.request.Request.{Request};
@@ -18,6 +17,7 @@ use byteorder::{BigEndian, ByteOrder};
 use duk_frame::{mac_text, read_request};
 use duk_group::{WIDTH, derived_keys, retail_macs, spread_key};
 use duk_lanes::scatter_wide;
+use duk_mac::same_mac;
 use duk_tdes::Key;
 use duk_tree::{Ksn, usable};
 
@@ -127,16 +127,5 @@ fn verdict(bytes: &[u8], mac: [u8; 8]) -> u8
 fn told_of_mac(mac: [u8; 8], right: [u8; 8]) -> u8
     ensures { ((mac ≡ right) × (result ≡ 0)) ⊎ ((mac ≢ right) × (result ≡ 27)) }
 {
-    u8::from(differences(mac, right) != 0) * Fault::BadMac.number() as u8
-}
-
-/// The differences of all bytes of two blocks, one over the other: zero where there is none.
-fn differences(one: [u8; 8], other: [u8; 8]) -> u8
-    ensures { (result ≡ 0) ↔ (one ≡ other) }
-{
-    let mut all = 0;
-    for i in 0..8 {
-        all |= one[i] ^ other[i];
-    }
-    all
+    u8::from(!same_mac(&mac, &right)) * Fault::BadMac.number() as u8
 }

@@ -8,7 +8,7 @@ use crate::fault::Fault;
 use crate::frames::{FRAME_ROOM, fill_frame};
 use crate::pins::{read_pan, read_pin};
 use duk_frame::mac_text;
-use duk_mac::retail;
+use duk_mac::{retail, same_mac};
 use duk_pin::decode;
 use duk_tdes::tdes_decrypt;
 use duk_tree::{pin_key, request_key};
@@ -90,7 +90,7 @@ pub fn check_request(key: &[u8], frame: &[u8]) -> Result<(), Fault>
     };
     duk_frame::laws::mac_texts();
     let key = request_key(&double_key(key));
-    if request.mac == retail(&key, mac_text(frame)) {
+    if same_mac(&request.mac, &retail(&key, mac_text(frame))) {
         Ok(())
     } else {
         Err(Fault::BadMac)
