@@ -18,7 +18,7 @@ from .support.library_values import KEY, KSN, ROOM, STATUS, number, parts
 from .test_ciphers import BASE, vectors
 from .test_library_c import LibraryCase
 
-# More than two groups of terminals, whether a group has 64 or 128 of them.
+# A group of 128 terminals, and two more.
 MOST = 130
 # How many keys are compared with libcrypto, by how many processes.
 KEYS, PROCESSES = 1_000_000, 4

@@ -209,7 +209,11 @@ fn verdict_on(expected: [u8; 8], mac: [u8; 8]) -> &'static str
     ensures verdict { IsVerdict expected mac result.now }
     ensures short { length result.now ≤ 5 }
 {
-    if same_mac(&expected, &mac) { "right" } else { "wrong" }
+    if same_mac(&expected, &mac) {
+        "right"
+    } else {
+        "wrong"
+    }
 }
 
 /// Appends the line of a PIN block in clear, where it is to be shown.

@@ -124,7 +124,10 @@ fn way_of(sought: &Sought, key: &Key<16>) -> Option<Way>
 {
     match sought {
         Sought::Frame { bytes, mac, .. } => {
-            way_where(same_mac(&retail(key, mac_text(bytes.as_slice())), mac), Way::Retail)
+            way_where(
+                same_mac(&retail(key, mac_text(bytes.as_slice())), mac),
+                Way::Retail,
+            )
         }
         Sought::Mac { message, mac } => mac_of(key, message.as_slice(), *mac),
         Sought::PinBlock { pan, block } => {
