@@ -2,8 +2,9 @@
 
 ghost use Rattle.std.specs.Prelude.{◌≡◌, ◌+◌, ◌≤◌, ◌++◌, true, IfErr, IfOk};
 ghost use Rattle.arrayvec.specs.ArrayVec.{array_vec_len};
-ghost use Rattle.duk_tools.specs.Keys.{IsDerivedText, IsInitialRefused, IsInitialText, data_key_lines, initial_lines, mac_lines, other_lines, three_lines};
+ghost use Rattle.duk_tools.specs.Keys.{IsDerivedText, IsInitialRefused, IsInitialText, data_key_lines, derived_lines, initial_lines, mac_lines, other_lines, three_lines};
 ghost use Rattle.duk_tools.specs.Start.{IsStartRefused};
+ghost use Rattle.duk_tree.specs.Derivation.{transaction_key_of};
 
 use crate::start::read_start;
 use crate::steps::push_steps;
@@ -11,7 +12,7 @@ use duk_commands::{Fault, KeyArgument, LINES_ROOM, Lines, push_line};
 use duk_data::{request_data_key, response_data_key};
 use duk_mac::check_value;
 use duk_tdes::Key;
-use duk_tree::{Iksn, initial_key, pin_key, request_key, response_key};
+use duk_tree::{Iksn, Ksn, initial_key, pin_key, request_key, response_key};
 
 /// The lines of a number's keys: the initial key, the transaction key and its PIN variant; before
 /// them, with `trace`, the key of each node on the way to the number, and the number's; after them,
@@ -29,16 +30,23 @@ pub fn derived_lines(
     ensures refused { IfErr result (IsStartRefused given.entry ksn.now) }
 {
     let start = read_start(given, ksn)?;
-    let key = start.key();
+    Ok(lines_of_derived(&start.initial, &start.key(), start.ksn, trace, all))
+}
+
+/// The same lines, of an initial key and a transaction key that are there.
+pub fn lines_of_derived(initial: &Key<16>, key: &Key<16>, ksn: Ksn, trace: bool, all: bool) -> Lines
+    requires { key.now ≡ transaction_key_of initial.now ksn.iksn ksn.counter }
+    ensures { result.items ≡ derived_lines trace all initial.now ksn }
+{
     let mut lines = Lines::new();
     if trace {
-        push_steps(&mut lines, &start.initial, start.ksn);
+        push_steps(&mut lines, initial, ksn);
     }
-    push_three(&mut lines, &start.initial, &key);
+    push_three(&mut lines, initial, key);
     if all {
-        push_others(&mut lines, &key);
+        push_others(&mut lines, key);
     }
-    Ok(lines)
+    lines
 }
 
 /// Appends the lines of the initial key, the transaction key and its PIN variant.

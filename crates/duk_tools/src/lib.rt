@@ -28,7 +28,7 @@ pub use encipher::data_lines;
 pub use find::find_command;
 pub use find_fault::FindFault;
 pub use frames::{reply_lines, request_lines};
-pub use keys::{derived_lines, initial_lines};
+pub use keys::{derived_lines, initial_lines, lines_of_derived};
 pub use mac::mac_lines;
 pub use pin_blocks::{translate_lines, unpin_lines};
 pub use registers::registers_lines;
