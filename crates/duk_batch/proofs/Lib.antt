@@ -1,6 +1,7 @@
 mod AnswersInTurn
 mod DerivedItems
 mod Endings
+mod GroupKeys
 mod KeptLine
 mod LinesInTurn
 mod Outcomes

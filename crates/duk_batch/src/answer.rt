@@ -6,6 +6,7 @@ ghost use Rattle.duk_batch.specs.inner.Batch.{answer_text};
 
 use crate::item::read_item;
 use crate::items::Items;
+use crate::kept::Kept;
 use duk_commands::{Lines, push_end, push_text};
 use std::alloc::Global;
 
@@ -18,7 +19,14 @@ pub(crate) struct Answer {
 }
 
 /// The answer to a line, which is that of its item, or else that it is none.
-pub(crate) fn answer_line<I: Items>(alloc: Global, items: &I, line: &[u8]) -> Answer
+/// `ahead` are the bytes behind the line.
+pub(crate) fn answer_line<I: Items>(
+    alloc: Global,
+    items: &I,
+    line: &[u8],
+    ahead: &[u8],
+    kept: &mut Kept,
+) -> Answer
     ensures { IsItemAnswer (I.command items.now) line.now (answer_text result) result.done }
 {
     let Some(item) = read_item(line) else {
@@ -28,7 +36,7 @@ pub(crate) fn answer_line<I: Items>(alloc: Global, items: &I, line: &[u8]) -> An
             done: false,
         };
     };
-    match items.lines(alloc, item) {
+    match items.lines(alloc, item, ahead, kept) {
         Ok(text) => Answer {
             text,
             explanation: Lines::new(),

@@ -10,6 +10,7 @@ ghost use Rattle.duk_batch.specs.inner.Batch.{AreAnswered, IsCutOff, IsPushed, I
 use crate::answer::{Answer, answer_line};
 use crate::item::{LONGEST_ITEM, strip_return};
 use crate::items::Items;
+use crate::kept::Kept;
 use arrayvec::ArrayVec;
 use duk_commands::Lines;
 use duk_io::{BUFFER_ROOM, Buffer, Sink, WriteFailed, make_room, write_out};
@@ -31,6 +32,8 @@ pub(crate) struct Batch {
     pub(crate) answers: Buffer,
     /// Whether the command was done for each line that has ended.
     pub(crate) done: bool,
+    /// What the items have left.
+    pub(crate) kept: Kept,
 }
 
 impl Batch {
@@ -44,6 +47,7 @@ impl Batch {
             line: Line::new(),
             answers: Buffer::new(),
             done: true,
+            kept: Kept::new(),
         }
     }
 
@@ -68,18 +72,19 @@ impl Batch {
             (W.known output.new)) }
     {
         duk_io::laws::writes();
-        for byte in piece {
-            self.take(alloc, items, *byte, output)?;
+        for (i, byte) in piece.iter().enumerate() {
+            self.take(alloc, items, *byte, &piece[i + 1..], output)?;
         }
         write_out(&mut self.answers, output)
     }
 
-    /// Takes the next byte, and answers the line that ends with it.
+    /// Takes the next byte, and answers the line that ends with it. `ahead` are the bytes behind it.
     fn take<I: Items, W: Sink>(
         &mut self,
         alloc: Global,
         items: &I,
         byte: u8,
+        ahead: &[u8],
         output: &mut W,
     ) -> Result<(), WriteFailed>
         ensures goes_on { (bytes : List ℕ) (before : Known)
@@ -98,7 +103,8 @@ impl Batch {
             keep(&mut self.line, byte);
             return Ok(());
         }
-        let answer = answer_line(alloc, items, strip_return(self.line.as_slice()));
+        let line = strip_return(self.line.as_slice());
+        let answer = answer_line(alloc, items, line, ahead, &mut self.kept);
         push_answer(&mut self.answers, &answer, output)?;
         self.done &= answer.done;
         self.line.clear();
@@ -145,7 +151,8 @@ impl Batch {
         if self.line.is_empty() {
             return Ok(());
         }
-        let answer = answer_line(alloc, items, self.line.as_slice());
+        let line = self.line.as_slice();
+        let answer = answer_line(alloc, items, line, &[], &mut self.kept);
         push_answer(&mut self.answers, &answer, output)?;
         self.done &= answer.done;
         Ok(())

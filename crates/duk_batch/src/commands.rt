@@ -1,14 +1,18 @@
 //! The commands that take an argument from each line of their input.
 
-ghost use Rattle.std.specs.Prelude.{◌≡◌, []};
+ghost use Rattle.std.specs.Prelude.{◌≡◌, [], IfSome};
 ghost use Rattle.std.specs.Option.{option_copied};
 ghost use Rattle.duk_commands.specs.Fault.{report_line};
+ghost use Rattle.duk_commands.specs.KeyArgument.{key_argument};
+ghost use Rattle.duk_tools.specs.Keys.{IsDerivedText};
 ghost use Rattle.duk_batch.specs.Item.{item_of_command};
 ghost use Rattle.duk_batch.specs.Commands.{derive_item, kcv_item, pan_item, pin_item};
 
+use crate::group::usable_number;
 use crate::items::{Items, Refused};
+use crate::kept::Kept;
 use duk_commands::{Fault, KeyArgument, Lines, pin_lines, push_end, push_text};
-use duk_tools::{derived_lines, values_lines};
+use duk_tools::{derived_lines, lines_of_derived, values_lines};
 use std::alloc::Global;
 
 /// `derive`, whose items are key serial numbers of 20 hexadecimal digits.
@@ -27,12 +31,33 @@ pub struct DeriveItems<'a> {
 impl Items for DeriveItems<'_> {
     ghost command = { λ items item. item_of_command (derive_item items.bdk items.initial items.trace items.all item) };
 
-    fn lines(&self, _alloc: Global, item: &str) -> Result<Lines, Refused> {
+    fn lines(
+        &self,
+        _alloc: Global,
+        item: &str,
+        ahead: &[u8],
+        kept: &mut Kept,
+    ) -> Result<Lines, Refused> {
+        if let Some(lines) = self.kept_lines(item, ahead, kept) {
+            return Ok(lines);
+        }
         let given = KeyArgument::new(self.bdk, self.initial);
         match derived_lines(given, item, self.trace, self.all) {
             Ok(lines) => Ok(lines),
             Err(why) => Err(refused(why)),
         }
+    }
+}
+
+impl DeriveItems<'_> {
+    /// The lines of an item by keys that are made of many numbers at once. None: it has none.
+    fn kept_lines(&self, item: &str, ahead: &[u8], kept: &mut Kept) -> Option<Lines>
+        ensures { IfSome result (λ lines. IsDerivedText (key_argument self.now.bdk self.now.initial)
+            item.now self.now.trace self.now.all lines.items) }
+    {
+        let number = usable_number(item)?;
+        let derived = kept.keys(self.bdk, self.initial, number, ahead)?;
+        Some(lines_of_derived(&derived.initial, &derived.key, number, self.trace, self.all))
     }
 }
 
@@ -43,7 +68,13 @@ pub struct KcvItems;
 impl Items for KcvItems {
     ghost command = { λ items item. item_of_command (kcv_item item) };
 
-    fn lines(&self, _alloc: Global, item: &str) -> Result<Lines, Refused> {
+    fn lines(
+        &self,
+        _alloc: Global,
+        item: &str,
+        _ahead: &[u8],
+        _kept: &mut Kept,
+    ) -> Result<Lines, Refused> {
         match values_lines(&[item], false, false) {
             Ok(lines) => Ok(lines),
             Err(why) => Err(refused(why)),
@@ -63,7 +94,13 @@ pub struct PinItems<'a> {
 impl Items for PinItems<'_> {
     ghost command = { λ items item. item_of_command (pin_item items.pan.now (option_copied items.key) item) };
 
-    fn lines(&self, _alloc: Global, item: &str) -> Result<Lines, Refused> {
+    fn lines(
+        &self,
+        _alloc: Global,
+        item: &str,
+        _ahead: &[u8],
+        _kept: &mut Kept,
+    ) -> Result<Lines, Refused> {
         match pin_lines(item, self.pan, self.key) {
             Ok(lines) => Ok(lines),
             Err(why) => Err(refused(why)),
@@ -83,7 +120,13 @@ pub struct PanItems<'a> {
 impl Items for PanItems<'_> {
     ghost command = { λ items item. item_of_command (pan_item items.pin.now (option_copied items.key) item) };
 
-    fn lines(&self, _alloc: Global, item: &str) -> Result<Lines, Refused> {
+    fn lines(
+        &self,
+        _alloc: Global,
+        item: &str,
+        _ahead: &[u8],
+        _kept: &mut Kept,
+    ) -> Result<Lines, Refused> {
         match pin_lines(self.pin, item, self.key) {
             Ok(lines) => Ok(lines),
             Err(why) => Err(refused(why)),

@@ -3,6 +3,7 @@
 ghost use Rattle.std.specs.Prelude.{◌≡◌, [], ℕ, List, IfErr, IfOk};
 ghost use Rattle.duk_batch.specs.Item.{IsRefusal, ItemCommand};
 
+use crate::kept::Kept;
 use duk_commands::Lines;
 use std::alloc::Global;
 
@@ -33,8 +34,15 @@ pub trait Items {
     /// The command over an item.
     ghost command: { Self → List ℕ → ItemCommand };
 
-    /// The lines of an item, or the line of the fault for which it is refused.
-    fn lines(&self, alloc: Global, item: &str) -> Result<Lines, Refused>
+    /// The lines of an item, or the line of the fault for which it is refused. `ahead` are the bytes
+    /// behind its line, as far as they have come, and `kept` is what earlier items have left.
+    fn lines(
+        &self,
+        alloc: Global,
+        item: &str,
+        ahead: &[u8],
+        kept: &mut Kept,
+    ) -> Result<Lines, Refused>
         ensures lines { IfOk result (λ lines. (command self.now item.now).writes lines.items) }
         ensures refused { IfErr result (IsRefusal (command self.now item.now)) };
 }

@@ -5,10 +5,13 @@
 mod answer;
 mod batch;
 mod commands;
+mod group;
 mod item;
 mod items;
+mod kept;
 mod run;
 
 pub use commands::{DeriveItems, KcvItems, PanItems, PinItems};
 pub use items::{Items, Refused};
+pub use kept::Kept;
 pub use run::do_batch;

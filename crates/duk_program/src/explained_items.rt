@@ -8,7 +8,7 @@ ghost use Rattle.duk_program.specs.inner.Items.{items_in};
 
 use crate::items::{LineCommand, is_input};
 use duk_arguments::{Keys, Request};
-use duk_batch::{Items, Refused};
+use duk_batch::{Items, Kept, Refused};
 use duk_commands::Lines;
 use duk_explain::{Facts, explanation};
 use std::alloc::Global;
@@ -25,8 +25,14 @@ pub(crate) struct ExplainedItems<'a> {
 impl Items for ExplainedItems<'_> {
     ghost command = { λ it. explained_command it.request (command_of_line (items_in it.items)) };
 
-    fn lines(&self, alloc: Global, item: &str) -> Result<Lines, Refused> {
-        match self.items.lines(alloc, item) {
+    fn lines(
+        &self,
+        alloc: Global,
+        item: &str,
+        ahead: &[u8],
+        kept: &mut Kept,
+    ) -> Result<Lines, Refused> {
+        match self.items.lines(alloc, item, ahead, kept) {
             Ok(lines) => Ok(lines),
             Err(why) => Err(explain_item(&self.request, item, why.line)),
         }

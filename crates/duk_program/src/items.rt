@@ -11,7 +11,7 @@ ghost use Rattle.duk_show.specs.Frame.{IsFrameText};
 ghost use Rattle.duk_show.specs.Image.{IsImageText};
 
 use duk_arguments::{Keys, Request};
-use duk_batch::{DeriveItems, Items, KcvItems, PanItems, PinItems, Refused};
+use duk_batch::{DeriveItems, Items, KcvItems, Kept, PanItems, PinItems, Refused};
 use duk_commands::Lines;
 use duk_show::{ShowFault, block_lines, frame_lines, image_lines};
 use std::alloc::Global;
@@ -41,12 +41,18 @@ pub(crate) enum LineCommand<'a> {
 impl Items for LineCommand<'_> {
     ghost command = { λ command. command_of_line (items_in command) };
 
-    fn lines(&self, alloc: Global, item: &str) -> Result<Lines, Refused> {
+    fn lines(
+        &self,
+        alloc: Global,
+        item: &str,
+        ahead: &[u8],
+        kept: &mut Kept,
+    ) -> Result<Lines, Refused> {
         match self {
-            LineCommand::Derive(items) => items.lines(alloc, item),
-            LineCommand::Kcv(items) => items.lines(alloc, item),
-            LineCommand::Pins(items) => items.lines(alloc, item),
-            LineCommand::Pans(items) => items.lines(alloc, item),
+            LineCommand::Derive(items) => items.lines(alloc, item, ahead, kept),
+            LineCommand::Kcv(items) => items.lines(alloc, item, ahead, kept),
+            LineCommand::Pins(items) => items.lines(alloc, item, ahead, kept),
+            LineCommand::Pans(items) => items.lines(alloc, item, ahead, kept),
             LineCommand::Frames => shown_frame(alloc, item),
             LineCommand::Blocks => shown_block(item),
             LineCommand::Images { show } => shown_image(alloc, item, *show),

@@ -30,7 +30,7 @@ returns-clause-answered g c bytes before way =
     let laws : WriteLaws = record { none = c.writes.ensures.none; next = c.writes.ensures.then; cut = c.writes.ensures.cut_later } in
     let command = g.I.Items.command c.args.items.now in
     let answer = c.answer_line-answer.result in
-    let right = subst (λ (l : List ℕ). IsItemAnswer command l (answer_text answer) answer.done) c.as_slice.ensures.value c.answer_line-answer.ensures in
+    let right = subst (λ (l : List ℕ). IsItemAnswer command l (answer_text answer) answer.done) c.as_slice-line.ensures.value c.answer_line-answer.ensures in
     let some : 0 < length c.args.self.now.line.items = some_kept (length c.args.self.now.line.items) c.is_empty.result c.is_empty.ensures c.if-is_empty.false in
     last_line_answered command laws bytes c.args.self.now.line.items c.args.self.now.done c.args.self.now.answers.items c.push_answer.new.answers.items (answer_text answer) answer.done before (g.W.Sink.known c.args.output.now) (g.W.Sink.known c.push_answer.new.output)
     some right c.in_ok-push_answer.ensures.pushed way

@@ -26,7 +26,7 @@ returns-clause-goes_on g c bytes before way =
     let done = c.args.self.now.done && answer.done in
     let held = c.push_answer.new.answers.items in
     let now = g.W.Sink.known c.push_answer.new.output in
-    let stripped : c.strip_return.result.now ≡ strip_carriage_return c.args.self.now.line.items = c.strip_return.ensures ∙ ap strip_carriage_return c.as_slice.ensures.value in
+    let stripped : c.strip_return-line.result.now ≡ strip_carriage_return c.args.self.now.line.items = c.strip_return-line.ensures ∙ ap strip_carriage_return c.as_slice.ensures.value in
     let right = subst (λ (l : List ℕ). IsItemAnswer command l (answer_text answer) answer.done) stripped c.answer_line-answer.ensures in
     let after = line_answered command laws bytes c.args.self.now.line.items c.args.self.now.done c.args.self.now.answers.items held (answer_text answer) answer.done before (g.W.Sink.known c.args.output.now) now
     right c.in_ok-push_answer.ensures.pushed way in

@@ -4,6 +4,11 @@ use Rattle.duk_tools.specs.Start.{IsStartRefused}
 use Rattle.duk_batch.proofs.DerivedItems.{derived_refused, derived_text}
 use Rattle.duk_batch.proofs.commands.DeriveItemsItems.lines.Goals as goal
 
+pub returns-in-Some-clause-lines : goal.returns-in-Some-clause-lines
+returns-in-Some-clause-lines c =
+    let items = c.args.self.now in
+    derived_text items.bdk c.args.item.now items.initial items.trace items.all c.in-Some.lines.items c.in-Some.ensures
+
 pub returns-in-Ok-clause-lines : goal.returns-in-Ok-clause-lines
 returns-in-Ok-clause-lines c =
     let items = c.args.self.now in
