@@ -12,11 +12,10 @@ ghost use Rattle.duk_hsm.specs.inner.Group.{IsBase, IsDerived, base_at};
 use crate::asked::Asked;
 use crate::fault::HsmFault;
 use crate::hsm::Hsm;
-use crate::lanes::prepared_keys;
+use crate::one_by_one::{prepared_keys, response_macs};
 use crate::prepared::PreparedKey;
 use crate::transaction::Transaction;
-use duk_group::{WIDTH, gather_keys, retail_macs};
-use duk_lanes::scatter_wide;
+use duk_group::WIDTH;
 use duk_tdes::{Key, KeyBytes};
 use std::marker::Model;
 
@@ -60,19 +59,19 @@ impl OpenedGroup {
         Ok(Transaction::new(prepared))
     }
 
-    /// The retail MACs of texts, in lanes: each under the variant for responses of the transaction
-    /// key at its place. An empty text stands at a place that has no reply. How long the texts are
-    /// is no secret.
+    /// The retail MACs of texts, side by side: each under the variant for responses of the
+    /// transaction key at its place. An empty text stands at a place that has no reply. How long the
+    /// texts are is no secret.
     pub fn reply_macs(&self, texts: &[&[u8]]) -> [[u8; 8]; WIDTH]
         requires few { length texts.now ≤ WIDTH }
         ensures made { (keys : HsmKeys) (numbers : List Serial) (place : ℕ)
             → AreOpened keys numbers self.now → place < length numbers → place < length texts.now
             → HasTransactionKey keys (number_at numbers place)
+            → 0 < length (message_at texts.now place)
             → IsReplyMac keys (number_at numbers place) (message_at texts.now place)
             (bytes_at result place) }
     {
-        let keys = gather_keys(&opened_keys(&self.places)).response_keys();
-        scatter_wide(&retail_macs(&keys, texts))
+        response_macs(&opened_keys(&self.places), texts)
     }
 }
 

@@ -8,7 +8,7 @@ ghost use Rattle.duk_group.specs.Numbers.{bytes_at, message_at, number_at};
 ghost use Rattle.duk_lanes.specs.Words.{wide_lane};
 ghost use Rattle.duk_mac.specs.Retail.{retail_of};
 ghost use Rattle.duk_tdes.specs.Tdes.{tdes_decrypted};
-ghost use Rattle.duk_tree.specs.Derivation.{derived_key_of, pin_key_of, request_key_of};
+ghost use Rattle.duk_tree.specs.Derivation.{derived_key_of, pin_key_of, request_key_of, response_key_of};
 ghost use Rattle.duk_hsm.specs.Group.{numbers_of};
 ghost use Rattle.duk_hsm.specs.inner.Group.{IsDerivedKey, asked_at, base_at, prepared_at};
 ghost use Rattle.duk_hsm.specs.inner.Known.{under};
@@ -28,7 +28,7 @@ use duk_tree::Ksn;
 /// The transaction keys of key serial numbers under the base derivation keys at their places, each
 /// with the zone key and what it is asked for first. Where there is no base derivation key, any key
 /// stands.
-pub(crate) fn prepared_keys(
+pub(crate) fn prepared_in_lanes(
     bases: &[Result<Key<16>, HsmFault>; WIDTH],
     asked: &[Asked],
     zone: Option<KeyBytes>,
@@ -182,4 +182,15 @@ fn blocks_in(asked: &[Asked]) -> [[u8; 8]; WIDTH]
         blocks[i] = one.block();
     }
     blocks
+}
+
+/// The retail MACs of texts, each under the variant for responses of the transaction key at its
+/// place.
+pub(crate) fn response_macs_in_lanes(keys: &[Key<16>; WIDTH], texts: &[&[u8]]) -> [[u8; 8]; WIDTH]
+    requires few { length texts.now ≤ WIDTH }
+    ensures { (i : ℕ) → i < length texts.now → bytes_at result i
+        ≡ retail_of (response_key_of (bytes_at keys.now i)) (message_at texts.now i) }
+{
+    let keys = gather_keys(keys).response_keys();
+    scatter_wide(&retail_macs(&keys, texts))
 }

@@ -14,6 +14,7 @@ mod key_set;
 mod known;
 mod lanes;
 pub mod laws;
+mod one_by_one;
 mod pin_block;
 mod prepared;
 mod text;

@@ -1,25 +1,19 @@
--- The reply MACs of a group, lane by lane.
-use Rattle.std.proofs.Common.{◌<◌, ap, sym, subst, ◌∙◌, arith}
-use Rattle.duk_group.specs.Blocks.{block_of}
+-- The reply MACs of a group, place by place.
+use Rattle.std.proofs.Common.{◌<◌, sym, subst, arith}
 use Rattle.duk_group.specs.Numbers.{bytes_at, message_at, number_at}
 use Rattle.duk_group.specs.declared.transposed.TheConstants.{WIDTH}
-use Rattle.duk_mac.specs.Retail.{retail_of}
-use Rattle.duk_tree.specs.Derivation.{response_key_of}
 use Rattle.duk_hsm.specs.Group.{AreOpened, OpenedPlaces, place_at}
 use Rattle.duk_hsm.proofs.RepliesOfGroups.{reply_made}
 use Rattle.duk_hsm.proofs.group.OpenedGroup.reply_macs.Goals as goal
 
 pub returns : goal.returns
-unfolding block_of
 returns c = record {
-  made = λ keys numbers place are within here has.
+  made = λ keys numbers place are within here has some.
       let lane : place < WIDTH = omega (arith, here, c.requires.few) in
       let text = message_at c.args.texts.now place in
       let opened : AreOpened keys numbers (record { places = c.self.inside.places }) = subst (λ (group : OpenedPlaces). AreOpened keys numbers group) (sym c.self.view_is) are in
       reply_made keys (number_at numbers place) (place_at c.self.inside.places place) (bytes_at c.opened_keys.result place) text _
       (opened.places_are place within) has
       (λ one is. c.opened_keys.ensures place one lane is)
-      (c.scatter_wide.ensures place (omega (arith, lane))
-      ∙ c.retail_macs.ensures place here
-      ∙ ap (λ key. retail_of key text) (c.response_keys-keys.ensures place (omega (arith, lane)) ∙ ap response_key_of (c.gather_keys.ensures place (omega (arith, lane)))));
+      (c.response_macs.ensures place here some);
 }

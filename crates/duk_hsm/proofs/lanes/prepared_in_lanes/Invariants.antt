@@ -2,7 +2,7 @@ use Rattle.std.proofs.Common.{◌≡◌, ◌<◌, ℕ, length}
 use Rattle.duk_group.specs.Numbers.{bytes_at}
 use Rattle.duk_group.specs.declared.transposed.TheConstants.{WIDTH}
 use Rattle.duk_hsm.specs.inner.Group.{prepared_at}
-use Rattle.duk_hsm.proofs.lanes.prepared_keys.Given as goal
+use Rattle.duk_hsm.proofs.lanes.prepared_in_lanes.Given as goal
 
 abbrev pub invariant-loop-i : goal.invariant-loop-i
 invariant-loop-i l = record {

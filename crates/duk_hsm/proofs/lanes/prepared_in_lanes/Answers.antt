@@ -8,7 +8,7 @@ use Rattle.duk_tree.specs.Derivation.{pin_key_of, request_key_of}
 use Rattle.duk_hsm.specs.inner.Group.{asked_at}
 use Rattle.duk_hsm.specs.declared.pin_block.PinBlock.{PinBlock}
 use Rattle.duk_hsm.proofs.AskedNumbers.{asked_there}
-use Rattle.duk_hsm.proofs.lanes.prepared_keys.Goals as goal
+use Rattle.duk_hsm.proofs.lanes.prepared_in_lanes.Goals as goal
 
 -- the clear block of what is asked, from that of its lane
 deciphered : (pin : Option PinBlock) (clear block key : List ℕ) → IfSome pin (λ pin. block ≡ pin.block)
