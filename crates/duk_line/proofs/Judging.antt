@@ -1,8 +1,8 @@
 -- A frame that is judged by the index of some entries.
-use Rattle.std.proofs.Common.{◌≡◌, ◌<◌, ◌≤◌, ◌-◌, ◌+◌, ◌++◌, ◌∷◌, ℕ, zero, suc, List, [], Bool, true, false, Contains, Option, Some, None, Result, Ok, Err, IfOk, IfSome, All, length, drop, take, get_or, map, refl, sym, ap, subst, ◌∙◌, append_assoc, arith, length-append, length-drop}
+use Rattle.std.proofs.Common.{◌≡◌, ◌<◌, ◌≤◌, ◌-◌, ◌+◌, ◌++◌, ◌∷◌, ℕ, zero, suc, List, [], Bool, true, false, Contains, Option, Some, None, inl, Result, Ok, Err, IfOk, IfSome, All, length, drop, take, get_or, map, refl, sym, ap, subst, ◌∙◌, append_assoc, arith, length-append, length-drop}
 use Rattle.std.specs.Bool.{MatchBool}
-use Rattle.std.specs.Option.{option_to_list}
-use Rattle.std.specs.Prelude.{IfNone, OnErr}
+use Rattle.std.specs.Option.{option_map, option_to_list}
+use Rattle.std.specs.Prelude.{IfNone, IsSome, OnErr}
 use Rattle.std.proofs.lemmas.List.{append-nil, drop-append-le, take_more}
 use Rattle.std.proofs.lemmas.List.Elements.{All-append, All-cons, All-nil}
 use Rattle.duk_host.specs.Judgement.{Decision}
@@ -16,7 +16,7 @@ use Rattle.duk_line.specs.Host.{IndexOf, IsIndexOf}
 use Rattle.duk_line.specs.Judgement.{line_basis}
 use Rattle.duk_line.specs.Latest.{latest_entries, most_latest, used_by}
 use Rattle.duk_line.specs.inner.Index.{TakesNumbers}
-use Rattle.duk_line.specs.inner.Judged.{AreJudgedSoFar, JudgesFrame, JudgesFrames}
+use Rattle.duk_line.specs.inner.Judged.{AreJudgedSoFar, JudgesFrame, JudgesFrames, SettlesBy}
 use Rattle.duk_line.specs.inner.Latest.{with_latest}
 use Rattle.duk_line.proofs.InTurn.{joined}
 
@@ -137,3 +137,13 @@ on_err P (Err error) is = is
 pub if_none : {T : Type 0} (P : Type 0) (found : Option T) → P → IfNone found P
 if_none P None is = is
 if_none P (Some thing) is = tt
+
+-- there is what something is made of
+pub is_some_of : {A B : Type 0} (f : A → B) (found : Option A) → IsSome (option_map f found) → IsSome found
+is_some_of f None is = is
+is_some_of f (Some thing) is = refl
+
+-- bytes that are settled change nothing
+pub settled_only : (keys : HsmKeys) (decides : Decision) (capacity room : ℕ) (bytes : List ℕ) (index : IndexOf) (frame : List ℕ) → SettlesBy keys index capacity room bytes frame → JudgesFrame keys decides capacity room bytes index index frame None
+settled_only keys decides capacity room bytes index frame settles = λ entries is_index.
+    (inl (settles entries decides is_index, refl), subst (λ entries. IsIndexOf entries index) (sym (append-nil entries)) is_index)

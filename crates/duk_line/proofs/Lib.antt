@@ -11,6 +11,7 @@ pub mod NumbersTaken
 pub mod Indexed
 pub mod Judging
 pub mod NumbersOpened
+pub mod Drafts
 pub mod JudgingPayments
 pub mod JudgingReversals
 pub mod Answering

@@ -9,7 +9,7 @@ use Rattle.duk_hsm.specs.Keys.{HsmKeys}
 use Rattle.duk_hsm.specs.TransactionKeys.{AreTransactionKeys, TransactionKeys}
 use Rattle.duk_hsm.specs.declared.fault.HsmFault.{HsmFault}
 use Rattle.duk_tree.specs.Serial.{Serial}
-use Rattle.duk_line.specs.inner.Judged.{AreNumbersOf, IsNumberOf, OpensFrame, OpensFrames}
+use Rattle.duk_line.specs.inner.Judged.{AreNumbersOf, IsNumberOf, OpensBetween, OpensFrame, OpensFrames}
 use Rattle.duk_line.proofs.Judging.{item_at}
 
 pub not_both : {A : Type 0} (found : Option A) (value : A) → found ≡ Some value → found ≡ None → ⊥
@@ -90,7 +90,7 @@ one_asked bytes_of number_in frames asked place frame one within room is are num
 -- a frame of a group, among all frames
 pub opens_next :
     {A : Type 0} (bytes_of : A → List ℕ) (keys : HsmKeys) (frames : List A) (group : OpenedPlaces) (from to place : ℕ) (frame : A) (bytes : List ℕ) (opened : Result TransactionKeys HsmFault)
-    → OpensFrames keys (map bytes_of (take (to - from) (drop from frames))) group → from ≤ place → place < to → to ≤ length frames → get_or frames place frame ≡ frame → bytes ≡ bytes_of frame
+    → OpensBetween keys bytes_of frames from to group → from ≤ place → place < to → to ≤ length frames → get_or frames place frame ≡ frame → bytes ≡ bytes_of frame
     → ((keys : HsmKeys) (numbers : List Serial) → place - from < length numbers → AreOpened keys numbers group → IfOk opened (AreTransactionKeys keys (number_at numbers (place - from))))
     → ((keys : HsmKeys) (numbers : List Serial) → place - from < length numbers → AreOpened keys numbers group → IfErr opened (NoTransactionKey keys (number_at numbers (place - from))))
     → OpensFrame keys bytes opened
@@ -99,3 +99,14 @@ opens_next bytes_of keys frames group from to place frame bytes opened opens aft
     let long : length (map bytes_of part) ≡ to - from = length-map part bytes_of ∙ length_part frames from to (omega arith) within in
     opens_at keys (map bytes_of part) group (place - from) bytes opened opens (omega (arith, long))
     (part_at bytes_of frames from to place frame [] after before within is ∙ sym bytes_are) given refused
+
+-- the number at the place of such a frame is its own
+pub next_number :
+    {A : Type 0} (bytes_of : A → List ℕ) (keys : HsmKeys) (frames : List A) (group : OpenedPlaces) (from to place : ℕ) (frame : A)
+    → (opens : OpensBetween keys bytes_of frames from to group) → from ≤ place → place < to → to ≤ length frames → get_or frames place frame ≡ frame
+    → (place - from < length opens.numbers) × IsNumberOf (bytes_of frame) (number_at opens.numbers (place - from))
+next_number bytes_of keys frames group from to place frame opens after before within is =
+    let part = take (to - from) (drop from frames) in
+    let long : length (map bytes_of part) ≡ to - from = length-map part bytes_of ∙ length_part frames from to (omega arith) within in
+    let number = number_of (map bytes_of part) opens.numbers (place - from) opens.numbers_are (omega (arith, long)) in
+    (number.0, subst (λ bytes. IsNumberOf bytes (number_at opens.numbers (place - from))) (part_at bytes_of frames from to place frame [] after before within is) number.1)

@@ -1,5 +1,6 @@
 pub mod Latest
 pub mod Index
+pub mod Draft
 pub mod Group
 pub mod Host
 pub mod Judged

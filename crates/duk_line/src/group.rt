@@ -70,13 +70,21 @@ impl Group {
         self.entries.clear();
     }
 
-    /// Adds the answer to the next frame, and its entry, if it makes one.
-    pub(crate) fn push(&mut self, answer: Frame, entry: Option<Entry>)
+    /// Adds the answer to the next frame.
+    pub(crate) fn push_answer(&mut self, answer: Frame)
         requires { length self.old.answers < most_frames }
         ensures answers { self.new.answers ≡ self.old.answers ++ answer.items ∷ [] }
-        ensures entries { self.new.entries ≡ self.old.entries ++ option_to_list entry }
+        ensures entries { self.new.entries ≡ self.old.entries }
     {
         self.answers.push_reserved(answer);
+    }
+
+    /// Adds the entry of the next frame, if it makes one.
+    pub(crate) fn push_entry(&mut self, entry: Option<Entry>)
+        requires { length self.old.entries < most_frames }
+        ensures answers { self.new.answers ≡ self.old.answers }
+        ensures entries { self.new.entries ≡ self.old.entries ++ option_to_list entry }
+    {
         if let Some(entry) = entry {
             self.entries.push_reserved(entry);
         }

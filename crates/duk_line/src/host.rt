@@ -89,6 +89,7 @@ impl<const N: usize, J: Journal, I: Issuer> JournalHost<N, J, I> {
     /// Refused with `Stopped`; with `NoMemory` at the first frame to be accepted for which memory is
     /// refused, where the frames before it are answered; and with `Store`, where the entries are
     /// not kept, and there are no answers. The host is stopped after each.
+    #[inline(never)]
     pub fn answer(&mut self, frames: &[Frame], group: &mut Group) -> Result<(), HostFault>
         requires few { length frames.now ≤ most_frames }
         ensures answered { OnOk result (AnswersFrames (host_meaning_of J.meaning I.decides)

@@ -4,11 +4,12 @@
 //! a group accepts goes into the journal together, with one pair of syncs, before any answer of the
 //! group goes out. The journal keeps what was decided, so a request or a reversal that is one of the
 //! latest is given its reply again in any run with the same keys. The key serial numbers of a group
-//! are opened many at a time, and its frames are judged in turn. A restart reads the journal by large
-//! pieces.
+//! are opened many at a time, its frames are judged in turn, and the MACs of its replies are made
+//! many at a time. A restart reads the journal by large pieces.
 #![tactic(auto)]
 
 mod check;
+mod draft;
 mod group;
 mod host;
 mod index;

@@ -9,13 +9,16 @@ ghost use Rattle.duk_hsm.specs.Keys.{HsmKeys};
 ghost use Rattle.duk_hsm.specs.TransactionKeys.{AreTransactionKeys};
 ghost use Rattle.duk_journal.specs.Entry.{MayStandUnder};
 ghost use Rattle.duk_tree.specs.Path.{IsUsable};
+ghost use Rattle.duk_tree.specs.Serial.{Serial};
 ghost use Rattle.duk_line.specs.Judgement.{entry_of, room_for_payments};
-ghost use Rattle.duk_line.specs.inner.Judged.{AcceptableBy, IsCodeKept, IsNoReversal, JudgesFrame, MayBeAccepted, SettlesBy};
+ghost use Rattle.duk_line.specs.inner.Draft.{IsDraftUnder, frame_of};
+ghost use Rattle.duk_line.specs.inner.Judged.{AcceptableBy, IsCodeKept, IsNoReversal, IsRequestNumber, JudgesFrame, MayBeAccepted, SettlesBy};
 
+use crate::draft::Draft;
 use crate::index::Index;
 use crate::judge::Judged;
-use duk_frame::{Code, Frame, Request};
-use duk_host::{Issuer, Payment, admit, authenticate_opened, code_for, reply_with};
+use duk_frame::{Code, Request};
+use duk_host::{Issuer, Payment, admit, authenticate_opened, code_for};
 use duk_hsm::{HsmFault, Transaction};
 use duk_journal::{Decided, Entry};
 use duk_tree::Ksn;
@@ -35,7 +38,10 @@ pub(crate) fn judge_payment<I: Issuer>(
     ensures judged { IfOk result (λ judged. (keys : HsmKeys) (capacity all : ℕ)
         → OpensRequest keys frame.now opened → room ≡ room_for_payments capacity all
         → JudgesFrame keys (I.decides issuer.now) capacity all frame.now
-        index.old index.new judged.answer.items judged.added) }
+        index.old index.new (frame_of keys judged.answer) judged.added) }
+    ensures under { IfOk result (λ judged. (keys : HsmKeys) (ksn : Serial)
+        → OpensRequest keys frame.now opened → IsRequestNumber frame.now ksn
+        → IsDraftUnder keys ksn judged.answer) }
     ensures usable { IfOk result
         (λ judged. IfSome judged.added (λ entry. IsUsable entry.number.counter)) }
     ensures stands { IfOk result
@@ -61,7 +67,7 @@ fn settle(
     index: &Index,
     room: u64,
     frame: &[u8],
-) -> Result<Payment, Frame>
+) -> Result<Payment, Draft>
     requires opened { (keys : HsmKeys) × IsSome keys.zone × OpensRequest keys frame.now opened }
     requires no_reversal { IsNoReversal frame.now }
     ensures request { IfOk result (λ payment. IsRequest frame.now payment.request) }
@@ -76,20 +82,23 @@ fn settle(
     ensures room { OnOk result (0 < room) }
     ensures settled { IfErr result (λ answer. (keys : HsmKeys) (capacity all : ℕ)
         → OpensRequest keys frame.now opened → room ≡ room_for_payments capacity all
-        → SettlesBy keys index.now capacity all frame.now answer.items) }
+        → SettlesBy keys index.now capacity all frame.now (frame_of keys answer)) }
+    ensures under { IfErr result (λ answer. (keys : HsmKeys) (ksn : Serial)
+        → OpensRequest keys frame.now opened → IsRequestNumber frame.now ksn
+        → IsDraftUnder keys ksn answer) }
 {
     duk_frame::laws::one_reading();
     let payment = match authenticate_opened(opened, frame) {
         Ok(payment) => payment,
-        Err(refusal) => return Err(refusal),
+        Err(refusal) => return Err(Draft::Whole(refusal)),
     };
     let request = &payment.request;
     if let Some(code) = code_kept(index, request.ksn, request.mac) {
-        return Err(reply_with(&payment.transaction, request.ksn, code));
+        return Err(Draft::payment_reply(request.ksn, code));
     }
     match admit(&payment, index.used(), room) {
         Ok(()) => Ok(payment),
-        Err(refusal) => Err(refusal),
+        Err(refusal) => Err(Draft::Whole(refusal)),
     }
 }
 
@@ -120,7 +129,10 @@ fn accept<I: Issuer>(issuer: &I, index: &mut Index, opened: &Payment) -> Result<
         → AreTransactionKeys keys opened.now.request.ksn opened.now.transaction
         → AcceptableBy keys index.old (room_for_payments capacity all) opened.now.request
         → JudgesFrame keys (I.decides issuer.now) capacity all bytes index.old index.new
-        judged.answer.items judged.added) }
+        (frame_of keys judged.answer) judged.added) }
+    ensures under { IfOk result (λ judged. (keys : HsmKeys)
+        → AreTransactionKeys keys opened.now.request.ksn opened.now.transaction
+        → IsDraftUnder keys opened.now.request.ksn judged.answer) }
     ensures usable { IfOk result
         (λ judged. IfSome judged.added (λ entry. IsUsable entry.number.counter)) }
     ensures stands { IfOk result
@@ -130,7 +142,7 @@ fn accept<I: Issuer>(issuer: &I, index: &mut Index, opened: &Payment) -> Result<
     let request = &opened.request;
     let code = code_for(opened, issuer);
     let entry = entry_of(request, code);
-    let answer = reply_with(&opened.transaction, request.ksn, code);
+    let answer = Draft::payment_reply(request.ksn, code);
     index.take(&entry)?;
     Ok(Judged {
         answer,

@@ -5,7 +5,6 @@ ghost use Rattle.std.specs.Option.{option_to_list};
 ghost use Rattle.duk_host.specs.Judgement.{Decision, IsOpenedTo};
 ghost use Rattle.duk_host.specs.Used.{IsUsed};
 ghost use Rattle.duk_hsm.specs.Keys.{HsmKeys};
-ghost use Rattle.duk_hsm.specs.TransactionKeys.{AreTransactionKeys};
 ghost use Rattle.duk_journal.specs.Entry.{MayStandUnder};
 ghost use Rattle.duk_journal.specs.Groups.{Entries};
 ghost use Rattle.duk_reversal.specs.Numbers.{AreNumbers};
@@ -13,16 +12,17 @@ ghost use Rattle.duk_reversal.specs.Reversal.{IsReversal};
 ghost use Rattle.duk_reversal.specs.declared.state.ReversalState.{ReversalState};
 ghost use Rattle.duk_tree.specs.Path.{IsUsable};
 ghost use Rattle.duk_line.specs.Host.{HasSets};
-ghost use Rattle.duk_line.specs.Judgement.{FindsState, IsAuthenticReversal, IsReversalReplyWith, reversal_entry};
+ghost use Rattle.duk_line.specs.Judgement.{FindsState, IsAuthenticReversal, reversal_entry};
+ghost use Rattle.duk_line.specs.inner.Draft.{IsDraftUnder, frame_of};
 ghost use Rattle.duk_line.specs.inner.Judged.{IsAgainstMac, IsAgainstNumber, IsStateKept, JudgesFrame, MayBeAccepted, ReversalAcceptableBy, SettlesBy};
 
+use crate::draft::Draft;
 use crate::index::Index;
 use crate::judge::Judged;
 use crate::reason::Reason;
-use duk_frame::Frame;
 use duk_hsm::{HsmFault, Transaction};
 use duk_journal::{Decided, Entry};
-use duk_reversal::{Reversal, ReversalNumbers, ReversalReply, ReversalState};
+use duk_reversal::{Reversal, ReversalState};
 use duk_tree::Ksn;
 use std::alloc::AllocError;
 
@@ -38,7 +38,10 @@ pub(crate) fn judge_reversal(
     ensures judged { IfOk result (λ judged. (keys : HsmKeys) (decides : Decision) (capacity : ℕ)
         → (bytes : List ℕ) → IsOpenedTo keys reversal.now.numbers.ksn opened
         → IsReversal bytes reversal.now → JudgesFrame keys decides capacity room bytes
-        index.old index.new judged.answer.items judged.added) }
+        index.old index.new (frame_of keys judged.answer) judged.added) }
+    ensures under { IfOk result (λ judged. (keys : HsmKeys)
+        → IsOpenedTo keys reversal.now.numbers.ksn opened
+        → IsDraftUnder keys reversal.now.numbers.ksn judged.answer) }
     ensures usable { IfOk result
         (λ judged. IfSome judged.added (λ entry. IsUsable entry.number.counter)) }
     ensures stands { IfOk result
@@ -49,7 +52,7 @@ pub(crate) fn judge_reversal(
         → MayBeAccepted keys index.old capacity room bytes) }
 {
     match settle(opened, index, room, reversal) {
-        Ok(transaction) => accept(index, reversal, &transaction),
+        Ok(()) => accept(index, reversal),
         Err(answer) => Ok(Judged {
             answer,
             added: None,
@@ -57,17 +60,14 @@ pub(crate) fn judge_reversal(
     }
 }
 
-/// The transaction of a reversal that is to be accepted, or the answer that changes nothing: a
-/// refusal, or its reply that is given again.
+/// Whether a reversal is to be accepted, or the answer that changes nothing: a refusal, or its reply
+/// that is given again.
 fn settle(
     opened: Result<Transaction, HsmFault>,
     index: &Index,
     room: u64,
     reversal: &Reversal,
-) -> Result<Transaction, Frame>
-    ensures opened { IfOk result (λ transaction. (keys : HsmKeys)
-        → IsOpenedTo keys reversal.now.numbers.ksn opened
-        → AreTransactionKeys keys reversal.now.numbers.ksn transaction) }
+) -> Result<(), Draft>
     ensures acceptable { OnOk result ((keys : HsmKeys)
         → IsOpenedTo keys reversal.now.numbers.ksn opened
         → ReversalAcceptableBy keys index.now room reversal.now) }
@@ -77,30 +77,28 @@ fn settle(
     ensures room { OnOk result (0 < room) }
     ensures settled { IfErr result (λ answer. (keys : HsmKeys) (capacity : ℕ) (bytes : List ℕ)
         → IsOpenedTo keys reversal.now.numbers.ksn opened → IsReversal bytes reversal.now
-        → SettlesBy keys index.now capacity room bytes answer.items) }
+        → SettlesBy keys index.now capacity room bytes (frame_of keys answer)) }
+    ensures under { IfErr result (λ answer. (keys : HsmKeys)
+        → IsOpenedTo keys reversal.now.numbers.ksn opened
+        → IsDraftUnder keys reversal.now.numbers.ksn answer) }
 {
     let ksn = reversal.numbers.ksn();
-    let transaction = match verified(opened, reversal) {
-        Ok(transaction) => transaction,
-        Err(reason) => return Err(reason.answer(ksn)),
-    };
+    match verified(opened, reversal) {
+        Ok(()) => {}
+        Err(reason) => return Err(Draft::Whole(reason.answer(ksn))),
+    }
     if let Some(state) = state_kept(index, reversal) {
-        return Err(reply_with(&transaction, reversal.numbers, state));
+        return Err(Draft::reversal_reply(reversal.numbers, state));
     }
     match check_number(index, room, ksn) {
-        Ok(()) => Ok(transaction),
-        Err(reason) => Err(reason.answer(ksn)),
+        Ok(()) => Ok(()),
+        Err(reason) => Err(Draft::Whole(reason.answer(ksn))),
     }
 }
 
-/// The transaction that the number of a reversal was opened to, or the least reason against its MAC.
-fn verified(
-    opened: Result<Transaction, HsmFault>,
-    reversal: &Reversal,
-) -> Result<Transaction, Reason>
-    ensures opened { IfOk result (λ transaction. (keys : HsmKeys)
-        → IsOpenedTo keys reversal.now.numbers.ksn opened
-        → AreTransactionKeys keys reversal.now.numbers.ksn transaction) }
+/// Whether the MAC of a reversal is verified, whose number was opened to this, or the least reason
+/// against it.
+fn verified(opened: Result<Transaction, HsmFault>, reversal: &Reversal) -> Result<(), Reason>
     ensures authentic { OnOk result ((keys : HsmKeys)
         → IsOpenedTo keys reversal.now.numbers.ksn opened
         → IsAuthenticReversal keys reversal.now) }
@@ -116,7 +114,7 @@ fn verified(
     };
     let text = Reversal::text(reversal.numbers);
     match transaction.verify(text.as_slice(), reversal.mac) {
-        Ok(()) => Ok(transaction),
+        Ok(()) => Ok(()),
         Err(_) => Err(Reason::BadMac),
     }
 }
@@ -154,18 +152,17 @@ fn state_kept(index: &Index, reversal: &Reversal) -> Option<ReversalState>
 }
 
 /// Accepts a reversal: looks what it finds, and takes its entry into the index.
-fn accept(
-    index: &mut Index,
-    reversal: &Reversal,
-    transaction: &Transaction,
-) -> Result<Judged, AllocError>
+fn accept(index: &mut Index, reversal: &Reversal) -> Result<Judged, AllocError>
     requires usable { IsUsable reversal.now.numbers.ksn.counter }
     ensures accepted { IfOk result (λ judged. (keys : HsmKeys) (decides : Decision)
         → (capacity room : ℕ) (bytes : List ℕ) → IsReversal bytes reversal.now
-        → AreTransactionKeys keys reversal.now.numbers.ksn transaction.now
+        → IsAuthenticReversal keys reversal.now
         → ReversalAcceptableBy keys index.old room reversal.now
         → JudgesFrame keys decides capacity room bytes index.old index.new
-        judged.answer.items judged.added) }
+        (frame_of keys judged.answer) judged.added) }
+    ensures under { IfOk result (λ judged. (keys : HsmKeys)
+        → IsAuthenticReversal keys reversal.now
+        → IsDraftUnder keys reversal.now.numbers.ksn judged.answer) }
     ensures usable { IfOk result
         (λ judged. IfSome judged.added (λ entry. IsUsable entry.number.counter)) }
     ensures stands { IfOk result
@@ -175,7 +172,7 @@ fn accept(
     let numbers = reversal.numbers;
     let state = state_of(index, numbers.reversed());
     let entry = entry_of(reversal, state);
-    let answer = reply_with(transaction, numbers, state);
+    let answer = Draft::reversal_reply(numbers, state);
     index.take(&entry)?;
     Ok(Judged {
         answer,
@@ -208,19 +205,4 @@ fn entry_of(reversal: &Reversal, state: ReversalState) -> Entry
         },
         mac,
     }
-}
-
-/// The reply to a reversal with these numbers and this state.
-fn reply_with(transaction: &Transaction, numbers: ReversalNumbers, state: ReversalState) -> Frame
-    ensures { (keys : HsmKeys) → AreTransactionKeys keys numbers.ksn transaction.now
-        → IsReversalReplyWith keys numbers state result.items }
-{
-    let text = ReversalReply::text(numbers, state);
-    let mac = transaction.reply_mac(text.as_slice());
-    let reply = ReversalReply {
-        numbers,
-        state,
-        mac,
-    };
-    reply.bytes()
 }

@@ -23,14 +23,16 @@ use duk_journal::Journal;
 /// How many bytes are read at a time, at most.
 const PIECE: usize = 65_536;
 
-/// The most bytes of the answers of a group.
-const LONGEST_ANSWERS: usize = 65_536;
+/// The room in which the answers of a group are joined. They have 65,536 bytes at most. The rest
+/// reaches deeper into the stack than judging the group did: so zeros stand where that left keys,
+/// texts and PIN blocks of many frames.
+const ROOM: usize = 524_288;
 
-/// A group of so many frames is small.
-const FEW: usize = 16;
+/// A group of so many frames is small, and what judging it leaves behind is little.
+const FEW: usize = 4;
 
 /// The most bytes of the answers of a small group.
-const FEW_ANSWERS: usize = 1_024;
+const FEW_ANSWERS: usize = 256;
 
 /// Answers the frames of the input. Those that a read ends are answered together, in groups: the
 /// entries of a group are kept before any of its answers is written.
@@ -205,7 +207,9 @@ fn answer_group<const N: usize, J: Journal, I: Issuer, W: Sink>(
 }
 
 /// Writes the answers of a group, together. Those of a small group are joined in a small buffer: to
-/// clear the large one takes longer than all else that one frame needs.
+/// clear the large one takes longer than all else that one frame needs. It stands on the stack where
+/// the group was judged.
+#[inline(never)]
 fn write_answers<W: Sink>(answers: &[Frame], writer: &mut W) -> Result<(), HostFault>
     requires few { length answers.now ≤ most_frames }
     ensures written { OnOk result (IsWritten (W.known writer.old) (W.known writer.new)
@@ -218,7 +222,7 @@ fn write_answers<W: Sink>(answers: &[Frame], writer: &mut W) -> Result<(), HostF
         let text: ArrayVec<u8, FEW_ANSWERS> = joined(answers);
         return write_bytes(text.as_slice(), writer);
     }
-    let text: ArrayVec<u8, LONGEST_ANSWERS> = joined(answers);
+    let text: ArrayVec<u8, ROOM> = joined(answers);
     write_bytes(text.as_slice(), writer)
 }
 

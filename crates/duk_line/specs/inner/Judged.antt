@@ -1,5 +1,5 @@
 -- What single functions make of a frame and of the index of some entries: this project's own.
-use Rattle.std.specs.Prelude.{◌≡◌, ◌≤◌, ◌<◌, ◌-◌, ◌++◌, ◌∷◌, ℕ, List, [], All, Contains, None, Option, Result, get_or, length, take}
+use Rattle.std.specs.Prelude.{◌≡◌, ◌≤◌, ◌<◌, ◌-◌, ◌++◌, ◌∷◌, ℕ, List, [], All, Contains, None, Option, Result, drop, get_or, length, map, take}
 use Rattle.std.specs.Option.{option_to_list}
 use Rattle.duk_frame.specs.declared.code.Code.{Code}
 use Rattle.duk_frame.specs.Request.{IsRequest}
@@ -38,12 +38,15 @@ pub record OpensFrame (keys : HsmKeys) (bytes : List ℕ) (opened : Result Trans
       → IsOpenedTo keys reversal.numbers.ksn opened
   pub request : IsNoReversal bytes → OpensRequest keys bytes opened
 
+-- where the bytes are a request, this is its number
+abbrev pub IsRequestNumber : List ℕ → Serial → Type 0
+IsRequestNumber bytes ksn = (request : Request) → IsRequest bytes request → ksn ≡ request.ksn
+
 -- the number of a frame
 pub record IsNumberOf (bytes : List ℕ) (ksn : Serial) : Type 0 where
   pub reversal : (reversal : reversal_frame.Reversal) → IsReversal bytes reversal
       → ksn ≡ reversal.numbers.ksn
-  pub request : IsNoReversal bytes → (request : Request) → IsRequest bytes request
-      → ksn ≡ request.ksn
+  pub request : IsNoReversal bytes → IsRequestNumber bytes ksn
 
 -- the numbers of frames, in their order
 abbrev pub AreNumbersOf : List (List ℕ) → List Serial → Type 0
@@ -56,6 +59,12 @@ pub record OpensFrames (keys : HsmKeys) (frames : List (List ℕ)) (opened : Ope
   pub numbers : List Serial
   pub numbers_are : AreNumbersOf frames numbers
   pub are_opened : AreOpened keys numbers opened
+
+-- the numbers of the frames between two places are opened together
+abbrev pub OpensBetween :
+    {A : Type 0} → HsmKeys → (A → List ℕ) → List A → ℕ → ℕ → OpenedPlaces → Type 0
+OpensBetween keys bytes_of frames from to opened =
+    OpensFrames keys (map bytes_of (take (to - from) (drop from frames))) opened
 
 -- the payment with this number and this MAC is one of the latest entries of an index, with this code,
 -- and is not undone

@@ -1,3 +1,5 @@
+use Rattle.std.proofs.Common.{subst, sym}
+use Rattle.duk_line.specs.inner.Draft.{IsDraftUnder}
 use Rattle.duk_line.specs.inner.Judged.{IsNoReversal}
 use Rattle.duk_line.proofs.Judging.{if_err, if_ok}
 use Rattle.duk_line.proofs.NumbersOpened.{not_both}
@@ -31,3 +33,14 @@ pub returns-in-None-clause-refused : goal.returns-in-None-clause-refused
 returns-in-None-clause-refused g c =
     let none : IsNoReversal c.args.frame.now = λ reversal is. not_both c.read_reversal.result reversal (c.read_reversal.ensures.every reversal is) c.in-None.is in
     if_err c.judge_payment.result c.judge_payment.ensures.refused (λ so keys capacity opens payments. so keys capacity c.args.room.entries (opens.request none) payments)
+
+pub returns-in-Some-clause-under : goal.returns-in-Some-clause-under
+returns-in-Some-clause-under g c =
+    let reversal = c.in-Some.reversal in
+    if_ok c.judge_reversal.result c.judge_reversal.ensures.under (λ judged so keys ksn opens number.
+    subst (λ ksn. IsDraftUnder keys ksn judged.answer) (sym (number.reversal reversal c.in-Some.ensures.found)) (so keys (opens.reversal reversal c.in-Some.ensures.found)))
+
+pub returns-in-None-clause-under : goal.returns-in-None-clause-under
+returns-in-None-clause-under g c =
+    let none : IsNoReversal c.args.frame.now = λ reversal is. not_both c.read_reversal.result reversal (c.read_reversal.ensures.every reversal is) c.in-None.is in
+    if_ok c.judge_payment.result c.judge_payment.ensures.under (λ judged so keys ksn opens number. so keys ksn (opens.request none) (number.request none))

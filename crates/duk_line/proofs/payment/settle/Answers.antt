@@ -2,6 +2,7 @@ use Rattle.std.proofs.Common.{◌↔◌, Contains, subst, sym}
 use Rattle.duk_frame.specs.declared.code.Code.TheVariants.{Approved}
 use Rattle.duk_host.specs.Used.{IsUsed}
 use Rattle.duk_line.specs.Latest.{used_by}
+use Rattle.duk_line.specs.inner.Draft.{IsDraftUnder, frame_of}
 use Rattle.duk_line.specs.inner.Index.{IsListed}
 use Rattle.duk_tree.specs.Serial.{Serial}
 use Rattle.duk_line.proofs.JudgingPayments.{given_again, has_used, refused_number, refused_unread}
@@ -34,5 +35,11 @@ returns-in-Ok-admit-clause-room c =
 
 pub returns-in-Some-clause-settled : goal.returns-in-Some-clause-settled
 returns-in-Some-clause-settled c = λ keys capacity all opens room entries decides is_index.
-    given_again keys c.args.index.now entries capacity all c.args.room decides c.args.frame.now c.reply_with.result.items room c.requires.no_reversal
-    c.in-Ok.payment.request c.in-Some.code c.in-Ok.ensures.request (c.in-Ok.ensures.authentic keys opens) is_index c.in-Some.ensures.found (c.reply_with.ensures.reply keys (c.in-Ok.ensures.opened keys opens))
+    given_again keys c.args.index.now entries capacity all c.args.room decides c.args.frame.now (frame_of keys c.payment_reply.result) room c.requires.no_reversal
+    c.in-Ok.payment.request c.in-Some.code c.in-Ok.ensures.request (c.in-Ok.ensures.authentic keys opens) is_index c.in-Some.ensures.found (c.payment_reply.ensures.reply keys (c.in-Ok.payment.transaction.key, (c.in-Ok.ensures.opened keys opens).key_is))
+
+pub returns-in-Some-clause-under : goal.returns-in-Some-clause-under
+returns-in-Some-clause-under c = λ keys ksn opens number.
+    let payment = c.in-Ok.payment in
+    subst (λ ksn. IsDraftUnder keys ksn c.payment_reply.result) (sym (number payment.request c.in-Ok.ensures.request))
+    (c.payment_reply.ensures.under keys (payment.transaction.key, (c.in-Ok.ensures.opened keys opens).key_is))

@@ -1,6 +1,7 @@
 use Rattle.std.proofs.Common.{◌∙◌, ap, subst}
 use Rattle.duk_host.specs.Used.{IsUsed}
 use Rattle.duk_line.specs.Judgement.{refusal_of}
+use Rattle.duk_line.specs.inner.Draft.{frame_of}
 use Rattle.duk_line.specs.inner.Judged.{IsAgainstNumber}
 use Rattle.duk_line.proofs.JudgingReversals.{given_again, refused_number, refused_unread}
 use Rattle.duk_line.proofs.reversal.settle.Goals as goal
@@ -12,8 +13,9 @@ returns-in-Err-clause-settled c = λ keys capacity bytes is is_reversal entries 
 
 pub returns-in-Some-clause-settled : goal.returns-in-Some-clause-settled
 returns-in-Some-clause-settled c = λ keys capacity bytes is is_reversal entries decides is_index.
-    given_again keys c.args.index.now entries capacity c.args.room decides bytes c.reply_with.result.items c.args.reversal.now is_reversal c.in-Some.state is_index
-    (c.in-Ok.ensures.authentic keys is) c.in-Some.ensures.found (c.reply_with.ensures keys (c.in-Ok.ensures.opened keys is))
+    let authentic = c.in-Ok.ensures.authentic keys is in
+    given_again keys c.args.index.now entries capacity c.args.room decides bytes (frame_of keys c.reversal_reply.result) c.args.reversal.now is_reversal c.in-Some.state is_index
+    authentic c.in-Some.ensures.found (c.reversal_reply.ensures.reply keys (authentic.key, authentic.key_is))
 
 pub returns-in-Err-check_number-clause-settled : goal.returns-in-Err-check_number-clause-settled
 returns-in-Err-check_number-clause-settled c = λ keys capacity bytes is is_reversal entries decides is_index.
@@ -31,3 +33,8 @@ returns-in-Ok-check_number-clause-acceptable c = λ keys is entries capacity dec
       new = λ used. fresh ((is_index.sets.used_are ksn).1 used);
       room = c.in-Ok-check_number.ensures.room;
     }
+
+pub returns-in-Some-clause-under : goal.returns-in-Some-clause-under
+returns-in-Some-clause-under c = λ keys is.
+    let authentic = c.in-Ok.ensures.authentic keys is in
+    c.reversal_reply.ensures.under keys (authentic.key, authentic.key_is)
