@@ -3,8 +3,8 @@
 Two runs differ in their keys alone, and in the MACs and enciphered PIN blocks that come of these. Place by
 place the texts of their keys have both a digit or both a letter, and so can be read alike. A service is
 watched from its first read of requests on: before that it makes key blocks of its configuration's keys and
-opens them again, once, by tables. Of `walk`, which prints keys, a digit that is written may be looked up
-in a table of the sixteen digits.
+opens them again, once, by tables. Of commands that print keys, a digit that is written may be looked up in a
+table of the sixteen digits.
 """
 from __future__ import annotations
 
@@ -27,18 +27,19 @@ from .support.program import Program, Word
 from .support.reversals import reversals_of
 from .support.service_case import stream_of, with_room
 
-# How many numbers a terminal walks, how many payments there are, and how many of them are reversed and how
+# How many numbers a terminal walks, and how many come as items; how many payments there are, and how many of them are reversed and how
 # many come again.
-NUMBERS, PAYMENTS, REVERSALS, REPEATS = 2_000, 160, 20, 20
-# How many requests and reversals have a wrong MAC: of more groups than one, and where few are enough. What is
-# reversed then has this other bit in its counter.
-WRONG, FEW, ANOTHER = 70, 16, 1 << 12
+NUMBERS, ITEMS, PAYMENTS, REVERSALS, REPEATS = 2_000, 300, 160, 20, 20
+# How many requests and reversals have a wrong MAC: of more than 128 frames, of which the rest is not worked on
+# one by one, and where few are enough. What is reversed then has this other bit in its counter.
+WRONG, FEW, ANOTHER = 80, 16, 1 << 12
 APPROVED, WRONG_MAC = "00", 4
 # The crates of the ciphers.
 CIPHERS = {"duk_des", "duk_tdes", "duk_mac"}
 # The bytes of a MAC.
 MAC = 8
 KEY = re.compile(rb'(?<=")[0-9A-F]{32}(?=")')
+ZONE = re.compile(rb'^zone = .*$', re.MULTILINE)
 BDK = re.compile(rb'^key = "(\w{32})"$', re.MULTILINE)
 ON_JOURNAL, IN_MEMORY = ("serve", "bank.toml", "--journal", "journal"), ("serve", "bank.toml")
 
@@ -141,14 +142,14 @@ class Planted(Case):
 class Commands(ProgramCase):
     weight = 20
 
-    def printed(self, *words: Word) -> tuple[Found, list[list[str]]]:
-        """Where two runs under other keys differ, and what should stand in their lines by the keys of the
+    def printed(self, *words: Word, given: bytes = b"") -> tuple[Found, list[list[str]]]:
+        """Where two runs under other keys differ, their lines, and what should stand there by the keys of the
         first counters."""
         runs, lines, counters = [], [], first_counters(NUMBERS)
         for key in alike(self.chance):
             folder = self.folder()
             (folder / "bdk").write_text(f"{key}\n")
-            runs.append(Run(words, folder))
+            runs.append(Run(words, folder, given))
             with mock.patch.object(client, "BDK", bytes.fromhex(key)):
                 made = keys_of(counters)
             lines.append([f"{number_of(it).hex()} {made[it].hex()}".upper() for it in counters])
@@ -160,6 +161,14 @@ class Commands(ProgramCase):
     def test_walk(self) -> None:
         found, lines = self.printed("walk", "@bdk", f"{IKSN:X}", str(NUMBERS))
         self.assertEqual(lines[:2], lines[2:])
+        self.assertTrue(found.is_digits_alone, found)
+
+    def test_batch(self) -> None:
+        numbers = [number_of(it).hex().upper() for it in first_counters(ITEMS)]
+        found, lines = self.printed("derive", "@bdk", "-", given="\n".join([*numbers, ""]).encode())
+        for it, wanted in zip(lines[:2], lines[2:]):
+            keys = [line.removeprefix("key ") for line in it if line.startswith("key ")]
+            self.assertEqual(keys, [line.split()[1] for line in wanted[:ITEMS]])
         self.assertTrue(found.is_digits_alone, found)
 
     def test_tables_are_seen(self) -> None:
@@ -234,9 +243,17 @@ class Services(ProgramCase):
         self.tells(str(found))
         return found
 
+    def test_replies(self) -> None:
+        """Under one zone key, by which the table of cards asks for a PIN, no address depends on another."""
+        one, other = banks(self.chance)
+        other = Bank(ZONE.sub(ZONE.search(one.text)[0], other.text), other.bdk)
+        seed = self.chance.random()
+        found = self.served(ON_JOURNAL, (one, given_to(one, seed)), (other, given_to(other, seed)))
+        self.assertTrue(found.is_nothing, found)
+
     def test_journal(self) -> None:
-        """Whatever comes, no branch depends on a key, and no address but one of a table of a cipher: those of
-        a reply's MAC, and of the PIN block under the zone key."""
+        """Whatever comes, no branch depends on a key, and no address but one of a table of a cipher: the table
+        of cards has PIN blocks under the zone key."""
         one, other = banks(self.chance)
         seed = self.chance.random()
         found = self.served(ON_JOURNAL, (one, given_to(one, seed)), (other, given_to(other, seed)))
