@@ -27,11 +27,11 @@ from .support.program import Program, Word
 from .support.reversals import reversals_of
 from .support.service_case import stream_of, with_room
 
-# How many numbers a terminal walks, and how many come as items; how many payments there are, and how many of them are reversed and how
-# many come again.
-NUMBERS, ITEMS, PAYMENTS, REVERSALS, REPEATS = 2_000, 300, 160, 20, 20
-# How many requests and reversals have a wrong MAC: of more than 128 frames, of which the rest is not worked on
-# one by one, and where few are enough. What is reversed then has this other bit in its counter.
+# How many numbers a terminal walks, and how many come as items; how many payments there are, and how many of
+# them are reversed and how many come again.
+NUMBERS, ITEMS, PAYMENTS, REVERSALS, REPEATS = 2_000, 300, 40, 8, 8
+# How many requests and reversals have a wrong MAC: of more than 128 frames, of which the rest is not worked
+# on one by one, and where few are enough. What is reversed then has this other bit in its counter.
 WRONG, FEW, ANOTHER = 80, 16, 1 << 12
 APPROVED, WRONG_MAC = "00", 4
 # The crates of the ciphers.
@@ -252,8 +252,8 @@ class Services(ProgramCase):
         self.assertTrue(found.is_nothing, found)
 
     def test_journal(self) -> None:
-        """Whatever comes, no branch depends on a key, and no address but one of a table of a cipher: the table
-        of cards has PIN blocks under the zone key."""
+        """Whatever comes, no branch depends on a key, and no address but one of a table of a cipher: the
+        table of cards has PIN blocks under the zone key."""
         one, other = banks(self.chance)
         seed = self.chance.random()
         found = self.served(ON_JOURNAL, (one, given_to(one, seed)), (other, given_to(other, seed)))
