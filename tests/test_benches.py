@@ -23,9 +23,9 @@ MEASURED = [
     "log in memory", "log in a file", "journal", "C over a journal", "journal, before",
 ]
 CALLS = [
-    "derivation, `libdukpt.a`", "derivation, `libdukpt.so`", "PIN block, enciphered",
-    "retail MAC of a request", "key block, unwrapped", "registers, `dukpt_registers_next`",
-    "derivation, Python",
+    "derivation, `libdukpt.a`", "derivation, `libdukpt.so`", "derivation, 10,000 in a call",
+    "request checked, 1,000 in a call", "PIN block, enciphered", "retail MAC of a request",
+    "key block, unwrapped", "registers, `dukpt_registers_next`", "derivation, Python",
 ]
 STARTS = ["in order", "every second missing"]
 # What is printed of hosts that share a journal, with the payments that are acknowledged and kept.
