@@ -1,4 +1,5 @@
 pub mod FirstBlock
 pub mod LastBlockMasked
 pub mod LastBlockFilled
+pub mod CarryBit
 pub mod CmacIsBlock

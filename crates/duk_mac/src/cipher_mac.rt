@@ -40,25 +40,20 @@ fn last_block<const N: usize>(tdes: &Tdes<N>, rest: &[u8]) -> [u8; 8]
     requires { length rest.now ≤ 8 }
     ensures { result ≡ last_block tdes.now rest.now }
 {
-    let first_subkey = double(tdes.encrypt([0; 8]));
+    let first_subkey = double_block(tdes.encrypt([0; 8]));
     if rest.len() == 8 {
         xor_bytes(&array_of(rest), &first_subkey)
     } else {
-        xor_bytes(&pad_block(rest), &double(first_subkey))
+        xor_bytes(&pad_block(rest), &double_block(first_subkey))
     }
 }
 
-/// The block shifted left by one bit; it is xored with `CARRY` where the bit that falls out is a
-/// one.
-#[tactic(auto, unfolding(crate::specs::Cmac::doubled))]
-fn double(block: [u8; 8]) -> [u8; 8]
+/// The block shifted left by one bit; `CARRY` is xored where the bit that falls out is a one (NIST
+/// SP 800-38B section 6.1, steps 2 and 3). No branch depends on that bit, which comes of a key.
+pub fn double_block(block: [u8; 8]) -> [u8; 8]
     ensures { result ≡ doubled block }
 {
     let number = u64::from_be_bytes(block);
-    let shifted = number << 1;
-    if number >> 63 == 1 {
-        (shifted ^ CARRY).to_be_bytes()
-    } else {
-        shifted.to_be_bytes()
-    }
+    let carry = number >> 63;
+    ((number << 1) ^ (carry * CARRY)).to_be_bytes()
 }

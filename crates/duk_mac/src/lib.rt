@@ -12,6 +12,6 @@ pub mod laws;
 mod retail_mac;
 
 pub use check_values::{check_value, cmac_check_value};
-pub use cipher_mac::{cmac, cmac_under};
+pub use cipher_mac::{cmac, cmac_under, double_block};
 pub use comparison::same_mac;
 pub use retail_mac::retail;
