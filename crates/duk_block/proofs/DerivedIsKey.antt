@@ -5,8 +5,8 @@ use Rattle.std.proofs.lemmas.List.Elements.{All-nil, All-cons, All-append}
 use Rattle.duk_des.specs.Block.{IsBlock}
 use Rattle.duk_mac.specs.Cmac.{cmac_of}
 use Rattle.duk_tdes.specs.Tdes.{IsTdesKey}
-use Rattle.duk_block.specs.Derived.{algorithm_and_length, derivation_data, derived_key, encryption_usage, mac_usage}
-use Rattle.duk_block.proofs.DerivedKeyByLength.{step_of, derived_key-double, derived_key-triple}
+use Rattle.duk_block.specs.Derived.{algorithm_and_length, derivation_data, derivation_step, derived_key, encryption_usage, mac_usage}
+use Rattle.duk_block.proofs.DerivedKeyByLength.{derived_key-double, derived_key-triple}
 
 abbrev IsByte : ℕ → Type 0
 IsByte byte = byte < 2 ^ 8
@@ -48,10 +48,10 @@ pub IsTdesKey-derived_key : (usage key : List ℕ) → ((message : List ℕ) →
 IsTdesKey-derived_key usage key is_block is_key fit =
     let P : List ℕ → Type 0 = IsTdesKey in
     let size = length key in
-    let first : IsBlock (step_of usage key 1) = is_block (derivation_data 1 usage size) (derivation_data_fits 1 usage size (lit< tt) fit) in
-    let second : IsBlock (step_of usage key 2) = is_block (derivation_data 2 usage size) (derivation_data_fits 2 usage size (lit< tt) fit) in
-    let third : IsBlock (step_of usage key 3) = is_block (derivation_data 3 usage size) (derivation_data_fits 3 usage size (lit< tt) fit) in
+    let first : IsBlock (derivation_step usage key 1) = is_block (derivation_data 1 usage size) (derivation_data_fits 1 usage size (lit< tt) fit) in
+    let second : IsBlock (derivation_step usage key 2) = is_block (derivation_data 2 usage size) (derivation_data_fits 2 usage size (lit< tt) fit) in
+    let third : IsBlock (derivation_step usage key 3) = is_block (derivation_data 3 usage size) (derivation_data_fits 3 usage size (lit< tt) fit) in
     elim is_key.length_is [
-      | inl double ↦ subst P (sym (derived_key-double usage key double)) (two_blocks (step_of usage key 1) (step_of usage key 2) first second)
-      | inr triple ↦ subst P (sym (derived_key-triple usage key triple)) (three_blocks (step_of usage key 1) (step_of usage key 2) (step_of usage key 3) first second third)
+      | inl double ↦ subst P (sym (derived_key-double usage key double)) (two_blocks (derivation_step usage key 1) (derivation_step usage key 2) first second)
+      | inr triple ↦ subst P (sym (derived_key-triple usage key triple)) (three_blocks (derivation_step usage key 1) (derivation_step usage key 2) (derivation_step usage key 3) first second third)
     ]

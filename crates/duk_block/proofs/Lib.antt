@@ -16,3 +16,4 @@ pub mod UnwrapExact
 pub mod SealedLength
 pub mod OptionalContent
 pub mod WholeBlocks
+pub mod WrittenSealed

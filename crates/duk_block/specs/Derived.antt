@@ -21,6 +21,11 @@ algorithm_and_length size =
 abbrev pub derivation_data : ℕ → List ℕ → ℕ → List ℕ
 derivation_data counter usage size = counter ∷ usage ++ 0x00 ∷ algorithm_and_length size
 
+-- one derivation step, eight bytes of the derived key
+abbrev pub derivation_step : List ℕ → List ℕ → ℕ → List ℕ
+derivation_step usage protection_key counter =
+    cmac_of protection_key (derivation_data counter usage (length protection_key))
+
 -- the counters of the steps, one for each eight bytes of the key
 abbrev pub counters : ℕ → List ℕ
 counters size = if size == 16 then 1 ∷ 2 ∷ [] else 1 ∷ 2 ∷ 3 ∷ []
@@ -28,6 +33,4 @@ counters size = if size == 16 then 1 ∷ 2 ∷ [] else 1 ∷ 2 ∷ 3 ∷ []
 -- the derived key, of the protection key's length: the CMACs of the steps one after the other
 unfoldable pub derived_key : List ℕ → List ℕ → List ℕ
 derived_key usage protection_key =
-    let size = length protection_key in
-    flat_map (λ counter. cmac_of protection_key (derivation_data counter usage size))
-    (counters size)
+    flat_map (derivation_step usage protection_key) (counters (length protection_key))

@@ -53,6 +53,14 @@ pub record IsKeyBlock (text protection_key : List ℕ) (header : Header) (key : 
   pub authentic : mac ≡ mac_of protection_key front (payload_of key padding)
   pub enciphered : ciphertext ≡ ciphertext_of protection_key mac (payload_of key padding)
 
+-- the MAC and the ciphertext of the payload with this key and padding, where these characters stand
+-- in front: the parts of which a key block is put together
+pub record AreSealed (protection_key front key padding ciphertext mac : List ℕ) : Type 0 where
+  pub key_is : IsTdesKey key
+  pub payload_is : AreWholeBlocks (payload_of key padding)
+  pub authentic : mac ≡ mac_of protection_key front (payload_of key padding)
+  pub enciphered : ciphertext ≡ ciphertext_of protection_key mac (payload_of key padding)
+
 -- what this project reads and writes: 80 to 512 characters, a multiple of eight; the limits are
 -- this project's own
 pub record IsWithinLimits (text : List ℕ) : Type 0 where

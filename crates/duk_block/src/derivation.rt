@@ -5,6 +5,7 @@ ghost use Rattle.duk_mac.specs.Cmac.{cmac_of};
 ghost use Rattle.duk_tdes.specs.Tdes.{IsTdesKey, IsTdesLength};
 ghost use Rattle.duk_block.specs.Derived.{derivation_data, derived_key, encryption_usage, mac_usage};
 
+use crate::parts::derivation_data;
 use crate::text::{BlockText, append};
 use duk_mac::cmac_under;
 use duk_tdes::{Key, Tdes, array_of};
@@ -47,11 +48,5 @@ fn derive_key<const N: usize>(kbpk: &Key<N>, usage: [u8; 2]) -> Key<N>
 fn step<const N: usize>(tdes: &Tdes<N>, counter: u8, usage: [u8; 2]) -> [u8; 8]
     ensures { result ≡ cmac_of tdes.now (derivation_data counter usage N) }
 {
-    let [high, low] = usage;
-    let data = if N == 16 {
-        [counter, high, low, 0x00, 0x00, 0x00, 0x00, 0x80]
-    } else {
-        [counter, high, low, 0x00, 0x00, 0x01, 0x00, 0xC0]
-    };
-    cmac_under(tdes, &data)
+    cmac_under(tdes, &derivation_data(counter, usage, N))
 }

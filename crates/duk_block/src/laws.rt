@@ -1,10 +1,10 @@
 //! Laws of key blocks, each the contract of a function that does nothing.
 
-ghost use Rattle.std.specs.Prelude.{◌≡◌, ◌≤◌, ℕ, List, length};
+ghost use Rattle.std.specs.Prelude.{◌≡◌, ◌≤◌, ◌++◌, ℕ, List, length};
 ghost use Rattle.std.specs.List.{All, concat};
 ghost use Rattle.duk_tdes.specs.Tdes.{IsTdesKey};
 ghost use Rattle.duk_block.specs.declared.header.Header.{Header};
-ghost use Rattle.duk_block.specs.Derived.{derived_key, encryption_usage, mac_usage};
+ghost use Rattle.duk_block.specs.Derived.{derivation_step, derived_key, encryption_usage, mac_usage};
 ghost use Rattle.duk_block.specs.Faults.{IsFirstFault};
 ghost use Rattle.duk_block.specs.KeyBlock.{IsKeyBlock, Wraps};
 ghost use Rattle.duk_block.specs.Optional.{IsFirstContent, IsOptionalBlock};
@@ -19,6 +19,18 @@ pub fn derived_keys()
 {
     duk_mac::laws::cmac_is_a_block();
 }
+
+/// A derived key is its steps one after the other: two for a protection key of 16 bytes, three for
+/// one of 24.
+pub fn derived_in_steps()
+    ensures double { (usage protection_key : List ℕ) → length protection_key ≡ 16
+        → derived_key usage protection_key
+        ≡ derivation_step usage protection_key 1 ++ derivation_step usage protection_key 2 }
+    ensures triple { (usage protection_key : List ℕ) → length protection_key ≡ 24
+        → derived_key usage protection_key
+        ≡ derivation_step usage protection_key 1 ++ derivation_step usage protection_key 2
+        ++ derivation_step usage protection_key 3 }
+{}
 
 /// Under one protection key a text is a key block of at most one header and one key. So what was
 /// wrapped is unwrapped to the same header and key.

@@ -10,10 +10,10 @@ ghost use Rattle.duk_block.specs.Optional.{AreOptionalBlocks};
 use crate::fault::BlockFault;
 use crate::header::Header;
 use crate::optional::count_written;
+use crate::parts::sealed_text;
 use crate::payload::payload_with;
 use crate::sealing::{block_mac, encipher};
 use crate::text::{BlockText, MAX_TEXT, append};
-use duk_io::append_hex;
 use duk_tdes::Key;
 
 /// Padding of zeros after a key of 16 or 24 bytes: with it, the key and the two bytes of its
@@ -119,8 +119,5 @@ fn seal<const N: usize>(kbpk: &Key<N>, front: BlockText, payload: &[u8]) -> Bloc
 {
     let mac = block_mac(kbpk, front.as_slice(), payload);
     let ciphertext = encipher(kbpk, mac, payload);
-    let mut text = front;
-    append_hex(&mut text, ciphertext.as_slice());
-    append_hex(&mut text, &mac);
-    text
+    sealed_text(front, ciphertext.as_slice(), &mac)
 }

@@ -1,8 +1,8 @@
-use Rattle.std.proofs.Common.{◌≡◌, ℕ, ◌<◌, ◌≤◌, List, [], ◌∷◌, ◌++◌, length, drop, slice_index, length-drop, ap, subst, ◌∙◌, arith}
+use Rattle.std.proofs.Common.{ℕ, ◌<◌, List, [], ◌∷◌, ◌++◌, length, length-drop, ap, subst, arith}
 use Rattle.std.specs.List.{All}
 use Rattle.std.proofs.lemmas.List.Elements.{All-head, All-tail}
 use Rattle.hex.proofs.HexLemmas.{decode_of-ok}
-use Rattle.duk_block.specs.Optional.{IsFirstContent, IsOptionalBlock}
+use Rattle.duk_block.specs.Optional.{IsOptionalBlock}
 use Rattle.duk_block.proofs.laws.contents_fit.Goals as goal
 
 -- two digits give the length of the whole block

@@ -1,19 +1,14 @@
-use Rattle.std.proofs.Common.{◌++◌, length, ap, ◌∙◌, arith}
+use Rattle.std.proofs.Common.{◌++◌, ap, ◌∙◌}
 use Rattle.hex.specs.Hex.{encode_upper}
 use Rattle.duk_block.specs.KeyBlock.{mac_of}
 use Rattle.duk_block.proofs.wrapping.seal.Goals as goal
-
-pub append_hex-requires-2 : goal.append_hex-requires-2
-append_hex-requires-2 g c =
-    omega (arith, c.append_hex.ensures.len, ap length c.as_slice-2.ensures.value, c.encipher-ciphertext.ensures.width, c.block_mac-mac.ensures.block.eight)
 
 pub returns : goal.returns
 returns g c = record {
   mac = c.block_mac-mac.result;
   ciphertext = c.encipher-ciphertext.result.items;
   laid_out =
-      c.append_hex-2.ensures.digits
-      ∙ ap (λ text. text ++ encode_upper c.block_mac-mac.result) (c.append_hex.ensures.digits ∙ ap (λ bytes. c.args.front.items ++ encode_upper bytes) c.as_slice-2.ensures.value);
+      c.sealed_text.ensures ∙ ap (λ bytes. c.args.front.items ++ encode_upper bytes ++ encode_upper c.block_mac-mac.result) c.as_slice-2.ensures.value;
   mac_width = c.block_mac-mac.ensures.block.eight;
   mac_bytes = c.block_mac-mac.ensures.block.bytes_fit;
   ciphertext_width = c.encipher-ciphertext.ensures.width;

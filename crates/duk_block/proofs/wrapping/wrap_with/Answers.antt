@@ -1,15 +1,11 @@
-use Rattle.std.proofs.Common.{◌≡◌, ◌≤◌, ◌<◌, ◌+◌, ◌^◌, ◌++◌, ℕ, List, refl, length, codes, sym, ap, subst, ◌∙◌, append-nil, length-append, arith, rules, inl, inr}
+use Rattle.std.proofs.Common.{◌≡◌, ◌≤◌, ◌<◌, ◌+◌, ◌++◌, ℕ, List, refl, length, codes, sym, ap, subst, ◌∙◌, append-nil, length-append, arith, rules, inl, inr}
 use Rattle.std.specs.List.{concat}
-use Rattle.std.proofs.lemmas.List.Elements.{All-append}
-use Rattle.hex.specs.Hex.{encode_upper, upper_digits}
 use Rattle.duk_block.specs.HeaderText.{IsHeader, header_text}
-use Rattle.duk_block.specs.KeyBlock.{payload_of}
+use Rattle.duk_block.specs.KeyBlock.{IsWrittenKeyBlockWith, payload_of}
 use Rattle.duk_block.specs.inner.KeyBlock.{IsSealed}
 use Rattle.duk_block.proofs.HeaderLength.{length-header_text}
-use Rattle.std.proofs.lemmas.List.{append_assoc}
-use Rattle.duk_block.proofs.HexText.{encode_with-append}
 use Rattle.duk_block.proofs.SealedLength.{length-sealed}
-use Rattle.duk_block.proofs.HexBytes.{IsHexadecimal-encode_upper}
+use Rattle.duk_block.proofs.WrittenSealed.{written_sealed}
 use Rattle.duk_block.proofs.wrapping.wrap_with.Goals as goal
 
 pub returns-clause-written : goal.returns-clause-written
@@ -34,42 +30,17 @@ returns-clause-written g c =
     let length_is : length text ≡ total =
     omega (arith, length-sealed kbpk front payload text sealed, front_width, width, c.in-Some-text_length.ensures.1, c.payload_with.ensures.key_length) in
     let optional_is : concat blocks ≡ optional = sym (leaves.laid_out ∙ append-nil (concat blocks)) in
-    record {
-      block = record {
-        reserved = codes "00";
-        optional_blocks = blocks;
-        front = front;
-        ciphertext = sealed.ciphertext;
-        mac = sealed.mac;
-        sealed_part = encode_upper (sealed.ciphertext ++ sealed.mac);
-        padding = c.args.pad.now;
-        laid_out =
-            sealed.laid_out
-            ∙ append_assoc front (encode_upper sealed.ciphertext) (encode_upper sealed.mac)
-            ∙ ap (λ sealed_part. front ++ sealed_part) (sym (encode_with-append upper_digits sealed.ciphertext sealed.mac));
-        front_is =
-            c.append.ensures
-            ∙ ap (λ head. head ++ optional) c.text-front.ensures
-            ∙ ap (λ n. header_text n header count (codes "00") ++ optional) (sym length_is)
-            ∙ ap (λ n. header_text (length text) header n (codes "00") ++ optional) (sym leaves.count_is)
-            ∙ ap (λ rest. header_text (length text) header (length blocks) (codes "00") ++ rest) (sym optional_is);
-        length_has_four_digits = omega (arith, length_is, c.in-Some-text_length.ensures.0.most, c.in-Some-text_length.ensures.1);
-        header_is = is_header;
-        reserved_width = refl;
-        count_has_two_digits = omega (arith, leaves.count_is, c.in-Some.ensures.1);
-        each_optional = leaves.each;
-        sealed_part_is_read = IsHexadecimal-encode_upper (sealed.ciphertext ++ sealed.mac) (All-append (λ byte. byte < 2 ^ 8) sealed.ciphertext sealed.mac sealed.ciphertext_bytes sealed.mac_bytes);
-        mac_width = sealed.mac_width;
-        key_is = c.payload_with.ensures.key;
-        payload_is = sealed.payload_is;
-        authentic = sealed.authentic;
-        enciphered = sealed.enciphered;
-      };
-      optional_is = optional_is;
-      reserved_zeros = refl;
-      padding_is = refl;
-      upper_case = refl;
-    }
+    let front_is : front ≡ header_text (length text) header (length blocks) (codes "00") ++ concat blocks =
+    c.append.ensures
+    ∙ ap (λ head. head ++ optional) c.text-front.ensures
+    ∙ ap (λ n. header_text n header count (codes "00") ++ optional) (sym length_is)
+    ∙ ap (λ n. header_text (length text) header n (codes "00") ++ optional) (sym leaves.count_is)
+    ∙ ap (λ rest. header_text (length text) header (length blocks) (codes "00") ++ rest) (sym optional_is) in
+    let few : length blocks < 100 = omega (arith, leaves.count_is, c.in-Some.ensures.1) in
+    let short : length text < 10000 = omega (arith, length_is, c.in-Some-text_length.ensures.0.most, c.in-Some-text_length.ensures.1) in
+    let W : List ℕ → Type 0 = λ blocks. IsWrittenKeyBlockWith text kbpk header blocks c.args.key.now c.args.pad.now in
+    subst W optional_is
+    (written_sealed kbpk front text c.args.key.now c.args.pad.now header blocks is_header c.payload_with.ensures.key leaves.each few short front_is sealed)
 
 pub returns-clause-limits : goal.returns-clause-limits
 returns-clause-limits g c =
