@@ -21,15 +21,17 @@ from .support.bank import BANK
 from .support.case import Case, ProgramCase
 from .support.client import (
     IKSN, PURCHASES, Exchange, first_counters, keys_of, number_of, payments_of, refusal)
+from .support.issuing import Keys, numbers_from, read_lines
 from .support.journal_file import make_journal, records_for
 from .support.library import demand, ran
+from .support.log_file import log_image
 from .support.program import Program, Word
 from .support.reversals import reversals_of
 from .support.service_case import stream_of, with_room
 
-# How many numbers a terminal walks, and how many come as items; how many payments there are, and how many of
-# them are reversed and how many come again.
-NUMBERS, ITEMS, PAYMENTS, REVERSALS, REPEATS = 2_000, 300, 40, 8, 8
+# How many numbers a terminal walks, how many come as items, and how many initial keys are issued; how many
+# payments there are, and how many of them are reversed and how many come again.
+NUMBERS, ITEMS, ISSUED, PAYMENTS, REVERSALS, REPEATS = 2_000, 300, 150, 40, 8, 8
 # How many requests and reversals have a wrong MAC: of more than 128 frames, of which the rest is not worked
 # on one by one, and where few are enough. What is reversed then has this other bit in its counter.
 WRONG, FEW, ANOTHER = 80, 16, 1 << 12
@@ -41,6 +43,7 @@ MAC = 8
 KEY = re.compile(rb'(?<=")[0-9A-F]{32}(?=")')
 ZONE = re.compile(rb'^zone = .*$', re.MULTILINE)
 BDK = re.compile(rb'^key = "(\w{32})"$', re.MULTILINE)
+ISSUE = ("issue", "@bdk", "@loading", f"{IKSN:X}", str(ISSUED), "--ledger", "ledger")
 ON_JOURNAL, IN_MEMORY = ("serve", "bank.toml", "--journal", "journal"), ("serve", "bank.toml")
 
 # A program that reads a key of digits, and then does what its other argument names.
@@ -170,6 +173,25 @@ class Commands(ProgramCase):
             keys = [line.removeprefix("key ") for line in it if line.startswith("key ")]
             self.assertEqual(keys, [line.split()[1] for line in wanted[:ITEMS]])
         self.assertTrue(found.is_digits_alone, found)
+
+    def test_issue(self) -> None:
+        """Initial keys, their check values and key blocks, and once more those that are issued."""
+        folders, keys = [], []
+        for bdk, loading in zip(alike(self.chance), alike(self.chance)):
+            folder = self.folder()
+            (folder / "bdk").write_text(f"{bdk}\n")
+            (folder / "loading").write_text(f"{loading}\n")
+            (folder / "ledger").write_bytes(log_image([], ISSUED))
+            folders.append(folder)
+            keys.append(Keys(bytes.fromhex(bdk), bytes.fromhex(loading)))
+        for added in ((), ("--again",)):
+            found, ended = compared(self.program, *(Run((*ISSUE, *added), it) for it in folders))
+            for it, its in zip(ended, keys):
+                self.assertEqual(it.status, 0)
+                self.assertEqual([line.number for line in read_lines(it.output, its)],
+                                 numbers_from(IKSN, ISSUED))
+            self.tells(str(found))
+            self.assertTrue(found.is_digits_alone, found)
 
     def test_tables_are_seen(self) -> None:
         found, lines = self.printed("derive", "@bdk", f"{IKSN + 1:X}")
