@@ -5,12 +5,14 @@
 #![tactic(auto)]
 
 mod block;
+mod check_value;
 mod cipher;
 mod derivation;
 mod in_order;
 mod initial;
 mod key;
 mod masks;
+mod modes;
 mod nodes;
 mod one_key;
 mod retail;
@@ -19,12 +21,14 @@ mod turns;
 mod variants;
 mod walk;
 
+pub use check_value::check_values;
 pub use cipher::{des_decrypt, des_encrypt};
 pub use derivation::{derive_group, derive_many, derived_keys, transaction_keys};
 pub use in_order::KeysInOrder;
-pub use initial::initial_key;
+pub use initial::{initial_group, initial_key};
 pub use key::LaneKeys;
 pub use masks::{chosen, masked, xor};
+pub use modes::{cbc_under, cmac_under};
 pub use nodes::{initial_keys, step};
 pub use one_key::encrypt_under;
 pub use retail::{retail_group, retail_macs};
