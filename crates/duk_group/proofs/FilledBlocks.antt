@@ -4,13 +4,13 @@ use Rattle.std.proofs.lemmas.List.{take-append-le, drop-append-le, length-replic
 use Rattle.duk_tdes.specs.Blocks.{leading_blocks, blocks_of}
 use Rattle.duk_mac.specs.Retail.{zero_filled}
 
-first_block : (bytes : List ℕ) → 0 < length bytes → blocks_of bytes ≡ take 8 bytes ∷ blocks_of (drop 8 bytes)
+pub first_block : (bytes : List ℕ) → 0 < length bytes → blocks_of bytes ≡ take 8 bytes ∷ blocks_of (drop 8 bytes)
 unfolding blocks_of
 first_block bytes some =
     let count : (length bytes + 7) / 8 ≡ suc ((length (drop 8 bytes) + 7) / 8) = omega (arith, length-drop 8 bytes) in
     ap (λ n. leading_blocks n bytes) count
 
-no_blocks : blocks_of [] ≡ []
+pub no_blocks : blocks_of [] ≡ []
 unfolding blocks_of
 no_blocks = refl
 

@@ -1,9 +1,11 @@
 -- The blocks and keys of lanes, as bits and as bytes.
-use Rattle.std.proofs.Common.{◌≡◌, ℕ, ◌<◌, Bool, false, List, [], ◌∷◌, ◌++◌, length, get_or, bit_xor, refl, sym, ap, ap₂, ◌∙◌, arith}
+use Rattle.std.proofs.Common.{◌≡◌, ℕ, ◌<◌, ◌^◌, lit<, Bool, false, List, [], ◌∷◌, ◌++◌, length, get_or, bit_xor, refl, sym, ap, ap₂, ◌∙◌, arith}
 use Rattle.std.specs.Bool.{xor}
+use Rattle.std.proofs.lemmas.List.Elements.{All-replicate}
 use Rattle.duk_des.specs.Bits.{xor_bits, bits_of_bytes, bytes_of_bits}
 use Rattle.duk_des.specs.Block.{IsBlock}
 use Rattle.duk_des.specs.Des.{encipher, decipher, des_encrypted, des_decrypted}
+use Rattle.duk_mac.specs.Chain.{zero_block}
 use Rattle.duk_tdes.specs.Key.{xor_bytes}
 use Rattle.duk_tdes.specs.Tdes.{first_key, second_key, tdes_encrypted, tdes_decrypted}
 use Rattle.duk_tree.specs.Derivation.{both_halves, half_step_of}
@@ -12,6 +14,10 @@ use Rattle.duk_group.specs.Blocks.{block_of, key_of}
 use Rattle.duk_group.proofs.BitsAndBytes.{bits_of_bytes-bytes_of_bits, bytes_of_bits-bits_of_bytes, length-xor_bits, get_or-xor_bits}
 use Rattle.duk_group.proofs.LaneWords.{length-lane_of, lane_of-is}
 use Rattle.duk_group.proofs.SumsOfBlocks.{bytes_of_bits-xor_bits}
+
+-- the block of zeros
+pub zeros_are_a_block : IsBlock zero_block
+zeros_are_a_block = record { eight = refl; bytes_fit = All-replicate (λ byte. byte < 2 ^ 8) 8 0 (lit< tt) }
 
 -- sums of bytes beside sums of bytes
 xor_bytes-append : (a b c d : List ℕ) → length a ≡ length b → xor_bytes (a ++ c) (b ++ d) ≡ xor_bytes a b ++ xor_bytes c d

@@ -3,6 +3,7 @@ pub mod FilledBlocks
 pub mod LaneWords
 pub mod SumsOfBlocks
 pub mod LaneBlocks
+pub mod LaneMessages
 pub mod BitsOfMasks
 pub mod ChildrenInRows
 pub mod CountersInOrder

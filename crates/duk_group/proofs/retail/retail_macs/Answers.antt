@@ -1,6 +1,4 @@
-use Rattle.std.proofs.Common.{◌≡◌, ◌<◌, ◌^◌, ℕ, List, lit<, refl, sym, ap, subst, ◌∙◌, arith}
-use Rattle.std.proofs.lemmas.List.Elements.{All-replicate}
-use Rattle.duk_des.specs.Block.{IsBlock}
+use Rattle.std.proofs.Common.{◌≡◌, ◌<◌, ℕ, List, refl, sym, ap, subst, ◌∙◌, arith}
 use Rattle.duk_des.specs.Des.{des_encrypted, des_decrypted}
 use Rattle.duk_lanes.specs.Words.{wide_lane}
 use Rattle.duk_mac.specs.Chain.{zero_block}
@@ -8,12 +6,9 @@ use Rattle.duk_tdes.specs.Key.{xor_bytes}
 use Rattle.duk_group.specs.Blocks.{block_of}
 use Rattle.duk_group.specs.Numbers.{message_at}
 use Rattle.duk_group.specs.inner.Turns.{turn_at}
-use Rattle.duk_group.proofs.LaneBlocks.{block_of-bits}
+use Rattle.duk_group.proofs.LaneBlocks.{block_of-bits, zeros_are_a_block}
 use Rattle.duk_group.proofs.LanesAlong.{HasChain, chain_after, chain_at_start, chain_at_end, retail_of-key_of}
 use Rattle.duk_group.proofs.retail.retail_macs.Goals as goal
-
-zeros_are_a_block : IsBlock zero_block
-zeros_are_a_block = record { eight = refl; bytes_fit = All-replicate (λ byte. byte < 2 ^ 8) 8 0 (lit< tt) }
 
 pub loop-count-init : goal.loop-count-init
 loop-count-init c = λ i h.
