@@ -17,7 +17,7 @@ use crate::one_key::encrypt_under;
 use crate::transposed::Word;
 use duk_lanes::{scatter_wide, spread_wide};
 use duk_mac::double_block;
-use duk_tdes::KeyBytes;
+use duk_tdes::{Key, KeyBytes};
 
 /// The CMAC of each lane's message, which is these blocks one after another, under a key of 16 or
 /// 24 bytes, the same for all (NIST SP 800-38B section 6.2).
@@ -31,16 +31,16 @@ pub fn cmac_under(key: &KeyBytes, blocks: &[[Word; 64]]) -> [Word; 64]
     for block in &blocks[..last] {
         chain = encrypt_under(key, &xor(&chain, block));
     }
-    let masked = xor(&blocks[last], &spread_wide(first_subkey(key)));
+    let masked = xor(&blocks[last], &spread_wide(first_subkey(key).bytes()));
     encrypt_under(key, &xor(&chain, &masked))
 }
 
 /// The subkey for a whole last block, K1 (NIST SP 800-38B section 6.1).
-fn first_subkey(key: &KeyBytes) -> [u8; 8]
+fn first_subkey(key: &KeyBytes) -> Key<8>
     ensures { result ≡ first_subkey (bytes_of key.now) }
 {
     let zeros = encrypt_under(key, &spread_wide([0; 8]));
-    double_block(scatter_wide(&zeros)[0])
+    Key::new(double_block(scatter_wide(&zeros)[0]))
 }
 
 /// Enciphers each lane's blocks in CBC from the lane's initial vector, under a key of 16 or 24 bytes,

@@ -1,4 +1,4 @@
-use Rattle.std.proofs.Common.{◌<◌, ℕ, List, get_or, sym, subst, ◌∙◌, arith}
+use Rattle.std.proofs.Common.{ℕ, List, get_or, sym, subst, ◌∙◌, arith}
 use Rattle.duk_des.specs.Block.{IsBlock}
 use Rattle.duk_tree.specs.Serial.{Serial, iksn_bytes}
 use Rattle.duk_group.proofs.SerialBlocks.{eight_of_ten}

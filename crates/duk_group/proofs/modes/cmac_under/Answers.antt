@@ -1,6 +1,5 @@
-use Rattle.std.proofs.Common.{◌≡◌, ◌<◌, ◌+◌, ◌-◌, ◌^◌, ℕ, List, [], length, get_or, take, refl, ap, ap₂, ◌∙◌, arith}
+use Rattle.std.proofs.Common.{◌≡◌, ◌+◌, ◌-◌, ℕ, List, [], length, get_or, take, ap, ap₂, ◌∙◌, arith}
 use Rattle.std.proofs.lemmas.List.{get_or-take, length-take-le}
-use Rattle.duk_des.specs.Block.{IsBlock}
 use Rattle.duk_lanes.specs.Words.{wide_lane}
 use Rattle.duk_mac.specs.Chain.{zero_block}
 use Rattle.duk_mac.specs.Cmac.{first_subkey}
@@ -8,6 +7,7 @@ use Rattle.duk_tdes.specs.Key.{xor_bytes}
 use Rattle.duk_tdes.specs.KeyBytes.{bytes_of}
 use Rattle.duk_tdes.specs.Tdes.{tdes_encrypted}
 use Rattle.duk_group.specs.Blocks.{block_of}
+use Rattle.duk_group.proofs.JoinedHalves.{half_block}
 use Rattle.duk_group.proofs.LaneBlocks.{block_of-bits, zeros_are_a_block}
 use Rattle.duk_group.proofs.LaneMessages.{mac_after, mac_at_start, mac_one_on, mac_at_end}
 use Rattle.duk_group.proofs.modes.cmac_under.Goals as goal
@@ -40,8 +40,8 @@ returns c = λ i h.
     let chain = block_of wide_lane i c.loop-block.chain in
     let front : length (take (length blocks - 1) blocks) ≡ length blocks - 1 = length-take-le (length blocks - 1) blocks (omega arith) in
     let last : length blocks - 1 ≡ count = omega arith in
-    let is_block : IsBlock c.first_subkey.result = record { eight = refl; bytes_fit = c.first_subkey.type_inv; } in
-    let subkey : block_of wide_lane i c.spread_wide.result ≡ first_subkey key = block_of-bits wide_lane i c.spread_wide.result c.first_subkey.result is_block (c.spread_wide.ensures i h) ∙ c.first_subkey.ensures in
+    let subkey : block_of wide_lane i c.spread_wide.result ≡ first_subkey key =
+    block_of-bits wide_lane i c.spread_wide.result c.bytes.result (half_block c.bytes.ensures.key c.bytes.ensures.bytes) (c.spread_wide.ensures i h) ∙ c.bytes.ensures.bytes ∙ c.first_subkey.ensures in
     c.encrypt_under.ensures i h
     ∙ ap (tdes_encrypted key)
     (c.xor-2.ensures i h

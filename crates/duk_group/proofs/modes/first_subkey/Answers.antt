@@ -1,4 +1,4 @@
-use Rattle.std.proofs.Common.{List, ℕ, ap, ◌∙◌, lit<, arith}
+use Rattle.std.proofs.Common.{ap, ◌∙◌, lit<}
 use Rattle.duk_lanes.specs.Words.{wide_lane}
 use Rattle.duk_mac.specs.Chain.{zero_block}
 use Rattle.duk_mac.specs.Cmac.{doubled}
@@ -11,7 +11,8 @@ use Rattle.duk_group.proofs.modes.first_subkey.Goals as goal
 pub returns : goal.returns
 unfolding block_of
 returns c =
-    c.double_block.ensures
+    c.new.ensures
+    ∙ c.double_block.ensures
     ∙ ap doubled
     (c.scatter_wide.ensures 0 (lit< tt)
     ∙ c.encrypt_under-zeros.ensures 0 (lit< tt)
