@@ -31,5 +31,5 @@ pub use masks::{chosen, masked, xor};
 pub use modes::{cbc_under, cmac_under};
 pub use nodes::{initial_keys, step};
 pub use one_key::encrypt_under;
-pub use retail::{retail_group, retail_macs};
+pub use retail::retail_macs;
 pub use transposed::{WIDTH, Word, gather_blocks, gather_keys, scatter_keys, spread_key};

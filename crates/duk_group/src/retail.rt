@@ -1,10 +1,10 @@
 //! The retail MACs of many messages at once (ANSI X9.19), each under a key of its own.
 
-ghost use Rattle.std.specs.Prelude.{◌≡◌, ◌<◌, ◌≤◌, ◌-◌, ◌*◌, ◌^◌, ◌++◌, ℕ, length, drop, replicate};
+ghost use Rattle.std.specs.Prelude.{◌≡◌, ◌<◌, ◌≤◌, ◌-◌, ◌*◌, ◌^◌, ◌++◌, ℕ, length, replicate};
 ghost use Rattle.duk_lanes.specs.Words.{wide_lane};
 ghost use Rattle.duk_mac.specs.Retail.{retail_of};
 ghost use Rattle.duk_group.specs.Blocks.{block_of, key_of};
-ghost use Rattle.duk_group.specs.Numbers.{bytes_at, message_at};
+ghost use Rattle.duk_group.specs.Numbers.{message_at};
 ghost use Rattle.duk_group.specs.inner.Messages.{IsNextBlock};
 ghost use Rattle.duk_group.specs.inner.Turns.{turn_at};
 ghost use Rattle.duk_group.specs.declared.transposed.TheConstants.{WIDTH};
@@ -12,25 +12,9 @@ ghost use Rattle.duk_group.specs.declared.transposed.TheConstants.{WIDTH};
 use crate::cipher::{des_decrypt, des_encrypt};
 use crate::key::LaneKeys;
 use crate::masks::{chosen, xor};
-use crate::transposed::{WIDTH, Word, first_of, gather_keys};
+use crate::transposed::{WIDTH, Word};
 use crate::turns::{PAUSE, Turn, blocks_of_turns, going};
-use duk_lanes::{scatter_wide, spread_wide};
-use duk_tdes::Key;
-
-/// The retail MACs of at most `WIDTH` messages, each under the key at its place, in their order.
-/// Each message is filled with zero bytes to whole blocks, an empty one to none. Behind the last
-/// MAC there are blocks of zeros.
-pub fn retail_group(keys: &[Key<16>], messages: &[&[u8]]) -> [[u8; 8]; WIDTH]
-    requires few { length messages.now ≤ WIDTH }
-    requires keys { length keys.now ≡ length messages.now }
-    ensures macs { (i : ℕ) → i < length messages.now
-        → bytes_at result i ≡ retail_of (bytes_at keys.now i) (message_at messages.now i) }
-    ensures rest { drop (length messages.now) result
-        ≡ replicate (WIDTH - length messages.now) (replicate 8 0) }
-{
-    let macs = scatter_wide(&retail_macs(&gather_keys(keys), messages));
-    first_of(&macs, messages.len(), [0; 8])
-}
+use duk_lanes::spread_wide;
 
 /// The retail MACs of at most `WIDTH` messages, each under the key of its lane.
 pub fn retail_macs(keys: &LaneKeys<Word>, messages: &[&[u8]]) -> [Word; 64]
