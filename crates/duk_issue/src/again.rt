@@ -6,8 +6,8 @@ ghost use Rattle.duk_issue.specs.Issue.{ends};
 ghost use Rattle.duk_issue.specs.inner.Again.{AreCut, AreWritten};
 
 use crate::fault::IssueFault;
+use crate::group::LineGroup;
 use crate::ledger::read_ledger;
-use crate::line::line_at;
 use crate::marks::first_unmarked;
 use crate::order::{Order, PADDING_LENGTH};
 use crate::serial::iksn_at;
@@ -56,8 +56,9 @@ fn write_lines<W: Sink>(order: &Order, padding: &[u8], output: &mut W) -> Result
         (AreCut order.now padding.now (W.known output.old) (W.known output.new)) }
 {
     duk_io::laws::writes();
+    let mut group = LineGroup::none();
     for place in 0..order.count {
-        let line = line_at(order, place, padding);
+        let line = group.line(order, place, padding);
         if write_text(output, line.as_slice()).is_err() {
             return Err(IssueFault::WriteFailed);
         }

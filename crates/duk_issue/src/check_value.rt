@@ -6,7 +6,7 @@ ghost use Rattle.duk_issue.specs.Order.{HasCheckValue};
 ghost use Rattle.duk_issue.specs.inner.CheckValue.{IsCheckValueRefused};
 
 use crate::fault::IssueFault;
-use duk_mac::check_value;
+use duk_group::{WIDTH, check_values};
 use duk_tdes::Key;
 use hex::FromHex;
 
@@ -22,7 +22,7 @@ pub(crate) fn test_check_value(bdk: &Key<16>, kcv: Option<&str>) -> Result<(), I
     let Ok(wanted) = <[u8; 3] as FromHex>::from_hex(text) else {
         return Err(IssueFault::KcvRefused);
     };
-    if wanted == check_value(bdk) {
+    if wanted == check_values(&[*bdk; WIDTH])[0] {
         Ok(())
     } else {
         Err(IssueFault::KcvDiffers)

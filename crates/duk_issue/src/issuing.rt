@@ -2,12 +2,13 @@
 
 ghost use Rattle.std.specs.Prelude.{◌≡◌, ◌*◌, ◌<◌, ◌≤◌, ◌+◌, ◌-◌, true, IfErr, IfOk, length};
 ghost use Rattle.duk_issue.specs.Issue.{HasIssuedBut, IssueFailed, ends, job};
+ghost use Rattle.duk_issue.specs.inner.Group.{IsGroupOf};
 ghost use Rattle.duk_issue.specs.inner.Lines.{AreIssued, IsIssuedAt, IssueAtFailed, PassesTests, StopsAtPlace, TestsRefuse};
 ghost use Rattle.duk_issue.specs.inner.Marks.{unmarked};
 
 use crate::fault::IssueFault;
+use crate::group::LineGroup;
 use crate::ledger::read_ledger;
-use crate::line::line_at;
 use crate::marks::{count_marked, count_unmarked, first_marked};
 use crate::order::{Order, PADDING_LENGTH};
 use crate::serial::iksn_at;
@@ -22,7 +23,7 @@ use std::alloc::Global;
 /// The ledger may be stopped; it is restarted and read once. All numbers are tested before any is
 /// issued. With `skip_issued` those that stand in the ledger are passed over, and it gives how many.
 /// `padding` has six bytes for each terminal of the order, which are to be random; those of a
-/// terminal that is passed over are not used.
+/// terminal that is passed over stand in no line.
 ///
 /// The faults, in this order: `OutOfMemory`, where all is as it was; `LedgerFailed` where a device
 /// step failed, and `LedgerDamaged`, also where the ledger keeps a number with a counter; `Issued`
@@ -94,11 +95,12 @@ fn issue_unmarked<L: UsedLog, W: Sink>(
         (unmarked marks.now 0)) }
 {
     duk_io::laws::writes();
+    let mut group = LineGroup::none();
     for place in 0..order.count {
         if marks[place as usize] {
             continue;
         }
-        issue_one(order, place, padding, ledger, output)?;
+        issue_one(order, place, padding, &mut group, ledger, output)?;
     }
     Ok(())
 }
@@ -108,11 +110,13 @@ fn issue_one<L: UsedLog, W: Sink>(
     order: &Order,
     place: u32,
     padding: &[u8],
+    group: &mut LineGroup,
     ledger: &mut L,
     output: &mut W,
 ) -> Result<(), IssueFault>
     requires place { place < order.now.count }
     requires padding { PADDING_LENGTH * order.now.count ≤ length padding.now }
+    requires group { IsGroupOf order.now padding.now group.old }
     requires runs { (L.meaning.state_of ledger.old).running ≡ true }
     requires room { L.meaning.count ledger.old < L.meaning.capacity ledger.old }
     ensures issued { IfOk result (λ _. IsIssuedAt
@@ -121,11 +125,12 @@ fn issue_one<L: UsedLog, W: Sink>(
     ensures counted { IfOk result
         (λ _. L.meaning.count ledger.new ≡ L.meaning.count ledger.old + 1) }
     ensures capacity { L.meaning.capacity ledger.new ≡ L.meaning.capacity ledger.old }
+    ensures group { IsGroupOf order.now padding.now group.new }
     ensures failed { IfErr result (IssueAtFailed
         L.meaning order.now padding.now
         (ends ledger.old (W.known output.old)) (ends ledger.new (W.known output.new)) place) }
 {
-    let line = line_at(order, place, padding);
+    let line = group.line(order, place, padding);
     let iksn = iksn_at(order.first, place);
     if ledger.append(iksn.with_counter(0)).is_err() {
         return Err(IssueFault::LedgerFailed);

@@ -8,6 +8,7 @@ mod again;
 mod check_value;
 mod count;
 mod fault;
+mod group;
 mod issuing;
 pub mod laws;
 mod ledger;

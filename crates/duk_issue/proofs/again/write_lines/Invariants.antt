@@ -1,6 +1,10 @@
 use Rattle.duk_issue.specs.inner.Again.{AreWritten}
+use Rattle.duk_issue.specs.inner.Group.{IsGroupOf}
 use Rattle.duk_issue.proofs.again.write_lines.Given as goal
 
 -- the lines so far are written
 abbrev pub invariant-loop-place : goal.invariant-loop-place
-invariant-loop-place g l = AreWritten l.fn.order l.fn.padding (g.W.Sink.known l.fn.output) (g.W.Sink.known l.output) l.place
+invariant-loop-place g l = record {
+  written : AreWritten l.fn.order l.fn.padding (g.W.Sink.known l.fn.output) (g.W.Sink.known l.output) l.place;
+  group : IsGroupOf l.fn.order l.fn.padding l.group;
+}

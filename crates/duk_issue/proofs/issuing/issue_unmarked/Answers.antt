@@ -12,6 +12,7 @@ loop-place-init g c = record {
   done = [];
   split = refl;
   issued = none_issued g.L.UsedLog.meaning c.args.order.now c.args.padding.now (ends c.args.ledger.now (g.W.Sink.known c.args.output.now)) c.requires.runs (c.writes.ensures.none (g.W.Sink.known c.args.output.now));
+  group = c.none-group.ensures c.args.order.now c.args.padding.now;
 }
 
 pub loop-place-preserved-then-marks-place : goal.loop-place-preserved-then-marks-place
@@ -24,6 +25,7 @@ loop-place-preserved-then-marks-place g c =
       done = loop.done;
       split = ap (λ list. loop.done ++ list) (sym (after_marked marks place inside c.if-marks-place.true)) ∙ loop.split;
       issued = loop.issued;
+      group = loop.group;
     }
 
 pub loop-place-preserved : goal.loop-place-preserved
@@ -40,6 +42,7 @@ loop-place-preserved g c =
       issued = one_issued meaning c.args.order.now c.args.padding.now
           (ends c.args.ledger.now (g.W.Sink.known c.args.output.now)) (ends c.loop-place.ledger (g.W.Sink.known c.loop-place.output)) (ends c.issue_one.new.ledger (g.W.Sink.known c.issue_one.new.output))
           loop.done place (λ text line. c.writes.ensures.then _ _ _ text line) loop.issued c.in_ok-issue_one.ensures.issued c.in_ok-issue_one.ensures.counted c.issue_one.ensures.capacity;
+      group = c.issue_one.ensures.group;
     }
 
 pub returns-in_err-issue_one-clause-failed : goal.returns-in_err-issue_one-clause-failed

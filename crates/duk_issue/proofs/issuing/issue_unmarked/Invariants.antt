@@ -1,5 +1,6 @@
 use Rattle.std.proofs.Common.{◌≡◌, ◌++◌, ℕ, List, drop}
 use Rattle.duk_issue.specs.Issue.{ends}
+use Rattle.duk_issue.specs.inner.Group.{IsGroupOf}
 use Rattle.duk_issue.specs.inner.Lines.{AreIssued}
 use Rattle.duk_issue.specs.inner.Marks.{unmarked}
 use Rattle.duk_issue.proofs.issuing.issue_unmarked.Given as goal
@@ -10,4 +11,5 @@ invariant-loop-place g l = record {
   done : List ℕ;
   split : done ++ unmarked (drop l.place l.marks) l.place ≡ unmarked l.marks 0;
   issued : AreIssued g.L.UsedLog.meaning l.fn.order l.fn.padding (ends l.fn.ledger (g.W.Sink.known l.fn.output)) (ends l.ledger (g.W.Sink.known l.output)) done;
+  group : IsGroupOf l.fn.order l.fn.padding l.group;
 }
