@@ -16,3 +16,5 @@ pub mod LanesDown
 pub mod OneMoreGroup
 pub mod NextBlocks
 pub mod LanesAlong
+pub mod PartsOfMessages
+pub mod DerivationBlocks
