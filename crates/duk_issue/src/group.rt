@@ -8,12 +8,12 @@ ghost use Rattle.duk_issue.specs.Numbers.{iksn_at};
 ghost use Rattle.duk_issue.specs.declared.order.Order.{Order};
 ghost use Rattle.duk_issue.specs.inner.Group.{IsGroupOf};
 
-use crate::line::{BLOCK_LENGTH, line_of};
+use crate::line::line_of;
 use crate::order::{Order, PADDING_LENGTH};
 use crate::serial::iksn_at;
 use duk_block::KeyUse;
 use duk_commands::Lines;
-use duk_group::{WIDTH, check_values, initial_group, wrap_group};
+use duk_group::{KEY_BLOCK, WIDTH, check_values, initial_group, wrap_group};
 use duk_tdes::array_of;
 use duk_tree::Iksn;
 
@@ -25,7 +25,7 @@ use duk_tree::Iksn;
 #[derive(Drop)]
 pub(crate) struct LineGroup {
     base: Option<u32>,
-    blocks: [[u8; BLOCK_LENGTH]; WIDTH],
+    blocks: [[u8; KEY_BLOCK]; WIDTH],
     values: [[u8; 3]; WIDTH],
 }
 
@@ -36,7 +36,7 @@ impl LineGroup {
     {
         LineGroup {
             base: None,
-            blocks: [[0; BLOCK_LENGTH]; WIDTH],
+            blocks: [[0; KEY_BLOCK]; WIDTH],
             values: [[0; 3]; WIDTH],
         }
     }

@@ -5,14 +5,12 @@ ghost use Rattle.duk_issue.specs.Lines.{issued_line};
 ghost use Rattle.duk_mac.specs.CheckValue.{check_value_of};
 
 use duk_commands::{Lines, push_end, push_text};
+use duk_group::KEY_BLOCK;
 use duk_io::append_hex;
 use duk_tree::Iksn;
 
-/// The characters of the key block of an initial key.
-pub(crate) const BLOCK_LENGTH: usize = 80;
-
 /// The line of an initial key, of its number, its key block and its check value.
-pub(crate) fn line_of(iksn: Iksn, block: &[u8; BLOCK_LENGTH], value: &[u8; 3]) -> Lines
+pub(crate) fn line_of(iksn: Iksn, block: &[u8; KEY_BLOCK], value: &[u8; 3]) -> Lines
     ensures { (key : List ℕ) → value.now ≡ check_value_of key
         → result.items ≡ issued_line iksn block.now key }
 {
