@@ -10,7 +10,9 @@ from typing import Sequence
 
 from .support.bank import BANK, SCRIPT
 from .support.client import payments
+from .support.dukpt import SPENT, serial_text
 from .support.everyday_rows import BASE, FIRST
+from .support.issuing import bytes_of, numbers_from
 from .support.journal_case import JournalCase, alone, stream_of
 from .support.log_file import RECORD as NUMBER
 from .support.log_file import log_image
@@ -19,6 +21,7 @@ from .support.page_journals import RECORD
 from .support.program import spoken
 from .support.service_case import numbers_of
 from .support.traced_files import OPENS, Call, traced
+from .test_issue import LINE_LENGTH, passed_over
 
 # What of the ways to open a file says whether it is read, written, made, cut or begun anew.
 WAYS = re.compile(r"O_(?:RDONLY|WRONLY|RDWR|CREAT|EXCL|TRUNC|APPEND)")
@@ -26,7 +29,14 @@ WAYS = re.compile(r"O_(?:RDONLY|WRONLY|RDWR|CREAT|EXCL|TRUNC|APPEND)")
 PIECE, AHEAD = 1 << 16, 4096
 # A file that is read to its end is first asked for so many bytes, and for twice as many each time.
 FIRST_READ = 1 << 13
+# The line of a reference is read in such pieces.
+LINE_READ = 512
 MADE = "O_RDWR|O_CREAT|O_EXCL"
+# A file that a command makes.
+COPY = "copy"
+OUT = ("--out", COPY)
+# An image of a terminal that has done nothing and keeps no key: version, IKSN, next counter, registers, past.
+NEW_IMAGE = "02" + FIRST + "000001" + "0" * (32 * 21 + 162)
 
 
 def steps_of(calls: Sequence[Call]) -> list[str]:
@@ -37,7 +47,7 @@ def steps_of(calls: Sequence[Call]) -> list[str]:
 def step_of(call: Call) -> str:
     """What a call asks for. Behind the descriptor the system gives the arguments, the bytes first."""
     words = call.words.split(", ")
-    about = {"flock": words[-1], "ftruncate": words[-1], "read": words[-1],
+    about = {"flock": words[-1], "ftruncate": words[-1], "read": words[-1], "write": words[-1],
              "pread64": " at ".join(words[-2:]), "pwrite64": " at ".join(words[-2:])}
     what = "|".join(WAYS.findall(call.words)) if call.name in OPENS else about.get(call.name, "")
     return f"{call.name} {call.file} {what}".strip()
@@ -46,6 +56,8 @@ def step_of(call: Call) -> str:
 class Device:
     """A file as a disk: what is asked of the system for it. A small read takes what is ahead too, up to a
     page, which is held until a write or a sync."""
+
+    ahead = AHEAD
 
     def __init__(self, steps: list[str], name: str, size: int, way: str = "O_RDWR") -> None:
         self.steps, self.name, self.size, self.held = steps, name, size, range(0)
@@ -56,9 +68,9 @@ class Device:
             count = min(PIECE, end - place)
             if place in self.held and place + count - 1 in self.held:
                 continue
-            taken = max(count, min(AHEAD, self.size - place))
+            taken = max(count, min(self.ahead, self.size - place))
             self.steps.append(f"pread64 {self.name} {taken} at {place}")
-            if count < AHEAD:
+            if count < self.ahead:
                 self.held = range(place, place + taken)
 
     def write(self, at: int, end: int) -> None:
@@ -90,8 +102,11 @@ class Device:
             end = start
 
     def start_log(self, kept: int) -> None:
-        """All records are read, each for itself, and then those with numbers once more."""
         self.look_at(kept, NUMBER)
+        self.read_log(kept)
+
+    def read_log(self, kept: int) -> None:
+        """All records are read, each for itself, and then those with numbers once more."""
         self.sync()
         for records in (self.size // NUMBER, kept):
             for place in range(records):
@@ -114,6 +129,9 @@ class Device:
         """A file that is made begins as no journal does before it gets its size."""
         self.write(0, 1)
         self.sync()
+        self.lengthen()
+
+    def lengthen(self) -> None:
         self.steps.append(f"ftruncate {self.name} {self.size}")
         self.sync()
 
@@ -124,6 +142,19 @@ class Device:
         self.write(0, 1)
         self.sync()
         self.read(1, 2)
+
+
+class OneByOne(Device):
+    """One that takes nothing ahead, so that each record of a log is a call."""
+
+    ahead = 0
+
+
+def read_line(name: str, size: int, is_ended: bool = True) -> list[str]:
+    """The line of a reference, of this size with its end, is read in pieces until its end comes, or else
+    nothing."""
+    steps = [f"openat {name} O_RDONLY", *[f"read {name} {LINE_READ}"] * -(-size // LINE_READ)]
+    return [*steps, *[f"read {name} {LINE_READ}"] * (not is_ended)]
 
 
 def read_whole(name: str, size: int) -> list[str]:
@@ -144,13 +175,13 @@ class DeviceCalls(JournalCase):
     weight = 2
 
     def check(self, words: Sequence[str], first: str, wanted: Sequence[str], given: bytes = b"",
-              what: str = "") -> None:
+              what: str = "", faults: bytes = b"") -> None:
         """That a command ends well, with these calls from the one that opens this file."""
         self.write("input", given)
         with open(self.home / "input", "rb") as stream:
             ended, calls = traced([self.program.path, *words], self.home, self.folder() / "trace", first,
                                   given=stream.fileno())
-        self.assertEqual((ended.status, ended.faults), (0, b""), f"{spoken(words)} {what}")
+        self.assertEqual((ended.status, ended.faults), (0, faults), f"{spoken(words)} {what}")
         self.assertEqual(steps_of(calls), list(wanted), f"{spoken(words)} {what}")
 
     def make(self, name: str, data: bytes) -> None:
@@ -186,14 +217,75 @@ class DeviceCalls(JournalCase):
                        stream_of(requests[kept:]), f"{kept} of {room}")
 
     def test_issue(self) -> None:
-        for room in (3, 300, 5000):
-            self.make("ledger", bytes(NUMBER * room))
-            steps: list[str] = []
-            ledger = Device(steps, "ledger", NUMBER * room)
-            ledger.start_log(0)
-            for place in range(3):
+        for kept, room in ((0, 3), (0, 300), (0, 5000), (2, 300), (600, 5000)):
+            self.check_issue(kept, room, kept)
+
+    def test_issue_again(self) -> None:
+        """Behind the start the ledger is neither read nor written."""
+        for kept, room in ((3, 3), (600, 5000)):
+            self.check_issue(kept, room, 0, ["--again"])
+
+    def test_issue_out(self) -> None:
+        """The file is made, and its folder synced, before the ledger is read; and each line is a write and a
+        sync, before the next number is spent. So it is where numbers are passed over or lines made again."""
+        for kept, room in ((0, 3), (2, 300), (600, 5000)):
+            self.check_issue(kept, room, kept, ["--skip-issued"], OUT)
+        for kept, room in ((3, 3), (600, 5000)):
+            self.check_issue(kept, room, 0, ["--again"], OUT)
+
+    def test_issue_passes_over(self) -> None:
+        for kept, room in ((2, 300), (600, 5000)):
+            for out in ((), OUT):
+                self.check_issue(kept, room, kept - 2, ["--skip-issued"], out, passed=2)
+
+    def test_a_ledger_read_one_by_one(self) -> None:
+        """One whose records are a call each is found, and so is a sync that a line lacks."""
+        for device, syncs in ((OneByOne, True), (Device, False)):
+            with self.assertRaisesRegex(AssertionError, "Lists differ"):
+                self.check_issue(2, 300, 2, ["--skip-issued"], OUT, device=device, syncs=syncs)
+
+    def check_issue(self, kept: int, room: int, first: int, options: Sequence[str] = (),
+                    out: Sequence[str] = (), passed: int = 0, device: type[Device] = Device,
+                    syncs: bool = True) -> None:
+        """Three numbers and those that are passed over, of the order's places from `first` on, over a
+        ledger that keeps the first of them."""
+        numbers = numbers_from(int(FIRST, 16), kept)
+        self.make("ledger", log_image(bytes_of(numbers), room))
+        steps: list[str] = []
+        ledger = device(steps, "ledger", NUMBER * room)
+        ledger.look_at(kept, NUMBER)
+        steps += [f"openat {COPY} {MADE}", *folder_synced()] if out else []
+        ledger.read_log(kept)
+        for place in range(kept, kept + 3):
+            if "--again" not in options:
                 ledger.use(place)
-            self.check(["issue", BASE, BASE, FIRST, "3", "--ledger", "ledger"], "ledger", steps)
+            if out:
+                steps += [f"write {COPY} {LINE_LENGTH}", *[f"fdatasync {COPY}"] * syncs]
+        begin = serial_text(int(FIRST, 16) + first * SPENT)
+        words = ["issue", BASE, BASE, begin, str(passed + 3), "--ledger", "ledger", *options, *out]
+        self.check(words, "ledger", steps, what=f"{kept} of {room}", faults=passed_over(passed))
+
+    def test_new_log(self) -> None:
+        for records in (1, 7, 4096, 5000):
+            steps: list[str] = []
+            made = Device(steps, COPY, NUMBER * records, MADE)
+            made.lengthen()
+            made.write(2, NUMBER * records)
+            made.sync()
+            made.read(0, 2)
+            self.make("journal", b"")
+            self.check(["new-log", COPY, str(records)], COPY, [*steps, *folder_synced()])
+
+    def test_references(self) -> None:
+        """What stands behind the first line is not asked for, but for what comes with it."""
+        key, image = f"{BASE}\n", f"{NEW_IMAGE}\n"
+        for words, data, size, is_ended in (
+                (["kcv", "@secret"], key, len(key), True), (["kcv", "@secret"], BASE, len(BASE), False),
+                (["kcv", "@secret"], key * 400, len(key), True),
+                (["show", "image", "@secret"], image, len(image), True),
+                (["show", "image", "@secret"], NEW_IMAGE, len(NEW_IMAGE), False)):
+            self.make("secret", data.encode())
+            self.check(words, "secret", read_line("secret", size, is_ended), what=f"{len(data)} bytes")
 
     def test_new_journal(self) -> None:
         for records in (1, 7, 5000):
