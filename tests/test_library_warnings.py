@@ -1,24 +1,25 @@
 """What compilers say of wrong programs over the header of C, call by call, and the texts of statuses."""
 from __future__ import annotations
 
+import os
 import re
 import shutil
 import subprocess
 from pathlib import Path
 from typing import Iterator, Sequence
+from unittest.mock import patch
 
 from .support.case import Case
-from .support.library import STRICT, built_library, compiler, demand, ran
+from .support.library import PACKAGES, STRICT, LibraryMissing, built_library, compiler, demand, ran
 from .support.library_calls import CALLS, FAULTS
 from .support.program import ROOT
 
 HEADER = ROOT / "library" / "c" / "dukpt.h"
+NEEDED = ROOT / "tests" / "needed.txt"
 # The compilers, each with the options of its language, and whether it sees overlaps.
 COMPILERS = (
     ("gcc", ("-x", "c", "-std=c99"), True), ("g++", ("-x", "c++", "-std=c++17"), True),
     ("clang", ("-x", "c", "-std=c99"), False), ("clang++", ("-x", "c++", "-std=c++17"), False))
-# What need not be there: Debian's g++ comes with gcc.
-OPTIONAL = ("clang", "clang++")
 DROPPED, NULL, OVERLAP = "unused-result", "nonnull", "restrict"
 WARNING = re.compile(r"\[-W(?:error=)?([\w-]+)")
 SLICES, POINTERS = ("bytes", "buffer"), ("bytes", "buffer", "count")
@@ -78,11 +79,20 @@ class Warnings(Case):
 
     def compilers(self) -> Iterator[tuple[str, Sequence[str], bool]]:
         for command, words, sees_overlaps in COMPILERS:
-            if command in OPTIONAL and shutil.which(command) is None:
-                self.tells(f"{command} is not installed")
-                continue
             demand(command)
             yield command, words, sees_overlaps
+
+    def test_a_compiler_that_is_missing(self) -> None:
+        """Each of the four is needed: where one is missing its package is named, and that is a failure."""
+        self.assertEqual({PACKAGES[it] for it, _, _ in COMPILERS} - {*NEEDED.read_text().split()}, set())
+        for missing, _, _ in COMPILERS:
+            there, others = self.folder(), [it for it, _, _ in COMPILERS if it != missing]
+            for command in others:
+                (there / command).symlink_to(str(shutil.which(command)))
+            fault = f"{missing} is not installed: apt-get install {PACKAGES[missing]}"
+            with patch.dict(os.environ, PATH=str(there)), self.assertRaises(LibraryMissing) as found:
+                [*self.compilers()]
+            self.assertEqual(str(found.exception), fault)
 
     def test_right(self) -> None:
         calls = [f"return {name}({', '.join(arguments(it.kinds))})" for name, it in CALLS.items()]

@@ -17,8 +17,8 @@ SOURCES = (ROOT / "library" / "c", ROOT / "library" / "calls.toml", ROOT / "tool
            *ROOT.glob("crates/duk*/src"))
 FILES = ("libdukpt.a", "libdukpt.so.0", "libdukpt.so", "dukpt.h", "dukpt.pc", "BUILD")
 # Of each command that tests of the library run, the Debian package that has it.
-PACKAGES = {"gcc": "gcc", "g++": "g++", "clang": "clang", "valgrind": "valgrind", "nm": "binutils",
-            "readelf": "binutils", "cargo-clippy": "rust-clippy"}
+PACKAGES = {"gcc": "gcc", "g++": "g++", "clang": "clang", "clang++": "clang", "valgrind": "valgrind",
+            "nm": "binutils", "readelf": "binutils", "cargo-clippy": "rust-clippy"}
 SECONDS = 1800
 
 
