@@ -22,10 +22,11 @@
  * Keys. Parity bits are neither checked nor adjusted. A call leaves keys and PINs on the stack:
  * dukpt_wipe_stack overwrites them.
  *
- * Time. It is not proved, and not promised, that time tells nothing of a key. In the calls that
- * compare no MAC and no PIN block tests see no branch that depends on a key; of those that compare
- * nothing is measured, and a comparison may end at the first byte that differs. Addresses in tables
- * depend on keys.
+ * Time. It is not proved, and not promised, that time tells nothing of a key. MACs are compared as
+ * one number in every call, so that none ends early at a byte that differs. dukpt_derive_many and
+ * dukpt_check_requests take no branch and no address that depends on a key: that is tested. The
+ * other calls read tables at addresses that depend on keys. Where they compare no MAC and no PIN
+ * block, they take no branch that depends on a key: that is tested too.
  *
  * Bits are numbered from the most significant. Numbers in bytes are big-endian.
  *
