@@ -22,6 +22,7 @@ from .test_service_logs import ACCEPTED, LOGS, REFUSED
 
 SERVE = ROOT / "share" / "deploy" / "dukpt-serve"
 COPY = ROOT / "share" / "deploy" / "dukpt-copy-log"
+DEPLOYMENT = ROOT / "docs" / "DEPLOYMENT.md"
 BOOT = Path("/proc/sys/kernel/random/boot_id").read_text()
 OTHER_BOOT = "8c1d0e7a-5b7c-4f3e-9a51-0d2f6c3b1e94\n"
 FAILED = f"{LOG_FAILED}\n".encode()
@@ -364,6 +365,51 @@ class Copying(Case):
         for words in ([], [self.old], [self.old, self.new, "more"]):
             done = subprocess.run([COPY, *words], capture_output=True, timeout=SECONDS, check=False)
             self.assertEqual((done.returncode, done.stdout), (2, b""))
+
+
+class Prefixes(Case):
+    """The command of docs/DEPLOYMENT.md that prints each prefix that two configurations share."""
+
+    def shared(self, command: str, *texts: str) -> str:
+        folder = self.folder()
+        for at, text in enumerate(texts):
+            (folder / f"part{at}.toml").write_text(f'log = 100\n[[bdk]]\n{text}\nkey = "{"0" * 32}"\n')
+        done = subprocess.run(["bash", "-c", command], cwd=folder, capture_output=True, text=True,
+                              timeout=SECONDS, check=True)
+        self.assertEqual(done.stderr, "")
+        return done.stdout
+
+    @property
+    def command(self) -> str:
+        found = [it for it in DEPLOYMENT.read_text().splitlines() if it.startswith("    sed ")]
+        self.assertEqual(len(found), 1)
+        return found[0].strip()
+
+    def test_prefixes_that_are_shared(self) -> None:
+        """In capital letters or small ones, in either quotes, with what spaces and words around them."""
+        ways = ('prefix = "FFFF98765A"', 'prefix = "ffff98765a"', "prefix='ffFF98765a' # FFFF98765A",
+                '\tprefix\t=\t"ffff98765A"')
+        for one, other in itertools.permutations(ways, 2):
+            self.assertEqual(self.shared(self.command, one, other), "FFFF98765A\n", (one, other))
+        three = self.shared(self.command, ways[0], ways[1], ways[2])
+        self.assertEqual(three, "FFFF98765A\n")
+
+    def test_prefixes_that_are_not(self) -> None:
+        """Nothing is printed: the key word is none of them, nor is another one, nor a remark."""
+        for one, other in (('prefix = "ffff98765a"', 'prefix = "FFFF98765B"'),
+                           ('prefix = "ffff98765a"', '# prefix = "ffff98765a"'),
+                           ('prefix = "ffff98765a"', 'no-prefix = "ffff98765a"')):
+            self.assertEqual(self.shared(self.command, one, other), "", (one, other))
+
+    def test_commands_that_miss_one(self) -> None:
+        """Without the capital letters, or with the whole line in them, a shared prefix is not printed."""
+        small, capital = 'prefix = "ffff98765a"', 'prefix = "FFFF98765A"'
+        translation = " | tr a-f A-F"
+        without = self.command.replace(translation, "")
+        before = f"cat part*.toml{translation} | {self.command.replace('part*.toml', '')}"
+        for wrong in (without, before):
+            self.assertNotEqual(wrong, self.command)
+            self.assertEqual(self.shared(wrong, small, capital), "", wrong)
 
 
 class Deployed(ServiceCase):
