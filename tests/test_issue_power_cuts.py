@@ -15,7 +15,7 @@ from .test_issue import FIRST_NUMBER, KEYS, IssueCase, passed_over
 ROOM = 12
 # At each call so many states are drawn, beside those in which nothing or all was kept; and so many are tried
 # at least, of all runs.
-DRAWN, LEAST = 9, 400
+DRAWN, LEAST = 20, 400
 WITHOUT_NUMBER, MORE_LOST = "a line without its number", "more than the last line is lost"
 
 
