@@ -22,7 +22,6 @@ MAKERS = {
 }
 # Where the fault is made for another reason.
 ALLOWED = {
-    "duk_explain/src/told.rt ALL": "the list of all that can be told",
     "dukpt_player/src/run.rt tell": "lines that are kept in memory are not written where it is refused, and"
                                     " the kit's `format!` fails for nothing else",
 }

@@ -1,7 +1,6 @@
 //! The bytes that are wanted of a text.
 
-ghost use Rattle.std.specs.Prelude.{◌≡◌, ◌<◌, IfSome, length};
-ghost use Rattle.duk_explain.specs.Kind.{first_wrong, is_of_kind};
+use crate::seen::Measure;
 
 /// Which bytes are wanted of a text.
 #[derive(Clone, Copy)]
@@ -20,9 +19,7 @@ pub(crate) enum Kind {
 
 impl Kind {
     /// Whether a byte is of this kind.
-    pub(crate) fn has(self, byte: u8) -> bool
-        ensures { result ≡ is_of_kind self byte }
-    {
+    fn has(self, byte: u8) -> bool {
         match self {
             Kind::Hexadecimal => matches!(byte, b'0'..=b'9' | b'A'..=b'F' | b'a'..=b'f'),
             Kind::Decimal => matches!(byte, b'0'..=b'9'),
@@ -34,14 +31,14 @@ impl Kind {
 }
 
 /// The place of the first byte that is not of this kind.
-pub(crate) fn first_wrong(kind: Kind, text: &[u8]) -> Option<usize>
-    ensures first { result ≡ first_wrong kind text.now }
-    ensures within { IfSome result (λ place. place < length text.now) }
-{
-    for (place, byte) in text.iter().enumerate() {
-        if !kind.has(*byte) {
-            return Some(place);
-        }
+pub(crate) fn first_wrong(kind: Kind, text: &[u8]) -> Option<usize> {
+    text.iter().position(|byte| !kind.has(*byte))
+}
+
+/// The length of a text, and its first byte that is not of this kind.
+pub(crate) fn measure_of(kind: Kind, text: &str) -> Measure {
+    Measure {
+        length: text.len(),
+        wrong: first_wrong(kind, text.as_bytes()),
     }
-    None
 }

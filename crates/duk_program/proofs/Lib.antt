@@ -2,6 +2,7 @@ mod Answered
 mod FaultIsReported
 mod Marked
 mod Noted
+mod Own
 mod WrittenStaysWritten
 mod Endings
 mod ExplainedItems
@@ -9,5 +10,3 @@ mod InputRead
 mod Told
 mod Words
 mod ShownLogs
-mod ToldSecrets
-mod WrongNumbers

@@ -1,17 +1,16 @@
 -- What is told of a request that is not done, where its fault is explained.
-use Rattle.std.proofs.Common.{◌≡◌, ◌⊎◌, Bool, List, [], ℕ, inl, inr, refl}
+use Rattle.std.proofs.Common.{◌≡◌, Bool, List, [], ℕ, inl, inr, refl}
 use Rattle.std.specs.Borrow.{Bor}
 use Rattle.duk_arguments.specs.declared.request.Request.{Request}
 use Rattle.duk_arguments.specs.declared.request.Request.TheVariants as request
 use Rattle.duk_host.specs.Serve.{Supply}
 use Rattle.duk_io.specs.Known.{Known}
 use Rattle.duk_io.specs.Sink.{IsTried, IsUntouched}
-use Rattle.duk_program.specs.Explained.{HasExplained, IsHeardDone, IsMeantFailed, IsNotDoneOf, IsSearchTold, IsTold, heard_in, holding}
-use Rattle.duk_program.specs.Find.{IsSearchWith}
+use Rattle.duk_program.specs.Explained.{HasExplained, IsHeardDone, IsHeardNotDone, IsMeantFailed, IsMeantSearch, IsSearchTold, IsTold, heard_in, holding}
+use Rattle.duk_program.specs.Find.{IsSearch, IsSearchWith}
 use Rattle.duk_program.proofs.Answered.{meant_done}
 use Rattle.duk_service.specs.Files.{FileKnown}
 use Rattle.duk_program.specs.ExplainedItems.{IsNotAnsweredExplained}
-use Rattle.duk_program.specs.Inquiry.{Inquiry}
 use Rattle.duk_program.specs.Meant.{AreSecretsRead, HasUnreadSecret, IsAnswered, referred_in}
 use Rattle.duk_program.specs.Program.{run_in}
 use Rattle.duk_program.specs.RunFiles.{HasReportedFault}
@@ -21,33 +20,40 @@ use Rattle.duk_program.specs.declared.secrets.SecretFault.{SecretFault}
 use Rattle.duk_store.specs.Disk.{DiskMeaning}
 use Rattle.duk_tools.specs.Find.{FindArguments, IsFindDone}
 
--- a request over secrets is not done over what these stand for, or one of them is not read
-pub not_done_of : {D : Type 0} (meaning : DiskMeaning D) (s : Scene D) (asked about : Request) → IsOverSecrets asked
-    → IsMeantFailed meaning s asked about ⊎ ((about ≡ asked) × HasUnreadSecret s asked)
-    → IsNotDoneOf meaning s asked about
-not_done_of meaning s (request.Run config script journal) about over failed = absurd over
-not_done_of meaning s (request.Serve config kept) about over failed = absurd over
-not_done_of meaning s (request.NewLog file records) about over failed = absurd over
-not_done_of meaning s (request.NewJournal file records) about over failed = absurd over
-not_done_of meaning s (request.CopyJournal old new) about over failed = absurd over
-not_done_of meaning s asked about over failed = failed
+-- a request over secrets is not done where one of them is not read
+unread_of : {D : Type 0} (meaning : DiskMeaning D) (s : Scene D) (asked : Request) → IsOverSecrets asked → HasUnreadSecret s asked
+    → IsHeardNotDone meaning s asked
+unread_of meaning s (request.Run config script journal) over unread = absurd over
+unread_of meaning s (request.Serve config kept) over unread = absurd over
+unread_of meaning s (request.NewLog file records) over unread = absurd over
+unread_of meaning s (request.NewJournal file records) over unread = absurd over
+unread_of meaning s (request.CopyJournal old new) over unread = absurd over
+unread_of meaning s (request.Find bdk what sought window initial) over unread = unread
+unread_of meaning s asked over unread = inr unread
 
--- a secret that is not read is explained of the request as it is written
-pub unread_explained : {D : Type 0} {q : Inquiry} (meaning : DiskMeaning D) (s : Scene D) (asked : Request) (why : SecretFault) → IsOverSecrets asked
+-- or where it is no search, and not done over what these stand for
+failed_of : {D : Type 0} (meaning : DiskMeaning D) (s : Scene D) (asked : Request) → IsOverSecrets asked → (¬ IsSearch asked) → IsMeantFailed meaning s asked
+    → IsHeardNotDone meaning s asked
+failed_of meaning s (request.Run config script journal) over other failed = absurd over
+failed_of meaning s (request.Serve config kept) over other failed = absurd over
+failed_of meaning s (request.NewLog file records) over other failed = absurd over
+failed_of meaning s (request.NewJournal file records) over other failed = absurd over
+failed_of meaning s (request.CopyJournal old new) over other failed = absurd over
+failed_of meaning s (request.Find bdk what sought window initial) over other failed = absurd (other tt)
+failed_of meaning s asked over other failed = inl failed
+
+-- a secret that is not read is told
+pub unread_explained : {D : Type 0} (meaning : DiskMeaning D) (s : Scene D) (asked : Request) (why : SecretFault) → IsOverSecrets asked
     → IsSecretFault s.held s.streams.input_before s.streams.input_after asked why → IsUntouched s.streams.output_before s.streams.output_after
-    → IsTold q (secret_line why) asked s.fault_before s.fault_after → HasExplained meaning q s asked
+    → IsTold (secret_line why) s.fault_before s.fault_after → HasExplained meaning s asked
 unread_explained meaning s asked why over cause quiet told = inl (record {
   line = secret_line why;
-  about = asked;
-  not_done = not_done_of meaning (heard_in s (secret_line why)) asked asked over (inr (
-    refl,
-    record {
-      why = why;
-      cause = cause;
-      no_output = quiet;
-      line = inl (record { bytes = refl; unfailed = tt });
-    },
-  ));
+  not_done = unread_of meaning (heard_in s (secret_line why)) asked over (record {
+    why = why;
+    cause = cause;
+    no_output = quiet;
+    line = inl (record { bytes = refl; unfailed = tt });
+  });
   told = told;
 })
 
@@ -57,9 +63,8 @@ pub each_means_of : (held : List ℕ → FileKnown) (written texts keys : List (
 each_means_of held written texts keys same means = rw (same) means
 
 -- the same line is told
-pub told_of : {q : Inquiry} (line heard : List ℕ) (about : Request) (old new : Known) → line ≡ heard → IsTold q line about old new
-    → IsTold q heard about old new
-told_of line heard about old new same told = rw (← same) told
+pub told_of : (line heard : List ℕ) (old new : Known) → line ≡ heard → IsTold line old new → IsTold heard old new
+told_of line heard old new same told = rw (← same) told
 
 -- the same text is noted
 pub noted_of : (line heard : List ℕ) (old new : Known) → line ≡ heard → IsTried old new line
@@ -71,18 +76,18 @@ abbrev pub heard_from : {D : Type 0} → Scene D → List ℕ → List ℕ → S
 heard_from s empty line = scene s.held s.disks s.making s.streams (holding empty) (holding line)
 
 -- what is answered of a request over what its secrets stand for, with a line that is told
-pub meant_explained : {D : Type 0} {q : Inquiry} (meaning : DiskMeaning D) (s : Scene D) (asked meant : Request) (input : Supply) (empty line : List ℕ) → empty ≡ [] → IsOverSecrets asked
+pub meant_explained : {D : Type 0} (meaning : DiskMeaning D) (s : Scene D) (asked meant : Request) (input : Supply) (empty line : List ℕ) → empty ≡ [] → IsOverSecrets asked → (¬ IsSearch asked)
     → AreSecretsRead s asked input → HasMeaning (referred_in s) asked meant → IsNotAnsweredExplained meaning (reading_on (heard_from s empty line) input) meant
-    → IsTold q line meant s.fault_before s.fault_after → HasExplained meaning q s asked
-meant_explained meaning s asked meant input empty line none over read means not_done told = inl (record {
+    → IsTold line s.fault_before s.fault_after → HasExplained meaning s asked
+meant_explained meaning s asked meant input empty line none over other read means not_done told = inl (record {
   line = line;
-  about = meant;
-  not_done = not_done_of meaning (heard_in s line) asked meant over (inl (record {
+  not_done = failed_of meaning (heard_in s line) asked over other (record {
     input = input;
     read = read;
+    meant = meant;
     means = means;
     not_done = rw (← none) not_done;
-  }));
+  });
   told = told;
 })
 
@@ -102,40 +107,40 @@ meant_heard meaning s asked meant input empty heard none over read means done no
   });
 })
 
--- a script that is not run is told of the request itself
-run_explained : {D : Type 0} {q : Inquiry} (meaning : DiskMeaning D) (s : Scene D) (config script : Bor (List ℕ)) (journal : Bool) (empty line : List ℕ) → empty ≡ []
-    → HasReportedFault (run_in (heard_from s empty line) config.now script.now journal) → IsTold q line (request.Run config script journal) s.fault_before s.fault_after
-    → HasExplained meaning q s (request.Run config script journal)
-run_explained meaning s config script journal empty line none failed told = inl (record {
-  line = line;
-  about = request.Run config script journal;
-  not_done = (refl, rw (← none) failed);
-  told = told;
-})
+-- a script that is not run is told
+run_explained : {D : Type 0} (meaning : DiskMeaning D) (s : Scene D) (config script : Bor (List ℕ)) (journal : Bool) (empty line : List ℕ) → empty ≡ []
+    → HasReportedFault (run_in (heard_from s empty line) config.now script.now journal) → IsTold line s.fault_before s.fault_after
+    → HasExplained meaning s (request.Run config script journal)
+run_explained meaning s config script journal empty line none failed told =
+    inl (record { line = line; not_done = rw (← none) failed; told = told })
 
-pub run_not_done : {D : Type 0} {q : Inquiry} (meaning : DiskMeaning D) (s : Scene D) (asked : Request) (config script : Bor (List ℕ)) (journal : Bool) (empty line : List ℕ) → asked ≡ request.Run config script journal
-    → empty ≡ [] → HasReportedFault (run_in (heard_from s empty line) config.now script.now journal) → IsTold q line (request.Run config script journal) s.fault_before s.fault_after
-    → HasExplained meaning q s asked
+pub run_not_done : {D : Type 0} (meaning : DiskMeaning D) (s : Scene D) (asked : Request) (config script : Bor (List ℕ)) (journal : Bool) (empty line : List ℕ) → asked ≡ request.Run config script journal
+    → empty ≡ [] → HasReportedFault (run_in (heard_from s empty line) config.now script.now journal) → IsTold line s.fault_before s.fault_after
+    → HasExplained meaning s asked
 run_not_done meaning s asked config script journal empty line is none failed told = rw (is) (run_explained meaning s config script journal empty line none failed told)
+
+-- what a request means, where that is a search
+meant_search : {D : Type 0} (s : Scene D) (asked meant : Request) (input : Supply) (arguments : FindArguments) → AreSecretsRead s asked input
+    → HasMeaning (referred_in s) asked meant → IsSearchWith meant arguments → IsMeantSearch s asked arguments
+meant_search s asked meant input arguments read means is_search =
+    record { input = input; read = read; meant = meant; means = means; is_search = is_search }
 
 -- a search is done as without --explain
 pub search_done : {D : Type 0} (meaning : DiskMeaning D) (s : Scene D) (asked meant : Request) (input : Supply) (arguments : FindArguments)
     → AreSecretsRead s asked input → HasMeaning (referred_in s) asked meant → IsSearchWith meant arguments → IsFindDone arguments (writers_of s)
     → IsHeardDone meaning s asked
 search_done meaning s asked meant input arguments read means is_search done = inr (record {
-  meant = meant;
   arguments = arguments;
-  search = record { input = input; read = read; means = means; is_search = is_search };
+  search = meant_search s asked meant input arguments read means is_search;
   done = done;
 })
 
 -- or its fault is told
-pub search_explained : {D : Type 0} {q : Inquiry} (meaning : DiskMeaning D) (s : Scene D) (asked meant : Request) (input : Supply) (arguments : FindArguments)
+pub search_explained : {D : Type 0} (meaning : DiskMeaning D) (s : Scene D) (asked meant : Request) (input : Supply) (arguments : FindArguments)
     → AreSecretsRead s asked input → HasMeaning (referred_in s) asked meant → IsSearchWith meant arguments
-    → IsSearchTold q arguments meant (writers_of s) → HasExplained meaning q s asked
+    → IsSearchTold arguments (writers_of s) → HasExplained meaning s asked
 search_explained meaning s asked meant input arguments read means is_search told = inr (record {
-  meant = meant;
   arguments = arguments;
-  search = record { input = input; read = read; means = means; is_search = is_search };
+  search = meant_search s asked meant input arguments read means is_search;
   told = told;
 })

@@ -5,10 +5,10 @@ pub mod Explained
 pub mod ExplainedItems
 pub mod Find
 pub mod InputLine
-pub mod Inquiry
 pub mod IssueFiles
 pub mod Items
 pub mod Meant
+pub mod Own
 pub mod Program
 pub mod Run
 pub mod RunFiles
@@ -17,7 +17,5 @@ pub mod Secrets
 pub mod ServeFiles
 pub mod Show
 pub mod Status
-pub mod WrongNumbers
-pub mod WrongLines
 pub mod Reported
 pub mod inner

@@ -3,6 +3,5 @@ pub mod IssueFiles
 pub mod Status
 pub mod Items
 pub mod Secrets
-pub mod WrongNumbers
 pub mod Run
 pub mod ServeFiles

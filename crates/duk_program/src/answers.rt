@@ -10,6 +10,7 @@ ghost use Rattle.duk_program.specs.Scene.{scene};
 ghost use Rattle.duk_program.specs.Secrets.{IsOverSecrets};
 ghost use Rattle.duk_service.specs.Serve.{serving_of};
 ghost use Rattle.duk_program.specs.inner.Commands.{NeedsNoFile};
+ghost use Rattle.duk_program.specs.Own.{MayUseOwn};
 
 use crate::commands::do_command;
 use crate::explained_items::ExplainedItems;
@@ -34,7 +35,8 @@ pub(crate) fn answer<S: FileSystem + LogFiles, R: Source, W: Sink, F: Sink>(
     output: &mut W,
     fault: &mut F,
 ) -> u8
-    requires { IsOverSecrets request }
+    requires over { IsOverSecrets request }
+    requires own { MayUseOwn (S.may_write files.now) (S.may_make files.now) request }
     ensures status { (result ≡ 0) ⊎ (result ≡ 1) }
     ensures handed_on { result ≡ 0 → IsHandedOn (W.held_back output.new) }
     ensures done { result ≡ 0 → IsAnswered S.Disk.meaning (scene (S.held files.now)
@@ -59,7 +61,8 @@ pub(crate) fn answer_explained<S: FileSystem + LogFiles, R: Source, W: Sink, F: 
     output: &mut W,
     fault: &mut F,
 ) -> u8
-    requires { IsOverSecrets request }
+    requires over { IsOverSecrets request }
+    requires own { MayUseOwn (S.may_write files.now) (S.may_make files.now) request }
     ensures status { (result ≡ 0) ⊎ (result ≡ 1) }
     ensures handed_on { result ≡ 0 → IsHandedOn (W.held_back output.new) }
     ensures done { result ≡ 0 → IsAnswered S.Disk.meaning (scene (S.held files.now)
@@ -86,7 +89,8 @@ fn answer_alone<S: FileSystem + LogFiles, W: Sink, F: Sink>(
     output: &mut W,
     fault: &mut F,
 ) -> u8
-    requires { IsOverSecrets request }
+    requires over { IsOverSecrets request }
+    requires own { MayUseOwn (S.may_write files.now) (S.may_make files.now) request }
     ensures status { (result ≡ 0) ⊎ (result ≡ 1) }
     ensures handed_on { result ≡ 0 → IsHandedOn (W.held_back output.new) }
     ensures done { result ≡ 0 → IsDoneAlone S.Disk.meaning (S.held files.now) (S.disks files.now)

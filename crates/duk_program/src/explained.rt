@@ -2,17 +2,18 @@
 
 ghost use Rattle.std.specs.Prelude.{◌≡◌, ◌⊎◌};
 ghost use Rattle.std.specs.Io.KnownBytes.{Keeps};
-ghost use Rattle.duk_arguments.specs.Asked.{AreRefused, texts_of};
+ghost use Rattle.duk_arguments.specs.Asked.{AreRefused, Asks, texts_of};
+ghost use Rattle.duk_arguments.specs.declared.request.Request.{Request};
 ghost use Rattle.duk_io.specs.Sink.{IsHandedOn, IsTried};
 ghost use Rattle.duk_commands.specs.Answer.{streams};
 ghost use Rattle.duk_program.specs.Explained.{HasExplained, IsExplainedDone, IsExplainedNotDone, IsHeardDone, IsSearchTold, IsTold};
 ghost use Rattle.duk_program.specs.Find.{find_for};
-ghost use Rattle.duk_program.specs.Inquiry.{inquiry, seen_by};
 ghost use Rattle.duk_program.specs.Scene.{scene};
 ghost use Rattle.duk_program.specs.Secrets.{IsOverSecrets, secret_line};
 ghost use Rattle.duk_service.specs.Serve.{serving_of};
 ghost use Rattle.duk_program.specs.Status.{IsStatus};
 ghost use Rattle.duk_tools.specs.Find.{IsFindDone};
+ghost use Rattle.duk_program.specs.Own.{MayUseOwn};
 
 use crate::answers::answer_explained;
 use crate::dispatch::show_at_end;
@@ -24,7 +25,8 @@ use crate::run_files::run_files;
 use crate::secrets::SecretFault;
 use crate::serve_files::serve_files;
 use duk_arguments::{Request, read_request};
-use duk_explain::explanation;
+use duk_commands::Lines;
+use duk_explain::{explanation, read_line, seen_of};
 use duk_io::{Sink, Source, write_text};
 use duk_service::copy_journal::copy_journal;
 use duk_service::new_file::new_file;
@@ -41,6 +43,8 @@ pub(crate) fn run_explained<S: FileSystem + LogFiles, R: Source, W: Sink, F: Sin
     output: &mut W,
     fault: &mut F,
 ) -> u8
+    requires { (asked : Request) → Asks (texts_of arguments.now) asked
+        → MayUseOwn (S.may_write files.now) (S.may_make files.now) asked }
     ensures status { IsStatus result }
     ensures handed_on { result ≡ 0 → IsHandedOn (W.held_back output.old)
         → IsHandedOn (W.held_back output.new) }
@@ -50,8 +54,7 @@ pub(crate) fn run_explained<S: FileSystem + LogFiles, R: Source, W: Sink, F: Sin
     ensures done { result ≡ 0 → IsExplainedDone S.Disk.meaning (texts_of arguments.now) (scene
         (S.held files.now) (S.disks files.now) (S.making files.now) (serving_of R.known R.reads W.known input.old
         input.new output.old output.new) (F.known fault.old) (F.known fault.new)) }
-    ensures not_done { result ≡ 1 → IsExplainedNotDone S.Disk.meaning (inquiry (S.held files.now) (S.reading files.now) (S.opening files.now) (S.unmade files.now)
-        (seen_by S.Disk.meaning (S.disks files.now))) (texts_of arguments.now)
+    ensures not_done { result ≡ 1 → IsExplainedNotDone S.Disk.meaning (texts_of arguments.now)
         (scene (S.held files.now) (S.disks files.now) (S.making files.now) (serving_of R.known R.reads W.known
         input.old input.new output.old output.new) (F.known fault.old) (F.known fault.new)) }
 {
@@ -71,14 +74,14 @@ fn do_explained<S: FileSystem + LogFiles, R: Source, W: Sink, F: Sink>(
     output: &mut W,
     fault: &mut F,
 ) -> u8
+    requires { MayUseOwn (S.may_write files.now) (S.may_make files.now) request }
     ensures status { (result ≡ 0) ⊎ (result ≡ 1) }
     ensures handed_on { result ≡ 0 → IsHandedOn (W.held_back output.old)
         → IsHandedOn (W.held_back output.new) }
     ensures done { result ≡ 0 → IsHeardDone S.Disk.meaning (scene (S.held files.now)
         (S.disks files.now) (S.making files.now) (serving_of R.known R.reads W.known input.old input.new output.old
         output.new) (F.known fault.old) (F.known fault.new)) request.entry }
-    ensures not_done { result ≡ 1 → HasExplained S.Disk.meaning (inquiry (S.held files.now) (S.reading files.now) (S.opening files.now) (S.unmade files.now)
-        (seen_by S.Disk.meaning (S.disks files.now))) (scene (S.held files.now)
+    ensures not_done { result ≡ 1 → HasExplained S.Disk.meaning (scene (S.held files.now)
         (S.disks files.now) (S.making files.now) (serving_of R.known R.reads W.known input.old input.new output.old
         output.new) (F.known fault.old) (F.known fault.new)) request.entry }
 {
@@ -127,14 +130,14 @@ fn do_meant_explained<S: FileSystem + LogFiles, R: Source, W: Sink, F: Sink>(
     output: &mut W,
     fault: &mut F,
 ) -> u8
-    requires { IsOverSecrets request }
+    requires over { IsOverSecrets request }
+    requires own { MayUseOwn (S.may_write files.now) (S.may_make files.now) request }
     ensures status { (result ≡ 0) ⊎ (result ≡ 1) }
     ensures handed_on { result ≡ 0 → IsHandedOn (W.held_back output.new) }
     ensures done { result ≡ 0 → IsHeardDone S.Disk.meaning (scene (S.held files.now)
         (S.disks files.now) (S.making files.now) (serving_of R.known R.reads W.known input.old input.new output.old
         output.new) (F.known fault.old) (F.known fault.new)) request.entry }
-    ensures not_done { result ≡ 1 → HasExplained S.Disk.meaning (inquiry (S.held files.now) (S.reading files.now) (S.opening files.now) (S.unmade files.now)
-        (seen_by S.Disk.meaning (S.disks files.now))) (scene (S.held files.now)
+    ensures not_done { result ≡ 1 → HasExplained S.Disk.meaning (scene (S.held files.now)
         (S.disks files.now) (S.making files.now) (serving_of R.known R.reads W.known input.old input.new output.old
         output.new) (F.known fault.old) (F.known fault.new)) request.entry }
 {
@@ -162,14 +165,14 @@ fn find_explained<S: FileSystem + LogFiles, W: Sink, F: Sink>(
     output: &mut W,
     fault: &mut F,
 ) -> u8
+    requires { MayUseOwn (S.may_write files.now) (S.may_make files.now) about.now }
     ensures status { (result ≡ 0) ⊎ (result ≡ 1) }
     ensures handed_on { result ≡ 0 → IsHandedOn (W.held_back output.new) }
     ensures done { result ≡ 0 → IsFindDone (find_for words.now.bdk words.now.what words.now.sought
         words.now.window words.now.initial) (streams (W.known output.old) (W.known output.new)
         (F.known fault.old) (F.known fault.new)) }
-    ensures told { result ≡ 1 → IsSearchTold (inquiry (S.held files.now) (S.reading files.now) (S.opening files.now) (S.unmade files.now)
-        (seen_by S.Disk.meaning (S.disks files.now))) (find_for words.now.bdk words.now.what
-        words.now.sought words.now.window words.now.initial) about.now (streams (W.known output.old)
+    ensures told { result ≡ 1 → IsSearchTold (find_for words.now.bdk words.now.what
+        words.now.sought words.now.window words.now.initial) (streams (W.known output.old)
         (W.known output.new) (F.known fault.old) (F.known fault.new)) }
 {
     match find_unreported(alloc, words, output, fault) {
@@ -187,9 +190,9 @@ fn tell_unread<S: FileSystem + LogFiles, F: Sink>(
     why: SecretFault,
     fault: &mut F,
 ) -> u8
+    requires { MayUseOwn (S.may_write files.now) (S.may_make files.now) request.now }
     ensures status { result ≡ 1 }
-    ensures told { IsTold (inquiry (S.held files.now) (S.reading files.now) (S.opening files.now) (S.unmade files.now)
-        (seen_by S.Disk.meaning (S.disks files.now))) (secret_line why) request.now (F.known fault.old) (F.known fault.new) }
+    ensures told { IsTold (secret_line why) (F.known fault.old) (F.known fault.new) }
 {
     let line = why.line();
     tell(alloc, files, request, 1, line.as_slice(), fault)
@@ -205,18 +208,36 @@ fn tell<S: FileSystem + LogFiles, F: Sink>(
     line: &[u8],
     fault: &mut F,
 ) -> u8
+    requires { MayUseOwn (S.may_write files.now) (S.may_make files.now) about.now }
     ensures status { result ≡ status }
     ensures noted { status ≡ 0 → IsTried (F.known fault.old) (F.known fault.new) line.now }
     ensures told { status ≡ 1
-        → IsTold (inquiry (S.held files.now) (S.reading files.now) (S.opening files.now) (S.unmade files.now)
-        (seen_by S.Disk.meaning (S.disks files.now))) line.now about.now (F.known fault.old) (F.known fault.new) }
+        → IsTold line.now (F.known fault.old) (F.known fault.new) }
 {
     try_write(fault, line);
     if status == 1 {
-        let facts = facts_of(alloc, files, about, line);
-        try_write(fault, explanation(about, line, &facts).as_slice());
+        let text = explain(alloc, files, about, line);
+        try_write(fault, text.as_slice());
     }
     status
+}
+
+/// The line that explains the fault of a request, whose line this is: empty where it is none.
+fn explain<S: FileSystem + LogFiles>(
+    alloc: Global,
+    files: &S,
+    about: &Request<'_>,
+    line: &[u8],
+) -> Lines
+    requires { MayUseOwn (S.may_write files.now) (S.may_make files.now) about.now }
+{
+    match read_line(line) {
+        Some(told) => {
+            let facts = facts_of(alloc, files, about, line, told.asked());
+            explanation(&told, seen_of(about, &told), &facts)
+        }
+        None => Lines::new(),
+    }
 }
 
 /// Writes a text. What cannot be written of it is lost.

@@ -2,7 +2,7 @@
 
 ghost use Rattle.std.specs.Prelude.{◌≡◌, ◌∷◌, []};
 ghost use Rattle.duk_arguments.specs.Keys.{texts_of_keys};
-ghost use Rattle.duk_program.specs.ExplainedItems.{IsItemExplained, IsOfItem, explained_command, pin_with};
+ghost use Rattle.duk_program.specs.ExplainedItems.{explained_command};
 ghost use Rattle.duk_program.specs.Items.{command_of_line};
 ghost use Rattle.duk_program.specs.inner.Items.{items_in};
 
@@ -10,7 +10,7 @@ use crate::items::{LineCommand, is_input};
 use duk_arguments::{Keys, Request};
 use duk_batch::{Items, Kept, Refused};
 use duk_commands::Lines;
-use duk_explain::{Facts, explanation};
+use duk_explain::{Facts, explanation, read_line, seen_of};
 use std::alloc::Global;
 
 /// A command of which one argument is each line of the input, and whose faults explain themselves.
@@ -23,7 +23,7 @@ pub(crate) struct ExplainedItems<'a> {
 }
 
 impl Items for ExplainedItems<'_> {
-    ghost command = { λ it. explained_command it.request (command_of_line (items_in it.items)) };
+    ghost command = { λ it. explained_command (command_of_line (items_in it.items)) };
 
     fn lines(
         &self,
@@ -39,26 +39,29 @@ impl Items for ExplainedItems<'_> {
     }
 }
 
-/// Explains the line of the fault of an item, as of a command over the item alone.
+/// Explains the line of the fault of an item, as of a command over the item alone. No file is asked.
 fn explain_item(request: &Request<'_>, item: &str, line: Lines) -> Refused
-    ensures line { result.line.items ≡ line.items }
-    ensures explanation { IsItemExplained request.now item.now line.items result.explanation.items }
+    ensures { result.line.items ≡ line.items }
 {
-    let about = of_item(request, item);
+    let explanation = explained(&of_item(request, item), line.as_slice());
+    Refused { line, explanation }
+}
+
+/// The line that explains a fault, whose line this is, by its request alone.
+fn explained(about: &Request<'_>, line: &[u8]) -> Lines {
     let facts = Facts {
         reason: None,
         place: None,
         strange: None,
     };
-    let explanation = explanation(&about, line.as_slice(), &facts);
-    Refused { line, explanation }
+    match read_line(line) {
+        Some(told) => explanation(&told, seen_of(about, &told), &facts),
+        None => Lines::new(),
+    }
 }
 
 /// The request of an item alone, which stands in the place of `-`.
-fn of_item<'a>(request: &Request<'a>, item: &'a str) -> Request<'a>
-    ensures { IsOfItem request.now item.now result }
-{
-    let keys = keys_of_item(item);
+fn of_item<'a>(request: &Request<'a>, item: &'a str) -> Request<'a> {
     match *request {
         Request::Derive {
             bdk,
@@ -78,7 +81,7 @@ fn of_item<'a>(request: &Request<'a>, item: &'a str) -> Request<'a>
             components,
             show,
         } => Request::Kcv {
-            keys,
+            keys: keys_of_item(item),
             components,
             show,
         },
@@ -104,9 +107,7 @@ fn keys_of_item(item: &str) -> Keys<'_>
 }
 
 /// The request for the PIN block of a PIN and a PAN, of which an item is the one that is `-`.
-fn pin_of_item<'a>(pin: &'a str, pan: &'a str, key: Option<&'a str>, item: &'a str) -> Request<'a>
-    ensures { result ≡ pin_with pin.entry pan.entry key.entry item.entry }
-{
+fn pin_of_item<'a>(pin: &'a str, pan: &'a str, key: Option<&'a str>, item: &'a str) -> Request<'a> {
     if is_input(pin) {
         Request::Pin {
             pin: item,

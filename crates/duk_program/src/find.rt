@@ -1,11 +1,11 @@
 //! The command `find`.
 
-ghost use Rattle.std.specs.Prelude.{◌≡◌, ◌⊎◌, IfErr, IfSome, IsOk};
+ghost use Rattle.std.specs.Prelude.{◌≡◌, ◌⊎◌, IfErr, IfNone, IfSome, IsOk};
 ghost use Rattle.std.specs.Option.{option_copied};
 ghost use Rattle.duk_arguments.specs.Given.{first_in};
 ghost use Rattle.duk_commands.specs.Answer.{streams};
 ghost use Rattle.duk_io.specs.Sink.{IsHandedOn};
-ghost use Rattle.duk_program.specs.Find.{IsFindNotDone, IsFindUndone, IsSearchWith, clue_for, find_for};
+ghost use Rattle.duk_program.specs.Find.{IsFindNotDone, IsFindUndone, IsSearch, IsSearchWith, clue_for, find_for};
 ghost use Rattle.duk_tools.specs.Find.{IsFindDone, IsFindFailed};
 
 use duk_arguments::{Request, Sought};
@@ -31,8 +31,9 @@ pub(crate) struct FindWords<'a> {
 
 /// Those of a request, where it is a search.
 pub(crate) fn find_words_in<'a>(request: &Request<'a>) -> Option<FindWords<'a>>
-    ensures { IfSome result (λ words. IsSearchWith request.now (find_for words.bdk words.what
+    ensures words { IfSome result (λ words. IsSearchWith request.now (find_for words.bdk words.what
         words.sought words.window words.initial)) }
+    ensures none { IfNone result (¬ IsSearch request.now) }
 {
     match *request {
         Request::Find {

@@ -1,6 +1,6 @@
 //! The command `issue` over the file of its ledger.
 
-ghost use Rattle.std.specs.Prelude.{◌≡◌, ◌⊎◌, ◌*◌, ◌≤◌, IfErr, IfOk, length};
+ghost use Rattle.std.specs.Prelude.{◌≡◌, ◌⊎◌, ◌*◌, ◌≤◌, IfErr, IfOk, IfSome, length};
 ghost use Rattle.std.specs.Option.{option_copied};
 ghost use Rattle.duk_commands.specs.Answer.{streams};
 ghost use Rattle.duk_io.specs.Sink.{IsHandedOn, IsTried, IsUntouched};
@@ -106,6 +106,8 @@ pub(crate) fn issue_files<S: FileSystem + LogFiles, W: Sink, F: Sink>(
     output: &mut W,
     fault: &mut F,
 ) -> u8
+    requires write { S.may_write files.now ledger.now }
+    requires make { IfSome (option_copied arguments.now.way.out) (S.may_make files.now) }
     ensures status { (result ≡ 0) ⊎ (result ≡ 1) }
     ensures handed_on { result ≡ 0 → IsHandedOn (W.held_back output.new) }
     ensures handed_on_at_fault { result ≡ 1 → IsHandedOn (W.held_back output.old)
@@ -182,6 +184,7 @@ fn read_padding<S: FileSystem>(alloc: Global, files: &S, count: u32) -> Result<V
 
 /// Opens the file of a ledger. It keeps what `issue` kept there, or nothing is opened.
 fn open_ledger<S: LogFiles>(files: &S, ledger: &str) -> Result<S::Disk, IssueFault>
+    requires { S.may_write files.now ledger.now }
     ensures opened { IfOk result (IsLedgerOpened S.Disk.meaning (S.disks files.now ledger.now)) }
     ensures refused { IfErr result (IsLedgerUnopened S.Disk.meaning (S.disks files.now ledger.now)) }
 {
@@ -203,7 +206,8 @@ fn issue_to<S: LogFiles, L: UsedLog, W: Sink, F: Sink>(
     output: &mut W,
     fault: &mut F,
 ) -> u8
-    requires { 6 * task.now.order.now.count ≤ length task.now.padding.now }
+    requires padding { 6 * task.now.order.now.count ≤ length task.now.padding.now }
+    requires make { IfSome (option_copied out) (S.may_make files.now) }
     ensures status { (result ≡ 0) ⊎ (result ≡ 1) }
     ensures handed_on { result ≡ 0 → IsHandedOn (W.held_back output.new) }
     ensures handed_on_at_fault { result ≡ 1 → IsHandedOn (W.held_back output.new)
@@ -232,7 +236,8 @@ fn issue_to_file<S: LogFiles, L: UsedLog, W: Sink, F: Sink>(
     output: &mut W,
     fault: &mut F,
 ) -> u8
-    requires { 6 * task.now.order.now.count ≤ length task.now.padding.now }
+    requires padding { 6 * task.now.order.now.count ≤ length task.now.padding.now }
+    requires make { S.may_make files.now path.now }
     ensures status { (result ≡ 0) ⊎ (result ≡ 1) }
     ensures handed_on { result ≡ 0 → IsHandedOn (W.held_back output.new) }
     ensures handed_on_at_fault { result ≡ 1 → IsHandedOn (W.held_back output.new)

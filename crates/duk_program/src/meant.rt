@@ -8,6 +8,7 @@ ghost use Rattle.duk_program.specs.Meant.{HasMeantDone, HasMeantNotDone, IsMeant
 ghost use Rattle.duk_program.specs.Scene.{scene};
 ghost use Rattle.duk_program.specs.Secrets.{AreRead, IsOverSecrets, IsSecretFault, secrets_of};
 ghost use Rattle.duk_service.specs.Serve.{serving_of};
+ghost use Rattle.duk_program.specs.Own.{MayUseOwn};
 
 use crate::answers::answer;
 use crate::references::read_secrets;
@@ -31,7 +32,8 @@ pub(crate) fn do_over_secrets<S: FileSystem + LogFiles, R: Source, W: Sink, F: S
     output: &mut W,
     fault: &mut F,
 ) -> u8
-    requires { IsOverSecrets request }
+    requires over { IsOverSecrets request }
+    requires own { MayUseOwn (S.may_write files.now) (S.may_make files.now) request }
     ensures status { (result ≡ 0) ⊎ (result ≡ 1) }
     ensures handed_on { result ≡ 0 → IsHandedOn (W.held_back output.new) }
     ensures done { result ≡ 0 → HasMeantDone S.Disk.meaning (scene (S.held files.now)
@@ -57,7 +59,8 @@ fn do_meant<S: FileSystem + LogFiles, R: Source, W: Sink, F: Sink>(
     output: &mut W,
     fault: &mut F,
 ) -> Result<u8, SecretFault>
-    requires { IsOverSecrets request }
+    requires over { IsOverSecrets request }
+    requires own { MayUseOwn (S.may_write files.now) (S.may_make files.now) request }
     ensures status { IfOk result (λ status. (status ≡ 0) ⊎ (status ≡ 1)) }
     ensures handed_on { IfOk result (λ status. status ≡ 0 → IsHandedOn (W.held_back output.new)) }
     ensures done { IfOk result (λ status. status ≡ 0 → HasMeantDone S.Disk.meaning (scene

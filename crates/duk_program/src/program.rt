@@ -5,13 +5,14 @@ ghost use Rattle.std.specs.Io.KnownBytes.{Keeps};
 ghost use Rattle.duk_io.specs.Sink.{IsHandedOn};
 ghost use Rattle.duk_program.specs.Explain.{is_marked, without_explain};
 ghost use Rattle.duk_program.specs.Explained.{IsRunDone, IsRunNotDone};
-ghost use Rattle.duk_program.specs.Inquiry.{inquiry, seen_by};
 ghost use Rattle.duk_program.specs.Program.{IsProgramDone, IsProgramNotDone};
 ghost use Rattle.duk_program.specs.Scene.{scene};
 ghost use Rattle.duk_service.specs.Serve.{serving_of};
 ghost use Rattle.duk_program.specs.Status.{IsStatus};
 ghost use Rattle.duk_program.specs.Reported.{IsRunReported};
-ghost use Rattle.duk_arguments.specs.Asked.{AreRefused, texts_of};
+ghost use Rattle.duk_arguments.specs.Asked.{AreRefused, Asks, texts_of};
+ghost use Rattle.duk_arguments.specs.declared.request.Request.{Request};
+ghost use Rattle.duk_program.specs.Own.{MayUseOwn};
 
 use crate::dispatch::{Todo, command};
 use crate::explain::take_explain;
@@ -32,6 +33,9 @@ use std::alloc::Global;
 /// that was asked for; the line of a fault and the text that refuses the arguments go to `fault`.
 /// With status 0 nothing does, but for how many numbers `issue` passed over, and the progress of a
 /// long `find`.
+///
+/// No file is written but the log, the journal or the ledger that the arguments name, none is made but
+/// the one that they name, and none but that is removed.
 pub fn run_arguments<S: FileSystem + LogFiles, R: Source, W: Sink, F: Sink>(
     alloc: Global,
     files: &S,
@@ -40,6 +44,8 @@ pub fn run_arguments<S: FileSystem + LogFiles, R: Source, W: Sink, F: Sink>(
     output: &mut W,
     fault: &mut F,
 ) -> u8
+    requires { (asked : Request) → Asks (texts_of arguments.now) asked
+        → MayUseOwn (S.may_write files.now) (S.may_make files.now) asked }
     ensures status { IsStatus result }
     ensures handed_on { result ≡ 0 → IsHandedOn (W.held_back output.old)
         → IsHandedOn (W.held_back output.new) }
@@ -91,6 +97,8 @@ pub fn run_program<S: FileSystem + LogFiles, R: Source, W: Sink, F: Sink>(
     output: &mut W,
     fault: &mut F,
 ) -> u8
+    requires { (asked : Request) → Asks (without_explain (texts_of arguments.old.items)) asked
+        → MayUseOwn (S.may_write files.now) (S.may_make files.now) asked }
     ensures status { IsStatus result }
     ensures handed_on { result ≡ 0 → IsHandedOn (W.held_back output.old)
         → IsHandedOn (W.held_back output.new) }
@@ -106,8 +114,7 @@ pub fn run_program<S: FileSystem + LogFiles, R: Source, W: Sink, F: Sink>(
         (S.held files.now) (S.disks files.now) (S.making files.now) (serving_of R.known R.reads W.known input.old
         input.new output.old output.new) (F.known fault.old) (F.known fault.new)) }
     ensures not_done { result ≡ 1 → IsRunNotDone (is_marked (texts_of arguments.old.items))
-        S.Disk.meaning (inquiry (S.held files.now) (S.reading files.now) (S.opening files.now) (S.unmade files.now)
-        (seen_by S.Disk.meaning (S.disks files.now))) (without_explain (texts_of arguments.old.items)) (scene
+        S.Disk.meaning (without_explain (texts_of arguments.old.items)) (scene
         (S.held files.now) (S.disks files.now) (S.making files.now) (serving_of R.known R.reads W.known input.old
         input.new output.old output.new) (F.known fault.old) (F.known fault.new)) }
 {

@@ -1,7 +1,8 @@
 //! The command `serve` with its files: reads the configuration, opens the log or the journal, and
 //! serves.
 
-ghost use Rattle.std.specs.Prelude.{◌≡◌, ◌⊎◌};
+ghost use Rattle.std.specs.Prelude.{◌≡◌, ◌⊎◌, IfSome};
+ghost use Rattle.duk_program.specs.Own.{file_of};
 ghost use Rattle.duk_host.specs.declared.fault.HostFault.{HostFault};
 ghost use Rattle.duk_io.specs.Sink.{IsHandedOn};
 ghost use Rattle.duk_program.specs.ServeFiles.{HasNotServedFiles, HasServedFiles, file_service, kept_known};
@@ -31,6 +32,7 @@ pub(crate) fn serve_files<S: FileSystem + LogFiles, R: Source, W: Sink, F: Sink>
     output: &mut W,
     fault: &mut F,
 ) -> u8
+    requires { IfSome (file_of kept) (S.may_write files.now) }
     ensures status { (result ≡ 0) ⊎ (result ≡ 1) }
     ensures handed_on { result ≡ 0 → IsHandedOn (W.held_back output.new) }
     ensures handed_on_at_fault { result ≡ 1 → IsHandedOn (W.held_back output.old)

@@ -1,9 +1,5 @@
 //! The line of a configuration that is wrong.
 
-ghost use Rattle.std.specs.Prelude.{◌≡◌, IfSome, length};
-ghost use Rattle.duk_explain.specs.Places.{lines};
-ghost use Rattle.duk_program.specs.WrongLines.{IsStopLine, IsWrongLine};
-
 use duk_explain::line_of_fault;
 use std::alloc::Global;
 
@@ -12,9 +8,7 @@ const NOT_TOML: &str = "config: not TOML\n";
 
 /// The line of a configuration that the line of a fault is about, from 1: of what is no TOML the one
 /// at which its reader stops.
-pub(crate) fn wrong_line(alloc: Global, config: &[u8], line: &[u8]) -> Option<u64>
-    ensures { IfSome result (IsWrongLine config.now line.now) }
-{
+pub(crate) fn wrong_line(alloc: Global, config: &[u8], line: &[u8]) -> Option<u64> {
     if line == NOT_TOML.as_bytes() {
         return stop_line(alloc, config);
     }
@@ -22,9 +16,7 @@ pub(crate) fn wrong_line(alloc: Global, config: &[u8], line: &[u8]) -> Option<u6
 }
 
 /// The line at which the reader of TOML stops in what is none. None also where memory is refused.
-fn stop_line(alloc: Global, config: &[u8]) -> Option<u64>
-    ensures { IfSome result (IsStopLine config.now) }
-{
+fn stop_line(alloc: Global, config: &[u8]) -> Option<u64> {
     match toml::table_from_slice(alloc, config) {
         Ok(_) => None,
         Err(error) => {
@@ -35,13 +27,11 @@ fn stop_line(alloc: Global, config: &[u8]) -> Option<u64>
 }
 
 /// How many lines a text has, at least one.
-fn count_lines(text: &[u8]) -> u64
-    ensures { result ≡ length (lines text.now) }
-{
-    let mut count = 1;
+fn count_lines(text: &[u8]) -> u64 {
+    let mut count: u64 = 1;
     for byte in text {
         if *byte == b'\n' {
-            count += 1;
+            count = count.saturating_add(1);
         }
     }
     count

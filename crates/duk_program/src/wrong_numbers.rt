@@ -1,12 +1,7 @@
 //! The first record of a log that is wrong: damaged, or with a number that does not go with those
 //! before it.
 
-ghost use Rattle.std.specs.Prelude.{◌<◌, ◌≡◌, ◌/◌, IfSome, length};
-ghost use Rattle.duk_host.specs.Used.{AreUsable};
-ghost use Rattle.duk_issue.specs.Ledger.{AreInitial};
-ghost use Rattle.duk_show.specs.Log.{IsSomeLog};
-ghost use Rattle.duk_program.specs.WrongNumbers.{IsFirstWrong, IsFirstWrongOf, IsWrongRecordIn};
-ghost use Rattle.duk_program.specs.inner.WrongNumbers.{HasNumber, HasNumberAt};
+ghost use Rattle.std.specs.Prelude.{◌<◌, ◌≡◌, ◌/◌, length};
 
 use duk_arguments::Request;
 use duk_host::UsedNumbers;
@@ -18,9 +13,7 @@ use std::alloc::Global;
 
 /// The first record of the log of a request that is wrong: the first that is damaged, or else the
 /// first whose number does not go with those before it.
-pub(crate) fn wrong_record_in(alloc: Global, about: &Request<'_>, log: &[u8]) -> Option<u64>
-    ensures { IfSome result (IsWrongRecordIn about.now log.now) }
-{
+pub(crate) fn wrong_record_in(alloc: Global, about: &Request<'_>, log: &[u8]) -> Option<u64> {
     match damaged_record(log) {
         Some(place) => Some(place),
         None => wrong_number(alloc, about, log),
@@ -28,10 +21,7 @@ pub(crate) fn wrong_record_in(alloc: Global, about: &Request<'_>, log: &[u8]) ->
 }
 
 /// The place of the first number of the log of a request that does not go with those before it.
-fn wrong_number(alloc: Global, about: &Request<'_>, log: &[u8]) -> Option<u64>
-    requires { IsSomeLog log.now }
-    ensures { IfSome result (IsFirstWrongOf about.now log.now) }
-{
+fn wrong_number(alloc: Global, about: &Request<'_>, log: &[u8]) -> Option<u64> {
     match about {
         Request::Serve { .. } => first_unusable(alloc, log),
         Request::Issue { .. } => first_with_counter(log),
@@ -41,10 +31,7 @@ fn wrong_number(alloc: Global, about: &Request<'_>, log: &[u8]) -> Option<u64>
 
 /// The place of the first number of a log that numbers no transaction or stands there before. None
 /// also where memory is refused.
-fn first_unusable(alloc: Global, log: &[u8]) -> Option<u64>
-    requires { IsSomeLog log.now }
-    ensures { IfSome result (IsFirstWrong AreUsable log.now) }
-{
+fn first_unusable(alloc: Global, log: &[u8]) -> Option<u64> {
     let mut used = UsedNumbers::new(alloc);
     for place in 0..log.len() / RECORD_LENGTH {
         let ksn = number_at(log, place)?;
@@ -58,10 +45,7 @@ fn first_unusable(alloc: Global, log: &[u8]) -> Option<u64>
 }
 
 /// The place of the first number of a ledger that has a counter.
-fn first_with_counter(log: &[u8]) -> Option<u64>
-    requires { IsSomeLog log.now }
-    ensures { IfSome result (IsFirstWrong AreInitial log.now) }
-{
+fn first_with_counter(log: &[u8]) -> Option<u64> {
     for place in 0..log.len() / RECORD_LENGTH {
         let ksn = number_at(log, place)?;
         if ksn.counter() != 0 {
@@ -74,7 +58,6 @@ fn first_with_counter(log: &[u8]) -> Option<u64>
 /// The number of the record at a place of a log, where it has one.
 fn number_at(log: &[u8], place: usize) -> Option<Ksn>
     requires { place < length log.now / 16 }
-    ensures { IfSome result (HasNumberAt log.now place) }
 {
     let start = RECORD_LENGTH * place;
     number_in(&log[start..start + RECORD_LENGTH])
@@ -83,7 +66,6 @@ fn number_at(log: &[u8], place: usize) -> Option<Ksn>
 /// The number of a record, where it has one.
 fn number_in(bytes: &[u8]) -> Option<Ksn>
     requires { length bytes.now ≡ 16 }
-    ensures { IfSome result (HasNumber bytes.now) }
 {
     if bytes[0] != 1 {
         return None;

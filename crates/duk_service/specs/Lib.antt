@@ -6,7 +6,6 @@ pub mod LeftRecords
 pub mod LogFiles
 pub mod NewFile
 pub mod OwnFiles
-pub mod Reasons
 pub mod Serve
 pub mod ServeJournal
 pub mod ServeJournalFiles

@@ -3,7 +3,14 @@ use Rattle.std.specs.Prelude.{◌≡◌, ⊤, ℕ, Bool, true, false, Option, So
 use Rattle.duk_copy.specs.InPart.{IsUnfinished}
 use Rattle.duk_io.specs.Known.{Known}
 use Rattle.duk_journal.specs.RecordFormat.{IsJournalSize}
+use Rattle.duk_service.specs.declared.log_files.Access.{Access}
+use Rattle.duk_service.specs.declared.log_files.Access.TheVariants as access
 use Rattle.duk_store.specs.Disk.{DiskState, LeavesReads}
+
+-- a file may be opened so, where it is said whether it may be written: to be read always
+abbrev pub MayOpen : Type 0 → Access → Type 0
+MayOpen written access.Read = ⊤
+MayOpen written access.Write = written
 
 -- what files make known of a path: nothing, that no disk can be opened, or which one is
 abbrev pub DiskKnown : Type 0 → Type 0

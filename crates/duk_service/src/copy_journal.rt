@@ -13,8 +13,8 @@ ghost use Rattle.duk_store.specs.Disk.{PreservesBytes, PreservesDisk};
 
 use crate::ending::EndingFault;
 use crate::left_records::RecordFormat;
-use crate::log_files::LogFiles;
-use crate::own_files::{Access, OpenFault, open_own};
+use crate::log_files::{Access, LogFiles};
+use crate::own_files::{OpenFault, open_own};
 use duk_copy::{CopyFault, PIECE_LENGTH, write_copy};
 use duk_host::HostFault;
 use duk_io::{Sink, write_text};
@@ -91,6 +91,7 @@ pub fn copy_journal<S: LogFiles, F: Sink>(
     new: &str,
     fault: &mut F,
 ) -> u8
+    requires { S.may_make files.now new.now }
     ensures status { (result ≡ 0) ⊎ (result ≡ 1) }
     ensures done { result ≡ 0 → HasCopiedJournal S.Disk.meaning (S.disks files.now old.now)
         (S.making files.now new.now) }
@@ -112,6 +113,7 @@ fn make_copy<S: LogFiles>(
     old: &str,
     new: &str,
 ) -> Result<(), CopyJournalFault>
+    requires { S.may_make files.now new.now }
     ensures made { OnOk result (HasCopiedJournal S.Disk.meaning (S.disks files.now old.now)
         (S.making files.now new.now)) }
     ensures refused { IfErr result (IsCopyJournalRefused S.Disk.meaning
@@ -184,6 +186,7 @@ fn make_new<S: LogFiles>(
     old: &mut S::Disk,
     pieces: &mut Pieces,
 ) -> Result<(), CopyJournalFault>
+    requires own { S.may_make files.now file.now }
     requires zeros { pieces.old.zeros.items ≡ replicate 65536 0 }
     requires piece { length pieces.old.piece.items ≡ 65536 }
     requires inside { 32 * kept.count ≤ (S.Disk.meaning.state_of old.old).size }
@@ -259,6 +262,7 @@ fn keep_new<S: LogFiles>(
     kept: Checked,
     disk: S::Disk,
 ) -> Result<(), CopyJournalFault>
+    requires { S.may_make files.now file.now }
     ensures checked { OnOk result (IsNewChecked S.Disk.meaning kept disk) }
     ensures synced { OnOk result (IsFolderSynced (S.making files.now file.now).folder) }
     ensures refused { IfErr result
@@ -278,8 +282,10 @@ fn keep_new<S: LogFiles>(
 }
 
 /// Removes a file that was made, whose disk is closed, if it can be opened again.
-fn remove_new<S: LogFiles>(files: &S, file: &str) {
-    if let Ok(disk) = files.open_disk(file) {
+fn remove_new<S: LogFiles>(files: &S, file: &str)
+    requires { S.may_make files.now file.now }
+{
+    if let Ok(disk) = files.open_to_read(file) {
         files.remove_made(file, disk);
     }
 }
@@ -293,6 +299,7 @@ fn keep_checked<S: LogFiles>(
     kept: Checked,
     journal: &mut DiskJournal<S::Disk>,
 ) -> Result<(), CopyJournalFault>
+    requires { S.may_make files.now file.now }
     ensures checked { OnOk result (IsChecked (disk_journal_meaning S.Disk.meaning)
         journal.old journal.new kept) }
     ensures synced { OnOk result (IsFolderSynced (S.making files.now file.now).folder) }

@@ -3,7 +3,6 @@
 
 ghost use Rattle.std.specs.Prelude.{◌≡◌, ℕ, List, None, IfOk, IfErr, IfSome};
 ghost use Rattle.duk_service.specs.Files.{FileKnown, HasBytes, IsFileRead, IsFileUnread, IsFrontRead, IsFrontUnread, IsLineRead, IsLineUnread, without_return};
-ghost use Rattle.duk_service.specs.Reasons.{IsReason, ReasonKnown};
 
 use duk_explain::Reason;
 use std::alloc::Global;
@@ -32,9 +31,6 @@ pub trait FileSystem {
     /// can be read.
     ghost held: { Self → List ℕ → FileKnown };
 
-    /// Why the system refuses to read what there is under a path, where the files make it known.
-    ghost reading: { Self → List ℕ → ReasonKnown };
-
     /// All bytes of the file under a path, where they are at most so many.
     fn read_file(&self, alloc: Global, path: &str, most: usize) -> Result<Vec<u8>, FileFault>
         ensures read { IfOk result
@@ -62,8 +58,7 @@ pub trait FileSystem {
 
     /// Why the file under a path cannot be read, as the system tells who asks once more. None where
     /// it can be read, and of a pipe or a device, since to open one may wait.
-    fn reading_reason(&self, path: &str) -> Option<Reason>
-        ensures { IsReason (reading self.now path.now) result };
+    fn reading_reason(&self, path: &str) -> Option<Reason>;
 
     /// All bytes of the file under a path, read once more, where they are at most so many. None where
     /// it cannot be read, and of a pipe, a device or a folder.
@@ -73,8 +68,6 @@ pub trait FileSystem {
 
 impl<R: Files> FileSystem for R {
     ghost held = { λ _ _. None };
-
-    ghost reading = { λ _ _. None };
 
     fn read_file(&self, alloc: Global, path: &str, most: usize) -> Result<Vec<u8>, FileFault> {
         match read_sized(self, alloc, path, most as u64, most as u64) {

@@ -2,11 +2,10 @@
 //! say which disk it is.
 
 ghost use Rattle.std.proofs.Common.{rules};
-ghost use Rattle.std.specs.Prelude.{ℕ, List, None, Some, IfOk, OnErr, OnOk};
+ghost use Rattle.std.specs.Prelude.{ℕ, ⊤, List, None, IfOk, OnErr, OnOk};
 ghost use Rattle.duk_io.specs.Sink.{IsHandedOn};
 ghost use Rattle.duk_service.specs.HostSize.{IsSmall};
-ghost use Rattle.duk_service.specs.LogFiles.{AreLinesMade, AreNoLines, BeginsUnfinished, BeginsZero, DiskKnown, IsDisk, IsFolderSynced, IsFolderUnsynced, IsNoDisk, MakingKnown, unknown_making};
-ghost use Rattle.duk_service.specs.Reasons.{IsReason, ReasonKnown};
+ghost use Rattle.duk_service.specs.LogFiles.{AreLinesMade, AreNoLines, BeginsUnfinished, BeginsZero, DiskKnown, IsDisk, IsFolderSynced, IsFolderUnsynced, IsNoDisk, MakingKnown, MayOpen, unknown_making};
 
 use crate::file_system::{is_regular, reason_of};
 use crate::line_file::{LineFile, make_line_file, remove_empty_file};
@@ -14,11 +13,24 @@ use crate::new_files::{Begin, make_file, making_reason, open_file, remove_file, 
 use duk_explain::Reason;
 use duk_io::Sink;
 use duk_store::{Disk, FileDisk, StoreFault};
+use std::fs;
 use std::fs::{File, OpenOptions, TryLockError};
 use std::rt::Files;
 
+/// How a file is opened.
+#[derive(Clone, Copy)]
+pub enum Access {
+    /// To be read alone: each write of its disk fails.
+    Read,
+    /// To be read and written.
+    Write,
+}
+
 /// Files each of which may be opened as a disk, to keep a log. They may make known, for contracts to
 /// say, which disk that is.
+///
+/// A file is opened to be written only where `may_write` holds of its path, and made, or removed, only
+/// where `may_make` does. So what a caller may do to files is what it requires of the two.
 ///
 /// Their disks may be of any type, and honest as that type says. The files of every runtime are
 /// such, and make nothing known: no contract says what a real file holds.
@@ -29,17 +41,20 @@ pub trait LogFiles {
     /// The writers of lines to new files.
     type Lines: Sink + Drop;
 
+    /// Which files may be opened to be written.
+    ghost may_write: { Self → List ℕ → Type 0 };
+
+    /// Under which paths a file may be made, and removed.
+    ghost may_make: { Self → List ℕ → Type 0 };
+
     /// What there is under a path, where the files make it known: a disk, or none that can be
     /// opened.
     ghost disks: { Self → List ℕ → DiskKnown Self.Disk };
 
-    /// Why the system refuses to open and lock what there is under a path, where the files make it
-    /// known.
-    ghost opening: { Self → List ℕ → ReasonKnown };
-
     /// The disk over the file under a path, which is never made, of the size that it has. Refused
     /// with `Device` where it cannot be opened, or is locked.
     fn open_disk(&self, path: &str) -> Result<Self::Disk, StoreFault>
+        requires { may_write self.now path.now }
         ensures opened { IfOk result (IsDisk (disks self.now path.now)) }
         ensures refused { OnErr result (IsNoDisk (disks self.now path.now)) };
 
@@ -49,21 +64,20 @@ pub trait LogFiles {
         ensures opened { IfOk result (IsDisk (disks self.now path.now)) }
         ensures refused { OnErr result (IsNoDisk (disks self.now path.now)) };
 
-    /// Why the file under a path cannot be opened as a disk, as the system tells who asks once more.
-    fn opening_reason(&self, path: &str) -> Reason
-        ensures { IsReason (opening self.now path.now) (Some result) };
+    /// Why the file under a path cannot be opened so as a disk, as the system tells who asks once
+    /// more.
+    fn opening_reason(&self, path: &str, access: Access) -> Reason
+        requires { MayOpen (may_write self.now path.now) access };
 
     /// What comes of making a file under a path, where the files make it known.
     ghost making: { Self → List ℕ → MakingKnown Self.Disk };
-
-    /// Why the system refuses to make a file under a path, where the files make it known.
-    ghost unmade: { Self → List ℕ → ReasonKnown };
 
     /// The disk over a new file of so many bytes under a path, locked. It begins as that of no
     /// journal, however soon its writer is stopped.
     ///
     /// Refused with `Device` where no file can be made. One that is there is never opened.
     fn make_disk(&self, path: &str, size: u64) -> Result<Self::Disk, StoreFault>
+        requires { may_make self.now path.now }
         ensures made { IfOk result (IsDisk ((making self.now path.now).disk size)) }
         ensures unfinished { IfOk result
             (λ disk. BeginsUnfinished (Self.Disk.meaning.state_of disk)) }
@@ -71,6 +85,7 @@ pub trait LogFiles {
 
     /// The same over a new file of zeros, which a log begins with.
     fn make_zeros(&self, path: &str, size: u64) -> Result<Self::Disk, StoreFault>
+        requires { may_make self.now path.now }
         ensures made { IfOk result (IsDisk ((making self.now path.now).disk size)) }
         ensures zeros { IfOk result (λ disk. BeginsZero (Self.Disk.meaning.state_of disk)) }
         ensures refused { OnErr result (IsNoDisk ((making self.now path.now).disk size)) };
@@ -79,6 +94,7 @@ pub trait LogFiles {
     ///
     /// Refused with `Device` where it cannot be synced.
     fn sync_folder(&self, path: &str) -> Result<(), StoreFault>
+        requires { may_make self.now path.now }
         ensures synced { OnOk result (IsFolderSynced (making self.now path.now).folder) }
         ensures refused { OnErr result (IsFolderUnsynced (making self.now path.now).folder) };
 
@@ -88,6 +104,7 @@ pub trait LogFiles {
     /// Refused with `Device` where no file can be made, or its folder cannot be synced. One that is
     /// there is never opened.
     fn make_lines(&self, path: &str) -> Result<Self::Lines, StoreFault>
+        requires { may_make self.now path.now }
         ensures made { IfOk result (λ lines.
             AreLinesMade (making self.now path.now).lines (Self.Lines.known lines)) }
         ensures handed_on { IfOk result (λ lines. IsHandedOn (Self.Lines.held_back lines)) }
@@ -95,15 +112,17 @@ pub trait LogFiles {
 
     /// Ends the writer of lines to a file that was made under a path, and removes the file where it
     /// has no bytes, if it can be removed. That it does rests on being read.
-    fn remove_empty(&self, path: &str, lines: Self::Lines);
+    fn remove_empty(&self, path: &str, lines: Self::Lines)
+        requires { may_make self.now path.now };
 
     /// Removes a file that was made under a path, with the disk over it, if it can be removed. That
     /// it does rests on being read.
-    fn remove_made(&self, path: &str, disk: Self::Disk);
+    fn remove_made(&self, path: &str, disk: Self::Disk)
+        requires { may_make self.now path.now };
 
     /// Why no file can be made under a path, as the system tells who asks once more.
     fn making_reason(&self, path: &str) -> Reason
-        ensures { IsReason (unmade self.now path.now) (Some result) };
+        requires { may_make self.now path.now };
 
     /// Such a disk takes little memory.
     ghost small: { IsSmall Self.Disk.row };
@@ -114,13 +133,13 @@ impl<R: Files<File = File>> LogFiles for R {
 
     type Lines = LineFile;
 
+    ghost may_write = { λ _ _. ⊤ };
+
+    ghost may_make = { λ _ _. ⊤ };
+
     ghost disks = { λ _ _. None };
 
-    ghost opening = { λ _ _. None };
-
     ghost making = { λ _ _. unknown_making };
-
-    ghost unmade = { λ _ _. None };
 
     ghost small = { Prim.search rules };
 
@@ -160,24 +179,58 @@ impl<R: Files<File = File>> LogFiles for R {
         making_reason(self, path)
     }
 
-    fn opening_reason(&self, path: &str) -> Reason {
-        let opened = if is_regular(self, path) {
-            File::open(self, path)
-        } else {
-            OpenOptions::new().read(true).write(true).open(self, path)
-        };
-        match opened {
-            Ok(file) => locking_reason(self, path, &file),
-            Err(error) => reason_of(&error),
+    fn opening_reason(&self, path: &str, access: Access) -> Reason {
+        match access {
+            Access::Read => reading_reason(self, path),
+            Access::Write => writing_reason(self, path),
         }
     }
 }
 
-/// Why an open file cannot be locked, or why it cannot be written.
-fn locking_reason<R: Files<File = File>>(files: &R, path: &str, file: &File) -> Reason {
-    if let Err(TryLockError::WouldBlock) = file.try_lock() {
-        return Reason::InUse;
+/// Why a file cannot be opened to be read, and locked. A pipe, which would be waited for, and a device
+/// are not opened.
+fn reading_reason<R: Files<File = File>>(files: &R, path: &str) -> Reason {
+    let metadata = match fs::metadata(files, path) {
+        Ok(metadata) => metadata,
+        Err(error) => return reason_of(&error),
+    };
+    if metadata.is_dir() {
+        return Reason::Folder;
     }
+    if !metadata.is_file() {
+        return Reason::Other;
+    }
+    match File::open(files, path) {
+        Ok(file) if is_locked(&file) => Reason::InUse,
+        Ok(_) => Reason::Other,
+        Err(error) => reason_of(&error),
+    }
+}
+
+/// Why a file cannot be opened to be read and written, and locked.
+fn writing_reason<R: Files<File = File>>(files: &R, path: &str) -> Reason {
+    let opened = if is_regular(files, path) {
+        File::open(files, path)
+    } else {
+        OpenOptions::new().read(true).write(true).open(files, path)
+    };
+    match opened {
+        Ok(file) if is_locked(&file) => Reason::InUse,
+        Ok(_) => unwritten_reason(files, path),
+        Err(error) => reason_of(&error),
+    }
+}
+
+/// Whether another has locked an open file.
+fn is_locked(file: &File) -> bool {
+    match file.try_lock() {
+        Err(TryLockError::WouldBlock) => true,
+        _ => false,
+    }
+}
+
+/// Why a file that is not locked cannot be written.
+fn unwritten_reason<R: Files<File = File>>(files: &R, path: &str) -> Reason {
     match OpenOptions::new().write(true).open(files, path) {
         Ok(_opened) => Reason::Other,
         Err(error) => reason_of(&error),

@@ -86,6 +86,7 @@ pub fn new_file<S: LogFiles, F: Sink>(
     records: &str,
     fault: &mut F,
 ) -> u8
+    requires { S.may_make files.now file.now }
     ensures status { (result ≡ 0) ⊎ (result ≡ 1) }
     ensures done { result ≡ 0
         → HasMadeFile format S.Disk.meaning (S.making files.now file.now) records.now }
@@ -110,6 +111,7 @@ fn make_file<S: LogFiles>(
     file: &str,
     records: &str,
 ) -> Result<(), NewFileFault>
+    requires { S.may_make files.now file.now }
     ensures made { OnOk result
         (HasMadeFile format S.Disk.meaning (S.making files.now file.now) records.now) }
     ensures refused { IfErr result
@@ -154,6 +156,7 @@ fn make_blank<S: LogFiles>(
     size: u64,
     zeros: &[u8],
 ) -> Result<(), StoreFault>
+    requires own { S.may_make files.now file.now }
     requires zeros { zeros.now ≡ replicate 65536 0 }
     requires size { IsWhole format size }
     ensures made { OnOk result
@@ -178,6 +181,7 @@ fn begin_file<S: LogFiles>(
     file: &str,
     size: u64,
 ) -> Result<S::Disk, StoreFault>
+    requires { S.may_make files.now file.now }
     ensures made { IfOk result (IsDisk ((S.making files.now file.now).disk size)) }
     ensures begins { IfOk result (λ disk. BeginsAs format (S.Disk.meaning.state_of disk)) }
     ensures refused { OnErr result (IsNoDisk ((S.making files.now file.now).disk size)) }
@@ -197,6 +201,7 @@ fn keep_blank<S: LogFiles>(
     zeros: &[u8],
     disk: &mut S::Disk,
 ) -> Result<(), StoreFault>
+    requires own { S.may_make files.now file.now }
     requires zeros { zeros.now ≡ replicate 65536 0 }
     requires size { IsWhole format size }
     requires begins { BeginsAs format (S.Disk.meaning.state_of disk.old) }

@@ -5,11 +5,11 @@
 //! over, or copied as a journal without entries. Before anything is done the bytes are looked at here.
 
 ghost use Rattle.std.specs.Prelude.{IfErr, IfOk, OnErr};
-ghost use Rattle.duk_service.specs.LogFiles.{IsDisk, IsNoDisk};
+ghost use Rattle.duk_service.specs.LogFiles.{IsDisk, IsNoDisk, MayOpen};
 ghost use Rattle.duk_service.specs.OwnFiles.{IsLookedAt, IsNoOwnDisk, IsOwnDisk};
 
 use crate::left_records::{RecordFormat, Seen, look_at};
-use crate::log_files::LogFiles;
+use crate::log_files::{Access, LogFiles};
 use duk_explain::Strange;
 use duk_store::StoreFault;
 
@@ -24,15 +24,6 @@ pub enum OpenFault {
     Foreign,
 }
 
-/// How a file is opened.
-#[derive(Clone, Copy)]
-pub enum Access {
-    /// To be read alone: each write of its disk fails.
-    Read,
-    /// To be read and written.
-    Write,
-}
-
 /// The disk over the file under a path, whose bytes a log or a journal left. It is read, and not
 /// written.
 ///
@@ -43,6 +34,7 @@ pub fn open_own<S: LogFiles>(
     format: RecordFormat,
     access: Access,
 ) -> Result<S::Disk, OpenFault>
+    requires { MayOpen (S.may_write files.now path.now) access }
     ensures opened { IfOk result (IsOwnDisk format S.Disk.meaning (S.disks files.now path.now)) }
     ensures refused { IfErr result
         (IsNoOwnDisk format S.Disk.meaning (S.disks files.now path.now)) }
@@ -61,6 +53,7 @@ pub fn open_own<S: LogFiles>(
 
 /// The disk over the file under a path.
 fn open<S: LogFiles>(files: &S, path: &str, access: Access) -> Result<S::Disk, StoreFault>
+    requires { MayOpen (S.may_write files.now path.now) access }
     ensures opened { IfOk result (IsDisk (S.disks files.now path.now)) }
     ensures refused { OnErr result (IsNoDisk (S.disks files.now path.now)) }
 {

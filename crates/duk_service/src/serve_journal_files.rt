@@ -12,8 +12,8 @@ ghost use Rattle.duk_service.specs.ServeJournalFiles.{IsServedOnJournal, IsUnser
 
 use crate::ending::{EndingFault, JournalFault};
 use crate::left_records::RecordFormat;
-use crate::log_files::LogFiles;
-use crate::own_files::{Access, OpenFault, open_own};
+use crate::log_files::{Access, LogFiles};
+use crate::own_files::{OpenFault, open_own};
 use crate::serve_journal::serve_with_journal;
 use duk_config::Config;
 use duk_host::HostFault;
@@ -33,6 +33,7 @@ pub fn serve_on_journal<S: LogFiles, R: Source, W: Sink, F: Sink>(
     output: &mut W,
     fault: &mut F,
 ) -> u8
+    requires { S.may_write files.now path.now }
     ensures status { (result ≡ 0) ⊎ (result ≡ 1) }
     ensures done { result ≡ 0 → IsServedOnJournal S.Disk.meaning (S.disks files.now path.now)
         config.now (serving_of R.known R.reads W.known input.old input.new output.old output.new) }

@@ -2,13 +2,15 @@
 
 ghost use Rattle.std.proofs.Common.{rules};
 ghost use Rattle.std.specs.Option.{option_map};
-ghost use Rattle.std.specs.Prelude.{◌≡◌, IfErr, IfOk, None, Some, false};
+ghost use Rattle.std.specs.Prelude.{◌≡◌, ⊤, IfErr, IfOk, None, Some, false};
+ghost use Rattle.duk_arguments.specs.declared.request.Request.{Request};
+ghost use Rattle.duk_program.specs.Own.{MayUseOwn};
 ghost use Rattle.duk_service.specs.LogFiles.{unknown_making};
 ghost use Rattle.duk_service.specs.declared.file_system.FileFault.TheVariants.{NoMemory};
-ghost use Rattle.duk_explain.specs.declared.found.Reason.TheVariants.{There};
 
 use crate::commands::arguments_of;
 use duk_program::{FileFault, FileSystem, LogFiles, Reason, run_arguments};
+use duk_service::Access;
 use duk_store::{MemDisk, StoreFault};
 use duk_tests_support::files::BANK;
 use duk_tests_support::frames::{FIRST_REPLY, FIRST_REQUEST};
@@ -23,8 +25,6 @@ struct EveryFile {
 
 impl FileSystem for EveryFile {
     ghost held = { λ files _. Some (option_map (λ text. text.now) files.text) };
-
-    ghost reading = { λ _ _. None };
 
     fn read_file(&self, alloc: Global, _path: &str, most: usize) -> Result<Vec<u8>, FileFault> {
         let Some(text) = self.text else {
@@ -76,17 +76,17 @@ impl LogFiles for EveryFile {
 
     type Lines = Vec<u8>;
 
-    ghost disks = { λ _ _. Some None };
+    ghost may_write = { λ _ _. ⊤ };
 
-    ghost opening = { λ _ _. None };
+    ghost may_make = { λ _ _. ⊤ };
+
+    ghost disks = { λ _ _. Some None };
 
     ghost making = { λ _ _. record {
       disk = λ _. Some None;
       folder = Some false;
       lines = Some None;
     } };
-
-    ghost unmade = { λ _ _. Some (Some There) };
 
     ghost small = { Prim.search rules };
 
@@ -98,7 +98,7 @@ impl LogFiles for EveryFile {
         self.open_disk(path)
     }
 
-    fn opening_reason(&self, _path: &str) -> Reason {
+    fn opening_reason(&self, _path: &str, _access: Access) -> Reason {
         Reason::InUse
     }
 
@@ -137,8 +137,6 @@ struct Banks {
 impl FileSystem for Banks {
     ghost held = { λ _ _. None };
 
-    ghost reading = { λ _ _. None };
-
     fn read_file(&self, alloc: Global, _path: &str, most: usize) -> Result<Vec<u8>, FileFault> {
         if BANK.len() > most {
             return Err(FileFault::TooLong);
@@ -172,13 +170,13 @@ impl LogFiles for Banks {
 
     type Lines = Vec<u8>;
 
+    ghost may_write = { λ _ _. ⊤ };
+
+    ghost may_make = { λ _ _. ⊤ };
+
     ghost disks = { λ _ _. None };
 
-    ghost opening = { λ _ _. None };
-
     ghost making = { λ _ _. unknown_making };
-
-    ghost unmade = { λ _ _. None };
 
     ghost small = { Prim.search rules };
 
@@ -190,7 +188,7 @@ impl LogFiles for Banks {
         self.open_disk(path)
     }
 
-    fn opening_reason(&self, _path: &str) -> Reason {
+    fn opening_reason(&self, _path: &str, _access: Access) -> Reason {
         Reason::Other
     }
 
@@ -225,7 +223,9 @@ fn of_command<S: FileSystem + LogFiles>(
     alloc: Global,
     files: &S,
     command: &[&str],
-) -> Option<(u8, Vec<u8>, Vec<u8>)> {
+) -> Option<(u8, Vec<u8>, Vec<u8>)>
+    requires { (asked : Request) → MayUseOwn (S.may_write files.now) (S.may_make files.now) asked }
+{
     let arguments = arguments_of(alloc, command).ok()?;
     let (mut output, mut fault) = (Vec::new(alloc), Vec::new(alloc));
     let mut input = FIRST_REQUEST.as_slice();
@@ -266,7 +266,9 @@ fn files_that_are_known(rt: HostRuntime) {
 }
 
 /// Whether a service over such files answers the first request.
-fn serves<S: FileSystem + LogFiles>(alloc: Global, files: &S, command: &[&str]) -> Option<bool> {
+fn serves<S: FileSystem + LogFiles>(alloc: Global, files: &S, command: &[&str]) -> Option<bool>
+    requires { (asked : Request) → MayUseOwn (S.may_write files.now) (S.may_make files.now) asked }
+{
     let (status, output, fault) = of_command(alloc, files, command)?;
     Some(status == 0 && output.as_slice() == FIRST_REPLY.as_slice() && fault.is_empty())
 }

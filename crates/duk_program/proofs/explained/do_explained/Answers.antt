@@ -11,4 +11,4 @@ returns-in-Run-clause-not_done g c one = run_not_done g.S.Disk.Disk.meaning
     (g.F.Sink.known c.args.fault.now) (g.F.Sink.known c.tell.new.fault))
     c.args.request c.in-Run.config c.in-Run.script c.in-Run.journal c.new-line.result.items c.run_files-status.new.fault.items c.in-Run.is c.new-line.ensures.items
     (c.run_files-status.ensures.reported (sym c.tell.ensures.status ∙ one))
-    (told_of _ _ _ _ _ c.as_slice.ensures.value (c.tell.ensures.told (sym c.tell.ensures.status ∙ one)))
+    (told_of _ _ _ _ c.as_slice.ensures.value (c.tell.ensures.told (sym c.tell.ensures.status ∙ one)))

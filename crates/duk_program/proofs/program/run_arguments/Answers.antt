@@ -140,3 +140,22 @@ returns-in-Read-clause-not_done g c one = inl (record {
   not_done = meant_not_done _ _ _ c.in-Read.ensures.asked.1
       (rw (c.in-Read.ensures.quiet tt, c.in-Read.ensures.silent tt) at (c.do_over_secrets.ensures.not_done one));
 })
+
+pub serve_files-requires : goal.serve_files-requires
+serve_files-requires g c =
+    (c.requires (request.Serve c.in-Serve.config c.in-Serve.kept) c.in-Serve.ensures.asked).write
+
+pub new_file-requires : goal.new_file-requires
+new_file-requires g c =
+    (c.requires (request.NewLog c.in-NewLog.file c.in-NewLog.records) c.in-NewLog.ensures.asked).make
+
+pub new_file-in-NewJournal-requires : goal.new_file-in-NewJournal-requires
+new_file-in-NewJournal-requires g c =
+    (c.requires (request.NewJournal c.in-NewJournal.file c.in-NewJournal.records) c.in-NewJournal.ensures.asked).make
+
+pub copy_journal-requires : goal.copy_journal-requires
+copy_journal-requires g c =
+    (c.requires (request.CopyJournal c.in-CopyJournal.old c.in-CopyJournal.new) c.in-CopyJournal.ensures.asked).make
+
+pub do_over_secrets-requires-clause-own : goal.do_over_secrets-requires-clause-own
+do_over_secrets-requires-clause-own g c = c.requires c.in-Read.request c.in-Read.ensures.asked.0
