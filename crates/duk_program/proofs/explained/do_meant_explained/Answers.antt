@@ -29,7 +29,7 @@ returns-in-Some-clause-done g c zero = search_done g.S.Disk.Disk.meaning
     c.args.request c.with_secrets-meant.result (supply (g.R.Source.known c.read_texts.new.input) (g.R.Source.reads c.read_texts.new.input)) _
     c.in-Ok.ensures.read.taken
     (c.with_secrets-meant.ensures.meaning _ (each_means_of _ _ _ _ (c.keys_of-keys.ensures ∙ ap (map string_bytes) c.as_slice.ensures.value) c.in-Ok.ensures.read.means))
-    c.in-Some.ensures
+    c.in-Some.ensures.words
     (c.find_explained.ensures.done zero)
 
 pub returns-in-Some-clause-not_done : goal.returns-in-Some-clause-not_done
@@ -40,7 +40,7 @@ returns-in-Some-clause-not_done g c one = search_explained g.S.Disk.Disk.meaning
     c.args.request c.with_secrets-meant.result (supply (g.R.Source.known c.read_texts.new.input) (g.R.Source.reads c.read_texts.new.input)) _
     c.in-Ok.ensures.read.taken
     (c.with_secrets-meant.ensures.meaning _ (each_means_of _ _ _ _ (c.keys_of-keys.ensures ∙ ap (map string_bytes) c.as_slice.ensures.value) c.in-Ok.ensures.read.means))
-    c.in-Some.ensures
+    c.in-Some.ensures.words
     (c.find_explained.ensures.told one)
 
 pub returns-clause-done : goal.returns-clause-done
@@ -59,7 +59,7 @@ returns-clause-not_done g c one = meant_explained g.S.Disk.Disk.meaning
     (scene (g.S.FileSystem.held c.args.files.now) (g.S.LogFiles.disks c.args.files.now) (g.S.LogFiles.making c.args.files.now)
     (serving_of g.R.Source.known g.R.Source.reads g.W.Sink.known c.args.input.now c.answer_explained-status.new.input c.args.output.now c.answer_explained-status.new.output)
     (g.F.Sink.known c.args.fault.now) (g.F.Sink.known c.tell.new.fault))
-    c.args.request c.with_secrets-meant.result (supply (g.R.Source.known c.read_texts.new.input) (g.R.Source.reads c.read_texts.new.input)) c.new-line.result.items c.answer_explained-status.new.fault.items c.new-line.ensures.items c.requires.over (λ search. c.in-None.ensures.none (c.with_secrets-meant.ensures.search search))
+    c.args.request c.with_secrets-meant.result (supply (g.R.Source.known c.read_texts.new.input) (g.R.Source.reads c.read_texts.new.input)) c.new-line.result.items c.answer_explained-status.new.fault.items c.new-line.ensures.items c.requires.over (λ search. c.in_default.ensures.none (c.with_secrets-meant.ensures.search search))
     c.in-Ok.ensures.read.taken
     (c.with_secrets-meant.ensures.meaning _ (each_means_of _ _ _ _ (c.keys_of-keys.ensures ∙ ap (map string_bytes) c.as_slice.ensures.value) c.in-Ok.ensures.read.means))
     (c.answer_explained-status.ensures.not_done (sym c.tell.ensures.status ∙ one))

@@ -149,8 +149,8 @@ pub new_file-requires : goal.new_file-requires
 new_file-requires g c =
     (c.requires (request.NewLog c.in-NewLog.file c.in-NewLog.records) c.in-NewLog.ensures.asked).make
 
-pub new_file-in-NewJournal-requires : goal.new_file-in-NewJournal-requires
-new_file-in-NewJournal-requires g c =
+pub new_file-requires-in-NewJournal : goal.new_file-requires-in-NewJournal
+new_file-requires-in-NewJournal g c =
     (c.requires (request.NewJournal c.in-NewJournal.file c.in-NewJournal.records) c.in-NewJournal.ensures.asked).make
 
 pub copy_journal-requires : goal.copy_journal-requires
