@@ -68,7 +68,14 @@ def lines_first(calls: Sequence[Call]) -> list[Call]:
 
 
 class PowerCuts(IssueCase):
+    """The files are in memory: what a loss of power leaves comes of the calls, not of a disk."""
+
     weight = 15
+
+    def setUp(self) -> None:
+        super().setUp()
+        self.home = self.folder(in_memory=True)
+        self.path = self.home / LEDGER
 
     def test_cuts(self) -> None:
         """No line stands there without its number, at most the last number has none, and each gets one."""

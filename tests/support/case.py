@@ -10,6 +10,8 @@ from typing import Any, ClassVar
 
 from .program import Ended, Program, built, demand_built, short
 
+MEMORY = Path("/dev/shm")
+
 
 class Case(unittest.TestCase):
     """A test. What is random in it comes of `chance`, which the seed of the run determines; what it
@@ -27,9 +29,10 @@ class Case(unittest.TestCase):
     def tells(self, text: str) -> None:
         self.told.append(text)
 
-    def folder(self) -> Path:
-        """A new folder, which goes with the test."""
-        made = tempfile.mkdtemp(prefix="dukpt-test-")
+    def folder(self, in_memory: bool = False) -> Path:
+        """A new folder, which goes with the test. In memory, where that can be, syncs take no time."""
+        where = MEMORY if in_memory and MEMORY.is_dir() else None
+        made = tempfile.mkdtemp(prefix="dukpt-test-", dir=where)
         self.addCleanup(shutil.rmtree, made, ignore_errors=True)
         return Path(made)
 

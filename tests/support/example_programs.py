@@ -2,10 +2,8 @@
 from __future__ import annotations
 
 import os
-import shutil
 import subprocess
 import sys
-import tempfile
 from pathlib import Path
 
 from .case import Case
@@ -15,7 +13,6 @@ from .python_library import PACKAGE, SHARED, VARIABLE
 from .rust_library import built_examples
 
 EXAMPLES = ROOT / "library" / "examples"
-MEMORY = Path("/dev/shm")
 SECONDS = 300
 
 
@@ -25,9 +22,7 @@ class ExampleCase(Case):
 
     def setUp(self) -> None:
         super().setUp()
-        where = MEMORY if MEMORY.is_dir() else None
-        self.home = Path(tempfile.mkdtemp(prefix="dukpt-test-", dir=where))
-        self.addCleanup(shutil.rmtree, self.home, ignore_errors=True)
+        self.home = self.folder(in_memory=True)
 
     def command(self, name: str) -> list[str]:
         """The words that start an example."""

@@ -1,5 +1,5 @@
-"""What a loss of power may leave of a ledger and of a new file of lines, by the calls of the run of `issue` that
-wrote them.
+"""What a loss of power may leave of a ledger and of a new file of lines, by the calls of the run of `issue`
+that wrote them.
 
 Of the ledger, which has its size, any bytes where it was written since its last sync. Of the file of lines no
 name before its folder was synced; and of what was written behind its last sync nothing, all, or a part, in
