@@ -159,6 +159,8 @@ cat "$4"
 echo proved=no
 exit 1
 """
+# The same, where none of four is built before all are begun.
+TRIES_TOGETHER = TRIES.replace("mkdir", 'while test "$(wc -l <"$NOTED")" -lt 4; do sleep 0.01; done\nmkdir', 1)
 SYSTEM = "/usr/bin:/bin"
 NO_KIT = b"dukpt: the program is not built, and there is no rt on PATH to build it\n"
 # What is said where a build without a proof is made.
@@ -302,7 +304,7 @@ class StartScript(Case):
         self.assertEqual(os.listdir(self.unproved.parent), programs)
 
     def test_unproved_twice_at_once(self) -> None:
-        scripts = [self.start("--unproved", str(at), kit=TRIES) for at in range(4)]
+        scripts = [self.start("--unproved", str(at), kit=TRIES_TOGETHER) for at in range(4)]
         for at, script in enumerate(scripts):
             self.check_built(self.ended(script), str(at))
         self.assert_clean(["dukpt"])
