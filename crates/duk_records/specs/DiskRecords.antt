@@ -1,0 +1,127 @@
+-- A list of entries in the records of a disk: this project's own.
+use Rattle.std.specs.Prelude.{◌≡◌, ◌≢◌, ◌⊎◌, ◌↔◌, ◌/◌, ◌++◌, ℕ, Bool, true, false, List, [], replicate, Option, Some, None, length, take, drop}
+use Rattle.duk_store.specs.Disk.{DiskMeaning, DiskState, HasFailed, LeavesReads, LeavesWithin, PreservesDisk}
+use Rattle.duk_store.specs.StoreState.{FindsOnly, PreservesNature, Stays, StoreState, Stops}
+use Rattle.duk_store.specs.declared.fault.StoreFault.{StoreFault}
+use Rattle.duk_store.specs.declared.fault.StoreFault.TheVariants.{Damaged, Device}
+use Rattle.duk_records.specs.Records.{IsRecordsSize, KeepsEntries, RecordFormat}
+use Rattle.duk_records.specs.Visits.{Visits}
+
+-- records on a disk: the disk, and how many entries are kept, while they are in use
+pub record RecordsOf (D : Type 0) : Type 0 where
+  pub disk : D
+  pub kept : Option ℕ
+
+-- as they are made: stopped
+abbrev pub new_records : {D : Type 0} → D → RecordsOf D
+new_records disk = record { disk = disk; kept = None }
+
+-- whether they are in use, and how many entries they count
+abbrev pub is_running : Option ℕ → Bool
+is_running None = false
+is_running (Some count) = true
+
+abbrev pub count_in : Option ℕ → ℕ
+count_in None = 0
+count_in (Some count) = count
+
+-- a restart may find this list: some bytes that a stop could leave keep it
+abbrev pub MayFind : {E : Type 0} → RecordFormat E → DiskState → List E → Type 0
+MayFind format disk entries =
+    (bytes : List ℕ) × disk.may_leave bytes × KeepsEntries format bytes entries
+
+-- the disk has a size of whole records, and all bytes that a stop could leave keep some list
+pub record IsSound {E : Type 0} (format : RecordFormat E) (disk : DiskState) : Type 0 where
+  pub size : IsRecordsSize format.width disk.size
+  pub each_keeps : (bytes : List ℕ) → disk.may_leave bytes
+      → (entries : List E) × KeepsEntries format bytes entries
+
+-- the state of a store of records, by that of its disk
+abbrev pub records_state :
+    {E : Type 0} → RecordFormat E → DiskState → Option ℕ → StoreState (List E)
+records_state format disk kept = record {
+  honest = disk.honest;
+  sound = IsSound format disk;
+  calm = disk.calm;
+  running = is_running kept;
+  found = MayFind format disk;
+  failures = disk.failures;
+}
+
+abbrev pub state_of :
+    {E D : Type 0} → RecordFormat E → DiskMeaning D → RecordsOf D → StoreState (List E)
+state_of format meaning records =
+    records_state format (meaning.state_of records.disk) records.kept
+
+-- how many entries the disk has room for
+abbrev pub capacity_of : {E D : Type 0} → RecordFormat E → DiskMeaning D → RecordsOf D → ℕ
+capacity_of format meaning records = (meaning.state_of records.disk).size / format.width
+
+-- a disk of which a stop leaves zero bytes, whether or not a device step is to fail
+pub record IsZeroDisk (width : ℕ) (disk : DiskState) : Type 0 where
+  pub size : IsRecordsSize width disk.size
+  pub zeros : (bytes : List ℕ) → disk.may_leave bytes ↔ (bytes ≡ replicate disk.size 0)
+
+-- a new disk
+pub record IsBlankDisk (width : ℕ) (disk : DiskState) : Type 0 where
+  pub honest : disk.honest
+  pub calm : disk.calm
+  pub zero : IsZeroDisk width disk
+
+-- the list that a restart found, of so many entries, which it showed to a visitor in their order:
+-- of an honest disk, what a restart would find now, and could find before
+pub record IsListFound
+    {E V : Type 0} (visits : V → E → V → Type 0) (visitor shown : V)
+    (old new : StoreState (List E)) (count : ℕ) (entries : List E) : Type 0 where
+  pub counted : length entries ≡ count
+  pub visited : Visits visits visitor entries shown
+  pub finds : old.honest → FindsOnly new entries
+  pub was_found : old.honest → old.found entries
+
+-- a restart that found this many entries: all that a stop could leave now keeps them, so that a
+-- store on an honest disk is sound from then on, whatever it was made over
+pub record AreRestarted
+    {E V : Type 0} (visits : V → E → V → Type 0) (visitor shown : V)
+    (old new : StoreState (List E)) (count : ℕ) : Type 0 where
+  pub nature : PreservesNature old new
+  pub sound : old.honest → new.sound
+  pub no_failure : new.failures ≡ old.failures
+  pub runs : new.running ≡ true
+  pub found : (entries : List E) × IsListFound visits visitor shown old new count entries
+
+-- these lists, each with the whole group at its end
+abbrev pub WithGroup : {E : Type 0} → (List E → Type 0) → List E → List E → Type 0
+WithGroup {E} lists group entries =
+    (earlier : List E) × lists earlier × (entries ≡ earlier ++ group)
+
+-- a group that is appended: a restart finds the list with all of it at its end, and nothing else
+pub record IsAppended {E : Type 0} (old new : StoreState (List E)) (group : List E) : Type 0 where
+  pub nature : PreservesNature old new
+  pub no_failure : new.failures ≡ old.failures
+  pub was_running : old.running ≡ true
+  pub runs : new.running ≡ true
+  pub finds : old.honest → (entries : List E) → FindsOnly old entries
+      → FindsOnly new (entries ++ group)
+
+-- an append in which a device step failed: a restart finds one of the old lists, or one of them with
+-- the whole group
+pub record AppendFailed
+    {E : Type 0} (old new : StoreState (List E)) (group : List E) (fault : StoreFault)
+    : Type 0 where
+  pub fault_is : fault ≡ Device
+  pub was_running : old.running ≡ true
+  pub stops : Stops old new (λ entries. old.found entries ⊎ WithGroup old.found group entries)
+  pub failure : new.failures ≢ old.failures
+
+-- these entries stand from this place on in each list that a restart may find
+abbrev pub StandFrom : {E : Type 0} → StoreState (List E) → ℕ → List E → Type 0
+StandFrom {E} store place entries =
+    (kept : List E) → store.found kept → take (length entries) (drop place kept) ≡ entries
+
+-- a reading in which the device step failed: a restart may find what it could find before
+pub record ReadFailed {E : Type 0} (old new : StoreState (List E)) (fault : StoreFault) : Type 0 where
+  pub fault_is : fault ≡ Device
+  pub not_calm : ¬ old.calm
+  pub stops : Stops old new old.found
+  pub keeps : old.honest → (entries : List E) → old.found entries → new.found entries
+  pub failure : new.failures ≢ old.failures

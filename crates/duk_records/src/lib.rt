@@ -1,0 +1,11 @@
+//! Lists of entries in the records of a disk, which outlive a stop.
+#![tactic(auto)]
+
+mod format;
+pub mod laws;
+mod reading;
+mod visitor;
+
+pub use format::{Format, Said};
+pub use reading::Reading;
+pub use visitor::{Unseen, Visitor};
