@@ -1,2 +1,6 @@
 mod Addresses
+mod EntriesRead
+mod GroupWritten
 mod KeptEntries
+mod RecordsRead
+mod StepsInTurn

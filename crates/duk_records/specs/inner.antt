@@ -1,3 +1,4 @@
+pub mod DiskRecords
 pub mod Format
 pub mod Groups
 pub mod GroupSteps

@@ -2,8 +2,10 @@
 #![tactic(auto)]
 
 mod format;
+mod group_steps;
 pub mod laws;
 mod reading;
+mod record_steps;
 mod visitor;
 
 pub use format::{Format, Said};

@@ -177,3 +177,54 @@ fn said_in<F: Format>(format: &F, bytes: &[u8]) -> Result<Said<F::Entry>, StoreF
         None => Err(StoreFault::Damaged),
     }
 }
+
+/// Reads the entries of a piece's records into all of `entries`.
+///
+/// Refused with `Damaged` where a record has none.
+pub fn read_entries<F: Format>(
+    format: &F,
+    piece: &[u8],
+    entries: &mut [F::Entry],
+) -> Result<(), StoreFault>
+    requires { length piece.now ≡ F.meaning.width * length entries.old }
+    ensures read { OnOk result (HaveEntries F.meaning (length entries.new) entries.new piece.now) }
+    ensures length { length entries.new ≡ length entries.old }
+    ensures refused { IfErr result (λ fault. (fault ≡ StoreFault.Damaged)
+        × LacksEntry F.meaning (length entries.old) piece.now) }
+{
+    format.laws();
+    let width = format.width();
+    for index in 0..entries.len() {
+        let at = width * index;
+        let said = said_in(format, &piece[at..at + width])?;
+        entries[index] = said.entry;
+    }
+    Ok(())
+}
+
+/// How many entries are kept, where all records were read.
+///
+/// Refused with `Damaged` where the last group goes past the end.
+pub fn finish_reading<F: Format>(format: &F, reading: Reading) -> Result<u64, StoreFault>
+    ensures kept { IfOk result (λ kept. kept ≡ kept_in reading) }
+    ensures whole { IfOk result (λ _. (entries : List F.Entry) (records : ℕ) (bytes : List ℕ)
+        → length bytes ≡ F.meaning.width * records
+        → HasRead F.meaning reading entries records bytes
+        → KeepsEntries F.meaning bytes entries) }
+    ensures refused { IfErr result (λ fault. (fault ≡ StoreFault.Damaged)
+        × ((entries : List F.Entry) (records : ℕ) (bytes : List ℕ)
+        → length bytes ≡ F.meaning.width * records
+        → HasRead F.meaning reading entries records bytes → KeepsNone F.meaning bytes)) }
+{
+    format.laws();
+    match reading {
+        Reading::Behind { kept } => Ok(kept),
+        Reading::Groups { kept, left } => {
+            if left == 0 {
+                Ok(kept)
+            } else {
+                Err(StoreFault::Damaged)
+            }
+        }
+    }
+}

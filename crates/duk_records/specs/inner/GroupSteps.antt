@@ -1,7 +1,7 @@
 -- What the device calls of an append do to the disk of records, where they are done and where one
 -- fails: this project's own.
-use Rattle.std.specs.Prelude.{◌≡◌, ◌≢◌, ◌⊎◌, ◌<◌, ◌≤◌, ◌+◌, ◌*◌, ◌^◌, ℕ, List, length}
-use Rattle.duk_store.specs.Disk.{DiskState, HasFailed, LeavesReads, PreservesDisk}
+use Rattle.std.specs.Prelude.{◌≡◌, ◌≢◌, ◌⊎◌, ◌<◌, ◌≤◌, ◌+◌, ◌-◌, ◌*◌, ◌^◌, ℕ, List, length}
+use Rattle.duk_store.specs.Disk.{DiffersWithin, DiskState, HasFailed, LeavesChanged, LeavesReads, PreservesDisk, written}
 use Rattle.duk_store.specs.declared.fault.StoreFault.{StoreFault}
 use Rattle.duk_records.specs.Records.{IsOpen, RecordFormat, after_gate, gate_of, record_at}
 use Rattle.duk_records.specs.inner.Groups.{AreWritten}
@@ -35,6 +35,28 @@ LeavesOne disk = disk.honest → LeavesReads disk
 abbrev pub MayLeaveChanged : (List ℕ → List ℕ → Type 0) → DiskState → DiskState → Type 0
 MayLeaveChanged change old new =
     old.honest → (bytes : List ℕ) → new.may_leave bytes → change old.reads bytes
+
+-- bytes in which the contents of the record at a place are any
+abbrev pub DiffersInContents : ℕ → ℕ → List ℕ → List ℕ → Type 0
+DiffersInContents width place = DiffersWithin (width * place + 1) (width - 1)
+
+-- the contents of a record are written, and not synced: they say an entry
+pub record IsEntryWritten
+    {E : Type 0} (format : RecordFormat E) (place followers : ℕ) (entry : E) (old new : DiskState)
+    : Type 0 where
+  pub nature : PreservesDisk old new
+  pub no_failure : new.failures ≡ old.failures
+  pub torn : LeavesChanged (DiffersInContents format.width place) old new
+  pub contents : List ℕ
+  pub whole : length contents ≡ format.width - 1
+  pub says : format.says contents followers entry
+  pub reads : old.honest → new.reads ≡ written old.reads (format.width * place + 1) contents
+
+-- the device call failed in it
+pub record EntryUnwritten (width place : ℕ) (old new : DiskState) (fault : StoreFault) : Type 0 where
+  pub nature : PreservesDisk old new
+  pub failed : HasFailed old new fault
+  pub torn : LeavesChanged (DiffersInContents width place) old new
 
 -- the contents of the first records of a group are written, and not synced
 pub record AreContentsWritten
