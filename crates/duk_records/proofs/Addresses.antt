@@ -1,9 +1,9 @@
 -- Where records stand, and what a write leaves of them, whole or torn.
-use Rattle.std.proofs.Common.{◌≡◌, ◌≢◌, ◌⊎◌, inl, inr, ℕ, zero, suc, ◌+◌, ◌-◌, ◌*◌, ◌<◌, ◌≤◌, List, [], ◌∷◌, ◌++◌, length, get_or, take, drop, replicate, refl, sym, ◌∙◌, ap, arith, length-drop}
+use Rattle.std.proofs.Common.{◌≡◌, ◌≢◌, ◌⊎◌, inl, inr, ℕ, ◌+◌, ◌-◌, ◌*◌, ◌<◌, ◌≤◌, List, [], ◌∷◌, ◌++◌, length, get_or, take, drop, replicate, refl, sym, ◌∙◌, ap, arith, length-drop}
 use Rattle.std.proofs.Math.Nat.{mul-add, mul-le-mul_left}
 use Rattle.std.proofs.lemmas.Bool.{cases_lt}
 use Rattle.std.proofs.lemmas.Grind.{same_number_lists}
-use Rattle.std.proofs.lemmas.List.{drop-drop, drop-take, drop_all, drop_at, get_or-drop, get_or-replicate, get_or-take, get_or_past, length-replicate, length-take, length-take-le, places, take-take, take_at}
+use Rattle.std.proofs.lemmas.List.{drop-drop, drop-take, drop_all, drop_at, get_or-drop, get_or-replicate, get_or-take, get_or_past, length-replicate, length-take, length-take-le, places, take-take, take_all, take_at}
 use Rattle.duk_store.specs.Disk.{DiffersWithin, range_of, written}
 use Rattle.duk_records.specs.Records.{IsOpen, after_gate, gate_of, record_at}
 use Rattle.duk_records.specs.inner.GroupSteps.{LeavesAllButGate, LeavesGates}
@@ -19,10 +19,6 @@ range_same from count x y lengths same =
     let below : k < count = omega (arith, less, length-take count (drop from y)) in
     get_or-take count (drop from y) k 0 below ∙ get_or-drop from y k 0 ∙ same (from + k) (omega arith) (omega (arith, below))
     ∙ sym (get_or-take count (drop from x) k 0 below ∙ get_or-drop from x k 0))
-
-take_none : (count : ℕ) → take count ([] {A = ℕ}) ≡ []
-take_none zero = refl
-take_none (suc count) = refl
 
 -- bytes that are written over others
 module _ (x bytes : List ℕ) (at : ℕ) (inside : at + length bytes ≤ length x) where
@@ -62,7 +58,7 @@ module _ (w : ℕ) where
   pub past_end : (records later : ℕ) (bytes : List ℕ) → length bytes ≡ w * records → records ≤ later → record_at w later bytes ≡ []
   past_end records later bytes size past =
       let behind : w * records ≤ w * later = begins_behind records later past in
-      ap (take w) (drop_all (w * later) bytes (omega (arith, size, behind))) ∙ take_none w
+      take_all w (drop (w * later) bytes) (omega (arith, size, behind, length-drop (w * later) bytes)) ∙ drop_all (w * later) bytes (omega (arith, size, behind))
 
   -- a record of a piece is one of the whole
   pub record_in_piece : (place index : ℕ) (piece bytes : List ℕ) → StandsAt w place piece bytes → w * index + w ≤ length piece → record_at w (place + index) bytes ≡ record_at w index piece

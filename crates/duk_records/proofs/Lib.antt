@@ -2,5 +2,6 @@ mod Addresses
 mod EntriesRead
 mod GroupWritten
 mod KeptEntries
+mod RecordsOnDisk
 mod RecordsRead
 mod StepsInTurn

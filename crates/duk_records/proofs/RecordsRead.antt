@@ -1,11 +1,12 @@
 -- What each record that is read says of the entries that are kept.
-use Rattle.std.proofs.Common.{◌≡◌, ◌⊎◌, inl, inr, ℕ, zero, suc, ◌+◌, ◌-◌, ◌*◌, ◌≤◌, List, [], ◌∷◌, ◌++◌, length, length-append, refl, sym, ◌∙◌, ap, subst, arith}
+use Rattle.std.proofs.Common.{◌≡◌, ◌⊎◌, inl, inr, ℕ, zero, suc, ◌+◌, ◌-◌, ◌*◌, ◌<◌, ◌≤◌, List, [], ◌∷◌, ◌++◌, length, length-append, refl, sym, ◌∙◌, ap, subst, arith}
 use Rattle.std.proofs.lemmas.Bool.{cases_lt}
 use Rattle.std.proofs.lemmas.List.{append-nil, append_assoc}
 use Rattle.duk_records.specs.Records.{AreClosedFrom, AreKeptFrom, HasEntry, IsOpen, KeepsEntries, NeedsContents, RecordFormat, SaysOne, after_gate, record_at}
 use Rattle.duk_records.specs.Visits.{Visits}
-use Rattle.duk_records.specs.inner.Reading.{HasNoEntry, HasReadBehind, HasReadGroups, KeepsNone}
-use Rattle.duk_records.proofs.Addresses.{past_end}
+use Rattle.duk_records.specs.inner.Reading.{Breaks, BreaksIn, HasNoEntry, HasRead, HasReadBehind, HasReadGroups, IsPieceRead, IsReadOn, KeepsNone}
+use Rattle.duk_records.specs.declared.reading.Reading.{Reading}
+use Rattle.duk_records.proofs.Addresses.{ends_before, past_end, record_in_piece}
 
 -- one visit after others
 pub visits_then : {V E : Type 0} (visits : V → E → V → Type 0) (xs ys : List E) (a b c : V) → Visits visits a xs b → Visits visits b ys c → Visits visits a (xs ++ ys) c
@@ -119,3 +120,39 @@ module _ {E : Type 0} (format : RecordFormat E) where
           never (suc left) some wrong [] are = are
           never (suc left) some (inl is_open) (p ∷ rest) are = are.0 is_open
           never (suc left) some (inr none) (p ∷ rest) are = none p are.1
+
+-- the records of a piece, one after the other
+module _ {E V : Type 0} (format : RecordFormat E) (visits : V → E → V → Type 0) (before : Reading) (piece : List ℕ) where
+  pub piece_begun : (v : V) → IsPieceRead format visits before piece 0 v v before
+  piece_begun v = record {
+    more = [];
+    visited = refl;
+    counted = omega arith;
+    at_most = omega arith;
+    continues = λ entries place bytes stands was.
+        let here : place ≡ place + 0 = omega arith in
+        subst (λ (l : List E). HasRead format before l (place + 0) bytes) (sym (append-nil entries)) (subst (λ (at : ℕ). HasRead format before entries at bytes) here was);
+  }
+
+  module _ (count index : ℕ) (size : length piece ≡ format.width * count) (less : index < count) (first mid : V) (reading : Reading) (so_far : IsPieceRead format visits before piece index first mid reading) where
+    inside : format.width * index + format.width ≤ length piece
+    inside = let ends : format.width * index + format.width ≤ format.width * count = ends_before format.width index count less in omega (arith, ends, size)
+
+    pub piece_on : (record_bytes : List ℕ) (now : V) (after : Reading) → record_bytes ≡ record_at format.width index piece → IsReadOn format visits reading record_bytes mid now after → IsPieceRead format visits before piece (index + 1) first now after
+    piece_on record_bytes now after is next = record {
+      more = so_far.more ++ next.more;
+      visited = visits_then visits so_far.more next.more first mid now so_far.visited next.visited;
+      counted = omega (arith, so_far.counted, next.counted, length-append so_far.more next.more);
+      at_most = omega (arith, so_far.at_most, next.at_most, length-append so_far.more next.more);
+      continues = λ entries place bytes stands was.
+          let here : record_at format.width (place + index) bytes ≡ record_bytes = record_in_piece format.width place index piece bytes stands inside ∙ sym is in
+          let there : place + index + 1 ≡ place + (index + 1) = omega arith in
+          subst (λ (l : List E). HasRead format after l (place + (index + 1)) bytes) (append_assoc entries so_far.more next.more)
+          (subst (λ (at : ℕ). HasRead format after ((entries ++ so_far.more) ++ next.more) at bytes) there
+          (next.continues (entries ++ so_far.more) (place + index) bytes here (so_far.continues entries place bytes stands was)));
+    }
+
+    pub piece_breaks : (record_bytes : List ℕ) → record_bytes ≡ record_at format.width index piece → Breaks format reading record_bytes → BreaksIn format before piece
+    piece_breaks record_bytes is breaks entries place bytes stands was =
+        let here : record_at format.width (place + index) bytes ≡ record_bytes = record_in_piece format.width place index piece bytes stands inside ∙ sym is in
+        breaks (entries ++ so_far.more) (place + index) bytes here (so_far.continues entries place bytes stands was)

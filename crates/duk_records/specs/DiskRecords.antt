@@ -1,9 +1,9 @@
 -- A list of entries in the records of a disk: this project's own.
 use Rattle.std.specs.Prelude.{◌≡◌, ◌≢◌, ◌⊎◌, ◌↔◌, ◌/◌, ◌++◌, ℕ, Bool, true, false, List, [], replicate, Option, Some, None, length, take, drop}
-use Rattle.duk_store.specs.Disk.{DiskMeaning, DiskState, HasFailed, LeavesReads, LeavesWithin, PreservesDisk}
-use Rattle.duk_store.specs.StoreState.{FindsOnly, PreservesNature, Stays, StoreState, Stops}
+use Rattle.duk_store.specs.Disk.{DiskMeaning, DiskState}
+use Rattle.duk_store.specs.StoreState.{FindsAsBefore, FindsOnly, IsAlreadyStopped, PreservesNature, Stays, StoreState, Stops}
 use Rattle.duk_store.specs.declared.fault.StoreFault.{StoreFault}
-use Rattle.duk_store.specs.declared.fault.StoreFault.TheVariants.{Damaged, Device}
+use Rattle.duk_store.specs.declared.fault.StoreFault.TheVariants.{Damaged, Device, Stopped}
 use Rattle.duk_records.specs.Records.{IsRecordsSize, KeepsEntries, RecordFormat}
 use Rattle.duk_records.specs.Visits.{Visits}
 
@@ -118,10 +118,20 @@ abbrev pub StandFrom : {E : Type 0} → StoreState (List E) → ℕ → List E �
 StandFrom {E} store place entries =
     (kept : List E) → store.found kept → take (length entries) (drop place kept) ≡ entries
 
--- a reading in which the device step failed: a restart may find what it could find before
-pub record ReadFailed {E : Type 0} (old new : StoreState (List E)) (fault : StoreFault) : Type 0 where
-  pub fault_is : fault ≡ Device
+-- a reading in which the device step failed: the records are stopped, and a restart may find what it
+-- could find before
+pub record ReadStopped {E : Type 0} (old new : StoreState (List E)) : Type 0 where
+  pub was_running : old.running ≡ true
+  pub nature : PreservesNature old new
   pub not_calm : ¬ old.calm
-  pub stops : Stops old new old.found
-  pub keeps : old.honest → (entries : List E) → old.found entries → new.found entries
+  pub stopped : new.running ≡ false
+  pub found : FindsAsBefore old new
   pub failure : new.failures ≢ old.failures
+
+-- why entries are not read
+abbrev pub ReadRefused :
+    {E : Type 0} → StoreState (List E) → StoreState (List E) → StoreFault → Type 0
+ReadRefused old new Device = ReadStopped old new
+ReadRefused old new Stopped = IsAlreadyStopped old new
+ReadRefused old new Damaged = Stays old new × (old.running ≡ true) × (¬ old.honest)
+ReadRefused old new _ = ⊥

@@ -3,7 +3,7 @@
 ghost use Rattle.std.specs.Prelude.{◌≡◌, ◌≢◌, ◌+◌, ◌*◌, ◌<◌, ◌≤◌, ◌^◌, ℕ, List, length, IfErr, IfOk, OnOk};
 ghost use Rattle.duk_records.specs.inner.Format.{IsSaid};
 ghost use Rattle.duk_records.specs.inner.Reading.{Breaks, BreaksIn, HasNoEntry, HasRead, HaveEntries, IsPieceRead, IsReadOn, KeepsNone, LacksEntry, kept_in};
-ghost use Rattle.duk_records.specs.Records.{KeepsEntries, after_gate};
+ghost use Rattle.duk_records.specs.Records.{KeepsEntries, after_gate, record_at};
 ghost use Rattle.duk_records.specs.declared.reading.Reading.TheVariants.{Behind, Groups};
 
 use crate::format::{Format, Said};
@@ -47,14 +47,24 @@ pub fn read_piece<F: Format, V: Visitor<F::Entry>>(
     ensures refused { IfErr result (λ fault. (fault ≡ StoreFault.Damaged)
         × BreaksIn F.meaning reading piece.now) }
 {
-    format.laws();
-    let width = format.width();
     let mut reading = reading;
     for index in 0..count {
-        let at = width * index;
-        reading = read_next(format, reading, &piece[at..at + width], visitor)?;
+        let bytes = nth_record(format, piece, count, index);
+        reading = read_next(format, reading, bytes, visitor)?;
     }
     Ok(reading)
+}
+
+/// The record at a place of a piece of so many.
+fn nth_record<'a, F: Format>(format: &F, piece: &'a [u8], count: usize, index: usize) -> &'a [u8]
+    requires whole { length piece.now ≡ F.meaning.width * count }
+    requires inside { index < count }
+    ensures bytes { result.now ≡ record_at F.meaning.width index piece.now }
+    ensures length { length result.now ≡ F.meaning.width }
+{
+    let width = format.width();
+    let at = width * index;
+    &piece[at..at + width]
 }
 
 /// Reads one more record.
@@ -192,11 +202,9 @@ pub fn read_entries<F: Format>(
     ensures refused { IfErr result (λ fault. (fault ≡ StoreFault.Damaged)
         × LacksEntry F.meaning (length entries.old) piece.now) }
 {
-    format.laws();
-    let width = format.width();
-    for index in 0..entries.len() {
-        let at = width * index;
-        let said = said_in(format, &piece[at..at + width])?;
+    let count = entries.len();
+    for index in 0..count {
+        let said = said_in(format, nth_record(format, piece, count, index))?;
         entries[index] = said.entry;
     }
     Ok(())
