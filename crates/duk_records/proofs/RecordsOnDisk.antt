@@ -1,20 +1,21 @@
 -- The meaning of records on a disk, from what their disk may leave.
-use Rattle.std.proofs.Common.{◌≡◌, ◌≢◌, ◌⊎◌, ◌↔◌, inl, inr, ℕ, ◌+◌, ◌*◌, ◌<◌, ◌≤◌, List, [], ◌++◌, Option, Some, None, length, take, drop, replicate, refl, sym, ◌∙◌, ap, subst, arith, length-append, append-nil}
-use Rattle.std.proofs.lemmas.Bool.{cases_eq}
-use Rattle.duk_store.specs.Disk.{DiskState, LeavesItsSize, LeavesWithin, PreservesBytes, PreservesDisk, ReadsMayStay}
+use Rattle.std.proofs.Common.{◌≡◌, ◌≢◌, ◌⊎◌, ◌↔◌, inl, inr, ℕ, ◌+◌, ◌*◌, ◌<◌, ◌≤◌, List, [], ◌++◌, Option, Some, None, length, take, drop, replicate, true, refl, sym, ◌∙◌, ap, subst, arith, length-append, append-nil}
+use Rattle.std.proofs.lemmas.Bool.{cases_eq, false≢true}
+use Rattle.duk_store.specs.Disk.{DiskState, LeavesItsSize, LeavesReads, LeavesWithin, PreservesBytes, PreservesDisk, ReadsMayStay, range_of}
 use Rattle.duk_store.specs.Restart.{RestartFailed}
 use Rattle.duk_store.specs.StoreState.{FindsAsBefore, IsNew, KeepsNothing, PreservesNature}
 use Rattle.duk_store.specs.declared.fault.StoreFault.{StoreFault}
 use Rattle.duk_store.specs.declared.fault.StoreFault.TheVariants as fault
 use Rattle.duk_records.specs.Records.{AreClosedFrom, IsOpen, IsRecordsSize, KeepsEntries, RecordFormat, SaysOne, gate_of, record_at}
-use Rattle.duk_records.specs.DiskRecords.{AppendFailed, AreRestarted, IsAppended, IsBlankDisk, IsSound, IsZeroDisk, MayFind, WithGroup, is_running, records_state}
-use Rattle.duk_records.specs.inner.DiskRecords.{AreCounted, AreRecordsRead, AreUp, CountFailed, HasSeen, IsDamagedDisk, IsOpenNow, KnowsCount, UpFailed}
+use Rattle.duk_records.specs.DiskRecords.{AppendFailed, AreRestarted, IsAppended, IsBlankDisk, IsSound, IsZeroDisk, MayFind, StandFrom, WithGroup, count_in, is_running, records_state}
+use Rattle.duk_records.specs.inner.DiskRecords.{AreCounted, AreRecordsRead, AreUp, CountFailed, HasSeen, IsDamagedDisk, IsOpenNow, KnowsCount, KnowsRecords, UpFailed}
 use Rattle.duk_records.specs.inner.GroupSteps.{GroupFailed, IsGroupTorn, IsGroupWritten, WritesGroup}
 use Rattle.duk_records.specs.inner.Groups.{AreWritten}
-use Rattle.duk_records.specs.inner.Reading.{HasRead}
+use Rattle.duk_records.specs.inner.Reading.{HasRead, HaveEntries, LacksEntry}
 use Rattle.duk_records.specs.declared.reading.Reading.{Reading}
 use Rattle.duk_records.specs.declared.reading.Reading.TheVariants.{Groups}
-use Rattle.duk_records.proofs.Addresses.{zeros_closed}
+use Rattle.duk_records.proofs.Addresses.{begins_behind, zeros_closed}
+use Rattle.duk_records.proofs.EntriesRead.{are_kept, none_lacks}
 use Rattle.duk_records.proofs.KeptEntries.{closed_behind, group_kept, kept_once, kept_onto}
 use Rattle.duk_records.proofs.RecordsRead.{nothing_read, visits_then}
 use Rattle.duk_records.proofs.StepsInTurn.{fails_later, keeps_on}
@@ -287,3 +288,50 @@ module _ {E : Type 0} (format : RecordFormat E) where
     not_up fault.Stopped failed = absurd failed.cause
     not_up fault.Worn failed = absurd failed.cause
     not_up fault.NoMemory failed = absurd failed.cause
+
+  -- nothing is written where the records are brought up
+  pub up_within : (before after : DiskState) {V : Type 0} (visits : V → E → V → Type 0) (first now : V) (count : ℕ) → AreUp format visits first now before after count → LeavesWithin before after
+  up_within before after visits first now count up h bytes left = subst (λ (l : List ℕ). before.may_leave l) (sym ((up.leaves h bytes).0 left)) (up.found h)
+
+  -- what is known of the disk of records that may be stopped
+  pub kept_inside : (disk : DiskState) (kept : Option ℕ) → KnowsRecords format disk kept → format.width * count_in kept ≤ disk.size
+  kept_inside disk None knows = omega arith
+  kept_inside disk (Some count) knows = knows.fits
+
+  pub leaves_one : (disk : DiskState) (kept : Option ℕ) → KnowsRecords format disk kept → is_running kept ≡ true → disk.honest → LeavesReads disk
+  leaves_one disk None knows runs honest = absurd (false≢true runs)
+  leaves_one disk (Some count) knows runs honest = (knows.holds honest).leaves
+
+  -- ---- entries that are read
+
+  module _ (before after : DiskState) (nature : PreservesDisk before after) (bytes : PreservesBytes before after) where
+    pub found_as_before : (old new : Option ℕ) → FindsAsBefore (records_state format before old) (records_state format after new)
+    found_as_before old new h value = (
+      (λ finds. (finds.0, (bytes.may_leave finds.0).0 finds.1, finds.2)),
+      (λ finds. (finds.0, (bytes.may_leave finds.0).1 finds.1, finds.2)),
+    )
+
+    pub read_nature : (old new : Option ℕ) → PreservesNature (records_state format before old) (records_state format after new)
+    read_nature old new = record {
+      honest = nature.honest;
+      sound = λ h sound. record { size = rw nature.size sound.size; each_keeps = λ left could. sound.each_keeps left ((bytes.may_leave left).0 could) };
+      calm = nature.calm;
+    }
+
+  module _ (says : SaysOne format) (disk : DiskState) (count place : ℕ) (knows : KnowsCount format count disk) (lengths : LeavesItsSize disk) (stays : ReadsMayStay disk) where
+    read_inside : (n : ℕ) → place + n ≤ count → disk.honest → format.width * (place + n) ≤ length disk.reads
+    read_inside n within h =
+        let front : format.width * (place + n) ≤ format.width * count = begins_behind format.width (place + n) count within in
+        omega (arith, front, knows.fits, lengths h disk.reads (stays h))
+
+    pub stand_there : (entries : List E) (kept : Option ℕ) → place + length entries ≤ count → disk.honest → HaveEntries format (length entries) entries (range_of (format.width * place) (format.width * length entries) disk.reads) → StandFrom (records_state format disk kept) place entries
+    stand_there entries kept within h have list finds =
+        let holds = knows.holds h in
+        let is : list ≡ holds.has.0 = kept_once format says list holds.has.0 0 0 disk.reads (subst (λ (bytes : List ℕ). KeepsEntries format bytes list) ((holds.leaves finds.0).0 finds.1) finds.2) holds.has.1 in
+        ap (λ (l : List E). take (length entries) (drop place l)) is
+        ∙ are_kept format says holds.has.0 disk.reads place (length entries) holds.has.1 (omega (arith, within, holds.has.2)) (read_inside (length entries) within h) entries refl have
+
+    pub none_lacks_there : (n : ℕ) → place + n ≤ count → disk.honest → ¬ LacksEntry format n (range_of (format.width * place) (format.width * n) disk.reads)
+    none_lacks_there n within h lacks =
+        let holds = knows.holds h in
+        none_lacks format says holds.has.0 disk.reads place n holds.has.1 (omega (arith, within, holds.has.2)) (read_inside n within h) lacks
