@@ -21,4 +21,4 @@ pub use numbers::ReversalNumbers;
 pub use reply::{ReversalReply, read_reversal_reply};
 pub use reversal::{Reversal, read_reversal};
 pub use state::ReversalState;
-pub use text::ReversalText;
+pub use text::{ReversalText, with_mac};

@@ -51,8 +51,8 @@ pub(crate) fn append(text: &mut ReversalText, bytes: &[u8])
     text.try_extend_from_slice(bytes).unwrap();
 }
 
-/// The frame of a text and its MAC.
-pub(crate) fn with_mac(text: &ReversalText, mac: [u8; MAC_LENGTH]) -> Frame
+/// The frame with this text and this MAC: their length in two bytes, the text and the MAC.
+pub fn with_mac(text: &ReversalText, mac: [u8; MAC_LENGTH]) -> Frame
     ensures frame { result.items ≡ framed (text.now.items ++ mac) }
     ensures mac { IsBlock mac }
 {
