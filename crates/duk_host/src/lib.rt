@@ -34,6 +34,6 @@ pub use issuer::Issuer;
 pub use payment::Payment;
 pub use reply::{code_for, reply_with};
 pub use service::serve;
-pub use steps::{admit, authenticate, authenticate_opened};
+pub use steps::{admit, authenticate_opened};
 pub use table::TableIssuer;
 pub use used::UsedNumbers;

@@ -15,32 +15,12 @@ use crate::payment::Payment;
 use crate::reason::Reason;
 use crate::used::UsedNumbers;
 use duk_frame::{Frame, mac_text, read_request};
-use duk_hsm::{Hsm, HsmFault, Transaction};
+use duk_hsm::{HsmFault, Transaction};
 use duk_tree::Ksn;
 
-/// Reads a request, opens its number and verifies its MAC, or gives the frame of its refusal, whose
-/// reason is one of 1 to 4.
-pub fn authenticate<const N: usize>(hsm: &Hsm<N>, bytes: &[u8]) -> Result<Payment, Frame>
-    ensures request { IfOk result (λ payment. IsRequest bytes.now payment.request) }
-    ensures authentic { IfOk result (λ payment. IsAuthentic hsm.now payment.request) }
-    ensures opened { IfOk result
-        (λ payment. AreTransactionKeys hsm.now payment.request.ksn payment.transaction) }
-    ensures refused { IfErr result (λ frame. (numbers : Numbers) (room : ℕ) (decides : Decision)
-        → IsRefusalFor (basis_with hsm.now numbers [] room decides) bytes.now frame.items) }
-    ensures not_authentic { IfErr result (λ _. (request : Request)
-        → IsRequest bytes.now request → ¬ IsAuthentic hsm.now request) }
-{
-    duk_frame::laws::one_reading();
-    let opened = match read_request(bytes) {
-        Some(request) => hsm.open(request.ksn),
-        // It is not looked at where there is no request.
-        None => Err(HsmFault::NoKeySet),
-    };
-    authenticate_opened(opened, bytes)
-}
-
 /// Reads a request whose number was opened to this and verifies its MAC, or gives the frame of its
-/// refusal, as `authenticate` does. What was opened is not looked at where the bytes are no request.
+/// refusal, whose reason is one of 1 to 4. What was opened is not looked at where the bytes are no
+/// request.
 pub fn authenticate_opened(
     opened: Result<Transaction, HsmFault>,
     bytes: &[u8],
