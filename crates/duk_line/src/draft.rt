@@ -1,7 +1,6 @@
 //! Answers whose MACs are made together.
 
 ghost use Rattle.std.specs.Prelude.{◌≡◌, ◌≤◌, ◌<◌, ◌+◌, ◌++◌, ℕ, List, length, map};
-ghost use Rattle.duk_frame.specs.Frame.{framed};
 ghost use Rattle.duk_group.specs.Numbers.{bytes_at, message_at};
 ghost use Rattle.duk_host.specs.Judgement.{IsReplyWith};
 ghost use Rattle.duk_hsm.specs.Commands.{HasTransactionKey};
@@ -13,11 +12,10 @@ ghost use Rattle.duk_line.specs.Judgement.{IsReversalReplyWith};
 ghost use Rattle.duk_line.specs.inner.Draft.{AreDraftsUnder, IsDraftUnder, frame_of, frame_with, text_in};
 
 use crate::group::Group;
-use byteorder::{BigEndian, ByteOrder};
 use duk_frame::{Code, Frame, reply_text};
 use duk_group::WIDTH;
 use duk_hsm::OpenedGroup;
-use duk_reversal::{ReversalNumbers, ReversalReply, ReversalState, ReversalText};
+use duk_reversal::{ReversalNumbers, ReversalReply, ReversalState, ReversalText, with_mac};
 use duk_tree::Ksn;
 
 /// The bytes of a MAC.
@@ -88,7 +86,7 @@ impl Draft {
     {
         match self {
             Draft::Whole(frame) => copy_of(frame),
-            Draft::Reply { text, .. } => reply_of(text, mac),
+            Draft::Reply { text, .. } => with_mac(text, mac),
         }
     }
 }
@@ -100,19 +98,6 @@ fn copy_of(frame: &Frame) -> Frame
     let mut copy = Frame::new();
     copy.try_extend_from_slice(frame.as_slice()).unwrap();
     copy
-}
-
-/// The frame of a text and its MAC.
-fn reply_of(text: &ReversalText, mac: [u8; MAC_LENGTH]) -> Frame
-    ensures { result.items ≡ framed (text.now.items ++ mac) }
-{
-    let mut length = [0; 2];
-    BigEndian::write_u16(&mut length, (text.len() + MAC_LENGTH) as u16);
-    let mut frame = Frame::new();
-    frame.try_extend_from_slice(&length).unwrap();
-    frame.try_extend_from_slice(text.as_slice()).unwrap();
-    frame.try_extend_from_slice(&mac).unwrap();
-    frame
 }
 
 /// Makes the MACs of replies together, and adds the answers to the group in their order. They are
