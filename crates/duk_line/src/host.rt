@@ -10,7 +10,7 @@ ghost use Rattle.duk_line.specs.inner.Keep.{AreKept, KeepFailed, MayBeKept};
 
 use crate::group::Group;
 use crate::index::Index;
-use crate::judge::judge_frames;
+use crate::judge::{Filling, judge_frames};
 use crate::reading::index_of;
 use duk_frame::Frame;
 use duk_host::{HostFault, Issuer};
@@ -103,7 +103,8 @@ impl<const N: usize, J: Journal, I: Issuer> JournalHost<N, J, I> {
         };
         let kept = self.journal.len();
         let room = self.journal.room();
-        let judged = judge_frames(&self.hsm, &self.issuer, index, kept, room, frames, group);
+        let journal = Filling { kept, room };
+        let judged = judge_frames(&self.hsm, &self.issuer, index, journal, frames, group);
         match keep(&mut self.journal, group.entries()) {
             Ok(()) => {}
             Err(fault) => {

@@ -42,10 +42,18 @@ struct Room {
     payments: u64,
 }
 
+/// How full a journal is when a group begins: it keeps so many entries, and has room for so many
+/// more.
+#[derive(Clone, Copy)]
+pub(crate) struct Filling {
+    pub(crate) kept: u64,
+    pub(crate) room: u64,
+}
+
 /// Judges frames in turn, each with the index and the room as the earlier ones leave them, and adds
-/// their answers and entries to the group. A journal keeps so many entries, and has room for so
-/// many more. The numbers of `WIDTH` frames at a time are opened together, before the first of
-/// these is judged, and the MACs of their replies are made together, after the last.
+/// their answers and entries to the group. The numbers of `WIDTH` frames at a time are opened
+/// together, before the first of these is judged, and the MACs of their replies are made together,
+/// after the last.
 ///
 /// Where memory is refused, the frames before are judged, and there is no reason against the next.
 /// The index is then no longer that of a list of entries.
@@ -53,8 +61,7 @@ pub(crate) fn judge_frames<const N: usize, I: Issuer>(
     hsm: &Hsm<N>,
     issuer: &I,
     index: &mut Index,
-    kept: u64,
-    room: u64,
+    journal: Filling,
     frames: &[Frame],
     group: &mut Group,
 ) -> Result<(), AllocError>
@@ -62,22 +69,22 @@ pub(crate) fn judge_frames<const N: usize, I: Issuer>(
     requires zone { IsSome hsm.now.zone }
     requires no_answers { group.old.answers ≡ [] }
     requires no_entries { group.old.entries ≡ [] }
-    ensures judged { OnOk result ((capacity : ℕ) → room ≡ capacity - kept
-        → JudgesFrames hsm.now (I.decides issuer.now) capacity room
+    ensures judged { OnOk result ((capacity : ℕ) → journal.room ≡ capacity - journal.kept
+        → JudgesFrames hsm.now (I.decides issuer.now) capacity journal.room
         (map (λ frame. frame.items) frames.now) index.old index.new group.new.answers
         group.new.entries) }
-    ensures stopped { OnErr result ((capacity : ℕ) → room ≡ capacity - kept
-        → JudgesFirst hsm.now (I.decides issuer.now) capacity room
+    ensures stopped { OnErr result ((capacity : ℕ) → journal.room ≡ capacity - journal.kept
+        → JudgesFirst hsm.now (I.decides issuer.now) capacity journal.room
         (map (λ frame. frame.items) frames.now) index.old group.new.answers
         group.new.entries) }
     ensures usable { All (λ entry. IsUsable entry.number.counter) group.new.entries }
     ensures stand { All (λ entry. MayStandUnder entry.number entry.decided) group.new.entries }
-    ensures fits { length group.new.entries ≤ room }
+    ensures fits { length group.new.entries ≤ journal.room }
     ensures most { length group.new.entries ≤ most_frames }
 {
     let mut judged = 0;
     while judged < frames.len() {
-        judged = judge_next(hsm, issuer, index, kept, room, frames, judged, group)?;
+        judged = judge_next(hsm, issuer, index, journal, frames, judged, group)?;
     }
     Ok(())
 }
@@ -88,8 +95,7 @@ fn judge_next<const N: usize, I: Issuer>(
     hsm: &Hsm<N>,
     issuer: &I,
     index: &mut Index,
-    kept: u64,
-    room: u64,
+    journal: Filling,
     frames: &[Frame],
     from: usize,
     group: &mut Group,
@@ -97,29 +103,30 @@ fn judge_next<const N: usize, I: Issuer>(
     requires few { length frames.now ≤ most_frames }
     requires zone { IsSome hsm.now.zone }
     requires from { from < length frames.now }
-    requires so_far { (before : IndexOf) × AreJudgedSoFar hsm.now (I.decides issuer.now) kept room
+    requires so_far { (before : IndexOf)
+        × AreJudgedSoFar hsm.now (I.decides issuer.now) journal.kept journal.room
         (map (λ frame. frame.items) frames.now) from before index.old group.old.answers
         group.old.entries }
     ensures further { IfOk result (λ to. from < to) }
     ensures within { IfOk result (λ to. to ≤ length frames.now) }
     ensures judged { IfOk result (λ to. (before : IndexOf)
-        → AreJudgedSoFar hsm.now (I.decides issuer.now) kept room
+        → AreJudgedSoFar hsm.now (I.decides issuer.now) journal.kept journal.room
         (map (λ frame. frame.items) frames.now) from before index.old group.old.answers
         group.old.entries
-        → AreJudgedSoFar hsm.now (I.decides issuer.now) kept room
+        → AreJudgedSoFar hsm.now (I.decides issuer.now) journal.kept journal.room
         (map (λ frame. frame.items) frames.now) to before index.new group.new.answers
         group.new.entries) }
     ensures stopped { OnErr result ((before : IndexOf) (capacity : ℕ)
-        → AreJudgedSoFar hsm.now (I.decides issuer.now) kept room
+        → AreJudgedSoFar hsm.now (I.decides issuer.now) journal.kept journal.room
         (map (λ frame. frame.items) frames.now) from before index.old group.old.answers
         group.old.entries
-        → room ≡ capacity - kept
-        → JudgesFirst hsm.now (I.decides issuer.now) capacity room
+        → journal.room ≡ capacity - journal.kept
+        → JudgesFirst hsm.now (I.decides issuer.now) capacity journal.room
         (map (λ frame. frame.items) frames.now) before group.new.answers
         group.new.entries) }
     ensures usable { All (λ entry. IsUsable entry.number.counter) group.new.entries }
     ensures stand { All (λ entry. MayStandUnder entry.number entry.decided) group.new.entries }
-    ensures fits { length group.new.entries ≤ room }
+    ensures fits { length group.new.entries ≤ journal.room }
     ensures most { length group.new.entries ≤ most_frames }
 {
     let to = frames.len().min(from + WIDTH);
@@ -129,8 +136,7 @@ fn judge_next<const N: usize, I: Issuer>(
         &opened,
         issuer,
         index,
-        kept,
-        room,
+        journal,
         frames,
         from,
         to,
@@ -150,8 +156,7 @@ fn judge_opened<I: Issuer>(
     opened: &OpenedGroup,
     issuer: &I,
     index: &mut Index,
-    kept: u64,
-    room: u64,
+    journal: Filling,
     frames: &[Frame],
     from: usize,
     to: usize,
@@ -165,24 +170,24 @@ fn judge_opened<I: Issuer>(
     requires no_drafts { drafts.old.items ≡ [] }
     requires so_far { (keys : HsmKeys) × (before : IndexOf) × IsSome keys.zone
         × OpensBetween keys (λ frame. frame.items) frames.now from to opened.now
-        × AreJudgedSoFar keys (I.decides issuer.now) kept room
+        × AreJudgedSoFar keys (I.decides issuer.now) journal.kept journal.room
         (map (λ frame. frame.items) frames.now) from before index.old group.old.answers
         group.old.entries }
     ensures judged { OnOk result ((keys : HsmKeys) (before : IndexOf)
         → OpensBetween keys (λ frame. frame.items) frames.now from to opened.now
-        → AreJudgedSoFar keys (I.decides issuer.now) kept room
+        → AreJudgedSoFar keys (I.decides issuer.now) journal.kept journal.room
         (map (λ frame. frame.items) frames.now) from before index.old group.old.answers
         group.old.entries
-        → AreJudgedSoFar keys (I.decides issuer.now) kept room
+        → AreJudgedSoFar keys (I.decides issuer.now) journal.kept journal.room
         (map (λ frame. frame.items) frames.now) to before index.new
         (group.old.answers ++ map (frame_of keys) drafts.new.items) group.new.entries) }
     ensures stopped { OnErr result ((keys : HsmKeys) (before : IndexOf) (capacity : ℕ)
         → OpensBetween keys (λ frame. frame.items) frames.now from to opened.now
-        → AreJudgedSoFar keys (I.decides issuer.now) kept room
+        → AreJudgedSoFar keys (I.decides issuer.now) journal.kept journal.room
         (map (λ frame. frame.items) frames.now) from before index.old group.old.answers
         group.old.entries
-        → room ≡ capacity - kept
-        → JudgesFirst keys (I.decides issuer.now) capacity room
+        → journal.room ≡ capacity - journal.kept
+        → JudgesFirst keys (I.decides issuer.now) capacity journal.room
         (map (λ frame. frame.items) frames.now) before
         (group.old.answers ++ map (frame_of keys) drafts.new.items) group.new.entries) }
     ensures under { (keys : HsmKeys)
@@ -192,11 +197,11 @@ fn judge_opened<I: Issuer>(
     ensures answers { group.new.answers ≡ group.old.answers }
     ensures usable { All (λ entry. IsUsable entry.number.counter) group.new.entries }
     ensures stand { All (λ entry. MayStandUnder entry.number entry.decided) group.new.entries }
-    ensures fits { length group.new.entries ≤ room }
+    ensures fits { length group.new.entries ≤ journal.room }
     ensures most { length group.new.entries ≤ most_frames }
 {
     for place in from..to {
-        let left = room_after(kept, room, group.entries().len() as u64);
+        let left = room_after(journal, group.entries().len() as u64);
         let transaction = opened.transaction(place - from);
         let judged = judge_frame(transaction, issuer, index, left, frames[place].as_slice())?;
         drafts.push(judged.answer);
@@ -205,17 +210,16 @@ fn judge_opened<I: Issuer>(
     Ok(())
 }
 
-/// The room that entries leave which are added to a journal: one that keeps so many, and has room
-/// for so many more.
-fn room_after(kept: u64, room: u64, added: u64) -> Room
-    requires { added ≤ room }
-    ensures entries { result.entries ≡ room - added }
-    ensures payments { (capacity : ℕ) → room ≡ capacity - kept
-        → result.payments ≡ room_for_payments capacity (room - added) }
+/// The room that entries leave which are added to a journal.
+fn room_after(journal: Filling, added: u64) -> Room
+    requires { added ≤ journal.room }
+    ensures entries { result.entries ≡ journal.room - added }
+    ensures payments { (capacity : ℕ) → journal.room ≡ capacity - journal.kept
+        → result.payments ≡ room_for_payments capacity (journal.room - added) }
     ensures within { result.payments ≤ result.entries }
 {
-    let entries = room - added;
-    let capacity = u128::from(kept) + u128::from(room);
+    let entries = journal.room - added;
+    let capacity = u128::from(journal.kept) + u128::from(journal.room);
     let payments = if capacity <= 16 * u128::from(entries) {
         entries
     } else {

@@ -14,5 +14,5 @@ returns-clause-judged g c = λ capacity room_is.
     let frames = map (λ frame. frame.items) c.args.frames.now in
     let group = c.loop-judged.group in
     let all : take c.loop-judged.judged frames ≡ frames = take_all c.loop-judged.judged frames (omega (arith, c.loop-judged-test.false, length-map c.args.frames.now (λ frame. frame.items))) in
-    subst (λ frames. JudgesFrames c.args.hsm.now (g.I.Issuer.decides c.args.issuer.now) capacity c.args.room frames c.args.index.now c.loop-judged.index group.answers group.entries) all
+    subst (λ frames. JudgesFrames c.args.hsm.now (g.I.Issuer.decides c.args.issuer.now) capacity c.args.journal.room frames c.args.index.now c.loop-judged.index group.answers group.entries) all
     (c.loop-judged.invariant.so_far.judged capacity room_is)

@@ -21,8 +21,8 @@ returns-in-Ok-clause-judged g c = λ before first.
     c.complete.ensures.answers keys opens.numbers opens.are_opened under
     ∙ ap (λ answers. answers ++ map (frame_of keys) c.as_slice.result.now) c.judge_opened-judged.ensures.answers
     ∙ ap (λ drafts. c.args.group.now.answers ++ map (frame_of keys) drafts) c.as_slice.ensures.value) in
-    subst (λ entries. AreJudgedSoFar keys (g.I.Issuer.decides c.args.issuer.now) c.args.kept c.args.room (map (λ frame. frame.items) c.args.frames.now) c.min-to.result before c.judge_opened-judged.new.index c.complete.new.group.answers entries) (sym c.complete.ensures.entries)
-    (subst (λ answers. AreJudgedSoFar keys (g.I.Issuer.decides c.args.issuer.now) c.args.kept c.args.room (map (λ frame. frame.items) c.args.frames.now) c.min-to.result before c.judge_opened-judged.new.index answers c.judge_opened-judged.new.group.entries) answers
+    subst (λ entries. AreJudgedSoFar keys (g.I.Issuer.decides c.args.issuer.now) c.args.journal.kept c.args.journal.room (map (λ frame. frame.items) c.args.frames.now) c.min-to.result before c.judge_opened-judged.new.index c.complete.new.group.answers entries) (sym c.complete.ensures.entries)
+    (subst (λ answers. AreJudgedSoFar keys (g.I.Issuer.decides c.args.issuer.now) c.args.journal.kept c.args.journal.room (map (λ frame. frame.items) c.args.frames.now) c.min-to.result before c.judge_opened-judged.new.index answers c.judge_opened-judged.new.group.entries) answers
     (c.in-Ok.ensures.judged keys before opens first))
 
 pub returns-in-Err-clause-stopped : goal.returns-in-Err-clause-stopped
@@ -35,6 +35,6 @@ returns-in-Err-clause-stopped g c = λ before capacity first room_is.
     c.complete.ensures.answers keys opens.numbers opens.are_opened under
     ∙ ap (λ answers. answers ++ map (frame_of keys) c.as_slice.result.now) c.judge_opened-judged.ensures.answers
     ∙ ap (λ drafts. c.args.group.now.answers ++ map (frame_of keys) drafts) c.as_slice.ensures.value) in
-    subst (λ entries. JudgesFirst keys (g.I.Issuer.decides c.args.issuer.now) capacity c.args.room (map (λ frame. frame.items) c.args.frames.now) before c.complete.new.group.answers entries) (sym c.complete.ensures.entries)
-    (subst (λ answers. JudgesFirst keys (g.I.Issuer.decides c.args.issuer.now) capacity c.args.room (map (λ frame. frame.items) c.args.frames.now) before answers c.judge_opened-judged.new.group.entries) answers
+    subst (λ entries. JudgesFirst keys (g.I.Issuer.decides c.args.issuer.now) capacity c.args.journal.room (map (λ frame. frame.items) c.args.frames.now) before c.complete.new.group.answers entries) (sym c.complete.ensures.entries)
+    (subst (λ answers. JudgesFirst keys (g.I.Issuer.decides c.args.issuer.now) capacity c.args.journal.room (map (λ frame. frame.items) c.args.frames.now) before answers c.judge_opened-judged.new.group.entries) answers
     (c.in-Err.ensures.stopped keys before capacity opens first room_is))

@@ -20,7 +20,7 @@ loop-place-init g c =
       counted = omega (arith, ap length none);
       under = λ keys opens. subst (λ drafts. AreDraftsUnder keys opens.numbers drafts) (sym none) tt;
       so_far = λ keys before opened first.
-          subst (λ answers. AreJudgedSoFar keys (g.I.Issuer.decides c.args.issuer.now) c.args.kept c.args.room (map (λ frame. frame.items) c.args.frames.now) c.args.from before c.args.index.now answers old.entries)
+          subst (λ answers. AreJudgedSoFar keys (g.I.Issuer.decides c.args.issuer.now) c.args.journal.kept c.args.journal.room (map (λ frame. frame.items) c.args.frames.now) c.args.from before c.args.index.now answers old.entries)
           (sym (ap (λ drafts. old.answers ++ map (frame_of keys) drafts) none ∙ append-nil old.answers)) first;
     }
 
@@ -28,7 +28,7 @@ pub room_after-left-requires : goal.room_after-left-requires
 room_after-left-requires g c =
     let given = c.requires.so_far in
     let so_far = c.loop-place.invariant.so_far given.0 given.1 given.3 given.4 in
-    subst (λ entries. length entries ≤ c.args.room) (sym c.entries.ensures) so_far.fits
+    subst (λ entries. length entries ≤ c.args.journal.room) (sym c.entries.ensures) so_far.fits
 
 pub judge_frame-requires-clause-opened : goal.judge_frame-requires-clause-opened
 judge_frame-requires-clause-opened g c =
@@ -57,11 +57,11 @@ loop-place-preserved g c =
     let mid = c.loop-place.index in
     let new = c.judge_frame.new.index in
     let left = c.room_after-left.result in
-    let left_is : left.entries ≡ c.args.room - length group.entries = c.room_after-left.ensures.entries ∙ ap (λ entries. c.args.room - length entries) c.entries.ensures in
+    let left_is : left.entries ≡ c.args.journal.room - length group.entries = c.room_after-left.ensures.entries ∙ ap (λ entries. c.args.journal.room - length entries) c.entries.ensures in
     let inside : place < length c.args.frames.now = omega arith in
     let within : place < length frames = omega (arith, inside, length-map c.args.frames.now (λ frame. frame.items)) in
     let is = item_of (λ frame. frame.items) c.args.frames.now place c.index-frames-place.result inside (sym c.index-frames-place.is) in
-    let fits : length (option_to_list one) ≤ c.args.room - length group.entries = subst (λ left. length (option_to_list one) ≤ left) left_is c.in_ok-judged.ensures.room in
+    let fits : length (option_to_list one) ≤ c.args.journal.room - length group.entries = subst (λ left. length (option_to_list one) ≤ left) left_is c.in_ok-judged.ensures.room in
     record {
       answers = c.push_entry.ensures.answers ∙ c.loop-place.invariant.answers;
       counted = omega (arith, ap length c.push.ensures.items, length_push drafts draft, c.loop-place.invariant.counted);
@@ -79,16 +79,16 @@ loop-place-preserved g c =
           let answers = old.answers ++ map f drafts in
           let opens = opens_next (λ frame. frame.items) keys c.args.frames.now c.args.opened.now c.args.from c.args.to place c.index-frames-place.result c.as_slice.result.now c.transaction-transaction.result
           opened (omega arith) (omega arith) (omega arith) (sym c.index-frames-place.is) c.as_slice.ensures.value c.transaction-transaction.ensures.opened c.transaction-transaction.ensures.refused in
-          let here : (capacity : ℕ) → c.args.room ≡ capacity - c.args.kept → JudgesFrame keys decides capacity (c.args.room - length group.entries) frame mid new (f draft) one = λ capacity room_is.
+          let here : (capacity : ℕ) → c.args.journal.room ≡ capacity - c.args.journal.kept → JudgesFrame keys decides capacity (c.args.journal.room - length group.entries) frame mid new (f draft) one = λ capacity room_is.
           let payments : left.payments ≡ room_for_payments capacity left.entries = c.room_after-left.ensures.payments capacity room_is ∙ sym (ap (room_for_payments capacity) c.room_after-left.ensures.entries) in
           let judged = subst (λ frame. JudgesFrame keys decides capacity left.entries frame mid new (f draft) one) c.as_slice.ensures.value (c.in_ok-judged.ensures.judged keys capacity opens payments) in
           subst (λ left. JudgesFrame keys decides capacity left frame mid new (f draft) one) left_is judged in
-          let so_far = so_far_more keys decides c.args.kept c.args.room frames place frame before mid new answers (f draft) group.entries one
+          let so_far = so_far_more keys decides c.args.journal.kept c.args.journal.room frames place frame before mid new answers (f draft) group.entries one
           (c.loop-place.invariant.so_far keys before opened first) within is here c.in_ok-judged.ensures.usable c.in_ok-judged.ensures.stands fits in
           let count = place + 1 in
           let answers_are : answers ++ f draft ∷ [] ≡ old.answers ++ map f c.push.new.self.items = frames_more f old.answers drafts draft ∙ ap (λ drafts. old.answers ++ map f drafts) (sym c.push.ensures.items) in
-          subst (λ entries. AreJudgedSoFar keys decides c.args.kept c.args.room frames count before new (old.answers ++ map f c.push.new.self.items) entries) (sym c.push_entry.ensures.entries)
-          (subst (λ answers. AreJudgedSoFar keys decides c.args.kept c.args.room frames count before new answers (group.entries ++ option_to_list one)) answers_are so_far);
+          subst (λ entries. AreJudgedSoFar keys decides c.args.journal.kept c.args.journal.room frames count before new (old.answers ++ map f c.push.new.self.items) entries) (sym c.push_entry.ensures.entries)
+          (subst (λ answers. AreJudgedSoFar keys decides c.args.journal.kept c.args.journal.room frames count before new answers (group.entries ++ option_to_list one)) answers_are so_far);
     }
 
 -- memory is refused at a frame, and those before it are judged
@@ -102,7 +102,7 @@ returns-in_err-judged-clause-stopped g c = on_err _ c.from_residual.result (λ k
     let answers = c.args.group.now.answers ++ map (frame_of keys) c.loop-place.drafts.items in
     let mid = c.loop-place.index in
     let left = c.room_after-left.result in
-    let left_is : left.entries ≡ c.args.room - length group.entries = c.room_after-left.ensures.entries ∙ ap (λ entries. c.args.room - length entries) c.entries.ensures in
+    let left_is : left.entries ≡ c.args.journal.room - length group.entries = c.room_after-left.ensures.entries ∙ ap (λ entries. c.args.journal.room - length entries) c.entries.ensures in
     let payments : left.payments ≡ room_for_payments capacity left.entries = c.room_after-left.ensures.payments capacity room_is ∙ sym (ap (room_for_payments capacity) c.room_after-left.ensures.entries) in
     let so_far = c.loop-place.invariant.so_far keys before opened first in
     let inside : place < length c.args.frames.now = omega arith in
@@ -114,8 +114,8 @@ returns-in_err-judged-clause-stopped g c = on_err _ c.from_residual.result (λ k
     record {
       fewer = omega (arith, so_far.counted, inside, length-map c.args.frames.now (λ frame. frame.items));
       before = mid;
-      judged = subst (λ count. JudgesFrames keys decides capacity c.args.room (take count frames) before mid answers group.entries) (sym so_far.counted) (so_far.judged capacity room_is);
-      may_be_accepted = subst (λ bytes. MayBeAccepted keys mid capacity (c.args.room - length group.entries) bytes) (c.as_slice.ensures.value ∙ sym next) refused;
+      judged = subst (λ count. JudgesFrames keys decides capacity c.args.journal.room (take count frames) before mid answers group.entries) (sym so_far.counted) (so_far.judged capacity room_is);
+      may_be_accepted = subst (λ bytes. MayBeAccepted keys mid capacity (c.args.journal.room - length group.entries) bytes) (c.as_slice.ensures.value ∙ sym next) refused;
     })
 
 pub returns-in_err-judged-clause-usable : goal.returns-in_err-judged-clause-usable
@@ -143,7 +143,7 @@ pub returns-clause-judged : goal.returns-clause-judged
 returns-clause-judged g c = λ keys before opened first.
     let done : c.loop-place.place ≡ c.args.to = omega arith in
     let answers = c.args.group.now.answers ++ map (frame_of keys) c.loop-place.drafts.items in
-    subst (λ count. AreJudgedSoFar keys (g.I.Issuer.decides c.args.issuer.now) c.args.kept c.args.room (map (λ frame. frame.items) c.args.frames.now) count before c.loop-place.index answers c.loop-place.group.entries)
+    subst (λ count. AreJudgedSoFar keys (g.I.Issuer.decides c.args.issuer.now) c.args.journal.kept c.args.journal.room (map (λ frame. frame.items) c.args.frames.now) count before c.loop-place.index answers c.loop-place.group.entries)
     done (c.loop-place.invariant.so_far keys before opened first)
 
 pub returns-clause-usable : goal.returns-clause-usable

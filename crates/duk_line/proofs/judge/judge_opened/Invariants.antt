@@ -11,6 +11,6 @@ invariant-loop-place g l = record {
   counted : l.from + length l.drafts.items ≡ l.place;
   under : (keys : HsmKeys) (opens : OpensBetween keys (λ frame. frame.items) l.frames l.from l.to l.opened) → AreDraftsUnder keys opens.numbers l.drafts.items;
   so_far : (keys : HsmKeys) (before : IndexOf) → OpensBetween keys (λ frame. frame.items) l.frames l.from l.to l.opened
-      → AreJudgedSoFar keys (g.I.Issuer.decides l.issuer) l.kept l.room (map (λ frame. frame.items) l.frames) l.from before l.initial.index l.initial.group.answers l.initial.group.entries
-      → AreJudgedSoFar keys (g.I.Issuer.decides l.issuer) l.kept l.room (map (λ frame. frame.items) l.frames) l.place before l.index (l.initial.group.answers ++ map (frame_of keys) l.drafts.items) l.group.entries;
+      → AreJudgedSoFar keys (g.I.Issuer.decides l.issuer) l.journal.kept l.journal.room (map (λ frame. frame.items) l.frames) l.from before l.initial.index l.initial.group.answers l.initial.group.entries
+      → AreJudgedSoFar keys (g.I.Issuer.decides l.issuer) l.journal.kept l.journal.room (map (λ frame. frame.items) l.frames) l.place before l.index (l.initial.group.answers ++ map (frame_of keys) l.drafts.items) l.group.entries;
 }
