@@ -1,5 +1,27 @@
+mod AnswersInTurn
+mod BatchEndings
+mod BatchOutcomes
+mod BatchUnderWay
 mod CommandsEnd
 mod CountsAreRead
+mod DerivedItems
 mod FaultOrder
+mod FindOrder
+mod GroupKeys
+mod KeptLine
+mod KeysAreRead
+mod LinesInTurn
+mod OneFrame
 mod PaddingIsRead
+mod ProgressLines
+mod ReadInTurn
+mod ReplyOrder
+mod RequestOrder
+mod ReversalOrder
+mod SearchSteps
+pub mod SmallNumbers
+mod SoughtIsRead
+mod StepsOnTheWay
+mod TranslateOrder
 mod WalkedText
+mod Windows

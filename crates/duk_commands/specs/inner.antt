@@ -1,2 +1,11 @@
+pub mod Batch
+pub mod CheckValues
+pub mod Find
+pub mod Frames
+pub mod Group
+pub mod Mac
+pub mod Reversals
+pub mod Search
+pub mod Sought
 pub mod Walk
 pub mod Wrap

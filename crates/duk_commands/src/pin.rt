@@ -37,7 +37,7 @@ pub fn pin_command<W: Sink, F: Sink>(
 }
 
 /// The lines of the arguments, or their first fault.
-pub fn pin_lines(pin: &str, pan: &str, key: Option<&str>) -> Result<Lines, Fault>
+pub(crate) fn pin_lines(pin: &str, pan: &str, key: Option<&str>) -> Result<Lines, Fault>
     ensures lines { IfOk result
         (λ lines. IsPinText pin.now pan.now (option_copied key.entry) lines.items) }
     ensures refused { IfErr result (IsPinRefused pin.now pan.now (option_copied key.entry)) }

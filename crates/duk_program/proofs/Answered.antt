@@ -22,7 +22,7 @@ use Rattle.duk_program.specs.Scene.{Scene, writers_of}
 use Rattle.duk_program.specs.Secrets.{IsOverSecrets, secrets_of}
 use Rattle.duk_program.specs.inner.Commands.{NeedsNoFile}
 use Rattle.duk_store.specs.Disk.{DiskMeaning}
-use Rattle.duk_tools.specs.Find.{FindArguments, IsFindDone}
+use Rattle.duk_commands.specs.Find.{FindArguments, IsFindDone}
 
 -- a command that is done is done once its lines are handed on
 pub done_still : (command : Command) (output written output' fault reported fault' : Known) → IsDone command (streams output written fault reported)

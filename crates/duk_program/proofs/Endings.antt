@@ -4,9 +4,9 @@ use Rattle.std.specs.Borrow.{Bor}
 use Rattle.std.specs.Prelude.{IsOkAnd}
 use Rattle.duk_commands.specs.Answer.{Command, HasReported, HasWriteFailed, HasWritten, IsDone, IsNotDone, Streams, command_of}
 use Rattle.duk_commands.specs.KeyArgument.{key_argument}
+use Rattle.duk_commands.specs.Keys.{derived_of}
 use Rattle.duk_commands.specs.declared.fault.Fault.{Fault}
 use Rattle.duk_program.specs.Commands.{derive_for}
-use Rattle.duk_tools.specs.Keys.{derived_of}
 
 pub done : {L : Type 0} (text : L → List ℕ) (writes : List ℕ → Type 0) (refuses : Fault → Type 0) (lines : Result L Fault) (s : Streams)
     → IfOk lines (λ l. writes (text l)) → IsOkAnd lines (λ l. HasWritten (text l) s) → IsDone (command_of writes refuses) s

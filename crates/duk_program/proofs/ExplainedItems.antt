@@ -5,8 +5,8 @@ use Rattle.std.specs.Borrow.{Bor}
 use Rattle.duk_arguments.specs.declared.keys.Keys.{Keys}
 use Rattle.duk_arguments.specs.declared.request.Request.{Request}
 use Rattle.duk_arguments.specs.declared.request.Request.TheVariants as request
-use Rattle.duk_batch.specs.Batch.{Input, IsBatchDone}
-use Rattle.duk_batch.specs.Item.{IsItemAnswer, ItemAnswer, ItemCommand}
+use Rattle.duk_commands.specs.Batch.{Input, IsBatchDone}
+use Rattle.duk_commands.specs.Item.{IsItemAnswer, ItemAnswer, ItemCommand}
 use Rattle.duk_commands.specs.Answer.{Streams}
 use Rattle.duk_arguments.specs.Keys.{texts_of_keys}
 use Rattle.duk_program.specs.ExplainedItems.{IsOfItem, explained_command, with_text}

@@ -2,8 +2,8 @@
 use Rattle.std.proofs.Common.{◌⊎◌, ◌+◌, length, subst, ℕ, Bool, true, false, List, Option, Some, None, inl, inr, refl}
 use Rattle.duk_arguments.specs.Asked.{Asks}
 use Rattle.duk_arguments.specs.declared.request.Request.TheVariants as request
-use Rattle.duk_batch.specs.Batch.{Input, IsBatchNotDone, refused_line, unread_line}
-use Rattle.duk_batch.specs.Item.{ItemCommand}
+use Rattle.duk_commands.specs.Batch.{Input, IsBatchNotDone, refused_line, unread_line}
+use Rattle.duk_commands.specs.Item.{ItemCommand}
 use Rattle.duk_commands.specs.Answer.{Command, IsNotDone, Streams, streams}
 use Rattle.duk_commands.specs.Fault.{IsFaultReported, report_line}
 use Rattle.duk_commands.specs.declared.fault.Fault.TheVariants.{WriteFailed}
@@ -61,9 +61,9 @@ use Rattle.duk_store.specs.Disk.{DiskMeaning}
 use Rattle.duk_store.specs.DiskLog.{disk_log_meaning}
 use Rattle.duk_store.specs.declared.fault.StoreFault.TheVariants.{Device}
 use Rattle.duk_store.specs.MemoryLog.{memory_log_meaning}
-use Rattle.duk_tools.specs.Find.{FindArguments, HasFound, IsFindVain}
-use Rattle.duk_tools.specs.Progress.{AreTried, progress_step}
-use Rattle.duk_tools.specs.declared.find_fault.FindFault.{FindFault}
+use Rattle.duk_commands.specs.Find.{FindArguments, HasFound, IsFindVain}
+use Rattle.duk_commands.specs.Progress.{AreTried, progress_step}
+use Rattle.duk_commands.specs.declared.find_fault.FindFault.{FindFault}
 
 -- the line of some fault is reported
 pub fault_reported : (command : Command) (s : Streams) → IsNotDone command s → IsFaultReported s.fault_before s.fault_after

@@ -19,7 +19,7 @@ use Rattle.duk_program.specs.Scene.{Scene, reading_on, scene, writers_of}
 use Rattle.duk_program.specs.Secrets.{EachMeans, HasMeaning, IsOverSecrets, IsSecretFault, secret_line}
 use Rattle.duk_program.specs.declared.secrets.SecretFault.{SecretFault}
 use Rattle.duk_store.specs.Disk.{DiskMeaning}
-use Rattle.duk_tools.specs.Find.{FindArguments, IsFindDone}
+use Rattle.duk_commands.specs.Find.{FindArguments, IsFindDone}
 
 -- a request over secrets is not done over what these stand for, or one of them is not read
 pub not_done_of : {D : Type 0} (meaning : DiskMeaning D) (s : Scene D) (asked about : Request) → IsOverSecrets asked

@@ -12,14 +12,14 @@ use Rattle.duk_commands.specs.Unwrap.{unwrap_of}
 use Rattle.duk_commands.specs.Walk.{walk_of, walk_arguments}
 use Rattle.duk_commands.specs.Wrap.{wrap_of, wrap_arguments}
 use Rattle.duk_commands.specs.declared.fault.Fault.TheVariants.{OutOfMemory, WriteFailed}
-use Rattle.duk_tools.specs.CheckValues.{values_of}
-use Rattle.duk_tools.specs.Encipher.{data_arguments, data_of}
-use Rattle.duk_tools.specs.Frames.{reply_arguments, reply_of, request_arguments, request_of}
-use Rattle.duk_tools.specs.Keys.{derived_of, initial_of}
-use Rattle.duk_tools.specs.Mac.{mac_arguments, mac_of}
-use Rattle.duk_tools.specs.PinBlocks.{translate_arguments, translate_of, unpin_arguments, unpin_of}
-use Rattle.duk_tools.specs.Registers.{registers_of}
-use Rattle.duk_tools.specs.Reversals.{reversal_arguments, reversal_of}
+use Rattle.duk_commands.specs.CheckValues.{values_of}
+use Rattle.duk_commands.specs.Encipher.{data_arguments, data_of}
+use Rattle.duk_commands.specs.Frames.{reply_arguments, reply_of, request_arguments, request_of}
+use Rattle.duk_commands.specs.Keys.{derived_of, initial_of}
+use Rattle.duk_commands.specs.Mac.{mac_arguments, mac_of}
+use Rattle.duk_commands.specs.PinBlocks.{translate_arguments, translate_of, unpin_arguments, unpin_of}
+use Rattle.duk_commands.specs.Registers.{registers_of}
+use Rattle.duk_commands.specs.Reversals.{reversal_arguments, reversal_of}
 use Rattle.duk_io.specs.Known.{Known}
 use Rattle.duk_io.specs.Sink.{IsTried}
 use Rattle.duk_service.specs.HandedOn.{IsFlushLost}

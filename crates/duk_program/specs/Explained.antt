@@ -6,6 +6,9 @@ use Rattle.duk_arguments.specs.Asked.{Asks}
 use Rattle.duk_arguments.specs.declared.request.Request.{Request}
 use Rattle.duk_arguments.specs.declared.request.Request.TheVariants as request
 use Rattle.duk_commands.specs.Answer.{Streams, streams}
+use Rattle.duk_commands.specs.Find.{FindArguments, IsFindDone}
+use Rattle.duk_commands.specs.FindFault.{find_line}
+use Rattle.duk_commands.specs.declared.find_fault.FindFault.{FindFault}
 use Rattle.duk_explain.specs.Explanation.{IsExplanation}
 use Rattle.duk_explain.specs.declared.found.Facts.{Facts}
 use Rattle.duk_host.specs.Serve.{Supply}
@@ -20,9 +23,6 @@ use Rattle.duk_program.specs.Program.{IsProgramDone, IsProgramNotDone, IsRequest
 use Rattle.duk_program.specs.Scene.{Scene, reading_on, scene, writers_of}
 use Rattle.duk_program.specs.Secrets.{HasMeaning}
 use Rattle.duk_store.specs.Disk.{DiskMeaning}
-use Rattle.duk_tools.specs.Find.{FindArguments, IsFindDone}
-use Rattle.duk_tools.specs.FindFault.{find_line}
-use Rattle.duk_tools.specs.declared.find_fault.FindFault.{FindFault}
 
 -- what a writer in memory makes known that holds this text
 abbrev pub holding : List ℕ → Known

@@ -6,8 +6,8 @@ use Rattle.duk_arguments.specs.Keys.{texts_of_keys}
 use Rattle.duk_arguments.specs.declared.keys.Keys.{Keys}
 use Rattle.duk_arguments.specs.declared.request.Request.{Request}
 use Rattle.duk_arguments.specs.declared.request.Request.TheVariants as request
-use Rattle.duk_batch.specs.Batch.{IsBatchNotDone}
-use Rattle.duk_batch.specs.Item.{ItemCommand}
+use Rattle.duk_commands.specs.Batch.{IsBatchNotDone}
+use Rattle.duk_commands.specs.Item.{ItemCommand}
 use Rattle.duk_explain.specs.Explanation.{IsExplanation}
 use Rattle.duk_explain.specs.declared.found.Facts.{Facts}
 use Rattle.duk_program.specs.Items.{LineItems, command_of_line, is_input, items_of}

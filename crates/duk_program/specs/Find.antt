@@ -12,12 +12,12 @@ use Rattle.duk_commands.specs.KeyArgument.{key_argument}
 use Rattle.duk_io.specs.Known.{Known}
 use Rattle.duk_io.specs.Sink.{IsTried}
 use Rattle.duk_service.specs.HandedOn.{IsFlushLost}
-use Rattle.duk_tools.specs.Find.{FindArguments, IsFindDone, IsFindFailed, find_arguments}
-use Rattle.duk_tools.specs.FindFault.{find_line}
-use Rattle.duk_tools.specs.declared.find_fault.FindFault.{FindFault}
-use Rattle.duk_tools.specs.declared.find_fault.FindFault.TheVariants.{WriteFailed}
-use Rattle.duk_tools.specs.declared.sought.Clue.{Clue}
-use Rattle.duk_tools.specs.declared.sought.Clue.TheVariants as clue
+use Rattle.duk_commands.specs.Find.{FindArguments, IsFindDone, IsFindFailed, find_arguments}
+use Rattle.duk_commands.specs.FindFault.{find_line}
+use Rattle.duk_commands.specs.declared.find_fault.FindFault.{FindFault}
+use Rattle.duk_commands.specs.declared.find_fault.FindFault.TheVariants.{WriteFailed}
+use Rattle.duk_commands.specs.declared.sought.Clue.{Clue}
+use Rattle.duk_commands.specs.declared.sought.Clue.TheVariants as clue
 
 -- what is known of what is sought
 abbrev pub clue_for : Sought → Clue

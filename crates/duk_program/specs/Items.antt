@@ -7,8 +7,8 @@ use Rattle.std.specs.Str.{bytes_eq}
 use Rattle.duk_arguments.specs.Keys.{texts_of_keys}
 use Rattle.duk_arguments.specs.declared.request.Request.{Request}
 use Rattle.duk_arguments.specs.declared.request.Request.TheVariants as request
-use Rattle.duk_batch.specs.Commands.{derive_item, kcv_item, pan_item, pin_item}
-use Rattle.duk_batch.specs.Item.{ItemCommand, item_command, item_of_command}
+use Rattle.duk_commands.specs.ItemCommands.{derive_item, kcv_item, pan_item, pin_item}
+use Rattle.duk_commands.specs.Item.{ItemCommand, item_command, item_of_command}
 use Rattle.duk_program.specs.Secrets.{HasWordsAlone}
 use Rattle.duk_show.specs.Block.{IsBlockRefused, IsBlockText}
 use Rattle.duk_show.specs.Fault.{show_line}

@@ -3,7 +3,7 @@
 use Rattle.std.specs.Prelude.{◌⊎◌, ℕ, List, Option, Some, None, codes}
 use Rattle.duk_arguments.specs.declared.request.Request.{Request}
 use Rattle.duk_arguments.specs.declared.request.Request.TheVariants as request
-use Rattle.duk_batch.specs.Batch.{IsBatchDone, IsBatchNotDone}
+use Rattle.duk_commands.specs.Batch.{IsBatchDone, IsBatchNotDone}
 use Rattle.duk_commands.specs.Answer.{Command, IsDone, IsNotDone, Streams, streams}
 use Rattle.duk_commands.specs.Fault.{report_line}
 use Rattle.duk_commands.specs.KeyArgument.{key_argument}
@@ -24,7 +24,7 @@ use Rattle.duk_program.specs.Secrets.{HasMeaning, IsInputTaken, IsSecretFault, i
 use Rattle.duk_program.specs.Show.{HasNotShownText, HasShownText, show_arguments}
 use Rattle.duk_program.specs.declared.secrets.SecretFault.{SecretFault}
 use Rattle.duk_store.specs.Disk.{DiskMeaning}
-use Rattle.duk_tools.specs.Find.{IsFindDone}
+use Rattle.duk_commands.specs.Find.{IsFindDone}
 
 -- a command is done, and then what was written could not be handed on, and that is reported
 pub record HasLostLines (command : Command) (s : Streams) : Type 0 where

@@ -2,7 +2,7 @@
 use Rattle.std.specs.Prelude.{◌≡◌, ◌⊎◌, ℕ, List, Option}
 use Rattle.duk_arguments.specs.Asked.{Asks}
 use Rattle.duk_arguments.specs.declared.request.Request.{Request}
-use Rattle.duk_batch.specs.Batch.{refused_line, unread_line}
+use Rattle.duk_commands.specs.Batch.{refused_line, unread_line}
 use Rattle.duk_commands.specs.Fault.{report_line}
 use Rattle.duk_commands.specs.declared.fault.Fault.{Fault}
 use Rattle.duk_config.specs.declared.fault.ScriptFault.{ScriptFault}
@@ -26,9 +26,9 @@ use Rattle.duk_service.specs.declared.left_records.RecordFormat.{RecordFormat}
 use Rattle.duk_service.specs.declared.new_file.NewFileFault.{NewFileFault}
 use Rattle.duk_program.specs.declared.secrets.SecretFault.{SecretFault}
 use Rattle.duk_script.specs.FaultLine.{fault_line}
-use Rattle.duk_tools.specs.FindFault.{find_line}
-use Rattle.duk_tools.specs.Progress.{AreTried, progress_lines}
-use Rattle.duk_tools.specs.declared.find_fault.FindFault.{FindFault}
+use Rattle.duk_commands.specs.FindFault.{find_line}
+use Rattle.duk_commands.specs.Progress.{AreTried, progress_lines}
+use Rattle.duk_commands.specs.declared.find_fault.FindFault.{FindFault}
 
 -- the line of a fault of serving over a journal, or of a journal's file
 abbrev pub IsJournalFaultLine : List ℕ → Type 0

@@ -7,14 +7,11 @@ ghost use Rattle.duk_program.specs.inner.Commands.{MakesLines, NeedsNoFile};
 
 use duk_arguments::Request;
 use duk_commands::{
-    Fault, KeyArgument, Lines, derive_command, finish, pin_command, unwrap_command, walk_command,
-    wrap_command,
+    Fault, KeyArgument, Lines, data_lines, derive_command, derived_lines, finish, initial_lines,
+    mac_lines, pin_command, registers_lines, reply_lines, request_lines, reversal_lines,
+    translate_lines, unpin_lines, unwrap_command, values_lines, walk_command, wrap_command,
 };
 use duk_io::Sink;
-use duk_tools::{
-    data_lines, derived_lines, initial_lines, mac_lines, registers_lines, reply_lines,
-    request_lines, reversal_lines, translate_lines, unpin_lines, values_lines,
-};
 use std::alloc::Global;
 
 /// Does the command of a request that needs no file, and gives the status: 0, or 1 with a line on

@@ -12,7 +12,7 @@ ghost use Rattle.duk_program.specs.Scene.{scene};
 ghost use Rattle.duk_program.specs.Secrets.{IsOverSecrets, secret_line};
 ghost use Rattle.duk_service.specs.Serve.{serving_of};
 ghost use Rattle.duk_program.specs.Status.{IsStatus};
-ghost use Rattle.duk_tools.specs.Find.{IsFindDone};
+ghost use Rattle.duk_commands.specs.Find.{IsFindDone};
 
 use crate::answers::answer_explained;
 use crate::dispatch::show_at_end;

@@ -8,8 +8,7 @@ ghost use Rattle.duk_program.specs.inner.Items.{items_in};
 
 use crate::items::{LineCommand, is_input};
 use duk_arguments::{Keys, Request};
-use duk_batch::{Items, Kept, Refused};
-use duk_commands::Lines;
+use duk_commands::{Items, Kept, Lines, Refused};
 use duk_explain::{Facts, explanation};
 use std::alloc::Global;
 

@@ -6,12 +6,11 @@ ghost use Rattle.duk_arguments.specs.Given.{first_in};
 ghost use Rattle.duk_commands.specs.Answer.{streams};
 ghost use Rattle.duk_io.specs.Sink.{IsHandedOn};
 ghost use Rattle.duk_program.specs.Find.{IsFindNotDone, IsFindUndone, IsSearchWith, clue_for, find_for};
-ghost use Rattle.duk_tools.specs.Find.{IsFindDone, IsFindFailed};
+ghost use Rattle.duk_commands.specs.Find.{IsFindDone, IsFindFailed};
 
 use duk_arguments::{Request, Sought};
-use duk_commands::KeyArgument;
+use duk_commands::{Clue, FindFault, KeyArgument, find_command};
 use duk_io::Sink;
-use duk_tools::{Clue, FindFault, find_command};
 use std::alloc::Global;
 
 /// What is sought, by which key, and how.

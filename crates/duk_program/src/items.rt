@@ -2,7 +2,7 @@
 
 ghost use Rattle.std.specs.Prelude.{◌≡◌, ◌||◌, ◌&&◌, [], IfErr, IfOk, MatchOption, None, Some, not};
 ghost use Rattle.duk_arguments.specs.Keys.{texts_of_keys};
-ghost use Rattle.duk_batch.specs.Item.{IsRefusal};
+ghost use Rattle.duk_commands.specs.Item.{IsRefusal};
 ghost use Rattle.duk_program.specs.Items.{blocks, command_of_line, frames, images, is_input, is_input_alone, items_of, shown_items};
 ghost use Rattle.duk_program.specs.inner.Items.{items_in};
 ghost use Rattle.duk_show.specs.Block.{IsBlockText};
@@ -11,8 +11,7 @@ ghost use Rattle.duk_show.specs.Frame.{IsFrameText};
 ghost use Rattle.duk_show.specs.Image.{IsImageText};
 
 use duk_arguments::{Keys, Request};
-use duk_batch::{DeriveItems, Items, KcvItems, Kept, PanItems, PinItems, Refused};
-use duk_commands::Lines;
+use duk_commands::{DeriveItems, Items, KcvItems, Kept, Lines, PanItems, PinItems, Refused};
 use duk_show::{ShowFault, block_lines, frame_lines, image_lines};
 use std::alloc::Global;
 

@@ -1,6 +1,6 @@
 use Rattle.std.proofs.Common.{subst, sym, ◌∙◌}
 use Rattle.duk_commands.specs.Answer.{IsDone, IsNotDone, streams}
-use Rattle.duk_tools.specs.Keys.{derived_of}
+use Rattle.duk_commands.specs.Keys.{derived_of}
 use Rattle.duk_program.proofs.Endings.{derived_done, derived_not_done, done, not_done}
 use Rattle.duk_program.proofs.commands.do_derive.Goals as goal
 

@@ -1,5 +1,5 @@
 use Rattle.std.proofs.Common.{◌∙◌, IfErr, IfOk, List, ℕ, subst}
-use Rattle.duk_tools.specs.CheckValues.{IsValuesRefused, IsValuesText}
+use Rattle.duk_commands.specs.CheckValues.{IsValuesRefused, IsValuesText}
 use Rattle.duk_program.proofs.commands.lines_of.Goals as goal
 
 pub returns-in-Initial-clause-lines : goal.returns-in-Initial-clause-lines

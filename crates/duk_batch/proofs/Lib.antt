@@ -1,9 +1,0 @@
-mod AnswersInTurn
-mod DerivedItems
-mod Endings
-mod GroupKeys
-mod KeptLine
-mod LinesInTurn
-mod Outcomes
-mod ReadInTurn
-mod UnderWay
