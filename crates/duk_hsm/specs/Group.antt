@@ -1,6 +1,6 @@
 -- Key serial numbers that are opened together: this project's own, over the transaction keys of
 -- ANSI X9.24-1:2009 annex A.
-use Rattle.std.specs.Prelude.{◌<◌, ℕ, List, Option, Result, Ok, Err, length, map, slice_index_or}
+use Rattle.std.specs.Prelude.{◌≡◌, ◌<◌, ◌≤◌, ℕ, List, Option, Result, Ok, Err, length, map, slice_index_or}
 use Rattle.duk_group.specs.Numbers.{number_at}
 use Rattle.duk_tree.specs.Serial.{Serial}
 use Rattle.duk_hsm.specs.Keys.{HsmKeys}
@@ -35,6 +35,7 @@ abbrev pub IsOpened : HsmKeys → Serial → Result TransactionKeys HsmFault →
 IsOpened keys ksn (Ok opened) = AreTransactionKeys keys ksn opened
 IsOpened keys ksn (Err why) = NoTransactionKey keys ksn why
 
--- each of the numbers is, at its place
+-- each of the numbers is, at its place, and behind the last of them nothing is opened
 pub record AreOpened (keys : HsmKeys) (numbers : List Serial) (group : OpenedPlaces) : Type 0 where
   pub places_are : (place : ℕ) → place < length numbers → IsOpened keys (number_at numbers place) (place_at group.places place)
+  pub past : (place : ℕ) → length numbers ≤ place → place_at group.places place ≡ Err NoKeySet

@@ -1,6 +1,6 @@
 //! Key serial numbers that are opened together.
 
-ghost use Rattle.std.specs.Prelude.{◌≡◌, ◌<◌, ◌≤◌, ℕ, List, Ok, IfOk, IfErr, length};
+ghost use Rattle.std.specs.Prelude.{◌≡◌, ◌<◌, ◌≤◌, ℕ, List, Ok, Err, IfOk, IfErr, length};
 ghost use Rattle.duk_group.specs.Numbers.{bytes_at, message_at, number_at};
 ghost use Rattle.duk_tree.specs.Serial.{Serial};
 ghost use Rattle.duk_hsm.specs.Commands.{HasTransactionKey, IsReplyMac, NoTransactionKey};
@@ -45,7 +45,7 @@ impl OpenedGroup {
     }
 
     /// What `open` answers for the key serial number at a place. Refused with what that is refused
-    /// with, and past the last place with `NoKeySet`.
+    /// with, and behind the last number with `NoKeySet`.
     pub fn transaction(&self, place: usize) -> Result<Transaction, HsmFault>
         ensures opened { (keys : HsmKeys) (numbers : List Serial) → place < length numbers
             → AreOpened keys numbers self.now
@@ -53,6 +53,8 @@ impl OpenedGroup {
         ensures refused { (keys : HsmKeys) (numbers : List Serial) → place < length numbers
             → AreOpened keys numbers self.now
             → IfErr result (NoTransactionKey keys (number_at numbers place)) }
+        ensures past { (keys : HsmKeys) (numbers : List Serial) → length numbers ≤ place
+            → AreOpened keys numbers self.now → result ≡ Err HsmFault.NoKeySet }
     {
         let prepared = self.places.get(place).copied();
         let prepared = prepared.unwrap_or(Err(HsmFault::NoKeySet))?;
@@ -89,14 +91,15 @@ fn opened_keys(places: &[Result<PreparedKey, HsmFault>; WIDTH]) -> [Key<16>; WID
     keys
 }
 
-/// The base derivation keys of the key serial numbers, in their order.
+/// The base derivation keys of the key serial numbers, in their order, and none behind the last.
 pub(crate) fn base_keys<const N: usize>(
     hsm: &Hsm<N>,
     asked: &[Asked],
 ) -> [Result<Key<16>, HsmFault>; WIDTH]
     requires few { length asked.now ≤ WIDTH }
-    ensures { (i : ℕ) → i < length asked.now
+    ensures bases { (i : ℕ) → i < length asked.now
         → IsBase hsm.now (number_at (numbers_of asked.now) i) (base_at result i) }
+    ensures past { (i : ℕ) → length asked.now ≤ i → base_at result i ≡ Err HsmFault.NoKeySet }
 {
     let mut bases = [Err(HsmFault::NoKeySet); WIDTH];
     for (i, one) in asked.iter().enumerate() {
@@ -105,16 +108,19 @@ pub(crate) fn base_keys<const N: usize>(
     bases
 }
 
-/// The transaction keys under these base derivation keys, in their order.
+/// The transaction keys under these base derivation keys, in their order. Where there is no base
+/// derivation key there is none, behind the last number too.
 pub(crate) fn derived(
     bases: &[Result<Key<16>, HsmFault>; WIDTH],
     asked: &[Asked],
     zone: Option<KeyBytes>,
 ) -> [Result<PreparedKey, HsmFault>; WIDTH]
     requires few { length asked.now ≤ WIDTH }
-    ensures { (i : ℕ) → i < length asked.now
+    ensures keys { (i : ℕ) → i < length asked.now
         → IsDerived (number_at (numbers_of asked.now) i) zone (base_at bases.now i)
         (place_at result i) }
+    ensures refused { (i : ℕ) (why : HsmFault) → base_at bases.now i ≡ Err why
+        → place_at result i ≡ Err why }
 {
     let prepared = prepared_keys(bases, asked, zone);
     let mut places = [Err(HsmFault::NoKeySet); WIDTH];
