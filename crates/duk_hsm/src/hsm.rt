@@ -155,7 +155,9 @@ impl<const N: usize> Hsm<N> {
         requires few { length asked.now ≤ WIDTH }
         ensures opened { AreOpened self.now (numbers_of asked.now) result }
     {
-        OpenedGroup::new(derived(&base_keys(self, asked), asked, self.zone))
+        let bases = base_keys(self, asked);
+        let places = derived(&bases, asked, self.zone);
+        OpenedGroup::new(places)
     }
 
     /// The base derivation key from which the transaction key of a key serial number is derived.
