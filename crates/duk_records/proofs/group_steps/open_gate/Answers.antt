@@ -17,7 +17,7 @@ returns-in_err-write_at-clause-failed g c =
     rw (p.1, p.2) (record {
       nature = c.write_at.ensures.nature;
       failed = c.in_err-write_at.ensures.failed;
-      all_but = gate_may_be_torn w c.laws.ensures.gate c.args.place old mid c.requires.one (subst (λ (at : ℕ). LeavesChanged (DiffersWithin at 1) old mid) c.address.ensures c.write_at.ensures.torn);
+      all_but = gate_may_be_torn w c.laws.ensures.gate c.args.place old mid c.requires.one (subst (λ (at : ℕ). LeavesChanged (DiffersWithin at 1) old mid) c.address-gate.ensures c.write_at.ensures.torn);
     })
 
 pub returns-clause-open_now : goal.returns-clause-open_now
@@ -33,7 +33,7 @@ returns-clause-open_now g c =
     let size = g.D.Disk.leaves_its_size c.args.disk.now h old.reads (g.D.Disk.reads_may_stay c.args.disk.now h) in
     let ends : w * (place + 1) ≡ w * place + w * 1 = mul-add w place 1 in
     gate_opened w c.laws.ensures.gate place old.reads new.reads (omega (arith, size, ends, c.requires.room.inside, c.laws.ensures.gate))
-    ((synced (c.write_at.ensures.nature.honest.0 h)).reads ∙ subst (λ (at : ℕ). mid.reads ≡ written old.reads at (1 ∷ [])) c.address.ensures (c.in_ok-write_at.ensures.written h)) in
+    ((synced (c.write_at.ensures.nature.honest.0 h)).reads ∙ subst (λ (at : ℕ). mid.reads ≡ written old.reads at (1 ∷ [])) c.address-gate.ensures (c.in_ok-write_at.ensures.written h)) in
     record {
       nature = keeps_on old mid new c.write_at.ensures.nature c.sync.ensures.nature;
       no_failure = none ∙ c.in_ok-write_at.ensures.no_failure;
@@ -53,7 +53,7 @@ returns-clause-failed g c =
       nature = keeps_on old mid new c.write_at.ensures.nature c.sync.ensures.nature;
       failed = fails_later old mid new fault c.write_at.ensures.nature c.in_ok-write_at.ensures.no_failure failed;
       all_but = λ h bytes left.
-          gate_may_be_torn w c.laws.ensures.gate c.args.place old mid c.requires.one (subst (λ (at : ℕ). LeavesChanged (DiffersWithin at 1) old mid) c.address.ensures c.write_at.ensures.torn)
+          gate_may_be_torn w c.laws.ensures.gate c.args.place old mid c.requires.one (subst (λ (at : ℕ). LeavesChanged (DiffersWithin at 1) old mid) c.address-gate.ensures c.write_at.ensures.torn)
           h bytes (c.sync.ensures.within (c.write_at.ensures.nature.honest.0 h) bytes left);
     })
     c.sync.ensures.failed
