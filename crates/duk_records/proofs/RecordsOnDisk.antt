@@ -205,8 +205,7 @@ module _ {E : Type 0} (format : RecordFormat E) where
         ]
 
     pub append_failed : ReadsMayStay after → new ≡ None → (why : StoreFault) → GroupFailed format group count before after why → AppendFailed (records_state format before old) (records_state format after new) group why
-    append_failed stays_then kept_then why failed = record {
-      fault_is = failed.failed.fault_is;
+    append_failed stays_then kept_then why failed = subst (λ (why : StoreFault). AppendFailed (records_state format before old) (records_state format after new) group why) (sym failed.failed.fault_is) (record {
       was_running = ap is_running kept;
       stops = record {
         nature = record { honest = failed.nature.honest; sound = sound_then; calm = failed.nature.calm };
@@ -221,7 +220,7 @@ module _ {E : Type 0} (format : RecordFormat E) where
             (list.0, (after.reads, left, list.1));
       };
       failure = failed.failed.failure;
-    }
+    })
       where
         sound_then : before.honest → IsSound format before → IsSound format after
         sound_then h sound = record { size = rw failed.nature.size sound.size; each_keeps = λ bytes left. let list = each_list why failed h bytes left in (list.0, list.1) }

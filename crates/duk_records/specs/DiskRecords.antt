@@ -103,35 +103,42 @@ pub record IsAppended {E : Type 0} (old new : StoreState (List E)) (group : List
   pub finds : old.honest → (entries : List E) → FindsOnly old entries
       → FindsOnly new (entries ++ group)
 
--- an append in which a device step failed: a restart finds one of the old lists, or one of them with
--- the whole group
-pub record AppendFailed
-    {E : Type 0} (old new : StoreState (List E)) (group : List E) (fault : StoreFault)
-    : Type 0 where
-  pub fault_is : fault ≡ Device
+-- the old lists, or one of them with the whole group at its end
+abbrev pub OldOrWithGroup : {E : Type 0} → StoreState (List E) → List E → List E → Type 0
+OldOrWithGroup old group entries = old.found entries ⊎ WithGroup old.found group entries
+
+-- an append in which a device step failed
+pub record AppendStopped {E : Type 0} (old new : StoreState (List E)) (group : List E) : Type 0 where
   pub was_running : old.running ≡ true
-  pub stops : Stops old new (λ entries. old.found entries ⊎ WithGroup old.found group entries)
+  pub stops : Stops old new (OldOrWithGroup old group)
   pub failure : new.failures ≢ old.failures
+
+-- why a group is not appended, and what that leaves
+abbrev pub AppendFailed :
+    {E : Type 0} → StoreState (List E) → StoreState (List E) → List E → StoreFault → Type 0
+AppendFailed old new group Device = AppendStopped old new group
+AppendFailed old new group Stopped = IsAlreadyStopped old new
+AppendFailed old new group _ = ⊥
 
 -- these entries stand from this place on in each list that a restart may find
 abbrev pub StandFrom : {E : Type 0} → StoreState (List E) → ℕ → List E → Type 0
 StandFrom {E} store place entries =
     (kept : List E) → store.found kept → take (length entries) (drop place kept) ≡ entries
 
--- a reading in which the device step failed: the records are stopped, and a restart may find what it
--- could find before
-pub record ReadStopped {E : Type 0} (old new : StoreState (List E)) : Type 0 where
+-- a reading that failed: the records are stopped, and a restart may find what it could find before
+pub record IsReadStopped {E : Type 0} (old new : StoreState (List E)) : Type 0 where
   pub was_running : old.running ≡ true
   pub nature : PreservesNature old new
-  pub not_calm : ¬ old.calm
   pub stopped : new.running ≡ false
   pub found : FindsAsBefore old new
-  pub failure : new.failures ≢ old.failures
 
--- why entries are not read
+-- why entries are not read: a device step failed; the records were stopped; or the disk does not keep
+-- to its model, and holds no entry where it held one
 abbrev pub ReadRefused :
     {E : Type 0} → StoreState (List E) → StoreState (List E) → StoreFault → Type 0
-ReadRefused old new Device = ReadStopped old new
+ReadRefused old new Device =
+    IsReadStopped old new × (new.failures ≢ old.failures) × (¬ old.calm)
 ReadRefused old new Stopped = IsAlreadyStopped old new
-ReadRefused old new Damaged = Stays old new × (old.running ≡ true) × (¬ old.honest)
+ReadRefused old new Damaged =
+    IsReadStopped old new × (new.failures ≡ old.failures) × (¬ old.honest)
 ReadRefused old new _ = ⊥

@@ -129,8 +129,8 @@ impl<D: Disk, F: Format> DiskRecords<D, F> {
     /// of `piece`, which has room for their records.
     ///
     /// Refused with `Stopped` where the records are stopped; with `Device` where the device step
-    /// failed, which stops them; and with `Damaged` where the disk does not keep to its model, and
-    /// holds no entry where it held one, which leaves them as they were.
+    /// failed, and with `Damaged` where the disk does not keep to its model, and holds no entry where
+    /// it held one. Both stop them.
     pub fn read(
         &mut self,
         place: u64,
@@ -162,11 +162,11 @@ impl<D: Disk, F: Format> DiskRecords<D, F> {
         };
         self.format.laws();
         match read_kept(&mut self.disk, &self.format, place, piece, entries) {
-            Err(StoreFault::Device) => {
+            Ok(()) => Ok(()),
+            Err(fault) => {
                 self.kept = None;
-                Err(StoreFault::Device)
+                Err(fault)
             }
-            other => other,
         }
     }
 
@@ -178,11 +178,14 @@ impl<D: Disk, F: Format> DiskRecords<D, F> {
     /// any gate. 4. Sync: it is open, and the group with it.
     ///
     /// A restart finds the list without the group until that gate is 1, and then with all of it.
-    /// The records are not stopped before. `piece` has room for a record.
+    /// `piece` has room for a record.
+    ///
+    /// Refused with `Stopped` where the records are stopped, and with `Device` where a device step
+    /// failed, which stops them.
     pub fn append(&mut self, group: &[F::Entry], piece: &mut [u8]) -> Result<(), StoreFault>
         requires group { IsGroup F.meaning group.now }
-        requires runs { is_running self.old.kept ≡ true }
-        requires room { count_in self.old.kept + length group.now
+        requires room { is_running self.old.kept ≡ true
+            → count_in self.old.kept + length group.now
             ≤ capacity_of F.meaning D.meaning self.old }
         requires piece { F.meaning.width ≤ length piece.old }
         ensures appended { OnOk result (IsAppended (state_of F.meaning D.meaning self.old)
@@ -197,8 +200,10 @@ impl<D: Disk, F: Format> DiskRecords<D, F> {
             (D.meaning.state_of self.new.disk) }
         ensures length { length piece.new ≡ length piece.old }
     {
+        let Some(count) = self.kept else {
+            return Err(StoreFault::Stopped);
+        };
         self.format.laws();
-        let count = self.len();
         self.kept = None;
         write_group(&mut self.disk, &self.format, count, group, piece)?;
         self.kept = Some(count + group.len() as u64);
