@@ -7,8 +7,8 @@ use Rattle.duk_store.specs.StoreState.{FindsAsBefore, IsNew, KeepsNothing, Prese
 use Rattle.duk_store.specs.declared.fault.StoreFault.{StoreFault}
 use Rattle.duk_store.specs.declared.fault.StoreFault.TheVariants as fault
 use Rattle.duk_records.specs.Records.{AreClosedFrom, IsOpen, IsRecordsSize, KeepsEntries, RecordFormat, SaysOne, gate_of, record_at}
-use Rattle.duk_records.specs.DiskRecords.{AppendFailed, AreRestarted, IsAppended, IsBlankDisk, IsSound, IsZeroDisk, MayFind, StandFrom, WithGroup, count_in, is_running, records_state}
-use Rattle.duk_records.specs.inner.DiskRecords.{AreCounted, AreRecordsRead, AreUp, CountFailed, HasSeen, IsDamagedDisk, IsOpenNow, KnowsCount, KnowsRecords, UpFailed}
+use Rattle.duk_records.specs.DiskRecords.{AppendFailed, AreRestarted, IsAppended, IsBlankDisk, IsReadStopped, IsSound, IsZeroDisk, MayFind, ReadRefused, StandFrom, WithGroup, count_in, is_running, records_state}
+use Rattle.duk_records.specs.inner.DiskRecords.{AreCounted, AreRecordsRead, AreUp, CountFailed, HasSeen, IsDamagedDisk, IsOpenNow, KeptUnread, KnowsCount, KnowsRecords, UpFailed}
 use Rattle.duk_records.specs.inner.GroupSteps.{GroupFailed, IsGroupTorn, IsGroupWritten, WritesGroup}
 use Rattle.duk_records.specs.inner.Groups.{AreWritten}
 use Rattle.duk_records.specs.inner.Reading.{HasRead, HaveEntries, LacksEntry}
@@ -334,3 +334,24 @@ module _ {E : Type 0} (format : RecordFormat E) where
     none_lacks_there n within h lacks =
         let holds = knows.holds h in
         none_lacks format says holds.has.0 disk.reads place n holds.has.1 (omega (arith, within, holds.has.2)) (read_inside n within h) lacks
+
+  -- why entries are not read, and what that leaves
+  module _ (says : SaysOne format) (before after : DiskState) (count place : ℕ) (old new : Option ℕ) (kept : old ≡ Some count) (stopped : new ≡ None) (knows : KnowsCount format count before) (lengths : LeavesItsSize before) (stays : ReadsMayStay before) where
+    read_stopped : (why : StoreFault) (n : ℕ) → KeptUnread format place n before after why → IsReadStopped (records_state format before old) (records_state format after new)
+    read_stopped why n failed = record {
+      was_running = ap is_running kept;
+      nature = read_nature before after failed.nature failed.bytes old new;
+      stopped = ap is_running stopped;
+      found = found_as_before before after failed.nature failed.bytes old new;
+    }
+
+    pub read_refused : (n : ℕ) → place + n ≤ count → (why : StoreFault) → KeptUnread format place n before after why → ReadRefused (records_state format before old) (records_state format after new) why
+    read_refused n within fault.Device failed = (read_stopped fault.Device n failed, failed.cause.failure, failed.cause.not_calm)
+    read_refused n within fault.Damaged failed = (
+      read_stopped fault.Damaged n failed,
+      failed.cause.no_failure,
+      (λ h. none_lacks_there says before count place knows lengths stays n within h (failed.cause.lacks h)),
+    )
+    read_refused n within fault.Stopped failed = absurd failed.cause
+    read_refused n within fault.Worn failed = absurd failed.cause
+    read_refused n within fault.NoMemory failed = absurd failed.cause
