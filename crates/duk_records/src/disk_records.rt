@@ -14,8 +14,8 @@ use crate::visitor::Visitor;
 use duk_store::{Disk, StoreFault};
 use std::marker::Model;
 
-/// A list of entries in the records of a disk. Groups of them stand one after the other in front, and
-/// all others are closed.
+/// A list of entries in the records of a disk. Groups of them stand one after the other in front,
+/// and all others are closed.
 ///
 /// A group is written into closed records, and its first record is opened once they are synced
 /// (`append` has the device calls). So a stop leaves the list without the group or with all of it.
@@ -58,8 +58,8 @@ impl<D: Disk, F: Format> DiskRecords<D, F> {
         }
     }
 
-    /// The disk, as it stands. That of running records has room for the entries that are kept, and a
-    /// stop leaves what a read of it gives.
+    /// The disk, as it stands. That of running records has room for the entries that are kept, and
+    /// a stop leaves what a read of it gives.
     pub fn into_disk(self) -> D
         ensures disk { result ≡ self.disk }
         ensures inside { F.meaning.width * count_in self.kept ≤ (D.meaning.state_of result).size }
@@ -129,8 +129,8 @@ impl<D: Disk, F: Format> DiskRecords<D, F> {
     /// of `piece`, which has room for their records.
     ///
     /// Refused with `Stopped` where the records are stopped; with `Device` where the device step
-    /// failed, and with `Damaged` where the disk does not keep to its model, and holds no entry where
-    /// it held one. Both stop them.
+    /// failed, and with `Damaged` where the disk does not keep to its model, and holds no entry
+    /// where it held one. Both stop them.
     pub fn read(
         &mut self,
         place: u64,

@@ -12,8 +12,8 @@ use crate::reading::{Reading, finish_reading, read_entries, read_piece};
 use crate::visitor::Visitor;
 use duk_store::{Disk, StoreFault};
 
-/// Brings a disk of records up, and shows each entry to a visitor: the disk's own restart, a test of
-/// its size, a sync, and reads of pieces of so many records to the last. It writes nothing.
+/// Brings a disk of records up, and shows each entry to a visitor: the disk's own restart, a test
+/// of its size, a sync, and reads of pieces of so many records to the last. It writes nothing.
 ///
 /// Refused with `Device` where a device step failed, and with `Damaged` where the disk has no size
 /// of whole records, or keeps no list.
