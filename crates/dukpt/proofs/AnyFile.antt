@@ -1,5 +1,5 @@
 -- Each file may be written and made.
-use Rattle.std.proofs.Common.{ℕ, ⊤, IfSome, List, None, Option, Some}
+use Rattle.std.specs.Prelude.{ℕ, ⊤, IfSome, List, None, Option, Some}
 use Rattle.duk_arguments.specs.declared.request.Request.{Request}
 use Rattle.duk_program.specs.Own.{MayUseOwn, made_by, written_by}
 
